@@ -1,0 +1,112 @@
+-- How the parts of a text join.
+use Rattle.std.proofs.Common.{◌≡◌, ℕ, Bool, true, false, ◌==◌, ◌&&◌, ◌||◌, cond, eqb, List, [], ◌∷◌, ◌++◌, take, drop, Some, Ok, refl, inl, inr, ◌⊎◌, sym, ap, subst, ◌∙◌, append_assoc}
+use Rattle.std.proofs.lemmas.Bool.{eqb-true}
+use Rattle.std.proofs.lemmas.List.{take-append-drop}
+use Rattle.std.specs.List.{prefix_len, position_or_len}
+use Rattle.mg_scan.specs.declared.kind.TokenKind.{TokenKind}
+use Rattle.mg_scan.specs.declared.kind.TokenKind.TheVariants.{Word, Open, Close, Comma, Equals, Quoted}
+use Rattle.mg_scan.specs.Tokens.{is_line_end, is_blank, is_word_byte, is_quote_end, after_white, Taken, taken, closed_at, token_at, token_behind, first_token, spelled}
+use Rattle.mg_scan.specs.White.{IsWhite, nothing, blank, semicolon, comment, line_end}
+
+pub chosen : {A : Type 0} (b : Bool) (x y z : A) → cond b x y ≡ z → ((b ≡ true) × (x ≡ z)) ⊎ ((b ≡ false) × (y ≡ z))
+chosen true x y z e = inl (refl, e)
+chosen false x y z e = inr (refl, e)
+
+-- what stands behind white space is the end of the bytes
+abbrev HasFront : Bool → List ℕ → List ℕ → Type 0
+HasFront inside bs rest = (white : List ℕ) × IsWhite inside white × (bs ≡ white ++ rest)
+
+-- one byte more in front
+grown : (was inside : Bool) (b : ℕ) (bs rest : List ℕ) → ((white : List ℕ) → IsWhite inside white → IsWhite was (b ∷ white)) → HasFront inside bs rest → HasFront was (b ∷ bs) rest
+grown was inside b bs rest more h = (b ∷ h.0, more h.0 h.1, ap (λ (l : List ℕ). b ∷ l) h.2)
+
+either_front : (t : Bool) (inside : Bool) (bs x y : List ℕ) → (t ≡ true → HasFront inside bs x) → (t ≡ false → HasFront inside bs y) → HasFront inside bs (cond t x y)
+either_front true inside bs x y h k = h refl
+either_front false inside bs x y h k = k refl
+
+or_true : (t : Bool) → (t || true) ≡ true
+or_true true = refl
+or_true false = refl
+
+line_end_blank : (b : ℕ) → is_line_end b ≡ true → is_blank b ≡ true
+line_end_blank b e = rw e (or_true (b == 32 || b == 9))
+
+semicolon_front : (b : ℕ) (bs rest : List ℕ) → (b == 59) ≡ true → HasFront true bs rest → HasFront false (b ∷ bs) rest
+semicolon_front b bs rest e h = rw (eqb-true b 59 e) (grown false true 59 bs rest (λ white. semicolon white) h)
+
+pub white_front : (inside : Bool) (bs : List ℕ) → HasFront inside bs (after_white inside bs)
+unfolding after_white
+white_front inside [] = ([], nothing inside, refl)
+white_front true (b ∷ bs) =
+    either_front (is_line_end b) true (b ∷ bs) _ _
+    (λ e. grown true false b bs _ (λ white. line_end b white e) (white_front false bs))
+    (λ e. grown true true b bs _ (λ white. comment b white e) (white_front true bs))
+white_front false (b ∷ bs) =
+    either_front (is_line_end b) false (b ∷ bs) _ _
+    (λ e. grown false false b bs _ (λ white. blank b white (line_end_blank b e)) (white_front false bs))
+    (λ _. either_front (is_blank b) false (b ∷ bs) _ _
+    (λ e. grown false false b bs _ (λ white. blank b white e) (white_front false bs))
+    (λ _. either_front (b == 59) false (b ∷ bs) _ _
+    (λ e. semicolon_front b bs _ e (white_front true bs))
+    (λ _. ([], nothing false, refl))))
+
+abbrev read_as : TokenKind → List ℕ → List ℕ → Taken
+read_as kind text rest = record { piece = record { kind = kind; text = text }; rest = rest }
+
+-- a token that was taken has its bytes in front
+abbrev Joins : List ℕ → Taken → Type 0
+Joins bs x = bs ≡ spelled x.piece.kind x.piece.text ++ x.rest
+
+done : (bs : List ℕ) (k : TokenKind) (text rest : List ℕ) (x : Taken) → bs ≡ spelled k text ++ rest → taken k text rest ≡ Some (Ok x) → Joins bs x
+done bs k text rest x h e = let same : read_as k text rest ≡ x = cc in subst (Joins bs) same h
+
+closed_joins : (text bs : List ℕ) (x : Taken) → closed_at text bs ≡ Some (Ok x) → Joins (34 ∷ (text ++ bs)) x
+closed_joins text [] x e = absurd cc
+closed_joins text (b ∷ bs) x e =
+    elim (chosen (eqb b 34) _ _ _ e) [
+      | inl quote ↦ done _ Quoted text bs x (rw (eqb-true _ _ quote.0) (ap (λ (l : List ℕ). 34 ∷ l) (sym (append_assoc text (34 ∷ []) bs)))) quote.1
+      | inr other ↦ absurd (cc other.1)
+    ]
+
+pub token_joins : (bs : List ℕ) (x : Taken) → token_at bs ≡ Some (Ok x) → Joins bs x
+unfolding token_at
+token_joins [] x e = absurd cc
+token_joins (b ∷ bs) x e =
+    elim (chosen (is_word_byte b) _ _ _ e) [
+      | inl word ↦ done _ Word _ _ x (sym (take-append-drop (prefix_len is_word_byte (b ∷ bs)) (b ∷ bs))) word.1
+      | inr a ↦ elim (chosen (eqb b 123) _ _ _ a.1) [
+        | inl open_is ↦ done _ Open _ _ x refl open_is.1
+        | inr c ↦ elim (chosen (eqb b 125) _ _ _ c.1) [
+          | inl close_is ↦ done _ Close _ _ x refl close_is.1
+          | inr d ↦ elim (chosen (eqb b 44) _ _ _ d.1) [
+            | inl comma_is ↦ done _ Comma _ _ x refl comma_is.1
+            | inr f ↦ elim (chosen (eqb b 61) _ _ _ f.1) [
+              | inl equals_is ↦ done _ Equals _ _ x refl equals_is.1
+              | inr g ↦ elim (chosen (eqb b 34) _ _ _ g.1) [
+                | inl quote ↦
+                    let n = position_or_len is_quote_end bs in
+                    let whole : Joins (34 ∷ (take n bs ++ drop n bs)) x = closed_joins (take n bs) (drop n bs) x quote.1 in
+                    let front : b ∷ bs ≡ 34 ∷ (take n bs ++ drop n bs) = rw (eqb-true _ _ quote.0, take-append-drop n bs) refl in
+                    front ∙ whole
+                | inr bad ↦ absurd (cc bad.1)
+              ]
+            ]
+          ]
+        ]
+      ]
+    ]
+
+behind_joins : (named : Bool) (bs : List ℕ) (x : Taken) → token_behind named bs ≡ Some (Ok x) → Joins bs x
+unfolding token_behind
+behind_joins named [] x e = absurd cc
+behind_joins named (b ∷ bs) x e =
+    elim (chosen (named && eqb b 123) _ _ _ e) [
+      | inl octets ↦ absurd (cc octets.1)
+      | inr other ↦ token_joins (b ∷ bs) x other.1
+    ]
+
+-- The bytes are white space, the first token, and what stands behind it.
+pub first_joins : (named : Bool) (bytes : List ℕ) (x : Taken) → first_token named bytes ≡ Some (Ok x) → (white : List ℕ) × IsWhite false white × (bytes ≡ white ++ (spelled x.piece.kind x.piece.text ++ x.rest))
+first_joins named bytes x e =
+    let front = white_front false bytes in
+    (front.0, front.1, front.2 ∙ ap (λ (l : List ℕ). front.0 ++ l) (behind_joins named (after_white false bytes) x e))

@@ -1,0 +1,4 @@
+pub mod WhiteSteps
+pub mod QuoteLaws
+pub mod WordLaws
+pub mod JoinLaws

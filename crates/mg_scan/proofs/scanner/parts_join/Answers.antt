@@ -1,0 +1,5 @@
+use Rattle.mg_scan.proofs.JoinLaws.{first_joins}
+use Rattle.mg_scan.proofs.scanner.parts_join.Goals as goal
+
+pub returns : goal.returns
+returns c = first_joins

@@ -1,0 +1,113 @@
+-- The tokens of a text, by its bytes (RFC 3525, Annex B.2; which words and white space there are is the profile of this gateway).
+use Rattle.std.specs.Prelude.{◌≡◌, ℕ, ◌+◌, ◌<◌, ◌≤◌, Bool, true, false, ◌||◌, ◌&&◌, ◌==◌, not, nat_le, List, [], ◌∷◌, ◌++◌, length, take, drop, Option, Some, None, Result, Ok, Err, codes, if◌then◌else◌}
+use Rattle.std.specs.List.{prefix_len, position_or_len, slice_range}
+use Rattle.std.specs.Str.{str_eq_ignore_ascii_case}
+use Rattle.mg_scan.specs.declared.kind.TokenKind.{TokenKind}
+use Rattle.mg_scan.specs.declared.kind.TokenKind.TheVariants.{Word, Open, Close, Comma, Equals, Quoted, Octets}
+use Rattle.mg_scan.specs.declared.fault.ScanFault.{ScanFault}
+use Rattle.mg_scan.specs.declared.fault.ScanFault.TheVariants.{BadByte, OpenQuote, OpenOctets}
+use Rattle.mg_scan.specs.declared.found.Found.{Found}
+
+-- carriage return or line feed
+abbrev pub is_line_end : ℕ → Bool
+is_line_end b = b == 13 || b == 10
+
+-- space, tab or line end
+abbrev pub is_blank : ℕ → Bool
+is_blank b = b == 32 || b == 9 || is_line_end b
+
+-- one of { } , = ; "
+abbrev pub is_mark : ℕ → Bool
+is_mark b = b == 123 || b == 125 || b == 44 || b == 61 || b == 59 || b == 34
+
+-- a visible ASCII byte that is no mark
+abbrev pub is_word_byte : ℕ → Bool
+is_word_byte b = nat_le 33 b && nat_le b 126 && not (is_mark b)
+
+-- a byte at which a quoted text ends, well or not
+abbrev pub is_quote_end : ℕ → Bool
+is_quote_end b = b == 34 || b == 13 || b == 10
+
+-- What stands after white space, which may begin inside a comment.
+unfoldable pub after_white : Bool → List ℕ → List ℕ
+after_white inside [] = []
+after_white inside (b ∷ bs) =
+    if is_line_end b then after_white false bs
+    else (if inside then after_white true bs
+    else (if is_blank b then after_white false bs
+    else (if b == 59 then after_white true bs
+    else b ∷ bs)))
+
+-- a token's kind and text
+pub record Piece : Type 0 where
+  pub kind : TokenKind
+  pub text : List ℕ
+
+-- a token and the bytes after it
+pub record Taken : Type 0 where
+  pub piece : Piece
+  pub rest : List ℕ
+
+abbrev pub taken : TokenKind → List ℕ → List ℕ → Option (Result Taken ScanFault)
+taken kind text rest = Some (Ok (record { piece = record { kind = kind; text = text }; rest = rest }))
+
+-- the end of a quoted text and what follows it
+abbrev pub closed_at : List ℕ → List ℕ → Option (Result Taken ScanFault)
+closed_at text [] = Some (Err OpenQuote)
+closed_at text (b ∷ bs) = if b == 34 then taken Quoted text bs else Some (Err OpenQuote)
+
+-- the text behind an opening quote
+abbrev pub quoted_at : List ℕ → Option (Result Taken ScanFault)
+quoted_at bs = let n = position_or_len is_quote_end bs in closed_at (take n bs) (drop n bs)
+
+-- the token that begins with the first byte
+unfoldable pub token_at : List ℕ → Option (Result Taken ScanFault)
+token_at [] = None
+token_at (b ∷ bs) =
+    if is_word_byte b then (let n = prefix_len is_word_byte (b ∷ bs) in taken Word (take n (b ∷ bs)) (drop n (b ∷ bs)))
+    else (if b == 123 then taken Open (b ∷ []) bs
+    else (if b == 125 then taken Close (b ∷ []) bs
+    else (if b == 44 then taken Comma (b ∷ []) bs
+    else (if b == 61 then taken Equals (b ∷ []) bs
+    else (if b == 34 then quoted_at bs
+    else Some (Err BadByte))))))
+
+-- the token that begins with the first byte, where the token before may name a session description; none is read yet
+unfoldable pub token_behind : Bool → List ℕ → Option (Result Taken ScanFault)
+token_behind named [] = None
+token_behind named (b ∷ bs) = if named && b == 123 then Some (Err OpenOctets) else token_at (b ∷ bs)
+
+-- whether a session description follows a token
+unfoldable pub names_octets : TokenKind → List ℕ → Bool
+names_octets Word text = str_eq_ignore_ascii_case text (codes "Local") || str_eq_ignore_ascii_case text (codes "L") || str_eq_ignore_ascii_case text (codes "Remote") || str_eq_ignore_ascii_case text (codes "R")
+names_octets _ text = false
+
+-- the first token behind white space
+abbrev pub first_token : Bool → List ℕ → Option (Result Taken ScanFault)
+first_token named bytes = token_behind named (after_white false bytes)
+
+-- a token as it stands in its source
+abbrev pub spelled : TokenKind → List ℕ → List ℕ
+spelled Quoted text = 34 ∷ (text ++ 34 ∷ [])
+spelled Octets text = 123 ∷ (text ++ 125 ∷ [])
+spelled _ text = text
+
+-- how many bytes close a token behind its text
+abbrev pub closing : TokenKind → ℕ
+closing Quoted = 1
+closing Octets = 1
+closing _ = 0
+
+-- what was found, by its places among the bytes
+pub record Places (bytes : List ℕ) (want : Option (Result Taken ScanFault)) (x : Found) : Type 0 where
+  pub start : x.start ≤ x.end
+  pub end : x.end + closing x.kind ≡ x.next
+  pub some : 0 < x.next
+  pub next : x.next ≤ length bytes
+  pub is : want ≡ taken x.kind (slice_range bytes x.start x.end) (drop x.next bytes)
+
+-- an answer of the code is the wanted one
+abbrev pub FindsAs : List ℕ → Option (Result Taken ScanFault) → Option (Result Found ScanFault) → Type 0
+FindsAs bytes want None = want ≡ None
+FindsAs bytes want (Some (Err f)) = want ≡ Some (Err f)
+FindsAs bytes want (Some (Ok x)) = Places bytes want x

@@ -1,0 +1,61 @@
+ghost use Rattle.std.specs.Prelude.{◌≡◌, ◌≤◌, false, length, drop};
+ghost use Rattle.std.specs.List.{prefix_len, position_or_len};
+ghost use Rattle.mg_scan.specs.Tokens.{is_line_end, is_blank, is_word_byte, after_white};
+
+/// Whether a byte ends a line: CR or LF.
+fn is_line_end(b: u8) -> bool
+    ensures { result ≡ is_line_end b }
+{
+    b == b'\r' || b == b'\n'
+}
+
+/// Whether a byte is a space, a tab or the end of a line.
+fn is_blank(b: u8) -> bool
+    ensures { result ≡ is_blank b }
+{
+    b == b' ' || b == b'\t' || is_line_end(b)
+}
+
+/// Whether a byte may stand in a word.
+pub fn is_word_byte(b: u8) -> bool
+    ensures { result ≡ is_word_byte b }
+{
+    matches!(b, 0x21..=0x7E) && !matches!(b, b'{' | b'}' | b',' | b'=' | b';' | b'"')
+}
+
+/// How many bytes the word at the front has.
+pub fn word_len(bytes: &[u8]) -> usize
+    ensures in_range { result ≤ length bytes.now }
+    ensures value { result ≡ prefix_len is_word_byte bytes.now }
+{
+    bytes.iter().take_while(|b| is_word_byte(**b)).count()
+}
+
+/// How many bytes a comment has before its line's end.
+fn comment_len(bytes: &[u8]) -> usize
+    ensures in_range { result ≤ length bytes.now }
+    ensures value { result ≡ position_or_len is_line_end bytes.now }
+{
+    bytes.iter().take_while(|b| !is_line_end(**b)).count()
+}
+
+/// How many bytes of white space and comments there are at the front.
+#[tactic(auto, using(crate::proofs::WhiteSteps::steps))]
+pub fn white_len(bytes: &[u8]) -> usize
+    ensures in_range { result ≤ length bytes.now }
+    ensures rest { drop result bytes.now ≡ after_white false bytes.now }
+{
+    let mut n = 0;
+    while n < bytes.len() {
+        let b = bytes[n];
+        if is_blank(b) {
+            n += 1;
+        } else if b == b';' {
+            n += 1;
+            n += comment_len(&bytes[n..]);
+        } else {
+            return n;
+        }
+    }
+    n
+}

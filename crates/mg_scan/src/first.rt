@@ -1,0 +1,78 @@
+ghost use Rattle.std.specs.Prelude.{◌≡◌, ◌<◌, drop, length};
+ghost use Rattle.mg_scan.specs.Tokens.{quoted_at, token_at, token_behind, names_octets, FindsAs};
+
+use crate::bytes::{is_word_byte, word_len};
+use crate::fault::ScanFault;
+use crate::found::Found;
+use crate::kind::TokenKind;
+use memchr::memchr3;
+
+/// The text behind an opening quotation mark, which is the first of the bytes.
+fn quoted_at(bytes: &[u8]) -> Option<Result<Found, ScanFault>>
+    requires { 0 < length bytes.now }
+    ensures { FindsAs bytes.now (quoted_at (drop 1 bytes.now)) result }
+{
+    let (_, tail) = bytes.split_at(1);
+    match memchr3(b'"', b'\r', b'\n', tail) {
+        Some(n) if tail[n] == b'"' => Some(Ok(Found {
+            kind: TokenKind::Quoted,
+            start: 1,
+            end: n + 1,
+            next: n + 2,
+        })),
+        _ => Some(Err(ScanFault::OpenQuote)),
+    }
+}
+
+/// The token at the front, unless the bytes are empty.
+#[tactic(auto, unfolding(crate::specs::Tokens::token_at))]
+fn token_at(bytes: &[u8]) -> Option<Result<Found, ScanFault>>
+    ensures { FindsAs bytes.now (token_at bytes.now) result }
+{
+    match bytes {
+        [] => None,
+        [b'{', ..] => Some(Ok(Found::mark(TokenKind::Open))),
+        [b'}', ..] => Some(Ok(Found::mark(TokenKind::Close))),
+        [b',', ..] => Some(Ok(Found::mark(TokenKind::Comma))),
+        [b'=', ..] => Some(Ok(Found::mark(TokenKind::Equals))),
+        [b'"', ..] => quoted_at(bytes),
+        [b, ..] if is_word_byte(*b) => {
+            let end = word_len(bytes);
+            Some(Ok(Found {
+                kind: TokenKind::Word,
+                start: 0,
+                end,
+                next: end,
+            }))
+        }
+        _ => Some(Err(ScanFault::BadByte)),
+    }
+}
+
+/// The token at the front, where the token before it may be a word that a session description follows.
+#[tactic(auto, unfolding(crate::specs::Tokens::token_behind))]
+pub fn token_behind(named: bool, bytes: &[u8]) -> Option<Result<Found, ScanFault>>
+    ensures { FindsAs bytes.now (token_behind named bytes.now) result }
+{
+    match bytes {
+        [] => None,
+        [b'{', ..] if named => Some(Err(ScanFault::OpenOctets)),
+        _ => token_at(bytes),
+    }
+}
+
+/// Whether a session description follows a token: the words `Local` and `Remote`, long or short.
+#[tactic(auto, unfolding(crate::specs::Tokens::names_octets))]
+pub fn names_octets(kind: TokenKind, text: &[u8]) -> bool
+    ensures { result ≡ names_octets kind text.now }
+{
+    match kind {
+        TokenKind::Word => {
+            text.eq_ignore_ascii_case(b"Local")
+                || text.eq_ignore_ascii_case(b"L")
+                || text.eq_ignore_ascii_case(b"Remote")
+                || text.eq_ignore_ascii_case(b"R")
+        }
+        _ => false,
+    }
+}

@@ -1,0 +1,26 @@
+use crate::kind::TokenKind;
+
+/// A token at the front of some bytes: where its text begins and ends, and where the bytes behind it begin.
+#[derive(Clone, Copy)]
+pub struct Found {
+    pub kind: TokenKind,
+    pub start: usize,
+    pub end: usize,
+    pub next: usize,
+}
+
+impl Found {
+    ghost use Rattle.std.specs.Prelude.{◌≡◌};
+
+    /// A mark of one byte.
+    pub fn mark(kind: TokenKind) -> Self
+        ensures { result ≡ record { kind = kind; start = 0; end = 1; next = 1 } }
+    {
+        Found {
+            kind,
+            start: 0,
+            end: 1,
+            next: 1,
+        }
+    }
+}

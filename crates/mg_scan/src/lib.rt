@@ -1,0 +1,31 @@
+//! The tokens of a control message in text encoding (Megaco, RFC 3525, Annex B).
+//!
+//! A message is a run of words, marks and quoted texts with white space and comments between them.
+//! [`Scanner`] gives its tokens one after the other, in one pass over the bytes, and takes no memory:
+//!
+//! ```rust
+//! let mut scanner = Scanner::new(b"Context = - ; the null context");
+//! assert_eq!(rt; scanner.next(), Some(Ok(Token { kind: TokenKind::Word, span: Span { start: 0, end: 7 } })));
+//! ```
+//!
+//! A token's text is the part of the source that its [`Span`] names. A byte that begins no token, or a
+//! closing mark that is missing, is a [`ScanFault`], and behind a fault there is no token.
+#![tactic(auto)]
+
+mod bytes;
+mod fault;
+mod first;
+mod found;
+mod kind;
+mod scanner;
+mod span;
+#[cfg(test)]
+mod tests;
+mod token;
+
+pub use crate::bytes::is_word_byte;
+pub use crate::fault::ScanFault;
+pub use crate::kind::TokenKind;
+pub use crate::scanner::{Scanner, parts_join};
+pub use crate::span::Span;
+pub use crate::token::Token;

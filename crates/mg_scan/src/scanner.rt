@@ -1,0 +1,82 @@
+ghost use Rattle.std.specs.Prelude.{◌≡◌, ◌++◌, ℕ, Bool, List, Some, Ok, false};
+ghost use Rattle.mg_scan.specs.Tokens.{Taken, first_token, spelled};
+ghost use Rattle.mg_scan.specs.White.{IsWhite};
+ghost use Rattle.mg_scan.specs.Scanner.{Answers};
+
+use crate::bytes::white_len;
+use crate::fault::ScanFault;
+use crate::first::{names_octets, token_behind};
+use crate::span::Span;
+use crate::token::Token;
+use std::marker::Model;
+
+/// Gives the tokens of a source, one after the other.
+#[derive(Drop)]
+pub struct Scanner<'a> {
+    source: &'a [u8],
+    at: usize,
+    named: bool,
+}
+
+impl<'a> Model for Scanner<'a> {
+    ghost use Rattle.std.specs.Prelude.{◌≤◌, length};
+    ghost use Rattle.mg_scan.specs.Scanner.{Scanning};
+
+    ghost Value = { Scanning };
+
+    ghost view = { λ s. record { source = s.source.now; at = s.at; named = s.named } };
+
+    ghost invariant = { λ s. s.at ≤ length s.source.now };
+}
+
+impl<'a> Scanner<'a> {
+    /// A scanner at the front of a source.
+    pub fn new(source: &'a [u8]) -> Self
+        ensures start { result ≡ record { source = source.now; at = 0; named = false } }
+    {
+        Scanner {
+            source,
+            at: 0,
+            named: false,
+        }
+    }
+
+    /// The next token, or the fault that stands in its place. At the end, and behind a fault, there is
+    /// none.
+    pub fn next(&mut self) -> Option<Result<Token, ScanFault>>
+        ensures source { self.new.source ≡ self.old.source }
+        ensures answer { Answers self.old result self.new }
+    {
+        let rest = &self.source[self.at..];
+        let start = self.at + white_len(rest);
+        match token_behind(self.named, &self.source[start..]) {
+            Some(Ok(found)) => {
+                let span = Span {
+                    start: start + found.start,
+                    end: start + found.end,
+                };
+                self.named = names_octets(found.kind, &self.source[span.start..span.end]);
+                self.at = start + found.next;
+                Some(Ok(Token {
+                    kind: found.kind,
+                    span,
+                }))
+            }
+            Some(Err(fault)) => {
+                self.at = self.source.len();
+                Some(Err(fault))
+            }
+            None => {
+                self.at = self.source.len();
+                None
+            }
+        }
+    }
+}
+
+/// How the parts of a text join: where a first token is found, the bytes are white space, that token as it
+/// is spelled, and the bytes behind it.
+pub fn parts_join()
+    ensures { (named : Bool) (bytes : List ℕ) (x : Taken) → first_token named bytes ≡ Some (Ok x) →
+        (white : List ℕ) × IsWhite false white × (bytes ≡ white ++ (spelled x.piece.kind x.piece.text ++ x.rest)) }
+{}

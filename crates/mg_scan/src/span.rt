@@ -1,0 +1,20 @@
+/// A part of a source, from its start up to its end, in bytes.
+#[derive(Clone, Copy, Debug, PartialEq, Eq)]
+pub struct Span {
+    pub start: usize,
+    pub end: usize,
+}
+
+impl Span {
+    ghost use Rattle.std.specs.Prelude.{◌≡◌};
+    ghost use Rattle.mg_scan.specs.Span.{text_of};
+
+    /// The text of the span, as far as the source has it.
+    pub fn text(self, source: &[u8]) -> &[u8]
+        ensures value { result.now ≡ text_of source.now self }
+    {
+        let (_, tail) = source.split_at(self.start.min(source.len()));
+        let (text, _) = tail.split_at(self.end.saturating_sub(self.start).min(tail.len()));
+        text
+    }
+}

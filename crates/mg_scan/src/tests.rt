@@ -1,0 +1,55 @@
+use crate::{ScanFault, Scanner, TokenKind};
+use std::test::Fail;
+
+/// The kinds and texts of the tokens before a fault or the end.
+const SHORT: &[u8] = b"!/1 [127.0.0.1]:2945 ; hello\n\tt = 1 { c = - { av = \"a b\", } }";
+
+#[test]
+fn gives_words_marks_and_quoted_texts(rt: HostRuntime) -> Result<(), Fail> {
+    let wanted: [(TokenKind, &[u8]); 16] = [
+        (TokenKind::Word, b"!/1"),
+        (TokenKind::Word, b"[127.0.0.1]:2945"),
+        (TokenKind::Word, b"t"),
+        (TokenKind::Equals, b"="),
+        (TokenKind::Word, b"1"),
+        (TokenKind::Open, b"{"),
+        (TokenKind::Word, b"c"),
+        (TokenKind::Equals, b"="),
+        (TokenKind::Word, b"-"),
+        (TokenKind::Open, b"{"),
+        (TokenKind::Word, b"av"),
+        (TokenKind::Equals, b"="),
+        (TokenKind::Quoted, b"a b"),
+        (TokenKind::Comma, b","),
+        (TokenKind::Close, b"}"),
+        (TokenKind::Close, b"}"),
+    ];
+    let mut scanner = Scanner::new(SHORT);
+    for (kind, text) in wanted {
+        let token = scanner.next().ok_or("a token")?.map_err(|_| "no fault")?;
+        assert_eq!(rt; token.kind, kind);
+        assert_eq!(rt; token.span.text(SHORT), text);
+    }
+    assert_eq!(rt; scanner.next(), None);
+    assert_eq!(rt; scanner.next(), None);
+    Ok(())
+}
+
+#[test]
+fn names_each_fault_once(rt: HostRuntime) {
+    let cases: [(&[u8], ScanFault); 4] = [
+        (b"\x7f", ScanFault::BadByte),
+        (b"\"a", ScanFault::OpenQuote),
+        (b"\"a\rb\"", ScanFault::OpenQuote),
+        (b"LOCAL {}", ScanFault::OpenOctets),
+    ];
+    for (text, fault) in cases {
+        let mut scanner = Scanner::new(text);
+        let mut last = scanner.next();
+        if fault == ScanFault::OpenOctets {
+            last = scanner.next();
+        }
+        assert_eq!(rt; last, Some(Err(fault)));
+        assert_eq!(rt; scanner.next(), None);
+    }
+}

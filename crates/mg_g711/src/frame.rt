@@ -1,0 +1,35 @@
+ghost use Rattle.std.specs.Prelude.{◌≡◌, map};
+ghost use Rattle.mg_g711.specs.Law.{byte_of, sample_of};
+ghost use Rattle.mg_g711.specs.Frame.{IsFrame};
+
+use crate::law::Law;
+use crate::sample::{decode, encode};
+
+/// 20 ms of one channel: 160 samples at 8,000 a second, the earliest first (RFC 3551, sections 4.2
+/// and 6).
+///
+/// Contracts see a frame as a list, of which `IsFrame` says that it has 160 samples of 16 bits.
+pub type Frame = [i16; 160];
+
+/// The samples of a packet's payload, which has one byte for each.
+pub fn decode_frame(law: Law, bytes: &[u8; 160]) -> Frame
+    ensures each { result ≡ map (sample_of law) bytes.now }
+    ensures frame { IsFrame result }
+{
+    let mut samples = [0; 160];
+    for i in 0..160 {
+        samples[i] = decode(law, bytes[i]);
+    }
+    samples
+}
+
+/// The payload of a packet, which has one byte for each sample.
+pub fn encode_frame(law: Law, samples: &Frame) -> [u8; 160]
+    ensures { result ≡ map (byte_of law) samples.now }
+{
+    let mut bytes = [0; 160];
+    for i in 0..160 {
+        bytes[i] = encode(law, samples[i]);
+    }
+    bytes
+}

@@ -1,0 +1,38 @@
+use super::*;
+
+#[test]
+fn known_samples_and_bytes(rt: HostRuntime) {
+    for (law, sample, byte) in [
+        (Law::Mu, 0, 0xff),
+        (Law::Mu, -1, 0x7f),
+        (Law::Mu, 3, 0xff),
+        (Law::Mu, 4, 0xfe),
+        (Law::Mu, -4, 0x7e),
+        (Law::Mu, 123, 0xf0),
+        (Law::Mu, 124, 0xef),
+        (Law::Mu, 32767, 0x80),
+        (Law::Mu, -32768, 0x00),
+        (Law::A, 0, 0xd5),
+        (Law::A, -1, 0x55),
+        (Law::A, 15, 0xd5),
+        (Law::A, 16, 0xd4),
+        (Law::A, 255, 0xda),
+        (Law::A, 256, 0xc5),
+        (Law::A, 32767, 0xaa),
+        (Law::A, -32768, 0x2a),
+    ] {
+        assert_eq!(rt; encode(law, sample), byte, "{law:?} of {sample}");
+    }
+    for (law, byte, sample) in [
+        (Law::Mu, 0x7f, 0),
+        (Law::Mu, 0x80, 32124),
+        (Law::Mu, 0x00, -32124),
+        (Law::A, 0xd5, 8),
+        (Law::A, 0xaa, 32256),
+        (Law::A, 0x2a, -32256),
+    ] {
+        assert_eq!(rt; decode(law, byte), sample, "{law:?} of {byte:#x}");
+    }
+    assert_eq!(rt; encode_frame(Law::A, &[256; 160]), [0xc5; 160]);
+    assert_eq!(rt; decode_frame(Law::Mu, &[0x80; 160]), [32124; 160]);
+}

@@ -1,0 +1,4 @@
+pub mod Joined
+pub mod Once
+pub mod Outcome
+pub mod Parts

@@ -1,0 +1,27 @@
+//! RTP packets as bytes, after RFC 3550, section 5.1.
+//!
+//! [`read`] takes a datagram apart and borrows its payload. [`write`] makes the packet of one frame
+//! of 160 samples. Neither allocates.
+//!
+//! ```rust
+//! let header = Header { marker: true, payload_type: 0, sequence: 7, timestamp: 1120, ssrc: 99 };
+//! let bytes = write(header, &[0xff; PAYLOAD_LEN]);
+//! let packet = read(&bytes)?;
+//! assert_eq!(rt; packet.header, header);
+//! ```
+#![tactic(auto)]
+
+mod header;
+mod packet;
+mod reading;
+mod rtp_fault;
+mod writing;
+
+pub use header::Header;
+pub use packet::{Packet, one_packet};
+pub use reading::read;
+pub use rtp_fault::RtpFault;
+pub use writing::{PACKET_LEN, PAYLOAD_LEN, write};
+
+#[cfg(test)]
+mod tests;

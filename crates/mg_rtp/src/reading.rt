@@ -1,0 +1,123 @@
+ghost use Rattle.std.specs.Prelude.{◌≡◌, ◌≢◌, ◌↔◌, ◌<◌, ◌≤◌, ◌*◌, ◌^◌, ℕ, List, ◌∷◌, ◌++◌, length, slice_index, IsTrue, IfOk, IfErr, IsOkAnd};
+ghost use Rattle.mg_rtp.specs.declared.header.Header.{Header};
+ghost use Rattle.mg_rtp.specs.declared.rtp_fault.RtpFault.{RtpFault};
+ghost use Rattle.mg_rtp.specs.Header.{IsHeader, field_bytes};
+ghost use Rattle.mg_rtp.specs.Packet.{IsPacket, AreSources, IsExtension, IsPadding};
+ghost use Rattle.mg_rtp.specs.RtpFault.{IsFault, EndsInExtension, HasBadPadding};
+
+use crate::header::{HEADER_LEN, Header, VERSION};
+use crate::packet::Packet;
+use crate::rtp_fault::RtpFault;
+use byteorder::{BigEndian, ByteOrder};
+
+/// How many bytes a contributing source or a word of an extension takes.
+const WORD_LEN: usize = 4;
+
+/// The bit of the first byte that announces padding.
+const PADDED: u8 = 0x20;
+
+/// The bit of the first byte that announces an extension.
+const EXTENDED: u8 = 0x10;
+
+/// The bits of the first byte that count the contributing sources.
+const SOURCE_COUNT: u8 = 0x0f;
+
+/// The bit of the second byte that is the marker.
+const MARKER: u8 = 0x80;
+
+/// The packet that a datagram is, whatever its length.
+///
+/// The payload is the part of the datagram behind the header, the contributing sources and the
+/// extension, which are passed over, and before the padding.
+pub fn read(bytes: &[u8]) -> Result<Packet<'_>, RtpFault>
+    // What is read is the packet.
+    ensures found { IfOk result (λ packet. IsPacket bytes.now packet.header packet.payload.now) }
+    // Whatever packet the bytes are, it is read.
+    ensures only { (header : Header) (payload : List ℕ) → IsPacket bytes.now header payload →
+        IsOkAnd result (λ packet. (packet.header ≡ header) × (packet.payload.now ≡ payload)) }
+    // A fault comes exactly where the bytes have it.
+    ensures fault { (fault : RtpFault) → (result ≡ Err fault) ↔ IsFault bytes.now fault }
+{
+    if bytes.len() < HEADER_LEN {
+        return Err(RtpFault::Short);
+    }
+    let (head, rest) = bytes.split_at(HEADER_LEN);
+    let first = head[0];
+    if first >> 6 != VERSION {
+        return Err(RtpFault::Version);
+    }
+    let header = header_of(head);
+    let rest = without_sources(rest, first & SOURCE_COUNT)?;
+    let rest = without_extension(rest, first & EXTENDED != 0)?;
+    let payload = without_padding(rest, first & PADDED != 0)?;
+    Ok(Packet { header, payload })
+}
+
+/// The fields in the twelve bytes of a header.
+fn header_of(head: &[u8]) -> Header
+    requires { length head.now ≡ HEADER_LEN }
+    ensures fields { head.now ≡ slice_index head.now 0 ∷ field_bytes result }
+    ensures within { IsHeader result }
+{
+    Header {
+        marker: head[1] & MARKER != 0,
+        payload_type: head[1] & !MARKER,
+        sequence: BigEndian::read_u16(&head[2..]),
+        timestamp: BigEndian::read_u32(&head[4..]),
+        ssrc: BigEndian::read_u32(&head[8..]),
+    }
+}
+
+/// What is behind the contributing sources, of which there are to be `count`.
+fn without_sources(rest: &[u8], count: u8) -> Result<&[u8], RtpFault>
+    ensures ok { IfOk result (λ after. (sources : List ℕ) × AreSources count sources
+        × (rest.now ≡ sources ++ after.now)) }
+    ensures err { IfErr result (λ fault. (fault ≡ RtpFault.Short) × (length rest.now < 4 * count)) }
+{
+    let len = WORD_LEN * usize::from(count);
+    if rest.len() < len {
+        return Err(RtpFault::Short);
+    }
+    Ok(&rest[len..])
+}
+
+/// What is behind the extension, if there is to be one.
+fn without_extension(rest: &[u8], extended: bool) -> Result<&[u8], RtpFault>
+    ensures ok { IfOk result (λ after. (extension : List ℕ) × IsExtension extended extension
+        × (rest.now ≡ extension ++ after.now)) }
+    ensures err { IfErr result (λ fault. (fault ≡ RtpFault.Extension)
+        × IsTrue extended × EndsInExtension rest.now) }
+{
+    if !extended {
+        return Ok(rest);
+    }
+    if rest.len() < WORD_LEN {
+        return Err(RtpFault::Extension);
+    }
+    let words = BigEndian::read_u16(&rest[2..]);
+    let len = WORD_LEN + WORD_LEN * usize::from(words);
+    if rest.len() < len {
+        return Err(RtpFault::Extension);
+    }
+    Ok(&rest[len..])
+}
+
+/// What is before the padding, if there is to be some.
+fn without_padding(rest: &[u8], padded: bool) -> Result<&[u8], RtpFault>
+    ensures ok { IfOk result (λ payload. (padding : List ℕ) × IsPadding padded padding
+        × (rest.now ≡ payload.now ++ padding)) }
+    ensures err { IfErr result (λ fault. (fault ≡ RtpFault.Padding)
+        × IsTrue padded × HasBadPadding rest.now) }
+{
+    if !padded {
+        return Ok(rest);
+    }
+    let Some(last) = rest.last() else {
+        return Err(RtpFault::Padding);
+    };
+    let count = usize::from(*last);
+    if count == 0 || rest.len() < count {
+        return Err(RtpFault::Padding);
+    }
+    Ok(&rest[..rest.len() - count])
+}

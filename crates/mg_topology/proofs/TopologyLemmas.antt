@@ -1,0 +1,114 @@
+-- How each edit takes what a topology keeps from one list of edits to the next.
+use Rattle.std.proofs.Common.{◌≡◌, ◌≢◌, ℕ, ◌<◌, Bool, true, false, not, ◌&&◌, ◌==◌, nat_lt, cond, Option, Some, List, [], ◌∷◌, ◌++◌, slice_index, length, get_or, take, ◌+◌, ◌^◌, refl, sym, ap, ◌∙◌, arith}
+use Rattle.std.proofs.lemmas.List.{take_more}
+use Rattle.std.proofs.lemmas.Bool.Decides.{nat_tests}
+use Rattle.mg_topology.specs.declared.mask.TheConstants.{MEMBERS}
+use Rattle.mg_topology.specs.declared.triple.Triple.{Triple}
+use Rattle.mg_topology.specs.Mask.{has_seat}
+use Rattle.mg_topology.specs.Triple.{speaks_of, word_of, word_after}
+use Rattle.mg_topology.specs.Edits.{Edit, Enter, Leave, Apply, is_held, last_word, allows, lets_hear, apply_all}
+use Rattle.mg_topology.specs.Topology.{Kept, holds, hears, StandsFor}
+use Rattle.mg_topology.proofs.MaskLemmas.{has_seat-inside}
+
+-- ---- seats, and rows at two held seats that differ
+
+-- an answer about a pair depends on the row only where both are held and differ
+same_pair : (x y x' y' d b b' : Bool) → x ≡ x' → y ≡ y' → (x' ≡ true → y' ≡ true → d ≡ false → b ≡ b') → (x && (y && (not d && b))) ≡ (x' && (y' && (not d && b')))
+same_pair x y false y' d b b' p q r = rw (p) refl
+same_pair x y true false d b b' p q r = rw (p, q) refl
+same_pair x y true true true b b' p q r = rw (p, q) refl
+same_pair x y true true false b b' p q r = rw (p, q) (r refl refl refl)
+
+row_of_pair : (x y d b b' : Bool) → x ≡ true → y ≡ true → d ≡ false → (x && (y && (not d && b))) ≡ (x && (y && (not d && b'))) → b ≡ b'
+row_of_pair x y d b b' p q r e = grind arith
+
+-- to stand for a list of edits is to hold its seats, and to have its words in the rows of held seats
+pub stands_from : (k : Kept) (es : List Edit) → ((s : ℕ) → holds k s ≡ is_held es s)
+    → ((l t : ℕ) → is_held es l ≡ true → is_held es t ≡ true → (l == t) ≡ false → has_seat (slice_index k.rows l) t ≡ lets_hear es l t)
+    → StandsFor k es
+stands_from k es held row = record {
+  seats = held;
+  pairs = λ l t. same_pair _ _ _ _ (l == t) _ _ (held l) (held t) (row l t);
+}
+
+pub row_from : (k : Kept) (es : List Edit) (l t : ℕ) → StandsFor k es → is_held es l ≡ true → is_held es t ≡ true → (l == t) ≡ false → has_seat (slice_index k.rows l) t ≡ lets_hear es l t
+row_from k es l t h p q d =
+    row_of_pair (is_held es l) (is_held es t) (l == t) _ _ p q d
+    (sym (same_pair (holds k l) (holds k t) _ _ (l == t) _ (has_seat (slice_index k.rows l) t) (h.seats l) (h.seats t) (λ _ _ _. refl)) ∙ h.pairs l t)
+
+pub held_below : (k : Kept) (es : List Edit) (s : ℕ) → StandsFor k es → is_held es s ≡ true → s < MEMBERS
+held_below k es s h p = grind (arith, nat_tests, h.seats s)
+
+-- ---- the edits, one by one
+
+entered_seat : (k k' : Kept) (n s : ℕ) (b : Bool) → n < MEMBERS → has_seat k'.held s ≡ cond (s == n) true (has_seat k.held s) → holds k s ≡ b → holds k' s ≡ cond (s == n) true b
+entered_seat k k' n s b p e h = grind (arith, nat_tests)
+
+entered_pair : (k k' : Kept) (n : ℕ) (es : List Edit) (l t : ℕ) → (l ≡ n → has_seat (slice_index k'.rows l) t ≡ true)
+    → (l ≢ n → has_seat (slice_index k'.rows l) t ≡ cond (t == n) true (has_seat (slice_index k.rows l) t))
+    → (is_held es l ≡ true → is_held es t ≡ true → has_seat (slice_index k.rows l) t ≡ lets_hear es l t)
+    → is_held (Enter n ∷ es) l ≡ true → is_held (Enter n ∷ es) t ≡ true → has_seat (slice_index k'.rows l) t ≡ lets_hear (Enter n ∷ es) l t
+entered_pair k k' n es l t own row h p q = grind (arith, nat_tests)
+
+entered_below : (k : Kept) (n : ℕ) (es : List Edit) (s : ℕ) → n < MEMBERS → StandsFor k es → is_held (Enter n ∷ es) s ≡ true → s < MEMBERS
+entered_below k n es s p h q = grind (arith, nat_tests, h.seats s)
+
+pub enter_stands : (k k' : Kept) (n : ℕ) (es : List Edit) → n < MEMBERS
+    → ((s : ℕ) → has_seat k'.held s ≡ cond (s == n) true (has_seat k.held s))
+    → ((t : ℕ) → t < MEMBERS → has_seat (slice_index k'.rows n) t ≡ true)
+    → ((l t : ℕ) → l < MEMBERS → l ≢ n → has_seat (slice_index k'.rows l) t ≡ cond (t == n) true (has_seat (slice_index k.rows l) t))
+    → StandsFor k es → StandsFor k' (Enter n ∷ es)
+enter_stands k k' n es inside held own row h =
+    stands_from k' (Enter n ∷ es)
+    (λ s. entered_seat k k' n s (is_held es s) inside (held s) (h.seats s))
+    (λ l t p q d. entered_pair k k' n es l t
+    (λ e. ap (λ x. has_seat (slice_index k'.rows x) t) e ∙ own t (entered_below k n es t inside h q))
+    (row l t (entered_below k n es l inside h p))
+    (λ x y. row_from k es l t h x y d) p q)
+
+left_seat : (k k' : Kept) (n s : ℕ) (b : Bool) → has_seat k'.held s ≡ cond (s == n) false (has_seat k.held s) → holds k s ≡ b → holds k' s ≡ cond (s == n) false b
+left_seat k k' n s b e h = grind (arith, nat_tests)
+
+still_held : (n : ℕ) (es : List Edit) (s : ℕ) → is_held (Leave n ∷ es) s ≡ true → is_held es s ≡ true
+still_held n es s p = grind (arith, nat_tests)
+
+pub leave_stands : (k k' : Kept) (n : ℕ) (es : List Edit)
+    → ((s : ℕ) → has_seat k'.held s ≡ cond (s == n) false (has_seat k.held s)) → k'.rows ≡ k.rows
+    → StandsFor k es → StandsFor k' (Leave n ∷ es)
+leave_stands k k' n es held rows h =
+    stands_from k' (Leave n ∷ es)
+    (λ s. left_seat k k' n s (is_held es s) (held s) (h.seats s))
+    (λ l t p q d. ap (λ r. has_seat (slice_index r l) t) rows ∙ row_from k es l t h (still_held n es l p) (still_held n es t q) d)
+
+applied_word : (triple : Triple) (o : Option Triple) (l t : ℕ) (b : Bool) → cond b (word_of triple l t) (allows o l t) ≡ allows (cond b (Some triple) o) l t
+applied_word triple o l t true = refl
+applied_word triple o l t false = refl
+
+pub apply_stands : (k k' : Kept) (triple : Triple) (es : List Edit) → k'.held ≡ k.held
+    → ((l t : ℕ) → l < MEMBERS → has_seat (slice_index k'.rows l) t ≡ word_after triple l t (has_seat (slice_index k.rows l) t))
+    → StandsFor k es → StandsFor k' (Apply triple ∷ es)
+apply_stands k k' triple es held row h =
+    stands_from k' (Apply triple ∷ es)
+    (λ s. ap (λ m. nat_lt s MEMBERS && has_seat m s) held ∙ h.seats s)
+    (λ l t p q d. row l t (held_below k es l h p) ∙ ap (word_after triple l t) (row_from k es l t h p q d)
+    ∙ applied_word triple (last_word es l t) l t (speaks_of triple l t))
+
+-- ---- triples in order
+
+apply_all-push : (triples : List Triple) (triple : Triple) (es : List Edit) → apply_all (triples ++ triple ∷ []) es ≡ Apply triple ∷ apply_all triples es
+apply_all-push [] triple es = refl
+apply_all-push (t ∷ ts) triple es = apply_all-push ts triple (Apply t ∷ es)
+
+-- the triples so far, and one more
+pub apply_all-more : (triples : List Triple) (i : ℕ) (triple : Triple) (es : List Edit) → i < length triples → triple ≡ get_or triples i triple
+    → apply_all (take (i + 1) triples) es ≡ Apply triple ∷ apply_all (take i triples) es
+apply_all-more triples i triple es p e =
+    ap (λ x. apply_all x es) (take_more triples i triple p) ∙ apply_all-push (take i triples) (get_or triples i triple) es
+    ∙ ap (λ t. Apply t ∷ apply_all (take i triples) es) (sym e)
+
+-- ---- what a topology tells
+
+-- the row of a held listener, without itself and the seats that nobody holds
+pub row_tells : (k : Kept) (l t : ℕ) (b : Bool) → k.held < 2 ^ MEMBERS → holds k l ≡ true
+    → b ≡ cond (t == l) false (has_seat (slice_index k.rows l) t && has_seat k.held t) → b ≡ hears k l t
+row_tells k l t b p q e = grind (arith, nat_tests, has_seat-inside k.held t p)

@@ -1,0 +1,50 @@
+-- The edits of one context, newest first, and what they say of its seats (RFC 3525, section 7.1.18).
+-- That a newcomer and each member hear each other is this project's own rule.
+use Rattle.std.specs.Prelude.{ℕ, Bool, true, false, not, ◌&&◌, ◌||◌, ◌==◌, Option, Some, None, if◌then◌else◌, List, [], ◌∷◌}
+use Rattle.mg_topology.specs.Triple.{speaks_of, word_of}
+use Rattle.mg_topology.specs.declared.triple.Triple.{Triple}
+
+-- a seat is taken or left, or a triple is applied
+pub data Edit : Type 0 where
+  Enter : (seat : ℕ) → Edit
+  Leave : (seat : ℕ) → Edit
+  Apply : (triple : Triple) → Edit
+
+-- whether the seat is held: the last of its Enters and Leaves is an Enter
+abbrev pub is_held : List Edit → ℕ → Bool
+is_held [] seat = false
+is_held (Enter n ∷ es) seat = if seat == n then true else is_held es seat
+is_held (Leave n ∷ es) seat = if seat == n then false else is_held es seat
+is_held (Apply triple ∷ es) seat = is_held es seat
+
+-- the last word on a pair: the last triple that speaks of it after the latest Enter of each
+abbrev pub last_word : List Edit → ℕ → ℕ → Option Triple
+last_word [] a b = None
+last_word (Enter n ∷ es) a b = if (a == n) || (b == n) then None else last_word es a b
+last_word (Leave n ∷ es) a b = last_word es a b
+last_word (Apply triple ∷ es) a b = if speaks_of triple a b then Some triple else last_word es a b
+
+-- whether a last word lets the listener hear the talker: it does where there is none
+abbrev pub allows : Option Triple → ℕ → ℕ → Bool
+allows None listener talker = true
+allows (Some triple) listener talker = word_of triple listener talker
+
+-- whether the last word on the two lets the listener hear the talker
+abbrev pub lets_hear : List Edit → ℕ → ℕ → Bool
+lets_hear es listener talker = allows (last_word es listener talker) listener talker
+
+-- whether the listener hears the talker: both are held, they differ, and the last word lets it
+abbrev pub hears_in : List Edit → ℕ → ℕ → Bool
+hears_in es listener talker =
+    is_held es listener && (is_held es talker && (not (listener == talker) && lets_hear es listener talker))
+
+-- the edits, and then the triples in order
+abbrev pub apply_all : List Triple → List Edit → List Edit
+apply_all [] es = es
+apply_all (triple ∷ triples) es = apply_all triples (Apply triple ∷ es)
+
+-- whether the edit can change the last word on the pair
+abbrev pub touches : Edit → ℕ → ℕ → Bool
+touches (Enter n) a b = (a == n) || (b == n)
+touches (Leave n) a b = false
+touches (Apply triple) a b = speaks_of triple a b

@@ -1,0 +1,4 @@
+pub mod Edits
+pub mod Mask
+pub mod Topology
+pub mod Triple

@@ -1,0 +1,43 @@
+-- What one triple of a topology descriptor says (RFC 3525, section 7.1.18).
+use Rattle.std.specs.Prelude.{◌≡◌, ℕ, Bool, true, false, ◌&&◌, ◌||◌, not, if◌then◌else◌}
+use Rattle.mg_topology.specs.Mask.{has_seat, is_disjoint, HaveCommonSeat}
+use Rattle.mg_topology.specs.declared.triple.Triple.{Triple}
+use Rattle.mg_topology.specs.declared.association.Association.{Association}
+use Rattle.mg_topology.specs.declared.association.Association.TheVariants.{Isolate, Oneway, Bothway}
+
+-- the triple's own direction leads from the talker to the listener: from its first set to its second
+abbrev pub leads : Triple → ℕ → ℕ → Bool
+leads triple talker listener = has_seat triple.first talker && has_seat triple.second listener
+
+-- it speaks of a pair where one of the two is in its first set and the other in its second
+abbrev pub speaks_of : Triple → ℕ → ℕ → Bool
+speaks_of triple a b = leads triple a b || leads triple b a
+
+-- whether an association lets the listener hear the talker, by whether its direction leads there
+abbrev pub lets : Association → Bool → Bool
+lets Isolate forward = false
+lets Oneway forward = forward
+lets Bothway forward = true
+
+-- what a triple says of a pair that it speaks of: whether the listener hears the talker
+abbrev pub word_of : Triple → ℕ → ℕ → Bool
+word_of triple listener talker = lets triple.association (leads triple talker listener)
+
+-- what holds of a pair after the triple, by what held before
+abbrev pub word_after : Triple → ℕ → ℕ → Bool → Bool
+word_after triple listener talker before =
+    if speaks_of triple listener talker then word_of triple listener talker else before
+
+-- a Oneway triple has a seat in both of its sets
+abbrev pub Overlaps : Triple → Type 0
+Overlaps triple = (triple.association ≡ Oneway) × HaveCommonSeat triple.first triple.second
+
+-- whether the association is Oneway
+abbrev pub is_oneway : Association → Bool
+is_oneway Isolate = false
+is_oneway Oneway = true
+is_oneway Bothway = false
+
+-- the same as `Overlaps`, as a test (`overlap_is_a_common_seat` in src/laws.rt)
+abbrev pub overlaps : Triple → Bool
+overlaps triple = is_oneway triple.association && not (is_disjoint triple.first triple.second)

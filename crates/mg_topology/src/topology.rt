@@ -1,0 +1,165 @@
+ghost use Rattle.std.specs.Prelude.{◌≡◌, ℕ, ◌<◌, ◌↔◌, ◌∷◌, [], List, true, false, slice_index, if◌then◌else◌, ◌==◌, Any, IsTrue, IsFalse, IsErr, OnOk, OnErr};
+ghost use Rattle.std.specs.List.{list_any};
+ghost use Rattle.mg_topology.specs.Mask.{has_seat};
+ghost use Rattle.mg_topology.specs.Triple.{overlaps, word_after, Overlaps};
+
+use crate::mask::{self, MEMBERS, Mask};
+use crate::{Overlap, Triple};
+use std::marker::Model;
+
+/// Who hears whom among the seats of one context.
+///
+/// Contracts see the held seats and the rows as they are kept, and read them by `holds`, `hears`
+/// and `StandsFor`. [`Topology::new`] stands for the empty list of edits, and each call leads from
+/// the lists that the topology stood for to those with its edits, so each topology stands for one.
+#[derive(Debug, Drop)]
+pub struct Topology {
+    held: Mask,
+    rows: [Mask; MEMBERS],
+}
+
+impl Model for Topology {
+    ghost use Rattle.mg_topology.specs.Topology.{Kept};
+
+    ghost Value = { Kept };
+
+    ghost view = { λ t. record { held = t.held; rows = t.rows } };
+}
+
+impl Topology {
+    ghost use Rattle.mg_topology.specs.Edits.{Edit, Enter, Leave, Apply, is_held, hears_in, apply_all};
+    ghost use Rattle.mg_topology.specs.Topology.{holds, hears, StandsFor};
+
+    /// The topology of a context that nobody has entered.
+    pub fn new() -> Self
+        ensures { StandsFor result [] }
+    {
+        Topology {
+            held: mask::EMPTY,
+            rows: [mask::EMPTY; MEMBERS],
+        }
+    }
+
+    /// Whether the seat is held, which no seat from [`MEMBERS`] on is.
+    pub fn holds(&self, seat: usize) -> bool
+        ensures kept { result ≡ holds self.now seat }
+        ensures edits { (es : List Edit) → StandsFor self.now es → result ≡ is_held es seat }
+    {
+        seat < MEMBERS && mask::has_seat(self.held, seat)
+    }
+
+    /// The seats that are held.
+    pub fn held(&self) -> Mask
+        ensures kept { (seat : ℕ) → has_seat result seat ≡ holds self.now seat }
+        ensures edits { (es : List Edit) → StandsFor self.now es → (seat : ℕ) →
+            has_seat result seat ≡ is_held es seat }
+    {
+        self.held
+    }
+
+    /// A member takes the free seat. It hears all others and is heard by them.
+    pub fn enter(&mut self, seat: usize)
+        requires below_limit { seat < MEMBERS }
+        requires free { IsFalse (holds self.old seat) }
+        ensures { (es : List Edit) → StandsFor self.old es → StandsFor self.new (Enter seat ∷ es) }
+    {
+        self.held = mask::with_seat(self.held, seat);
+        let_all_hear(&mut self.rows, seat);
+        self.rows[seat] = mask::FULL;
+    }
+
+    /// The member on the seat leaves. Nothing changes between the others.
+    pub fn leave(&mut self, seat: usize)
+        requires held { IsTrue (holds self.old seat) }
+        ensures { (es : List Edit) → StandsFor self.old es → StandsFor self.new (Leave seat ∷ es) }
+    {
+        self.held = mask::without_seat(self.held, seat);
+    }
+
+    /// Applies all triples in order, so that of those that speak of a pair the last one counts, or
+    /// none of them, where a Oneway triple has a seat in both of its sets.
+    pub fn apply(&mut self, triples: &[Triple]) -> Result<(), Overlap>
+        ensures overlap { IsErr result ↔ Any Overlaps triples.now }
+        ensures ok { OnOk result ((es : List Edit) → StandsFor self.old es →
+            StandsFor self.new (apply_all triples.now es)) }
+        ensures err { OnErr result (self.new ≡ self.old) }
+    {
+        if any_overlaps(triples) {
+            return Err(Overlap);
+        }
+        for triple in triples {
+            self.apply_one(triple);
+        }
+        Ok(())
+    }
+
+    #[tactic(auto, using(crate::proofs::TopologyLemmas::apply_stands))]
+    fn apply_one(&mut self, triple: &Triple)
+        ensures { (es : List Edit) → StandsFor self.old es → StandsFor self.new (Apply triple.now ∷ es) }
+    {
+        apply_to_rows(&mut self.rows, triple);
+    }
+
+    /// The seats of the members that the listener hears. They are none where its own seat isn't held.
+    #[tactic(auto, using(crate::proofs::MaskLemmas::seat_rules))]
+    pub fn talkers(&self, listener: usize) -> Mask
+        ensures kept { (talker : ℕ) → has_seat result talker ≡ hears self.now listener talker }
+        ensures edits { (es : List Edit) → StandsFor self.now es → (talker : ℕ) →
+            has_seat result talker ≡ hears_in es listener talker }
+    {
+        if !self.holds(listener) {
+            return mask::EMPTY;
+        }
+        mask::without_seat(mask::intersection(self.rows[listener], self.held), listener)
+    }
+
+    /// Whether the listener hears the talker: both seats are held, they differ, and the last word on
+    /// the pair lets it.
+    pub fn hears(&self, listener: usize, talker: usize) -> bool
+        ensures kept { result ≡ hears self.now listener talker }
+        ensures edits { (es : List Edit) → StandsFor self.now es →
+            result ≡ hears_in es listener talker }
+    {
+        talker < MEMBERS && mask::has_seat(self.talkers(listener), talker)
+    }
+}
+
+impl Default for Topology {
+    ghost use Rattle.mg_topology.specs.Topology.{StandsFor};
+
+    ghost is_default = { λ topology. StandsFor topology [] };
+
+    fn default() -> Self {
+        Self::new()
+    }
+}
+
+/// Whether a Oneway triple has a seat in both of its sets.
+fn any_overlaps(triples: &[Triple]) -> bool
+    ensures { result ≡ list_any overlaps triples.now }
+{
+    triples.iter().any(|triple| triple.overlaps())
+}
+
+/// Lets each listener hear the seat.
+fn let_all_hear(rows: &mut [Mask; MEMBERS], seat: usize)
+    requires { seat < MEMBERS }
+    ensures { (listener talker : ℕ) → listener < MEMBERS →
+        has_seat (slice_index rows.new listener) talker ≡
+        (if talker == seat then true else has_seat (slice_index rows.old listener) talker) }
+{
+    for row in rows.iter_mut() {
+        *row = mask::with_seat(*row, seat);
+    }
+}
+
+/// Writes into each listener's row what the triple says of it.
+fn apply_to_rows(rows: &mut [Mask; MEMBERS], triple: &Triple)
+    ensures { (listener talker : ℕ) → listener < MEMBERS →
+        has_seat (slice_index rows.new listener) talker ≡
+        word_after triple.now listener talker (has_seat (slice_index rows.old listener) talker) }
+{
+    for (listener, row) in rows.iter_mut().enumerate() {
+        *row = triple.row_after(*row, listener);
+    }
+}

@@ -1,0 +1,32 @@
+-- The frames at the places, after each step.
+use Rattle.std.proofs.Common.{◌≡◌, ℕ, zero, suc, ◌+◌, ◌-◌, min, ℤ, true, List, [], ◌∷◌, length, drop, Option, Some, None, arith, refl, sym, inl, inr, ◌∙◌}
+use Rattle.std.proofs.lemmas.Bool.{cases_lt}
+use Rattle.std.proofs.lemmas.List.{get_or_append_left, get_or-append_right, get_or-drop, get_or-replicate, get_or_past, length-drop, length-replicate}
+use Rattle.mg_playout.specs.Places.{FramePlaces, frame_at, empty_places, fallen, is_empty}
+
+-- no place of empty places has a frame
+pub frame_at-empty : (n i : ℕ) → frame_at (empty_places n) i ≡ None
+frame_at-empty n i =
+    elim (cases_lt i n) [
+      | inl below ↦ get_or-replicate n i None None below
+      | inr past ↦ get_or_past (empty_places n) i None (omega (arith, length-replicate {A = Option (List ℤ)} n None))
+    ]
+
+-- after a fall each place has the frame that was so many places above
+pub frame_at-fallen : (places : FramePlaces) (count i : ℕ) → frame_at (fallen places count) i ≡ frame_at places (count + i)
+frame_at-fallen places count i =
+    let rest : FramePlaces = drop count places in
+    let long = length-drop count places in
+    elim (cases_lt i (length rest)) [
+      | inl below ↦ get_or_append_left rest (empty_places (min count (length places))) None i below ∙ get_or-drop count places i None
+      | inr past ↦ get_or-append_right rest (empty_places (min count (length places))) (length rest) i None refl past
+          ∙ frame_at-empty (min count (length places)) (i - length rest)
+          ∙ sym (get_or_past places (count + i) None (omega arith))
+    ]
+
+-- where no place has a frame, each place has none
+pub frame_at-is_empty : (places : FramePlaces) (i : ℕ) → is_empty places ≡ true → frame_at places i ≡ None
+frame_at-is_empty [] i e = refl
+frame_at-is_empty (None ∷ places) zero e = refl
+frame_at-is_empty (None ∷ places) (suc i) e = frame_at-is_empty places i e
+frame_at-is_empty (Some frame ∷ places) i e = cc

@@ -1,0 +1,4 @@
+pub mod Order
+pub mod Places
+pub mod Playout
+pub mod Sequence

@@ -1,0 +1,26 @@
+-- What a play list has and gives, by sequence numbers (this project's own). No call is defined by
+-- these words: the laws say by them what the steps of a play list come to.
+use Rattle.std.specs.Prelude.{◌≡◌, ℕ, zero, suc, ◌<◌, ℤ, List, Option, Some, None}
+use Rattle.mg_playout.specs.Places.{FramePlaces, frame_at, ArePlaces}
+use Rattle.mg_playout.specs.Playout.{PlayList, HasTicksLeft, ticked}
+use Rattle.mg_playout.specs.Sequence.{steps_between}
+use Rattle.mg_playout.specs.declared.source.Source.{Source}
+
+-- what holds of every play list
+pub record IsValid (list : PlayList) : Type 0 where
+  pub phase : HasTicksLeft list.phase
+  pub places : ArePlaces list.places
+  pub source : (source : Source) → list.source ≡ Some source → source.next < 65536
+
+-- the frame that waits under the sequence number, if there is one
+abbrev pub frame_from : Option Source → FramePlaces → ℕ → Option (List ℤ)
+frame_from None places sequence = None
+frame_from (Some source) places sequence = frame_at places (steps_between source.next sequence)
+
+abbrev pub frame_under : PlayList → ℕ → Option (List ℤ)
+frame_under list sequence = frame_from list.source list.places sequence
+
+-- what the next tick gives after so many others, if no frame comes in between
+abbrev pub given_after : ℕ → PlayList → Option (List ℤ)
+given_after zero list = (ticked list).1
+given_after (suc ticks) list = given_after ticks (ticked list).0

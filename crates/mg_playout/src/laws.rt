@@ -1,0 +1,69 @@
+//! What the steps of a play list come to, whatever keeps it.
+//!
+//! The functions here do nothing: their contracts are the laws, in the words of `specs/Order.antt`.
+
+ghost use Rattle.std.specs.Prelude.{◌≡◌, ◌≢◌, ℕ, ◌+◌, ◌%◌, ◌<◌, ◌≤◌, ℤ, ◌+ℤ◌, pos, List, length, FitsSigned};
+ghost use Rattle.std.specs.Int.{w16, int_rem_euclid};
+ghost use Rattle.mg_playout.specs.Order.{IsValid, frame_under, given_after};
+ghost use Rattle.mg_playout.specs.Places.{frame_at};
+ghost use Rattle.mg_playout.specs.Playout.{PlayList, depth_of, placed};
+ghost use Rattle.mg_playout.specs.Sequence.{distance_of, steps_between};
+
+use crate::phase::Phase;
+use crate::placed::Placed;
+use crate::playout::Playout;
+use crate::source::Source;
+
+/// Each play list has 2 to 16 places, each of its frames is whole, and no wait of it is over.
+pub fn play_lists_are_valid(list: &Playout)
+    ensures { IsValid list.now }
+{
+    list.know();
+}
+
+/// The distance between two sequence numbers leads from the one to the other, modulo 65536.
+pub fn distances_lead_to_the_number()
+    ensures range { (from to : ℕ) → FitsSigned w16 (distance_of from to) }
+    ensures sum { (from to : ℕ) → from < 65536 → to < 65536 →
+        int_rem_euclid (pos from +ℤ distance_of from to) (pos 65536) ≡ pos to }
+{}
+
+/// A frame that is taken in waits under its own sequence number, whenever it came.
+pub fn taken_frame_waits_under_its_number()
+    ensures { (list : PlayList) (ssrc sequence : ℕ) (frame : List ℤ) →
+        IsValid list → sequence < 65536 →
+        (placed list ssrc sequence frame).1 ≢ Placed.Late →
+        (placed list ssrc sequence frame).1 ≢ Placed.Again →
+        frame_under (placed list ssrc sequence frame).0 sequence ≡ Some frame }
+{}
+
+/// The other frames stay under their sequence numbers while there is a place for them. A start drops
+/// them all.
+pub fn other_frames_keep_their_numbers()
+    ensures stay { (list : PlayList) (ssrc sequence : ℕ) (frame : List ℤ) (after : Source) (other : ℕ) →
+        IsValid list → sequence < 65536 → other < 65536 → other ≢ sequence →
+        (placed list ssrc sequence frame).1 ≢ Placed.Started →
+        (placed list ssrc sequence frame).0.source ≡ Some after →
+        steps_between after.next other < depth_of list →
+        frame_under (placed list ssrc sequence frame).0 other ≡ frame_under list other }
+    ensures started { (list : PlayList) (ssrc sequence : ℕ) (frame : List ℤ) (other : ℕ) →
+        sequence < 65536 → other < 65536 → other ≢ sequence →
+        (placed list ssrc sequence frame).1 ≡ Placed.Started →
+        frame_under (placed list ssrc sequence frame).0 other ≡ None }
+{}
+
+/// While no frame comes, a play list that runs gives the frames in the order of their sequence
+/// numbers, one a tick, and none where one is missing. One that waits does so when its wait is over.
+pub fn ticks_give_frames_in_order()
+    ensures run { (list : PlayList) (ticks : ℕ) → list.phase ≡ Phase.Run →
+        given_after ticks list ≡ frame_at list.places ticks }
+    ensures early { (list : PlayList) (wait ticks : ℕ) → list.phase ≡ Phase.Wait wait → ticks < wait →
+        given_after ticks list ≡ None }
+    ensures wait { (list : PlayList) (wait ticks : ℕ) → list.phase ≡ Phase.Wait wait → 1 ≤ wait →
+        given_after (wait + ticks) list ≡ frame_at list.places ticks }
+
+    // The frame at a place is the one under the next sequence number plus the place.
+    ensures numbers { (list : PlayList) (source : Source) (place : ℕ) →
+        IsValid list → list.source ≡ Some source → place < 65536 →
+        frame_at list.places place ≡ frame_under list ((source.next + place) % 65536) }
+{}

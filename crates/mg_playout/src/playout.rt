@@ -1,0 +1,195 @@
+ghost use Rattle.std.specs.Prelude.{◌≡◌, ◌<◌, ◌≤◌, IfOk, IfSome};
+ghost use Rattle.mg_g711.specs.Frame.{IsFrame};
+ghost use Rattle.mg_playout.specs.declared.places.TheConstants.{MIN_DEPTH, MAX_DEPTH};
+
+use crate::phase::Phase;
+use crate::placed::Placed;
+use crate::places::{MAX_DEPTH, MIN_DEPTH, Places};
+use crate::sequence::{MAX_DROPOUT, MAX_MISORDER, distance};
+use crate::source::Source;
+use crate::turn::Turn;
+use mg_g711::Frame;
+use std::alloc::{AllocError, Global};
+use std::marker::Model;
+
+/// The frames of one RTP source, in the order of their sequence numbers.
+///
+/// Contracts see a play list as the record `PlayList` of `specs/Playout.antt`.
+#[derive(Drop)]
+pub struct Playout {
+    phase: Phase,
+    source: Option<Source>,
+    places: Places,
+}
+
+impl Model for Playout {
+    ghost use Rattle.mg_playout.specs.Playout.{PlayList};
+
+    ghost Value = { PlayList };
+
+    ghost use Rattle.mg_playout.specs.Playout.{HasTicksLeft};
+
+    ghost view = { λ p. record { phase = p.phase; source = p.source; places = p.places } };
+
+    ghost invariant = { λ p. HasTicksLeft p.phase };
+}
+
+impl Playout {
+    ghost use Rattle.mg_playout.specs.Playout.{first_state, placed, ticked, with_depth, turn_of, turn_at, started, shifted};
+    ghost use Rattle.mg_playout.specs.Places.{frame_at};
+    ghost use Rattle.mg_playout.specs.Order.{IsValid};
+
+    /// An idle play list without a source, with a depth of four places.
+    ///
+    /// It takes the memory for the most places that there may be. Fails only where that is refused.
+    pub fn new(alloc: Global) -> Result<Self, AllocError>
+        ensures first { IfOk result (λ playout. playout ≡ first_state) }
+    {
+        Ok(Playout {
+            phase: Phase::Idle,
+            source: None,
+            places: Places::new(alloc)?,
+        })
+    }
+
+    /// Places a frame by its source and its sequence number, and says what became of it.
+    pub fn place(&mut self, ssrc: u32, sequence: u16, frame: Frame) -> Placed
+        ensures step { placed self.old ssrc sequence frame ≡ (self.new, result) }
+    {
+        match self.turn(ssrc, sequence) {
+            Turn::Start => {
+                self.start(ssrc, sequence, frame);
+                Placed::Started
+            }
+            Turn::Late => Placed::Late,
+            Turn::Again => Placed::Again,
+            Turn::At(place) => {
+                self.places.put(place, frame);
+                Placed::Placed
+            }
+            Turn::Push(count) => {
+                self.shift(count);
+                let last = self.places.depth() - 1;
+                self.places.put(last, frame);
+                Placed::Pushed
+            }
+        }
+    }
+
+    /// Passes on by 20 ms, and gives the frame whose turn it is, if there is one.
+    pub fn tick(&mut self) -> Option<Frame>
+        ensures step { ticked self.old ≡ (self.new, result) }
+        ensures frame { IfSome result IsFrame }
+    {
+        match self.phase {
+            Phase::Idle => None,
+            Phase::Wait(1) => {
+                self.phase = Phase::Run;
+                None
+            }
+            Phase::Wait(ticks) => {
+                self.phase = Phase::Wait(ticks - 1);
+                None
+            }
+            Phase::Run if self.places.is_empty() => {
+                self.phase = Phase::Idle;
+                None
+            }
+            Phase::Run => self.advance(),
+        }
+    }
+
+    /// Sets the depth, in places. The frames at the places from it on are dropped.
+    ///
+    /// How long the play list waits changes with its next start.
+    pub fn set_depth(&mut self, depth: usize)
+        requires at_least { MIN_DEPTH ≤ depth }
+        requires at_most { depth ≤ MAX_DEPTH }
+        ensures step { self.new ≡ with_depth self.old depth }
+    {
+        self.places.set_depth(depth);
+    }
+
+    /// Goes back to the first state, with its depth of four places.
+    pub fn clear(&mut self)
+        ensures first { self.new ≡ first_state }
+    {
+        self.phase = Phase::Idle;
+        self.source = None;
+        self.places.clear();
+    }
+
+    /// Shows what holds of every play list, and does nothing.
+    pub(crate) fn know(&self)
+        ensures { IsValid self.now }
+    {
+        self.places.know();
+        let _next = self.source.map(|source| source.next);
+    }
+
+    /// Where the frame of a packet belongs.
+    fn turn(&self, ssrc: u32, sequence: u16) -> Turn
+        ensures { result ≡ turn_of self.now ssrc sequence }
+    {
+        match self.source {
+            Some(source) if ssrc == source.ssrc => self.turn_at(distance(source.next, sequence)),
+            _ => Turn::Start,
+        }
+    }
+
+    /// Where a frame of the source belongs, by its distance from the next one.
+    fn turn_at(&self, distance: i16) -> Turn
+        ensures { result ≡ turn_at self.now distance }
+    {
+        if distance < -MAX_MISORDER || distance >= MAX_DROPOUT {
+            return Turn::Start;
+        }
+        if distance < 0 {
+            return Turn::Late;
+        }
+        if self.phase == Phase::Idle {
+            return Turn::Start;
+        }
+        let place = usize::from(distance.unsigned_abs());
+        let depth = self.places.depth();
+        if place >= depth {
+            Turn::Push(place - depth + 1)
+        } else if self.places.is_filled(place) {
+            Turn::Again
+        } else {
+            Turn::At(place)
+        }
+    }
+
+    /// Starts anew with a frame of the source, whose sequence number becomes the next one.
+    fn start(&mut self, ssrc: u32, sequence: u16, frame: Frame)
+        ensures { self.new ≡ started self.old ssrc sequence frame }
+    {
+        self.phase = Phase::Wait((self.places.depth() / 2) as u8);
+        self.source = Some(Source {
+            ssrc,
+            next: sequence,
+        });
+        self.places.start(frame);
+    }
+
+    /// Raises the next sequence number, and lets the frames fall by as many places.
+    fn shift(&mut self, count: usize)
+        requires { count < 65536 }
+        ensures { self.new ≡ shifted self.old count }
+    {
+        let count = count as u16;
+        self.source = self.source.map(|source| source.advanced(count));
+        self.places.shift(usize::from(count));
+    }
+
+    /// Gives the frame at place 0, if there is one, and shifts by one.
+    fn advance(&mut self) -> Option<Frame>
+        ensures list { self.new ≡ shifted self.old 1 }
+        ensures value { result ≡ frame_at self.old.places 0 }
+        ensures frame { IfSome result IsFrame }
+    {
+        self.source = self.source.map(|source| source.advanced(1));
+        self.places.take_first()
+    }
+}

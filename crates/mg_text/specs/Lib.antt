@@ -1,0 +1,15 @@
+pub mod ErrorNumber
+pub mod Bytes
+pub mod Draft
+pub mod Term
+pub mod Reply
+pub mod Written
+pub mod Keyword
+pub mod Words
+pub mod Head
+pub mod Sender
+pub mod Reading
+pub mod Requests
+pub mod Grammar
+pub mod Text
+pub mod Message

@@ -1,0 +1,97 @@
+-- Reading tokens from left to right, with the first fault: what the readers of the code compute. The grammar is
+-- a relation of its own, and laws join the two.
+use Rattle.std.specs.Prelude.{◌≡◌, ℕ, suc, ◌-◌, ◌==◌, Bool, true, false, List, [], ◌∷◌, length, Option, Some, None, Result, Ok, Err, if◌then◌else◌}
+use Rattle.mg_scan.specs.declared.kind.TokenKind.{TokenKind}
+use Rattle.mg_scan.specs.declared.kind.TokenKind.TheVariants.{Word, Open, Close, Comma, Equals, Quoted, Octets}
+use Rattle.mg_scan.specs.declared.span.Span.{Span}
+use Rattle.mg_scan.specs.declared.token.Token.{Token}
+use Rattle.mg_scan.specs.Span.{text_of}
+use Rattle.mg_numbers.specs.Numbers.{number_of}
+use Rattle.mg_text.specs.declared.keyword.Keyword.{Keyword}
+use Rattle.mg_text.specs.declared.context.ContextId.{ContextId}
+use Rattle.mg_text.specs.declared.fault.ReadFault.{ReadFault}
+use Rattle.mg_text.specs.declared.fault.ReadFault.TheVariants.{NoMemory, Syntax, Version, TooMany}
+use Rattle.mg_text.specs.Keyword.{is_named, keyword_of}
+use Rattle.mg_text.specs.Words.{context_of}
+
+-- the second step behind the value of the first
+infixl 10 ◌>>=◌
+abbrev pub ◌>>=◌ : {A B : Type 0} → Result A ℕ → (A → Result B ℕ) → Result B ℕ
+(Ok x) >>= f = f x
+(Err e) >>= f = Err e
+
+-- What a reader returned, seen by view, is what reading gives, unless memory ran out. A reading's fault is the
+-- place of a syntax fault.
+abbrev pub Fails : {Y : Type 0} → ReadFault → Result Y ℕ → Type 0
+Fails NoMemory read = Unit {0}
+Fails (Syntax place) read = read ≡ Err place
+Fails (Version n) read = ⊥
+Fails TooMany read = ⊥
+
+abbrev pub Gives : {X Y : Type 0} → (X → Y) → Result X ReadFault → Result Y ℕ → Type 0
+Gives view (Ok x) read = read ≡ Ok (view x)
+Gives view (Err e) read = Fails e read
+
+abbrev pub place_of : List ℕ → List Token → ℕ
+place_of source [] = length source
+place_of source (t ∷ ts) = t.span.start
+
+abbrev pub is_kind : TokenKind → TokenKind → Bool
+is_kind Word Word = true
+is_kind Open Open = true
+is_kind Close Close = true
+is_kind Comma Comma = true
+is_kind Equals Equals = true
+is_kind Quoted Quoted = true
+is_kind Octets Octets = true
+is_kind _ _ = false
+
+unfoldable pub mark_at : List ℕ → TokenKind → List Token → Result (List Token) ℕ
+mark_at source kind [] = Err (length source)
+mark_at source kind (t ∷ ts) = if is_kind t.kind kind then Ok ts else Err t.span.start
+
+unfoldable pub word_at : List ℕ → List Token → Result (Span × List Token) ℕ
+word_at source [] = Err (length source)
+word_at source (t ∷ ts) = if is_kind t.kind Word then Ok (t.span, ts) else Err t.span.start
+
+unfoldable pub after_mark : TokenKind → List Token → Option (List Token)
+after_mark kind [] = None
+after_mark kind (t ∷ ts) = if is_kind t.kind kind then Some ts else None
+
+-- one reading if a value is there, another if not
+abbrev pub if_some : {A B : Type 0} → Option A → (A → B) → B → B
+if_some None f b = b
+if_some (Some a) f b = f a
+
+unfoldable pub named_at : List ℕ → Keyword → List Token → Result (List Token) ℕ
+named_at source keyword ts = do
+  w ← word_at source ts
+  if is_named (text_of source w.0) keyword then Ok w.1 else Err w.0.start
+
+-- what a word stands for, by its text
+unfoldable pub worded_at : {X : Type 0} → (List ℕ → Option X) → List ℕ → List Token → Result (X × List Token) ℕ
+worded_at meaning source ts = do
+  w ← word_at source ts
+  if_some (meaning (text_of source w.0)) (λ x. Ok (x, w.1)) (Err w.0.start)
+
+abbrev pub keyword_at : List ℕ → List Token → Result (Keyword × List Token) ℕ
+keyword_at = worded_at keyword_of
+
+abbrev pub number_at : List ℕ → List Token → Result (ℕ × List Token) ℕ
+number_at = worded_at number_of
+
+abbrev pub context_at : List ℕ → List Token → Result (ContextId × List Token) ℕ
+context_at = worded_at context_of
+
+-- what stands behind the brace that closes a group, inside of which so many groups are open
+unfoldable pub after_group : List ℕ → ℕ → List Token → Result (List Token) ℕ
+after_group source depth [] = Err (length source)
+after_group source depth (t ∷ ts) =
+    if is_kind t.kind Open then after_group source (suc depth) ts
+    else (if is_kind t.kind Close then (if depth == 0 then Ok ts else after_group source (depth - 1) ts)
+    else after_group source depth ts)
+
+unfoldable pub group_at : List ℕ → List Token → Result (List Token) ℕ
+group_at source ts = do
+  ts ← mark_at source Open ts
+  after_group source 0 ts

@@ -1,0 +1,59 @@
+-- Reading a message: its head, its sender and its body.
+use Rattle.std.specs.Prelude.{◌≡◌, ℕ, ◌==◌, Bool, true, false, min, List, length, Result, Ok, Err, if◌then◌else◌}
+use Rattle.mg_scan.specs.declared.span.Span.{Span}
+use Rattle.mg_scan.specs.declared.token.Token.{Token}
+use Rattle.mg_scan.specs.Span.{text_of}
+use Rattle.mg_text.specs.declared.fault.ReadFault.{ReadFault}
+use Rattle.mg_text.specs.declared.fault.ReadFault.TheVariants.{NoMemory, Syntax, Version, TooMany}
+use Rattle.mg_text.specs.declared.body.Body.{Body}
+use Rattle.mg_text.specs.declared.message.Message.{Message}
+use Rattle.mg_text.specs.Reading.{◌>>=◌, Gives, word_at, worded_at, place_of}
+use Rattle.mg_text.specs.Requests.{body_at}
+use Rattle.mg_text.specs.Head.{version_of}
+use Rattle.mg_text.specs.Sender.{is_sender}
+
+abbrev pub version_at : List ℕ → List Token → Result (ℕ × List Token) ℕ
+version_at = worded_at version_of
+
+unfoldable pub sender_at : List ℕ → List Token → Result (Span × List Token) ℕ
+sender_at source ts = do
+  word ← word_at source ts
+  if is_sender (text_of source word.0) then Ok word else Err word.0.start
+
+abbrev pub message_of : Span → Body → Message
+message_of sender body = record { sender = sender; body = body }
+
+unfoldable pub text_at : List ℕ → List Token → Result Message ℕ
+text_at source ts = do
+  sender ← sender_at source ts
+  body ← body_at source sender.1
+  if length body.1 == 0 then Ok (message_of sender.0 body.0) else Err (place_of source body.1)
+
+-- a fault, its place brought within a source of this length
+abbrev pub fault_within : ℕ → ReadFault → ReadFault
+fault_within len NoMemory = NoMemory
+fault_within len (Syntax place) = Syntax (min place len)
+fault_within len (Version n) = Version n
+fault_within len TooMany = TooMany
+
+-- a fact, unless memory ran out
+abbrev pub UnlessNoMemory : Result Message ReadFault → Type 0 → Type 0
+UnlessNoMemory (Ok m) P = P
+UnlessNoMemory (Err NoMemory) P = Unit {0}
+UnlessNoMemory (Err (Syntax place)) P = P
+UnlessNoMemory (Err (Version n)) P = P
+UnlessNoMemory (Err TooMany) P = P
+
+-- What reading gives where the head names a version: another version than 1 is a fault of its own, and behind
+-- version 1 a text that has a fault isn't read.
+abbrev pub GivesText : Result Message ReadFault → Bool → Bool → ℕ → Result Message ℕ → Type 0
+GivesText result false faulty n text = result ≡ Err (Version n)
+GivesText result true true n text = (place : ℕ) × (result ≡ Err (Syntax place))
+GivesText result true false n text = Gives (λ m. m) result text
+
+abbrev pub GivesBehind : Result Message ReadFault → Result (ℕ × List Token) ℕ → Bool → (List Token → Result Message ℕ) → Type 0
+GivesBehind result (Ok v) faulty text = GivesText result (v.0 == 1) faulty v.0 (text v.1)
+GivesBehind result (Err place) faulty text = (place : ℕ) × (result ≡ Err (Syntax place))
+
+abbrev pub GivesVersioned : Result Message ReadFault → Result (ℕ × List Token) ℕ → Bool → (List Token → Result Message ℕ) → Type 0
+GivesVersioned result version faulty text = UnlessNoMemory result (GivesBehind result version faulty text)

@@ -1,0 +1,35 @@
+ghost use Rattle.std.specs.Prelude.{◌≡◌};
+ghost use Rattle.mg_text.specs.Reading.{Gives, after_group, group_at};
+
+use crate::fault::ReadFault;
+use crate::marks::{is_kind, mark_at};
+use mg_scan::{Token, TokenKind};
+
+/// What stands behind the brace that closes a group, whose opening brace was read.
+#[tactic(auto, using(crate::proofs::GroupSteps::steps))]
+fn after_group<'t>(source: &[u8], tokens: &'t [Token]) -> Result<&'t [Token], ReadFault>
+    ensures { Gives (λ x. x.now) result (after_group source.now 0 tokens.now) }
+{
+    let mut depth: usize = 0;
+    for (i, token) in tokens.iter().enumerate() {
+        if is_kind(token.kind, TokenKind::Open) {
+            depth += 1;
+        } else if is_kind(token.kind, TokenKind::Close) {
+            if depth == 0 {
+                let (_, rest) = tokens.split_at(i + 1);
+                return Ok(rest);
+            }
+            depth -= 1;
+        }
+    }
+    Err(ReadFault::Syntax(source.len()))
+}
+
+/// What stands behind a group: braces and what is between them, with balanced braces.
+#[tactic(auto, unfolding(crate::specs::Reading::group_at))]
+pub fn group_at<'t>(source: &[u8], tokens: &'t [Token]) -> Result<&'t [Token], ReadFault>
+    ensures { Gives (λ x. x.now) result (group_at source.now tokens.now) }
+{
+    let tokens = mark_at(source, TokenKind::Open, tokens)?;
+    after_group(source, tokens)
+}

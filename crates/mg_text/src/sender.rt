@@ -1,0 +1,70 @@
+ghost use Rattle.std.specs.Prelude.{◌≡◌, ◌<◌, ◌≤◌, length};
+ghost use Rattle.std.specs.List.{list_all};
+ghost use Rattle.mg_text.specs.Sender.{is_sender, is_domain_byte, is_domain, is_port_part, is_address_host, is_domain_host};
+
+use mg_numbers::{address_of, cut, port_of};
+
+/// Whether a byte may stand in a domain name: a letter, a digit, `-` or `.`.
+fn is_domain_byte(b: u8) -> bool
+    ensures value { result ≡ is_domain_byte b }
+{
+    b.is_ascii_alphanumeric() || b == b'-' || b == b'.'
+}
+
+/// Whether each byte of a text may stand in a domain name.
+fn all_domain_bytes(text: &[u8]) -> bool
+    ensures value { result ≡ list_all is_domain_byte text.now }
+{
+    text.iter().all(|b| is_domain_byte(*b))
+}
+
+/// Whether a text is a domain name of 1 to 64 bytes.
+fn is_domain(text: &[u8]) -> bool
+    ensures value { result ≡ is_domain text.now }
+{
+    !text.is_empty() && text.len() <= 64 && all_domain_bytes(text)
+}
+
+/// Whether a text is empty, or a colon and a port.
+fn is_port_part(text: &[u8]) -> bool
+    ensures value { result ≡ is_port_part text.now }
+{
+    match text {
+        [] => true,
+        [b':', port @ ..] => port_of(port).is_some(),
+        _ => false,
+    }
+}
+
+/// Whether a text, behind its opening bracket, is an IPv4 address, the closing bracket, and perhaps a port.
+fn is_address_host(text: &[u8]) -> bool
+    ensures value { result ≡ is_address_host text.now }
+{
+    match cut(b']', text) {
+        Some((address, port)) => address_of(address).is_some() && is_port_part(port),
+        None => false,
+    }
+}
+
+/// Whether a text, behind its opening mark, is a domain name, the closing mark, and perhaps a port.
+fn is_domain_host(text: &[u8]) -> bool
+    ensures value { result ≡ is_domain_host text.now }
+{
+    match cut(b'>', text) {
+        Some((domain, port)) => is_domain(domain) && is_port_part(port),
+        None => false,
+    }
+}
+
+/// Whether a word names a sender: an IPv4 address in brackets, a domain name in angle brackets, each perhaps
+/// with a port, or a device name of 1 to 64 bytes.
+pub fn is_sender(text: &[u8]) -> bool
+    ensures value { result ≡ is_sender text.now }
+{
+    match text {
+        [] => false,
+        [b'[', rest @ ..] => is_address_host(rest),
+        [b'<', rest @ ..] => is_domain_host(rest),
+        _ => text.len() <= 64,
+    }
+}

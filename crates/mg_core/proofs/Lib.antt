@@ -1,0 +1,7 @@
+pub mod PortLaws
+pub mod AnswerLaws
+pub mod EscapeSteps
+pub mod OutputLaws
+pub mod WriterLaws
+pub mod LineLaws
+pub mod RunLaws

@@ -1,0 +1,22 @@
+use Rattle.std.proofs.Common.{◌-◌, length, take, drop, sym, ap, arith}
+use Rattle.std.proofs.lemmas.List.{take_rest, take-append-drop, length-drop}
+use Rattle.std.proofs.lemmas.Result.{err_from_is_err_and}
+use Rattle.mg_core.proofs.WriterLaws.{front_more, stops}
+use Rattle.mg_core.proofs.output.write_whole.Goals as goal
+
+pub returns-in_err-at : goal.returns-in_err-at
+returns-in_err-at g c =
+    let p = err_from_is_err_and c.from_residual.result c.from_residual.ensures.1 in
+    rw (p.1, p.2) (record { value = stops (g.W.Write.contents c.args.writer.now) (g.W.Write.contents c.loop.writer) (g.W.Write.contents c.write_some.new.writer) c.args.text.now (take (length c.args.text.now - c.loop.at) (drop c.loop.at c.args.text.now)) c.loop.at c.in_err-at.field-0.0 c.loop.invariant.written c.in_err-at.ensures.value })
+
+pub loop-preserved : goal.loop-preserved
+loop-preserved g c =
+    let text = c.args.text.now in
+    let rest = take_rest text c.loop.at in
+    record {
+      within = omega (arith, c.in_ok-at.ensures.value.0, ap length rest, length-drop c.loop.at text, c.loop.invariant.within);
+      written = front_more _ _ _ text (take (length text - c.loop.at) (drop c.loop.at text)) c.loop.at c.in_ok-at.field-0 c.loop.invariant.within rest c.loop.invariant.written c.in_ok-at.ensures.value.1;
+    }
+
+pub returns : goal.returns
+returns g c = record { value = (take c.loop.at c.args.text.now, drop c.loop.at c.args.text.now, sym (take-append-drop c.loop.at c.args.text.now), c.loop.invariant.written) }

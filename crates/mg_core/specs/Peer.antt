@@ -1,0 +1,22 @@
+-- Peers by their texts.
+use Rattle.std.specs.Prelude.{ℕ, List, ◌++◌, Option, Some, codes, decimal}
+use Rattle.mg_numbers.specs.Numbers.{port_of}
+use Rattle.mg_numbers.specs.Address.{◌>>=◌, address_of}
+use Rattle.mg_numbers.specs.Cut.{cut}
+use Rattle.mg_text.specs.Written.{address_text}
+use Rattle.mg_core.specs.declared.peer.Peer.{Peer}
+
+abbrev pub peer : List ℕ → ℕ → Peer
+peer address port = record { address = address; port = port }
+
+-- an address, a colon and a port
+unfoldable pub peer_of : List ℕ → Option Peer
+peer_of text = do
+  parts ← cut 58 text
+  address ← address_of parts.0
+  port ← port_of parts.1
+  Some (peer address port)
+
+-- the text of a peer, in plain decimal
+abbrev pub peer_text : Peer → List ℕ
+peer_text p = address_text p.address ++ (codes ":" ++ decimal p.port)

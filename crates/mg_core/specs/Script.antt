@@ -1,0 +1,108 @@
+-- Scripts: text lines that stand for the events of a gateway, and the lines that it writes for its answers. The format
+-- is this gateway's own.
+use Rattle.std.specs.Prelude.{◌≡◌, ℕ, ◌-◌, Bool, true, false, ◌&&◌, ◌==◌, nat_le, nat_lt, List, [], ◌∷◌, ◌++◌, length, take, flat_map, Option, Some, None, Result, Ok, Err, codes, slice_index, if◌then◌else◌}
+use Rattle.std.specs.Str.{bytes_eq}
+use Rattle.std.specs.Option.{option_map}
+use Rattle.hex.specs.Hex.{decode_of}
+use Rattle.hex.specs.declared.error.FromHexError.{FromHexError}
+use Rattle.mg_numbers.specs.Cut.{cut}
+use Rattle.mg_numbers.specs.Address.{◌>>=◌}
+use Rattle.mg_core.specs.declared.event.Event.{Event}
+use Rattle.mg_core.specs.declared.event.Event.TheVariants.{Control, Tick}
+use Rattle.mg_core.specs.declared.script.Spelling.{Spelling}
+use Rattle.mg_core.specs.declared.script.Spelling.TheVariants.{Text, Digits}
+use Rattle.mg_core.specs.declared.script.LineFault.{LineFault}
+use Rattle.mg_core.specs.declared.script.LineFault.TheVariants as faults
+use Rattle.mg_core.specs.Peer.{peer_of}
+
+-- A line's text: without the line feed at its end, and without one carriage return before that.
+abbrev pub without_return : List ℕ → List ℕ
+without_return line = if slice_index line (length line - 1) == 13 then take (length line - 1) line else line
+
+-- The lines of a text behind a line that was begun. The last line may lack its line feed.
+unfoldable pub lines_behind : List ℕ → List ℕ → List (List ℕ)
+lines_behind begun [] = if length begun == 0 then [] else begun ∷ []
+lines_behind begun (b ∷ bs) = if b == 10 then without_return begun ∷ lines_behind [] bs else lines_behind (begun ++ b ∷ []) bs
+
+abbrev pub lines_of : List ℕ → List (List ℕ)
+lines_of text = lines_behind [] text
+
+-- a visible ASCII byte or a space
+abbrev pub is_plain : ℕ → Bool
+is_plain b = nat_le 32 b && nat_le b 126
+
+-- what a byte behind a backslash stands for
+abbrev pub escaped_byte : ℕ → Option ℕ
+escaped_byte b = if b == 110 then Some 10 else (if b == 114 then Some 13 else (if b == 92 then Some 92 else None))
+
+-- The bytes of a text in which \n, \r and \\ stand for a line feed, a carriage return and a backslash. A backslash may
+-- stand before it.
+unfoldable pub unescaped : Bool → List ℕ → Option (List ℕ)
+unescaped true [] = None
+unescaped false [] = Some []
+unescaped true (b ∷ bs) = escaped_byte b >>= λ byte. option_map (λ rest. byte ∷ rest) (unescaped false bs)
+unescaped false (b ∷ bs) =
+    if b == 92 then unescaped true bs
+    else (if is_plain b then option_map (λ rest. b ∷ rest) (unescaped false bs) else None)
+
+-- the same bytes as such a text
+abbrev pub escape_of : ℕ → List ℕ
+escape_of b = if b == 10 then codes "\\n" else (if b == 13 then codes "\\r" else (if b == 92 then codes "\\\\" else b ∷ []))
+
+abbrev pub escaped : List ℕ → List ℕ
+escaped bytes = flat_map escape_of bytes
+
+-- a value, if there is one
+abbrev pub ok_of : Result (List ℕ) FromHexError → Option (List ℕ)
+ok_of (Ok bytes) = Some bytes
+ok_of (Err e) = None
+
+-- a datagram has at most 65,535 bytes
+abbrev pub datagram : List ℕ → Option (List ℕ)
+datagram bytes = if nat_le (length bytes) 65535 then Some bytes else None
+
+-- how a key word says that bytes are spelled
+unfoldable pub spelling_of : List ℕ → Option Spelling
+spelling_of key = if bytes_eq key (codes "say") then Some Text else (if bytes_eq key (codes "control") then Some Digits else None)
+
+-- what the last part of a line spells: a text, or hexadecimal digits in either case
+abbrev pub spelled_bytes : Option Spelling → List ℕ → Option (List ℕ)
+spelled_bytes (Some Text) spelled = unescaped false spelled
+spelled_bytes (Some Digits) spelled = ok_of (decode_of spelled)
+spelled_bytes None spelled = None
+
+abbrev pub bytes_of : List ℕ → List ℕ → Option (List ℕ)
+bytes_of key spelled = spelled_bytes (spelling_of key) spelled
+
+abbrev pub an_event : Event → Option (Option Event)
+an_event e = Some (Some e)
+
+-- a line of three parts with one space between each two: a key word, a peer, and the bytes of a datagram
+unfoldable pub control_of : List ℕ → Option (Option Event)
+control_of line = do
+  first ← cut 32 line
+  second ← cut 32 first.1
+  source ← peer_of second.0
+  bytes ← bytes_of first.0 second.1
+  bytes ← datagram bytes
+  an_event (Control source bytes)
+
+-- an empty line, or one that begins with #
+abbrev pub is_comment : List ℕ → Bool
+is_comment [] = true
+is_comment (b ∷ bs) = b == 35
+
+-- The event that a line stands for, `Some None` for a line that stands for none, and `None` for a bad line. A line has
+-- at most 140,000 bytes.
+unfoldable pub event_of : List ℕ → Option (Option Event)
+event_of line =
+    if nat_lt 140000 (length line) then None
+    else (if is_comment line then Some None
+    else (if bytes_eq line (codes "tick") then an_event Tick
+    else control_of line))
+
+-- what a reader of a line answered, seen by view, is the value that the line stands for, unless memory ran out
+abbrev pub Reads : {X Y : Type 0} → (X → Y) → Result X LineFault → Option Y → Type 0
+Reads view (Ok x) o = o ≡ Some (view x)
+Reads view (Err faults.Bad) o = o ≡ None
+Reads view (Err faults.NoMemory) o = Unit {0}

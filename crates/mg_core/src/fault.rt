@@ -1,0 +1,44 @@
+use std::alloc::AllocError;
+use thiserror::Error;
+
+/// Why a gateway was not started.
+#[derive(Clone, Copy, Debug, PartialEq, Eq, Error)]
+pub enum StartFault {
+    /// The configuration isn't sound, as `Config::is_sound` tells.
+    #[error("bad configuration")]
+    BadConfig,
+    #[error("no memory")]
+    NoMemory,
+}
+
+/// Memory ran out in reading a control datagram. Nothing has changed but the last answer, which is empty.
+#[derive(Clone, Copy, Debug, PartialEq, Eq, Error)]
+#[error("no memory")]
+pub struct NoMemory;
+
+/// Why a script was not run to its end.
+#[derive(Clone, Copy, Debug, PartialEq, Eq, Error)]
+pub enum RunFault {
+    /// The line with this number, counted from 1, is no script line.
+    #[error("line {0}: bad script line")]
+    Script(u64),
+    #[error("read failed")]
+    Read,
+    #[error("write failed")]
+    Write,
+    #[error("no memory")]
+    NoMemory,
+    #[error("bad configuration")]
+    BadConfig,
+}
+
+impl From<AllocError> for StartFault {
+    ghost use Rattle.std.specs.Prelude.{◌≡◌};
+    ghost use Rattle.mg_core.specs.declared.fault.StartFault.TheVariants as faults;
+
+    ghost from_gives = { λ _ e. e ≡ faults.NoMemory };
+
+    fn from(_value: AllocError) -> Self {
+        StartFault::NoMemory
+    }
+}

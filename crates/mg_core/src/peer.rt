@@ -1,0 +1,22 @@
+ghost use Rattle.std.specs.Prelude.{◌≡◌};
+ghost use Rattle.mg_core.specs.Peer.{peer_of};
+
+use mg_numbers::{address_of, cut, port_of};
+
+/// An IPv4 address and a UDP port: where a datagram came from, or where one goes.
+#[derive(Clone, Copy, Debug, PartialEq, Eq)]
+pub struct Peer {
+    pub address: [u8; 4],
+    pub port: u16,
+}
+
+/// The peer that a text names: an address, a colon and a port.
+#[tactic(auto, unfolding(crate::specs::Peer::peer_of))]
+pub fn peer_of(text: &[u8]) -> Option<Peer>
+    ensures value { result ≡ peer_of text.now }
+{
+    let (address, port) = cut(b':', text)?;
+    let address = address_of(address)?;
+    let port = port_of(port)?;
+    Some(Peer { address, port })
+}

@@ -1,0 +1,186 @@
+ghost use Rattle.std.specs.Prelude.{◌≡◌, false};
+ghost use Rattle.mg_core.specs.Script.{Reads, is_plain, escaped_byte, unescaped, ok_of, spelling_of, bytes_of, datagram, control_of, is_comment, event_of};
+ghost use Rattle.hex.specs.Hex.{decode_of};
+
+use crate::event::Event;
+use crate::peer::peer_of;
+use hex::FromHexError;
+use mg_numbers::cut;
+use mg_text::Items;
+use std::alloc::{AllocError, AllocFailed, Global};
+
+/// The bytes of the longest line of a script.
+pub const LINE_LIMIT: usize = 140000;
+
+/// The bytes of the longest datagram.
+pub const DATAGRAM_LIMIT: usize = 65535;
+
+/// Why a line was not read.
+#[derive(Clone, Copy, Debug, PartialEq, Eq)]
+pub enum LineFault {
+    /// It is no line of a script.
+    Bad,
+    NoMemory,
+}
+
+impl From<AllocError> for LineFault {
+    ghost use Rattle.std.specs.Prelude.{◌≡◌};
+    ghost use Rattle.mg_core.specs.declared.script.LineFault.TheVariants as faults;
+
+    ghost from_gives = { λ _ e. e ≡ faults.NoMemory };
+
+    fn from(_value: AllocError) -> Self {
+        LineFault::NoMemory
+    }
+}
+
+impl<T: Drop> From<AllocFailed<T>> for LineFault {
+    ghost use Rattle.std.specs.Prelude.{◌≡◌};
+    ghost use Rattle.mg_core.specs.declared.script.LineFault.TheVariants as faults;
+
+    ghost from_gives = { λ _ e. e ≡ faults.NoMemory };
+
+    fn from(_value: AllocFailed<T>) -> Self {
+        LineFault::NoMemory
+    }
+}
+
+/// Whether a byte stands for itself in a text: visible ASCII or a space.
+fn is_plain(b: u8) -> bool
+    ensures value { result ≡ is_plain b }
+{
+    matches!(b, 0x20..=0x7E)
+}
+
+/// What a byte behind a backslash stands for.
+fn escaped_byte(b: u8) -> Option<u8>
+    ensures value { result ≡ escaped_byte b }
+{
+    match b {
+        b'n' => Some(b'\n'),
+        b'r' => Some(b'\r'),
+        b'\\' => Some(b'\\'),
+        _ => None,
+    }
+}
+
+/// The bytes of a text with escapes.
+#[tactic(auto, using(crate::proofs::EscapeSteps::steps))]
+fn unescape(alloc: Global, text: &[u8]) -> Result<Vec<u8>, LineFault>
+    ensures { Reads (λ bytes. bytes.items) result (unescaped false text.now) }
+{
+    let mut bytes = Vec::new(alloc);
+    let mut is_escaped = false;
+    for b in text {
+        if is_escaped {
+            let Some(byte) = escaped_byte(*b) else {
+                return Err(LineFault::Bad);
+            };
+            bytes.push(byte)?;
+            is_escaped = false;
+        } else if *b == b'\\' {
+            is_escaped = true;
+        } else if is_plain(*b) {
+            bytes.push(*b)?;
+        } else {
+            return Err(LineFault::Bad);
+        }
+    }
+    if is_escaped {
+        return Err(LineFault::Bad);
+    }
+    Ok(bytes)
+}
+
+/// The bytes of hexadecimal digits.
+fn unhex(alloc: Global, digits: &[u8]) -> Result<Vec<u8>, LineFault>
+    ensures { Reads (λ bytes. bytes.items) result (ok_of (decode_of digits.now)) }
+{
+    match hex::decode(alloc, digits) {
+        Ok(bytes) => Ok(bytes),
+        Err(FromHexError::OutOfMemory) => Err(LineFault::NoMemory),
+        Err(_) => Err(LineFault::Bad),
+    }
+}
+
+/// How a line spells a datagram, by its first part.
+#[derive(Clone, Copy, Debug, PartialEq, Eq)]
+enum Spelling {
+    /// As a text with escapes.
+    Text,
+    /// As hexadecimal digits.
+    Digits,
+}
+
+/// The spelling that a key word stands for.
+#[tactic(auto, unfolding(crate::specs::Script::spelling_of))]
+fn spelling_of(key: &[u8]) -> Option<Spelling>
+    ensures value { result ≡ spelling_of key.now }
+{
+    if key == b"say".as_slice() {
+        Some(Spelling::Text)
+    } else if key == b"control".as_slice() {
+        Some(Spelling::Digits)
+    } else {
+        None
+    }
+}
+
+/// The bytes that the last part of a line spells behind its key word.
+fn bytes_of(alloc: Global, key: &[u8], spelled: &[u8]) -> Result<Vec<u8>, LineFault>
+    ensures { Reads (λ bytes. bytes.items) result (bytes_of key.now spelled.now) }
+{
+    match spelling_of(key) {
+        Some(Spelling::Text) => unescape(alloc, spelled),
+        Some(Spelling::Digits) => unhex(alloc, spelled),
+        None => Err(LineFault::Bad),
+    }
+}
+
+/// A control datagram: a key word, a peer and bytes, with one space between each two.
+#[tactic(auto, unfolding(crate::specs::Script::control_of))]
+fn control_of(alloc: Global, line: &[u8]) -> Result<Option<Event>, LineFault>
+    ensures { Reads (λ event. event) result (control_of line.now) }
+{
+    let Some((key, rest)) = cut(b' ', line) else {
+        return Err(LineFault::Bad);
+    };
+    let Some((peer, spelled)) = cut(b' ', rest) else {
+        return Err(LineFault::Bad);
+    };
+    let Some(source) = peer_of(peer) else {
+        return Err(LineFault::Bad);
+    };
+    let bytes = bytes_of(alloc, key, spelled)?;
+    if bytes.len() > DATAGRAM_LIMIT {
+        return Err(LineFault::Bad);
+    }
+    Ok(Some(Event::Control(source, Items::new(bytes))))
+}
+
+/// Whether a line stands for no event: an empty one, or a comment.
+fn is_comment(line: &[u8]) -> bool
+    ensures value { result ≡ is_comment line.now }
+{
+    match line {
+        [] => true,
+        [b, ..] => *b == b'#',
+    }
+}
+
+/// The event that a line stands for, without the end of the line.
+#[tactic(auto, unfolding(crate::specs::Script::event_of))]
+pub fn event_of(alloc: Global, line: &[u8]) -> Result<Option<Event>, LineFault>
+    ensures { Reads (λ event. event) result (event_of line.now) }
+{
+    if line.len() > LINE_LIMIT {
+        return Err(LineFault::Bad);
+    }
+    if is_comment(line) {
+        return Ok(None);
+    }
+    match line {
+        b"tick" => Ok(Some(Event::Tick)),
+        _ => control_of(alloc, line),
+    }
+}

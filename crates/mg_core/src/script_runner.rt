@@ -1,0 +1,156 @@
+ghost use Rattle.std.specs.Prelude.{◌≡◌, ◌+◌, ◌*◌, ◌^◌, ◌<◌, ◌≤◌, [], ℕ, List, length, Some, OnOk, IfOk, Result};
+ghost use Rattle.mg_core.specs.Config.{IsSound};
+ghost use Rattle.mg_core.specs.Script.{without_return};
+ghost use Rattle.mg_core.specs.Run.{ScriptRan};
+ghost use Rattle.mg_core.specs.Steps.{LineRan, BytesRan, Finishes, ReadsSome};
+
+use crate::config::Config;
+use crate::counts::Counts;
+use crate::fault::{RunFault, StartFault};
+use crate::line_runner::LineRunner;
+use mg_text::Bytes;
+use std::alloc::Global;
+use std::io::{ErrorKind, Read, Write};
+
+/// How many bytes one read asks for.
+const READ_SIZE: usize = 4096;
+
+/// The bytes of the longest line that is begun: one that is not too long, and a carriage return.
+const BEGUN_LIMIT: usize = 140001;
+
+/// Runs a script on a gateway, in whatever pieces it comes.
+#[derive(Drop)]
+pub struct ScriptRunner {
+    pub runner: LineRunner,
+    pub begun: Bytes,
+    ghost begun_size: { begun.room + length begun.text ≡ 140001 },
+}
+
+/// The line without one carriage return at its end.
+fn without_return(line: &[u8]) -> &[u8]
+    ensures value { result.now ≡ without_return line.now }
+{
+    match line {
+        [front @ .., b'\r'] => front,
+        _ => line,
+    }
+}
+
+/// Reads some bytes, and answers how many: none where the read was interrupted, and `None` at the end.
+fn read_some<R: Read>(
+    reader: &mut R,
+    buffer: &mut [u8; READ_SIZE],
+) -> Result<Option<usize>, RunFault>
+    ensures value { ReadsSome buffer.new (R.remaining reader.old) (R.remaining reader.new) result }
+{
+    match reader.read(buffer) {
+        Ok(0) => Ok(None),
+        Ok(n) => Ok(Some(n)),
+        Err(e) if e.kind() == ErrorKind::Interrupted => Ok(Some(0)),
+        Err(_) => Err(RunFault::Read),
+    }
+}
+
+impl ScriptRunner {
+    /// A runner on a new gateway, at the start of a script.
+    pub fn new(alloc: Global, config: Config) -> Result<Self, StartFault>
+        ensures bad { result ≡ Err StartFault.BadConfig → ¬ IsSound config }
+        ensures sound { OnOk result (IsSound config) }
+        ensures config { IfOk result (λ s. s.runner.core.config ≡ config) }
+        ensures lines { IfOk result (λ s. s.runner.counts.lines ≡ 0) }
+        ensures begun { IfOk result (λ s. s.begun.text ≡ []) }
+    {
+        Ok(ScriptRunner {
+            runner: LineRunner::new(alloc, config)?,
+            begun: Bytes::new(alloc, BEGUN_LIMIT)?,
+        })
+    }
+
+    /// Takes the line that was begun, which ends here.
+    fn end_line<W: Write>(&mut self, alloc: Global, writer: &mut W) -> Result<(), RunFault>
+        requires few { self.old.runner.counts.lines + 1 < 2 ^ 64 }
+        ensures config { self.new.runner.core.config ≡ self.old.runner.core.config }
+        ensures begun { OnOk result (self.new.begun.text ≡ []) }
+        ensures lines { OnOk result (self.new.runner.counts.lines ≡ self.old.runner.counts.lines + 1) }
+        ensures value { LineRan self.old.runner.core.config (self.old.runner.counts.lines + 1)
+            (without_return self.old.begun.text) (W.contents writer.old) (W.contents writer.new) result }
+    {
+        let number = self.runner.counts.lines + 1;
+        let line = without_return(self.begun.as_slice());
+        self.runner.take_line(alloc, number, line, writer)?;
+        self.runner.counts.lines = number;
+        self.begun.clear();
+        Ok(())
+    }
+
+    /// Takes the next bytes of a script.
+    fn take_bytes<W: Write>(
+        &mut self,
+        alloc: Global,
+        bytes: &[u8],
+        writer: &mut W,
+    ) -> Result<(), RunFault>
+        requires few { self.old.runner.counts.lines + length bytes.now < 2 ^ 64 }
+        ensures config { self.new.runner.core.config ≡ self.old.runner.core.config }
+        ensures lines { OnOk result (self.new.runner.counts.lines ≤ self.old.runner.counts.lines + length bytes.now) }
+        ensures value { BytesRan self.old.runner.core.config self.old.runner.counts.lines self.new.runner.counts.lines
+            self.old.begun.text bytes.now self.new.begun.text (W.contents writer.old) (W.contents writer.new) result }
+    {
+        for b in bytes {
+            if *b == b'\n' {
+                self.end_line(alloc, writer)?;
+                continue;
+            }
+            if self.begun.room() == 0 {
+                return Err(RunFault::Script(self.runner.counts.lines + 1));
+            }
+            self.begun.push(&[*b]);
+        }
+        Ok(())
+    }
+
+    /// Takes the last line, if one was begun: it has no line feed.
+    fn finish<W: Write>(&mut self, alloc: Global, writer: &mut W) -> Result<(), RunFault>
+        requires few { self.old.runner.counts.lines + 1 < 2 ^ 64 }
+        ensures value { Finishes self.old.runner.core.config self.old.runner.counts.lines self.old.begun.text
+            (W.contents writer.old) (W.contents writer.new) result }
+    {
+        let line = self.begun.as_slice();
+        if line.is_empty() {
+            return Ok(());
+        }
+        let number = self.runner.counts.lines + 1;
+        self.runner.take_line(alloc, number, line, writer)?;
+        self.runner.counts.lines = number;
+        Ok(())
+    }
+
+    /// Reads a whole script and runs it.
+    pub fn take_all<R: Read, W: Write>(
+        &mut self,
+        alloc: Global,
+        reader: &mut R,
+        writer: &mut W,
+    ) -> Result<(), RunFault>
+        requires lines { self.old.runner.counts.lines ≡ 0 }
+        requires begun { self.old.begun.text ≡ [] }
+        ensures value { (script : List ℕ) → R.remaining reader.old ≡ Some script →
+            ScriptRan self.old.runner.core.config script (W.contents writer.old) (W.contents writer.new) result }
+    {
+        let mut buffer = [0; READ_SIZE];
+        for _ in 0..u32::MAX {
+            let Some(n) = read_some(reader, &mut buffer)? else {
+                return self.finish(alloc, writer);
+            };
+            self.take_bytes(alloc, &buffer[..n], writer)?;
+        }
+        Err(RunFault::Read)
+    }
+
+    /// What was counted.
+    pub fn counts(&self) -> Counts
+        ensures value { result ≡ self.now.runner.counts }
+    {
+        self.runner.counts
+    }
+}

@@ -1,0 +1,287 @@
+use crate::{Answer, Config, Core, Peer, RunFault, StartFault, run};
+use std::alloc::Global;
+use std::io::{self, Cursor, Error, ErrorKind, Read, Write};
+use std::test::Fail;
+
+const CONTROLLER: Peer = Peer {
+    address: [127, 0, 0, 1],
+    port: 2945,
+};
+
+const HEARTBEAT: &[u8] =
+    b"MEGACO/1 [127.0.0.1]:2945 Transaction=1{Context=-{AuditValue=ROOT{Audit{}}}}";
+
+const REPLY: &[u8] = b"MEGACO/1 [127.0.0.1]:2944\nReply=1{Context=-{AuditValue=ROOT}}";
+
+const LINE: &[u8] =
+    b"say 127.0.0.1:2945 MEGACO/1 [127.0.0.1]:2945 Transaction=1{Context=-{AuditValue=ROOT{Audit{}}}}\n";
+
+const REPLY_LINE: &[u8] =
+    b"say 127.0.0.1:2945 MEGACO/1 [127.0.0.1]:2944\\nReply=1{Context=-{AuditValue=ROOT}}\n";
+
+#[test]
+fn answers_messages(rt: HostRuntime) -> Result<(), Fail> {
+    let alloc = rt.alloc();
+    let syntax = b"MEGACO/1 [127.0.0.1]:2944\nError=400{\"syntax\"}".as_slice();
+    let cases: [(&[u8], &[u8]); 9] = [
+        (HEARTBEAT, REPLY),
+        (
+            b"!/1 [127.0.0.1]:2945 ; hello\n\tt = 1 { c = - { av = root { at { } } } }",
+            REPLY,
+        ),
+        (b"MEGACO/01 <mgc.example> T=1{C=0{AV=ROOT}}", REPLY),
+        (b"", syntax),
+        (
+            b"MEGACO/2",
+            b"MEGACO/1 [127.0.0.1]:2944\nError=406{\"version\"}",
+        ),
+        (b"MEGACO/2x", syntax),
+        (b"MEGACO/1 [127.0.0.256] T=1{C=-{AV=ROOT}}", syntax),
+        (b"MEGACO/1 mg T=4294967296{C=-{AV=ROOT}}", syntax),
+        (
+            b"MEGACO/1 mg Error=400{\"syntax\"} T=1{C=-{AV=ROOT}}",
+            syntax,
+        ),
+    ];
+    let mut core = Core::new(alloc, Config::default())?;
+    for (message, answer) in cases {
+        assert_eq!(rt; core.control(alloc, CONTROLLER, message)?, Answer::Send);
+        assert_eq!(rt; core.answer(), answer);
+    }
+    Ok(())
+}
+
+#[test]
+fn ignores_answers(rt: HostRuntime) -> Result<(), Fail> {
+    let alloc = rt.alloc();
+    let mut core = Core::new(alloc, Config::default())?;
+    for message in [
+        b"MEGACO/1 [127.0.0.1]:2945 Error=400{\"syntax\"}".as_slice(),
+        b"MEGACO/1 [127.0.0.1]:2945 Reply=1{Context=1{Add=RTP/1}}",
+    ] {
+        assert_eq!(rt; core.control(alloc, CONTROLLER, message)?, Answer::Silent);
+        assert!(rt; core.answer().is_empty());
+    }
+    Ok(())
+}
+
+#[test]
+fn limits_a_datagram(rt: HostRuntime) -> Result<(), Fail> {
+    let alloc = rt.alloc();
+    let mut core = Core::new(alloc, Config::default())?;
+    let mut message = Vec::from_slice(alloc, HEARTBEAT)?;
+    message.resize(8192, b' ')?;
+    assert_eq!(rt;
+        core.control(alloc, CONTROLLER, message.as_slice())?,
+        Answer::Send
+    );
+    assert_eq!(rt; core.answer(), REPLY);
+    message.push(b' ')?;
+    assert_eq!(rt;
+        core.control(alloc, CONTROLLER, message.as_slice())?,
+        Answer::Send
+    );
+    assert_eq!(rt;
+        core.answer(),
+        b"MEGACO/1 [127.0.0.1]:2944\nError=501{\"not served\"}".as_slice()
+    );
+    for closing in [72, 73, 74, 75] {
+        assert_eq!(rt; HEARTBEAT[closing], b'}');
+        let (cut, _) = HEARTBEAT.split_at(closing);
+        assert_eq!(rt; core.control(alloc, CONTROLLER, cut)?, Answer::Send);
+        assert_eq!(rt;
+            core.answer(),
+            b"MEGACO/1 [127.0.0.1]:2944\nError=400{\"syntax\"}".as_slice()
+        );
+    }
+    Ok(())
+}
+
+#[test]
+fn refuses_bad_configurations(rt: HostRuntime) {
+    let standard = Config::default();
+    for config in [
+        Config {
+            slots: 0,
+            ..standard
+        },
+        Config {
+            slots: 129,
+            ..standard
+        },
+        Config {
+            base_port: 30001,
+            ..standard
+        },
+        Config {
+            base_port: 65530,
+            slots: 4,
+            ..standard
+        },
+        Config {
+            control_port: 30000,
+            ..standard
+        },
+        Config {
+            first_termination: 0,
+            ..standard
+        },
+        Config {
+            first_context: 4294967294,
+            ..standard
+        },
+    ] {
+        let refused = Core::new(rt.alloc(), config).err();
+        assert_eq!(rt; refused, Some(StartFault::BadConfig));
+    }
+    let last = Config {
+        base_port: 65530,
+        slots: 3,
+        ..standard
+    };
+    assert!(rt; Core::new(rt.alloc(), last).is_ok());
+}
+
+/// What a run of a script wrote, and how it ended.
+fn played(alloc: Global, script: &[u8]) -> (Vec<u8>, Option<RunFault>) {
+    let mut reader = Cursor::new(script);
+    let mut written = Vec::new(alloc);
+    let outcome = run(alloc, Config::default(), &mut reader, &mut written);
+    (written, outcome.err())
+}
+
+#[test]
+fn runs_scripts(rt: HostRuntime) -> Result<(), Fail> {
+    let alloc = rt.alloc();
+    let mut twice = Vec::from_slice(alloc, LINE)?;
+    twice.extend_from_slice(b"# a comment\r\n\ntick\n")?;
+    twice.extend_from_slice(LINE)?;
+    let (written, fault) = played(alloc, twice.as_slice());
+    assert_eq!(rt; fault, None);
+    let (first, second) = written
+        .as_slice()
+        .split_at(REPLY_LINE.len().min(written.len()));
+    assert_eq!(rt; first, REPLY_LINE);
+    assert_eq!(rt; second, REPLY_LINE);
+    let (written, fault) = played(alloc, b"control 127.0.0.1:2945 4d454741434f2f32");
+    assert_eq!(rt; fault, None);
+    let wanted = b"say 127.0.0.1:2945 MEGACO/1 [127.0.0.1]:2944\\nError=406{\"version\"}\n";
+    assert_eq!(rt; written.as_slice(), wanted.as_slice());
+    let (written, fault) = played(alloc, b"tick");
+    assert_eq!(rt; fault, None);
+    assert!(rt; written.is_empty());
+    Ok(())
+}
+
+#[test]
+fn names_the_first_bad_line(rt: HostRuntime) {
+    for (script, line) in [
+        (b"tick\ntock\n".as_slice(), 2),
+        (b"tick\r", 1),
+        (b"Tick\n", 1),
+        (b"tick \n", 1),
+        (b"say 127.0.0.1:2945\n", 1),
+        (b"say 127.0.0.1 x\n", 1),
+        (b"say 127.0.0.1:2945 \\t\n", 1),
+        (b"say 127.0.0.1:2945 \\\n", 1),
+        (b"control 127.0.0.1:2945 4d4\n", 1),
+        (b"\n\n\nrtp 30000 127.0.0.1:40000 80\n", 4),
+    ] {
+        let (written, fault) = played(rt.alloc(), script);
+        assert_eq!(rt; fault, Some(RunFault::Script(line)));
+        assert!(rt; written.is_empty());
+    }
+}
+
+#[test]
+fn limits_a_line_and_its_datagram(rt: HostRuntime) -> Result<(), Fail> {
+    let alloc = rt.alloc();
+    let mut comment = Vec::new(alloc);
+    comment.resize(140000, b'#')?;
+    assert_eq!(rt; played(alloc, comment.as_slice()).1, None);
+    comment.push(b'\r')?;
+    comment.push(b'\n')?;
+    assert_eq!(rt; played(alloc, comment.as_slice()).1, None);
+    comment.truncate(140000);
+    comment.push(b'#')?;
+    assert_eq!(rt;
+        played(alloc, comment.as_slice()).1,
+        Some(RunFault::Script(1))
+    );
+    let mut control = Vec::from_slice(alloc, b"control 127.0.0.1:2945 ")?;
+    control.resize(23 + 2 * 65535, b'0')?;
+    assert_eq!(rt; played(alloc, control.as_slice()).1, None);
+    control.extend_from_slice(b"00")?;
+    assert_eq!(rt;
+        played(alloc, control.as_slice()).1,
+        Some(RunFault::Script(1))
+    );
+    Ok(())
+}
+
+/// A reader that fails at its k-th call.
+#[derive(Drop)]
+struct FailingReader<'a> {
+    left: &'a [u8],
+    calls: usize,
+}
+
+impl Read for FailingReader<'_> {
+    fn read(&mut self, buf: &mut [u8]) -> io::Result<usize> {
+        if self.calls == 0 {
+            return Err(Error::from(ErrorKind::Other));
+        }
+        self.calls -= 1;
+        let n = self.left.len().min(buf.len()).min(100);
+        let (taken, left) = self.left.split_at(n);
+        buf[..n].copy_from_slice(taken);
+        self.left = left;
+        Ok(n)
+    }
+}
+
+/// A writer that takes 50 bytes a call, and fails at its k-th call.
+#[derive(Drop)]
+struct FailingWriter {
+    written: Vec<u8>,
+    calls: usize,
+}
+
+impl Write for FailingWriter {
+    fn write(&mut self, buf: &[u8]) -> io::Result<usize> {
+        if self.calls == 0 {
+            return Err(Error::from(ErrorKind::Other));
+        }
+        self.calls -= 1;
+        let (taken, _) = buf.split_at(buf.len().min(50));
+        self.written.extend_from_slice(taken)?;
+        Ok(taken.len())
+    }
+
+    fn flush(&mut self) -> io::Result<()> {
+        Ok(())
+    }
+}
+
+#[test]
+fn tells_a_failed_read_or_write(rt: HostRuntime) -> Result<(), Fail> {
+    let alloc = rt.alloc();
+    for calls in 0..2usize {
+        let mut reader = FailingReader { left: LINE, calls };
+        let mut written = Vec::new(alloc);
+        let outcome = run(alloc, Config::default(), &mut reader, &mut written);
+        assert_eq!(rt; outcome.err(), Some(RunFault::Read));
+        assert_eq!(rt; written.is_empty(), calls == 0);
+    }
+    for calls in 0..2usize {
+        let mut reader = Cursor::new(LINE);
+        let mut writer = FailingWriter {
+            written: Vec::new(alloc),
+            calls,
+        };
+        let outcome = run(alloc, Config::default(), &mut reader, &mut writer);
+        assert_eq!(rt; outcome.err(), Some(RunFault::Write));
+        assert!(rt; REPLY_LINE.starts_with(writer.written.as_slice()));
+    }
+    Ok(())
+}

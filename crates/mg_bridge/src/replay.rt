@@ -1,0 +1,24 @@
+ghost use Rattle.mg_bridge.specs.Replay.{Replays};
+
+use crate::status::Status;
+use mg_core::{Config, run};
+use std::alloc::Global;
+use std::io::{Read, Write};
+
+/// Runs the script that is read on a new gateway, and writes the lines of its answers. The text of a fault
+/// goes to `errors`.
+pub fn replay<R: Read, W: Write, E: Write>(
+    alloc: Global,
+    config: Config,
+    input: &mut R,
+    output: &mut W,
+    errors: &mut E,
+) -> Status
+    ensures value { Replays config (R.remaining input.old) (W.contents output.old) (W.contents output.new) result }
+{
+    let outcome = run(alloc, config, input, output);
+    if let Err(fault) = &outcome {
+        let _ = writeln!(errors, "{fault}");
+    }
+    Status::of(&outcome)
+}

@@ -1,0 +1,9 @@
+pub mod SplitLaws
+pub mod LineLaws
+pub mod FieldLaws
+pub mod AlternativeLaws
+pub mod GroupLaws
+pub mod ReaderLaws
+pub mod WrittenLaws
+pub mod DecimalLaws
+pub mod ReadBackLaws

@@ -1,0 +1,40 @@
+-- The alternatives of a content (RFC 3525, section 7.1.8: descriptions one behind another, each from its v= line on).
+use Rattle.std.specs.Prelude.{◌≡◌, ℕ, not, nat_lt, Bool, List, [], ◌∷◌, IsTrue, Option, is_some, Result, Ok, Err, map, length, drop, if◌then◌else◌}
+use Rattle.std.specs.List.{list_all, flat_map, AllByRecursion}
+use Rattle.std.specs.Str.{byte}
+use Rattle.mg_sdp.specs.declared.fault.SdpFault.{SdpFault}
+use Rattle.mg_sdp.specs.declared.fault.SdpFault.TheVariants.{Line, TooMany}
+use Rattle.mg_sdp.specs.declared.offer.Offer.{Offer}
+use Rattle.mg_sdp.specs.Lines.{lines_of, is_line, value_of}
+use Rattle.mg_sdp.specs.Offer.{offer_of}
+
+-- a v= line
+abbrev pub is_version : List ℕ → Bool
+is_version line = is_some (value_of (byte "v") line)
+
+-- an alternative is a line, and behind it lines that are no v= lines
+abbrev pub IsAlternative : List (List ℕ) → Type 0
+IsAlternative [] = ⊥
+IsAlternative (line ∷ lines) = IsTrue (list_all (λ l. not (is_version l)) lines)
+
+abbrev pub BeginsWithVersion : List (List ℕ) → Type 0
+BeginsWithVersion [] = ⊥
+BeginsWithVersion (line ∷ lines) = IsTrue (is_version line)
+
+-- The lines are those of the alternatives, one behind another, and each alternative but the first begins with its
+-- v= line.
+pub record AreAlternatives (lines : List (List ℕ)) (alternatives : List (List (List ℕ))) : Type 0 where
+  pub joined : flat_map (λ alternative. alternative) alternatives ≡ lines
+  pub each : AllByRecursion IsAlternative alternatives
+  pub later : AllByRecursion BeginsWithVersion (drop 1 alternatives)
+
+-- what reading gives: what each of at most eight alternatives offers, where each line is one
+abbrev pub reading_of : List (List ℕ) → List (List (List ℕ)) → Result (List (Option Offer)) SdpFault
+reading_of lines alternatives =
+    if not (list_all is_line lines) then Err Line
+    else (if nat_lt 8 (length alternatives) then Err TooMany
+    else Ok (map offer_of alternatives))
+
+-- a result of reading a content
+abbrev pub IsReading : List ℕ → Result (List (Option Offer)) SdpFault → Type 0
+IsReading content result = (alternatives : List (List (List ℕ))) × AreAlternatives (lines_of content) alternatives × (result ≡ reading_of (lines_of content) alternatives)

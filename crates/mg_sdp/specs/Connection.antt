@@ -1,0 +1,15 @@
+-- Connection lines (RFC 4566, section 5.7) of IPv4.
+use Rattle.std.specs.Prelude.{ℕ, ◌&&◌, List, [], ◌∷◌, Option, None, codes, if◌then◌else◌}
+use Rattle.std.specs.Str.{str_eq_ignore_ascii_case}
+use Rattle.mg_numbers.specs.Address.{address_of}
+use Rattle.mg_sdp.specs.Media.{asked}
+
+abbrev pub address_asked : List ℕ → Option (Option (List ℕ))
+address_asked field = asked address_of field
+
+-- connection = "IN" "IP4" address, letters' case ignored
+unfoldable pub connection_in : List (List ℕ) → Option (Option (List ℕ))
+connection_in (network ∷ kind ∷ address ∷ []) =
+    if str_eq_ignore_ascii_case network (codes "IN") && str_eq_ignore_ascii_case kind (codes "IP4")
+    then address_asked address else None
+connection_in _ = None

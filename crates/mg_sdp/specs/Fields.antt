@@ -1,0 +1,8 @@
+-- The parts of a line's value (RFC 4566, sections 5.7 and 5.14, where one space stands between two).
+use Rattle.std.specs.Prelude.{ℕ, List, filter}
+use Rattle.std.specs.List.{slice_split}
+use Rattle.mg_sdp.specs.Lines.{is_blank, is_filled}
+
+-- what stands between spaces and tabs
+unfoldable pub fields_of : List ℕ → List (List ℕ)
+fields_of value = filter is_filled (slice_split is_blank value)

@@ -1,0 +1,7 @@
+-- What an iterator over fields has left.
+use Rattle.std.specs.Prelude.{ℕ, List}
+use Rattle.mg_sdp.specs.declared.fields.Fields.{Fields}
+use Rattle.mg_sdp.specs.Fields.{fields_of}
+
+abbrev pub fields_left : Fields → List (List ℕ)
+fields_left it = fields_of it.rest.now

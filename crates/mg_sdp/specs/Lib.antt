@@ -1,0 +1,13 @@
+pub mod Lines
+pub mod Fields
+pub mod Media
+pub mod Connection
+pub mod Offer
+pub mod Alternatives
+pub mod Sessions
+pub mod Choice
+pub mod Written
+pub mod LinesLeft
+pub mod FieldsLeft
+pub mod Progress
+pub mod Reader

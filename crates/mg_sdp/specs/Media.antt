@@ -1,0 +1,43 @@
+-- Media lines (RFC 4566, section 5.14) of G.711 over RTP (RFC 3551, section 6: payload types 0 and 8). A $ is a
+-- choice that is left to the gateway (RFC 3525, section 7.1.8).
+use Rattle.std.specs.Prelude.{ℕ, ◌&&◌, List, ◌∷◌, Option, Some, None, codes, slice_get, if◌then◌else◌}
+use Rattle.std.specs.Str.{bytes_eq, str_eq_ignore_ascii_case}
+use Rattle.std.specs.List.{filter_map}
+use Rattle.std.specs.Option.{option_map}
+use Rattle.mg_numbers.specs.Numbers.{port_of}
+use Rattle.mg_numbers.specs.Address.{◌>>=◌}
+use Rattle.mg_g711.specs.declared.law.Law.{Law}
+use Rattle.mg_g711.specs.declared.law.Law.TheVariants.{Mu, A}
+use Rattle.mg_sdp.specs.declared.media.Media.{Media}
+
+-- the value of a field, or None for $
+abbrev pub asked : {X : Type 0} → (List ℕ → Option X) → List ℕ → Option (Option X)
+asked read field = if bytes_eq field (codes "$") then Some None else option_map Some (read field)
+
+abbrev pub port_asked : List ℕ → Option (Option ℕ)
+port_asked field = asked port_of field
+
+-- what a format asks for: 0 is mu-law, 8 is A-law
+unfoldable pub law_of : List ℕ → Option (Option Law)
+law_of format =
+    if bytes_eq format (codes "0") then Some (Some Mu)
+    else (if bytes_eq format (codes "8") then Some (Some A)
+    else (if bytes_eq format (codes "$") then Some None
+    else None))
+
+-- what the first format asks for that is 0, 8 or $
+abbrev pub first_law : List (List ℕ) → Option (Option Law)
+first_law formats = slice_get (filter_map law_of formats) 0
+
+abbrev pub media_with : Option (Option ℕ) → Option (Option Law) → Option Media
+media_with port law = do
+  port ← port
+  law ← law
+  Some (record { port = port; law = law })
+
+-- media = "audio" port "RTP/AVP" 1*format, letters' case ignored
+unfoldable pub media_in : List (List ℕ) → Option Media
+media_in (kind ∷ port ∷ protocol ∷ formats) =
+    if str_eq_ignore_ascii_case kind (codes "audio") && str_eq_ignore_ascii_case protocol (codes "RTP/AVP")
+    then media_with (port_asked port) (first_law formats) else None
+media_in _ = None

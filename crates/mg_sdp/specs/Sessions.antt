@@ -1,0 +1,22 @@
+-- The result of reading as a function, for the definitions of those who read contents. That it is the one result of
+-- reading, as Alternatives defines it, is in the contract of read_sessions.
+use Rattle.std.specs.Prelude.{ℕ, List, [], ◌∷◌, ◌++◌, Option, Result, if◌then◌else◌}
+use Rattle.mg_sdp.specs.declared.fault.SdpFault.{SdpFault}
+use Rattle.mg_sdp.specs.declared.offer.Offer.{Offer}
+use Rattle.mg_sdp.specs.Lines.{lines_of}
+use Rattle.mg_sdp.specs.Alternatives.{is_version, reading_of}
+
+-- the lines of an alternative, as a list of one, or of none where there is no line
+abbrev pub closing : List (List ℕ) → List (List (List ℕ))
+closing [] = []
+closing (line ∷ lines) = (line ∷ lines) ∷ []
+
+-- the alternatives of lines that stand behind the first lines of one
+abbrev pub alternatives_behind : List (List ℕ) → List (List ℕ) → List (List (List ℕ))
+alternatives_behind current [] = closing current
+alternatives_behind current (line ∷ lines) =
+    if is_version line then closing current ++ alternatives_behind (line ∷ []) lines
+    else alternatives_behind (current ++ line ∷ []) lines
+
+unfoldable pub sessions_of : List ℕ → Result (List (Option Offer)) SdpFault
+sessions_of content = reading_of (lines_of content) (alternatives_behind [] (lines_of content))

@@ -1,0 +1,35 @@
+ghost use Rattle.std.specs.Prelude.{◌≡◌};
+ghost use Rattle.mg_sdp.specs.Fields.{fields_of};
+ghost use Rattle.mg_sdp.specs.Connection.{address_asked, connection_in};
+
+use crate::fields::Fields;
+use mg_numbers::address_of;
+
+/// The address that a field asks for.
+fn address_asked(field: &[u8]) -> Option<Option<[u8; 4]>>
+    ensures value { result ≡ address_asked field.now }
+{
+    match field {
+        b"$" => Some(None),
+        _ => Some(Some(address_of(field)?)),
+    }
+}
+
+/// The address that the value of a connection line asks for, `None` within where the gateway is to choose
+/// it.
+#[tactic(auto, unfolding(crate::specs::Connection::connection_in))]
+pub fn connection_of(value: &[u8]) -> Option<Option<[u8; 4]>>
+    ensures value { result ≡ connection_in (fields_of value.now) }
+{
+    let mut fields = Fields::new(value);
+    let network = fields.next()?;
+    let kind = fields.next()?;
+    let address = fields.next()?;
+    if fields.next().is_some() {
+        return None;
+    }
+    if !network.eq_ignore_ascii_case(b"IN") || !kind.eq_ignore_ascii_case(b"IP4") {
+        return None;
+    }
+    address_asked(address)
+}

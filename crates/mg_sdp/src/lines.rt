@@ -1,0 +1,96 @@
+ghost use Rattle.std.specs.Prelude.{◌≡◌, ◌≤◌, ◌||◌, MatchOption, Some, None, length};
+ghost use Rattle.std.specs.List.{prefix_len, position_or_len, suffix_len};
+ghost use Rattle.mg_sdp.specs.Lines.{is_line_end, is_blank, parts_of};
+
+/// Whether a byte ends a line: CR or LF.
+fn is_line_end(b: u8) -> bool
+    ensures value { result ≡ is_line_end b }
+{
+    b == b'\r' || b == b'\n'
+}
+
+/// Whether a byte is a space or a tab.
+pub fn is_blank(b: u8) -> bool
+    ensures value { result ≡ is_blank b }
+{
+    b == b' ' || b == b'\t'
+}
+
+/// How many bytes of white space and line ends there are at the front.
+fn white_len(text: &[u8]) -> usize
+    ensures in_range { result ≤ length text.now }
+    ensures value { result ≡ prefix_len (λ b. is_blank b || is_line_end b) text.now }
+{
+    text.iter()
+        .take_while(|b| is_blank(**b) || is_line_end(**b))
+        .count()
+}
+
+/// How many bytes the first line has.
+fn line_len(text: &[u8]) -> usize
+    ensures in_range { result ≤ length text.now }
+    ensures value { result ≡ position_or_len is_line_end text.now }
+{
+    text.iter().take_while(|b| !is_line_end(**b)).count()
+}
+
+/// How many blanks there are at the end.
+fn blanks_at_end(text: &[u8]) -> usize
+    ensures in_range { result ≤ length text.now }
+    ensures value { result ≡ suffix_len is_blank text.now }
+{
+    text.iter().rev().take_while(|b| is_blank(**b)).count()
+}
+
+/// The lines of a content, without the blanks at their ends; empty ones are passed over.
+#[derive(Drop)]
+pub struct Lines<'a> {
+    rest: &'a [u8],
+}
+
+impl<'a> Lines<'a> {
+    ghost use Rattle.mg_sdp.specs.Lines.{lines_of};
+    ghost use Rattle.mg_sdp.specs.LinesLeft.{lines_left};
+
+    /// The lines of this content.
+    pub fn new(content: &'a [u8]) -> Self
+        ensures value { lines_left result ≡ lines_of content.now }
+    {
+        Lines { rest: content }
+    }
+}
+
+impl<'a> Iterator for Lines<'a> {
+    ghost use Rattle.std.specs.Iterator.{YieldsFirstBy, item_count};
+    ghost use Rattle.mg_sdp.specs.LinesLeft.{lines_left};
+
+    type Item = &'a [u8];
+
+    ghost next_gives = { YieldsFirstBy (λ line. line.now) lines_left };
+
+    ghost remaining = { item_count lines_left };
+
+    fn next(&mut self) -> Option<&'a [u8]> {
+        let (_, text) = self.rest.split_at(white_len(self.rest));
+        if text.is_empty() {
+            self.rest = text;
+            return None;
+        }
+        let (line, rest) = text.split_at(line_len(text));
+        self.rest = rest;
+        let (line, _) = line.split_at(line.len() - blanks_at_end(line));
+        Some(line)
+    }
+}
+
+/// The letter of a line and what stands behind its `=`, or `None` where it is no such line.
+#[tactic(auto, unfolding(crate::specs::Lines::parts_of))]
+pub fn parts_of(line: &[u8]) -> Option<(u8, &[u8])>
+    ensures value { MatchOption result (parts_of line.now ≡ None)
+        (λ parts. parts_of line.now ≡ Some (parts.0, parts.1.now)) }
+{
+    match line {
+        [letter, b'=', value @ ..] if letter.is_ascii_alphabetic() => Some((*letter, value)),
+        _ => None,
+    }
+}

@@ -1,0 +1,68 @@
+ghost use Rattle.std.specs.Prelude.{◌≡◌};
+ghost use Rattle.mg_sdp.specs.Fields.{fields_of};
+ghost use Rattle.mg_sdp.specs.FieldsLeft.{fields_left};
+ghost use Rattle.mg_sdp.specs.Media.{law_of, first_law, port_asked, media_in};
+
+use crate::fields::Fields;
+use mg_g711::Law;
+use mg_numbers::port_of;
+
+/// What the media line of an alternative asks for: a port and a law, each `None` where the gateway is to
+/// choose it.
+#[derive(Clone, Copy, Debug, PartialEq, Eq)]
+pub struct Media {
+    pub port: Option<u16>,
+    pub law: Option<Law>,
+}
+
+/// The law that a format asks for, or `None` where the format is not served.
+#[tactic(auto, unfolding(crate::specs::Media::law_of))]
+fn law_of(format: &[u8]) -> Option<Option<Law>>
+    ensures value { result ≡ law_of format.now }
+{
+    match format {
+        b"0" => Some(Some(Law::Mu)),
+        b"8" => Some(Some(Law::A)),
+        b"$" => Some(None),
+        _ => None,
+    }
+}
+
+/// The law that the first of the formats that is served asks for.
+fn first_law(formats: Fields<'_>) -> Option<Option<Law>>
+    ensures value { result ≡ first_law (fields_left formats.entry) }
+{
+    for format in formats {
+        if let Some(law) = law_of(format) {
+            return Some(law);
+        }
+    }
+    None
+}
+
+/// The port that a field asks for.
+fn port_asked(field: &[u8]) -> Option<Option<u16>>
+    ensures value { result ≡ port_asked field.now }
+{
+    match field {
+        b"$" => Some(None),
+        _ => Some(Some(port_of(field)?)),
+    }
+}
+
+/// What the value of a media line asks for.
+#[tactic(auto, unfolding(crate::specs::Media::media_in))]
+pub fn media_of(value: &[u8]) -> Option<Media>
+    ensures value { result ≡ media_in (fields_of value.now) }
+{
+    let mut fields = Fields::new(value);
+    let kind = fields.next()?;
+    let port = fields.next()?;
+    let protocol = fields.next()?;
+    if !kind.eq_ignore_ascii_case(b"audio") || !protocol.eq_ignore_ascii_case(b"RTP/AVP") {
+        return None;
+    }
+    let port = port_asked(port)?;
+    let law = first_law(fields)?;
+    Some(Media { port, law })
+}

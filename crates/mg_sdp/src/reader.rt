@@ -1,0 +1,105 @@
+ghost use Rattle.std.specs.Prelude.{◌≡◌, ◌↔◌, Err, false, OnOk, IfErr, IsOk, IsTrue};
+ghost use Rattle.std.specs.List.{list_all};
+ghost use Rattle.mg_sdp.specs.Lines.{lines_of, is_line};
+ghost use Rattle.mg_sdp.specs.Reader.{start, ended, line_read, finished};
+ghost use Rattle.mg_sdp.specs.Alternatives.{IsReading};
+ghost use Rattle.mg_sdp.specs.Sessions.{sessions_of};
+
+use crate::alternative::Alternative;
+use crate::fault::SdpFault;
+use crate::lines::{Lines, parts_of};
+use crate::offer::Offer;
+use crate::sessions::{ALTERNATIVE_LIMIT, Sessions};
+use arrayvec::ArrayVec;
+use std::marker::Model;
+
+/// The alternatives of a content, as far as its lines were read.
+#[derive(Drop)]
+struct Reader {
+    /// What the alternatives offer that have ended, the first eight.
+    offers: ArrayVec<Option<Offer>, ALTERNATIVE_LIMIT>,
+    /// The alternative that has begun.
+    current: Option<Alternative>,
+    /// Whether more than eight have ended.
+    over: bool,
+}
+
+impl Model for Reader {
+    ghost use Rattle.mg_sdp.specs.Progress.{Progress};
+
+    ghost Value = { Progress };
+
+    ghost view = { λ r. record { offers = r.offers.items; current = r.current; over = r.over } };
+}
+
+impl Reader {
+    fn new() -> Self
+        ensures value { result ≡ start }
+    {
+        Reader {
+            offers: ArrayVec::new(),
+            current: None,
+            over: false,
+        }
+    }
+
+    /// Ends the alternative that has begun, if there is one.
+    fn end(&mut self)
+        ensures value { self.new ≡ ended self.old }
+    {
+        if let Some(alternative) = self.current {
+            if self.offers.try_push(alternative.offer()).is_err() {
+                self.over = true;
+            }
+            self.current = None;
+        }
+    }
+
+    /// Reads one line.
+    #[tactic(auto, unfolding(crate::specs::Reader::line_read))]
+    fn read(&mut self, line: &[u8]) -> Result<(), SdpFault>
+        ensures ok { OnOk result (self.new ≡ line_read self.old line.now) }
+        ensures line { IsOk result ↔ IsTrue (is_line line.now) }
+        ensures fault { IfErr result (λ fault. fault ≡ SdpFault.Line) }
+    {
+        let (letter, value) = parts_of(line).ok_or(SdpFault::Line)?;
+        if letter == b'v' {
+            self.end();
+        }
+        let alternative = self.current.unwrap_or(Alternative::new());
+        self.current = Some(alternative.with_line(letter, value));
+        Ok(())
+    }
+
+    /// The alternatives, after the last line.
+    #[tactic(auto, unfolding(crate::specs::Reader::finished))]
+    fn finish(mut self) -> Result<Sessions, SdpFault>
+        ensures value { result ≡ finished self }
+    {
+        self.end();
+        if self.over {
+            return Err(SdpFault::TooMany);
+        }
+        Ok(Sessions {
+            offers: self.offers,
+        })
+    }
+}
+
+/// Reads the session descriptions of a Local or a Remote descriptor.
+///
+/// The content is split into lines at CR and LF; spaces and tabs at their ends count for nothing, and
+/// empty lines neither. An alternative begins at the first line and at each later `v=` line. A blank
+/// content has none.
+pub fn read_sessions(content: &[u8]) -> Result<Sessions, SdpFault>
+    ensures alternatives { IsReading content.now result }
+    ensures line { (result ≡ Err SdpFault.Line)
+        ↔ (list_all is_line (lines_of content.now) ≡ false) }
+    ensures value { result ≡ sessions_of content.now }
+{
+    let mut reader = Reader::new();
+    for line in Lines::new(content) {
+        reader.read(line)?;
+    }
+    reader.finish()
+}

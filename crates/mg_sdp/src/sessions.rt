@@ -1,0 +1,33 @@
+ghost use Rattle.std.specs.Prelude.{◌≡◌, [], IsTrue, ◌↔◌};
+
+use crate::offer::Offer;
+use arrayvec::ArrayVec;
+use std::marker::Model;
+
+/// The most alternatives of one content.
+pub const ALTERNATIVE_LIMIT: usize = 8;
+
+/// What the alternatives of a content offer. Contracts see the list of the alternatives in order, each as
+/// what it offers, or `None` where its lines are not served.
+#[derive(Debug, Drop)]
+pub struct Sessions {
+    pub(crate) offers: ArrayVec<Option<Offer>, ALTERNATIVE_LIMIT>,
+}
+
+impl Model for Sessions {
+    ghost use Rattle.std.specs.Prelude.{List, Option};
+    ghost use Rattle.mg_sdp.specs.declared.offer.Offer.{Offer};
+
+    ghost Value = { List (Option Offer) };
+
+    ghost view = { λ s. s.offers.items };
+}
+
+impl Sessions {
+    /// Whether the content had no line, and so no alternative.
+    pub fn is_blank(&self) -> bool
+        ensures value { IsTrue result ↔ (self.now ≡ []) }
+    {
+        self.offers.is_empty()
+    }
+}

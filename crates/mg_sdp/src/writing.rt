@@ -1,0 +1,78 @@
+ghost use Rattle.std.specs.Prelude.{◌≡◌, ◌+◌, ◌≤◌, ◌++◌, length, decimal};
+ghost use Rattle.mg_sdp.specs.Written.{session_text, address_text, law_text};
+
+use crate::chosen::Chosen;
+use arrayvec::ArrayVec;
+use itoa::Buffer;
+use mg_g711::Law;
+
+/// The bytes of the longest text.
+pub const TEXT_LIMIT: usize = 68;
+
+fn push(out: &mut ArrayVec<u8, TEXT_LIMIT>, text: &[u8])
+    requires room { length out.old.items + length text.now ≤ TEXT_LIMIT }
+    ensures value { out.new.items ≡ out.old.items ++ text.now }
+    ensures len { length out.new.items ≡ length out.old.items + length text.now }
+{
+    let _ = out.try_extend_from_slice(text);
+}
+
+fn push_number(out: &mut ArrayVec<u8, TEXT_LIMIT>, n: u16)
+    requires room { length out.old.items + length (decimal n) ≤ TEXT_LIMIT }
+    ensures value { out.new.items ≡ out.old.items ++ decimal n }
+    ensures len { length out.new.items ≡ length out.old.items + length (decimal n) }
+{
+    let mut buffer = Buffer::new();
+    push(out, buffer.format(n).as_bytes());
+}
+
+#[tactic(auto, using(crate::proofs::WrittenLaws::lengths))]
+fn push_address(out: &mut ArrayVec<u8, TEXT_LIMIT>, address: [u8; 4])
+    requires room { length out.old.items + 15 ≤ TEXT_LIMIT }
+    ensures value { out.new.items ≡ out.old.items ++ address_text address }
+    ensures len { length out.new.items ≤ length out.old.items + 15 }
+{
+    let [a, b, c, d] = address;
+    push_number(out, u16::from(a));
+    push(out, b".");
+    push_number(out, u16::from(b));
+    push(out, b".");
+    push_number(out, u16::from(c));
+    push(out, b".");
+    push_number(out, u16::from(d));
+}
+
+/// The payload type of a law (RFC 3551, section 6).
+fn payload_type(law: Law) -> &'static str
+    ensures value { result.now ≡ law_text law }
+    ensures len { length result.now ≡ 1 }
+{
+    match law {
+        Law::Mu => "0",
+        Law::A => "8",
+    }
+}
+
+/// The description of what the gateway serves itself, for a Local: four lines, each ended by CR LF, of at
+/// most 68 bytes in all.
+#[tactic(auto, using(crate::proofs::WrittenLaws::lengths))]
+pub fn write_local(chosen: &Chosen) -> ArrayVec<u8, TEXT_LIMIT>
+    ensures value { result.items ≡ session_text chosen.now }
+{
+    let mut out = ArrayVec::new();
+    push(&mut out, b"v=0\r\nc=IN IP4 ");
+    push_address(&mut out, chosen.address);
+    push(&mut out, b"\r\nm=audio ");
+    push_number(&mut out, chosen.port);
+    push(&mut out, b" RTP/AVP ");
+    push(&mut out, payload_type(chosen.law).as_bytes());
+    push(&mut out, b"\r\na=ptime:20\r\n");
+    out
+}
+
+/// The description of where the gateway sends, for a Remote: as for a Local.
+pub fn write_remote(chosen: &Chosen) -> ArrayVec<u8, TEXT_LIMIT>
+    ensures value { result.items ≡ session_text chosen.now }
+{
+    write_local(chosen)
+}

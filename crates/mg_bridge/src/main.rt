@@ -14,6 +14,7 @@ mod tests;
 use crate::program::program;
 use crate::status::Status;
 use std::alloc::{AllocError, Global};
+use std::io::{ErrorKind, Write};
 use std::process::ExitCode;
 use std::{env, io};
 
@@ -22,13 +23,24 @@ fn words(rt: &HostRuntime) -> io::Result<Vec<String>> {
     Ok(env::args(rt)?.skip(1).collect(rt.alloc())?)
 }
 
+/// Tells why the arguments can't be read, and answers how the program ends.
+fn tell<E: Write>(error: &io::Error, errors: &mut E) -> Status {
+    if error.kind() == ErrorKind::OutOfMemory {
+        let _ = writeln!(errors, "no memory");
+        return Status::NoMemory;
+    }
+    let _ = writeln!(errors, "error: an argument isn't UTF-8");
+    Status::Usage
+}
+
 fn main(rt: HostRuntime) -> ExitCode {
-    let Ok(words) = words(&rt) else {
-        return ExitCode::from(Status::NoMemory.code());
+    let mut errors = rt.stderr();
+    let words = match words(&rt) {
+        Ok(words) => words,
+        Err(error) => return ExitCode::from(tell(&error, &mut errors).code()),
     };
     let mut input = rt.stdin();
     let mut output = rt.stdout();
-    let mut errors = rt.stderr();
     let code = program(
         rt.alloc(),
         words.as_slice(),

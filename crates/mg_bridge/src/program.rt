@@ -1,4 +1,5 @@
-ghost use Rattle.std.specs.Prelude.{◌≤◌};
+ghost use Rattle.std.specs.Prelude.{◌≡◌, ◌≤◌, ◌⊎◌};
+ghost use Rattle.mg_bridge.specs.Replay.{Replayed};
 
 use crate::options::{command, config_of};
 use crate::replay::replay;
@@ -39,6 +40,9 @@ pub fn program<'a, S: AsStr, R: Read, W: Write, E: Write>(
     errors: &mut E,
 ) -> u8
     ensures status { result ≤ 4 }
+    // The input is left alone, or the script on it was run.
+    ensures ran { (input.new ≡ input.old)
+        ⊎ Replayed (R.remaining input.old) (W.contents output.old) (W.contents output.new) result }
 {
     let parsed = match command(alloc) {
         Ok(command) => command.try_get_matches_from(words),

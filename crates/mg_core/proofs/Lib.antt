@@ -1,5 +1,6 @@
 pub mod PortLaws
 pub mod AnswerLaws
+pub mod ReplyLaws
 pub mod EscapeSteps
 pub mod OutputLaws
 pub mod WriterLaws

@@ -1,37 +1,23 @@
 -- What a gateway answers to a control datagram.
-use Rattle.std.specs.Prelude.{◌≡◌, ℕ, ◌<◌, List, [], ◌∷◌, ◌++◌, length, Option, Some, None, Result, Ok, Err, codes}
+use Rattle.std.specs.Prelude.{◌≡◌, ℕ, ◌||◌, nat_lt, Bool, true, false, List, [], ◌∷◌, ◌++◌, length, Option, Some, None, Result, Ok, Err, if◌then◌else◌}
+use Rattle.std.specs.List.{list_any}
 use Rattle.mg_text.specs.declared.message.Message.{Message}
-use Rattle.mg_text.specs.declared.body.Body.{Body}
-use Rattle.mg_text.specs.declared.body.Body.TheVariants as bodies
 use Rattle.mg_text.specs.declared.body.MessageItem.{MessageItem}
 use Rattle.mg_text.specs.declared.body.MessageItem.TheVariants as items
-use Rattle.mg_text.specs.declared.request.Action.{Action}
-use Rattle.mg_text.specs.declared.command.CommandWord.TheVariants.{AuditValue}
-use Rattle.mg_text.specs.declared.context.ContextId.TheVariants.{Null}
-use Rattle.mg_text.specs.declared.item.Outcome.TheVariants.{Done}
-use Rattle.mg_text.specs.declared.item.Item.TheVariants as told
 use Rattle.mg_text.specs.declared.fault.ReadFault.{ReadFault}
 use Rattle.mg_text.specs.declared.fault.ReadFault.TheVariants as faults
-use Rattle.mg_text.specs.declared.error_number.ErrorNumber.{ErrorNumber}
-use Rattle.mg_text.specs.declared.error_number.ErrorNumber.TheVariants.{Syntax, Version, NotServed}
-use Rattle.mg_text.specs.ErrorNumber.{error_text}
-use Rattle.mg_text.specs.Written.{head_text, reply_text}
-use Rattle.mg_text.specs.Requests.{request_of}
-use Rattle.mg_text.specs.Message.{IsShort, IsMessage, HasOtherVersion}
+use Rattle.mg_text.specs.Message.{IsShort, IsTree, IsMessage, IsTooMany, HasOtherVersion, items_of}
+use Rattle.mg_reply.specs.declared.item.Item.TheVariants as told
+use Rattle.mg_reply.specs.declared.error_number.ErrorNumber.{ErrorNumber}
+use Rattle.mg_reply.specs.declared.error_number.ErrorNumber.TheVariants.{Syntax, Version, NotServed, ReplyTooLong}
+use Rattle.mg_reply.specs.ErrorNumber.{error_text}
+use Rattle.mg_reply.specs.Reply.{Answered}
+use Rattle.mg_reply.specs.Written.{head_text, reply_text}
+use Rattle.mg_commands.specs.Transaction.{replied}
 use Rattle.mg_core.specs.declared.config.Config.{Config}
 use Rattle.mg_core.specs.declared.fault.NoMemory.{NoMemory}
 use Rattle.mg_core.specs.declared.answer.Answer.{Answer}
 use Rattle.mg_core.specs.declared.answer.Answer.TheVariants.{Send, Silent}
-
--- the number of the first request
-abbrev pub first_number : List MessageItem → Option ℕ
-first_number [] = None
-first_number (items.Request request ∷ others) = Some request.number
-
--- the number of the first request of a body, unless it is ignored
-abbrev pub request_number : Body → Option ℕ
-request_number (bodies.Requests items) = first_number items
-request_number bodies.Ignored = None
 
 -- the error that a message is refused with, unless memory ran out
 abbrev pub refusal_of : ReadFault → Option ErrorNumber
@@ -40,25 +26,46 @@ refusal_of (faults.Version n) = Some Version
 refusal_of faults.TooMany = Some NotServed
 refusal_of faults.NoMemory = None
 
--- the reply to a request that asks for ROOT in the null context: "Reply=n{Context=-{AuditValue=ROOT}}"
-abbrev pub heartbeat_text : ℕ → List ℕ
-heartbeat_text n = reply_text n (told.Command AuditValue (codes "ROOT") (Done (record {})) ∷ told.Action Null ∷ [])
+-- a reply is sent whole if it has room for its items and at most 16,000 bytes
+abbrev pub is_long : Answered → Bool
+is_long r = r.is_long || nat_lt 16000 (length (reply_text r.number r.items))
 
--- a message that is one request with this number
-pub record Asks (m : Message) (number : ℕ) : Type 0 where
-  pub action : Action
-  pub is : m.body ≡ request_of number action
+-- the text of a reply, or of the error in its place
+abbrev pub sent_text : Answered → List ℕ
+sent_text r = if is_long r then reply_text r.number (told.Fault ReplyTooLong ∷ []) else reply_text r.number r.items
 
--- bytes of a fit length that have no head of another version, and are no message
+abbrev pub is_request : MessageItem → Bool
+is_request (items.Request request) = true
+is_request (items.Acknowledgement ranges) = false
+
+abbrev pub has_requests : List MessageItem → Bool
+has_requests xs = list_any is_request xs
+
+-- what is written for an item: a mark and the reply, if it is a request
+abbrev pub item_text : List ℕ → List ℕ → MessageItem → List ℕ
+item_text source mark (items.Request request) = mark ++ sent_text (replied source request)
+item_text source mark (items.Acknowledgement ranges) = []
+
+-- the mark of the next reply: a line feed behind the first
+abbrev pub mark_behind : List ℕ → MessageItem → List ℕ
+mark_behind mark (items.Request request) = 10 ∷ []
+mark_behind mark (items.Acknowledgement ranges) = mark
+
+-- the replies to the requests among items, the first with this mark before it
+unfoldable pub replies_text : List ℕ → List ℕ → List MessageItem → List ℕ
+replies_text source mark [] = []
+replies_text source mark (x ∷ xs) = item_text source mark x ++ replies_text source (mark_behind mark x) xs
+
+-- bytes of a fit length that have no head of another version, and no tree of the grammar
 pub record IsNoMessage (bytes : List ℕ) : Type 0 where
   pub short : IsShort bytes
   pub no_version : (n : ℕ) → HasOtherVersion bytes n → ⊥
-  pub no_message : (m : Message) → IsMessage bytes m → ⊥
+  pub no_tree : (m : Message) → IsTree bytes m → ⊥
 
 -- what stands behind the head of an answer
 pub data AnswersWith (bytes : List ℕ) : List ℕ → Type 0 where
-  heartbeat : (m : Message) (number : ℕ) → IsMessage bytes m → Asks m number → AnswersWith bytes (heartbeat_text number)
-  too_long : 8192 < length bytes → AnswersWith bytes (error_text NotServed)
+  replies : (m : Message) → IsMessage bytes m → has_requests (items_of m.body) ≡ true → AnswersWith bytes (replies_text bytes [] (items_of m.body))
+  too_many : IsTooMany bytes → AnswersWith bytes (error_text NotServed)
   other_version : (n : ℕ) → HasOtherVersion bytes n → AnswersWith bytes (error_text Version)
   no_message : IsNoMessage bytes → AnswersWith bytes (error_text Syntax)
 
@@ -66,7 +73,7 @@ pub data AnswersWith (bytes : List ℕ) : List ℕ → Type 0 where
 pub record IsIgnored (bytes : List ℕ) : Type 0 where
   pub message : Message
   pub is : IsMessage bytes message
-  pub ignored : message.body ≡ bodies.Ignored
+  pub ignored : has_requests (items_of message.body) ≡ false
 
 -- what is answered, and the text of the answer
 abbrev pub Answers : Config → List ℕ → Answer → List ℕ → Type 0

@@ -3,7 +3,7 @@ use Rattle.std.specs.Prelude.{ℕ, List, ◌++◌, Option, Some, codes, decimal}
 use Rattle.mg_numbers.specs.Numbers.{port_of}
 use Rattle.mg_numbers.specs.Address.{◌>>=◌, address_of}
 use Rattle.mg_numbers.specs.Cut.{cut}
-use Rattle.mg_text.specs.Written.{address_text}
+use Rattle.mg_sdp.specs.Written.{address_text}
 use Rattle.mg_core.specs.declared.peer.Peer.{Peer}
 
 abbrev pub peer : List ℕ → ℕ → Peer

@@ -1,16 +1,21 @@
-ghost use Rattle.std.specs.Prelude.{◌≡◌, ◌≤◌, ◌+◌, ◌++◌, ◌↔◌, [], length, IfOk, OnOk, OnErr, Option};
-ghost use Rattle.mg_text.specs.Written.{head_text};
-ghost use Rattle.mg_text.specs.ErrorNumber.{error_text};
+ghost use Rattle.std.specs.Prelude.{◌≡◌, ◌≤◌, ◌+◌, ◌*◌, ◌++◌, ◌↔◌, [], ◌∷◌, true, length, IfOk, OnOk, OnErr, Option};
+ghost use Rattle.mg_reply.specs.Written.{head_text};
+ghost use Rattle.mg_reply.specs.ErrorNumber.{error_text};
 ghost use Rattle.mg_core.specs.Config.{IsSound};
-ghost use Rattle.mg_core.specs.Answer.{Answers, Refuses, first_number, heartbeat_text, refusal_of, request_number};
+ghost use Rattle.mg_reply.specs.Bytes.{appended};
+ghost use Rattle.mg_reply.specs.Reply.{IsWhole};
+ghost use Rattle.mg_text.specs.Message.{items_of, requests_in};
+ghost use Rattle.mg_text.specs.Proper.{are_proper, item_is_proper};
+ghost use Rattle.mg_core.specs.Answer.{Answers, Refuses, has_requests, item_text, mark_behind, refusal_of, replies_text, sent_text};
 
 use crate::answer::Answer;
 use crate::config::Config;
 use crate::fault::{NoMemory, StartFault};
 use crate::peer::Peer;
+use mg_commands::transaction;
 use mg_text::{
-    Body, Bytes, CommandWord, ContextId, ErrorNumber, Item, MessageItem, Outcome, Parts, ReadFault,
-    Reply, Term, read, write_error, write_head, write_reply,
+    Body, Bytes, ErrorNumber, Item, MessageItem, REPLY_LIMIT, ReadFault, Reply, read, write_error,
+    write_head, write_reply,
 };
 use std::alloc::Global;
 use std::marker::Model;
@@ -38,26 +43,6 @@ impl Model for Core {
     ghost invariant = { λ c. c.answer.room + length c.answer.text ≡ 64036 };
 }
 
-/// The number of the request that a body is, unless it is ignored.
-fn request_number(body: &Body) -> Option<u32>
-    ensures value { result ≡ request_number body.now }
-{
-    match body {
-        Body::Requests(items) => first_number(items.as_slice()),
-        Body::Ignored => None,
-    }
-}
-
-/// The number of the first request among the items of a message.
-fn first_number(items: &[MessageItem]) -> Option<u32>
-    ensures value { result ≡ first_number items.now }
-{
-    match items {
-        [] => None,
-        [MessageItem::Request(request), ..] => Some(request.number),
-    }
-}
-
 /// The error that a message is refused with, where it was not want of memory that kept it from being read.
 fn refusal_of(fault: ReadFault) -> Option<ErrorNumber>
     ensures value { result ≡ refusal_of fault }
@@ -82,20 +67,81 @@ fn put_error(config: &Config, number: ErrorNumber, answer: &mut Bytes)
     write_error(number, answer);
 }
 
-/// Writes the answer to a request that asks for `ROOT` in the null context.
-#[tactic(auto, using(crate::proofs::AnswerLaws::heartbeats))]
-fn put_heartbeat(config: &Config, number: u32, reply: &mut Reply, answer: &mut Bytes)
-    requires room { 16033 ≤ answer.old.room }
-    ensures text { answer.new.text ≡ answer.old.text
-        ++ (head_text config.now.address config.now.control_port ++ heartbeat_text number) }
+/// The items of a body, of which an ignored one has none.
+fn items_of(body: &Body) -> &[MessageItem]
+    ensures value { result.now ≡ items_of body.now }
+{
+    match body {
+        Body::Requests(items) => items.as_slice(),
+        Body::Ignored => &[],
+    }
+}
+
+/// Whether there is a request among some items.
+fn has_requests(items: &[MessageItem]) -> bool
+    ensures value { result ≡ has_requests items.now }
+{
+    items
+        .iter()
+        .any(|item| matches!(item, MessageItem::Request(_)))
+}
+
+/// Writes a reply, or an error in its place where it is too long: at most 16,000 bytes.
+#[tactic(auto, using(crate::proofs::ReplyLaws::sending))]
+fn put_reply(reply: &mut Reply, answer: &mut Bytes)
+    requires whole { IsWhole reply.old }
+    requires room { REPLY_LIMIT ≤ answer.old.room }
+    ensures text { answer.new ≡ appended answer.old (sent_text reply.old) }
+    ensures short { length (sent_text reply.old) ≤ REPLY_LIMIT }
+{
+    if write_reply(reply, answer).is_ok() {
+        return;
+    }
+    let number = reply.number();
+    reply.start(number);
+    reply.put(Item::Fault(ErrorNumber::ReplyTooLong));
+    write_reply(reply, answer).unwrap();
+}
+
+/// Runs an item of the message that stands in `source`, and writes its reply with a mark before it, if it is a
+/// request. What is answered is the mark of the next reply.
+#[tactic(auto, using(crate::proofs::ReplyLaws::one_reply))]
+fn put_item<'m>(
+    source: &[u8],
+    item: &MessageItem,
+    mark: &'m [u8],
+    reply: &mut Reply,
+    answer: &mut Bytes,
+) -> &'m [u8]
+    requires proper { item_is_proper source.now item.now ≡ true }
+    requires room { 16001 * requests_in (item.now ∷ []) + length mark.now ≤ 1 + answer.old.room }
+    ensures text { answer.new ≡ appended answer.old (item_text source.now mark.now item.now) }
+    ensures mark { result.now ≡ mark_behind mark.now item.now }
+    ensures short { length (item_text source.now mark.now item.now) ≤ length mark.now + 16000 * requests_in (item.now ∷ []) }
+{
+    match item {
+        MessageItem::Request(request) => {
+            transaction(source, request, reply);
+            answer.push(mark);
+            put_reply(reply, answer);
+            b"\n"
+        }
+        MessageItem::Acknowledgement(_) => mark,
+    }
+}
+/// Writes the replies to the requests among some items of the message that stands in `source`, with a line feed
+/// between each two.
+#[tactic(auto, using(crate::proofs::ReplyLaws::replying))]
+fn put_replies(source: &[u8], items: &[MessageItem], reply: &mut Reply, answer: &mut Bytes)
+    requires proper { are_proper source.now items.now ≡ true }
+    requires room { 16001 * requests_in items.now ≤ 1 + answer.old.room }
+    ensures text { answer.new.text ≡ answer.old.text ++ replies_text source.now [] items.now }
     ensures total { answer.new.room + length answer.new.text ≡ answer.old.room + length answer.old.text }
 {
-    write_head(config.address, config.control_port, answer);
-    let done = Outcome::Done(Parts);
-    reply.start(number);
-    reply.put(Item::Command(CommandWord::AuditValue, Term::root(), done));
-    reply.put(Item::Action(ContextId::Null));
-    write_reply(reply, answer).unwrap();
+    let mut mark: &[u8] = b"";
+    for item in items {
+        mark = put_item(source, item, mark, reply, answer);
+    }
 }
 
 impl Core {
@@ -129,13 +175,17 @@ impl Core {
             Ok(message) => message,
             Err(fault) => return self.refuse(fault),
         };
-        match request_number(&message.body) {
-            Some(number) => {
-                put_heartbeat(&self.config, number, &mut self.reply, &mut self.answer);
-                Ok(Answer::Send)
-            }
-            None => Ok(Answer::Silent),
+        let items = items_of(&message.body);
+        if !has_requests(items) {
+            return Ok(Answer::Silent);
         }
+        write_head(
+            self.config.address,
+            self.config.control_port,
+            &mut self.answer,
+        );
+        put_replies(bytes, items, &mut self.reply, &mut self.answer);
+        Ok(Answer::Send)
     }
 
     /// Answers a datagram that was not read.

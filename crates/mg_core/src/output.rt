@@ -1,5 +1,5 @@
 ghost use Rattle.std.specs.Prelude.{◌≡◌, ◌+◌, ◌*◌, ◌≤◌, length};
-ghost use Rattle.mg_text.specs.Bytes.{appended};
+ghost use Rattle.mg_reply.specs.Bytes.{appended};
 ghost use Rattle.mg_core.specs.Script.{escaped, escape_of};
 ghost use Rattle.mg_core.specs.Run.{answer_line};
 ghost use Rattle.mg_core.specs.Steps.{Writes, WritesSome};

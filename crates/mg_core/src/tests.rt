@@ -52,11 +52,56 @@ fn answers_messages(rt: HostRuntime) -> Result<(), Fail> {
 }
 
 #[test]
+fn answers_each_request(rt: HostRuntime) -> Result<(), Fail> {
+    let alloc = rt.alloc();
+    let cases: [(&[u8], &[u8]); 6] = [
+        (
+            b"!/1 a T=1{C=-{AV=ROOT{AT{M,M}}}}",
+            b"Reply=1{Context=-{AuditValue=ROOT}}",
+        ),
+        (
+            b"!/1 a T=1{C=-{AV=ROOT}}K{7}T=2{C=-{AV=ROOT}}T=3{C=0{AV=Root}}T=4{C=00{AV=root}}",
+            b"Reply=1{Context=-{AuditValue=ROOT}}\nReply=2{Context=-{AuditValue=ROOT}}\n\
+            Reply=3{Context=-{AuditValue=ROOT}}\nReply=4{Context=-{AuditValue=ROOT}}",
+        ),
+        (
+            b"!/1 a T=1{C=-{AV=ROOT}}T=2{C=-{AV=ROOT}}T=3{C=-{AV=ROOT}}T=4{C=-{AV=ROOT}}T=5{C=-{AV=ROOT}}",
+            b"Error=501{\"not served\"}",
+        ),
+        (
+            b"!/1 a Transaction=4{Context=*{AuditValue=*}}",
+            b"Reply=4{Context=*{Error=501{\"not served\"}}}",
+        ),
+        (
+            b"!/1 a Transaction=5{Context=-{ServiceChange=ROOT{Services{Method=Restart}}}}",
+            b"Reply=5{Context=-{ServiceChange=ROOT{Error=501{\"not served\"}}}}",
+        ),
+        (
+            b"!/1 a T=6{C=-{AV=ROOT,O-AV=ROOT,AV=ROOT}}T=007{C=1{AV=ROOT}}",
+            b"Reply=6{Context=-{AuditValue=ROOT,AuditValue=ROOT{Error=501{\"not served\"}}}}\n\
+            Reply=7{Context=1{AuditValue=ROOT{Error=501{\"not served\"}}}}",
+        ),
+    ];
+    let mut core = Core::new(alloc, Config::default())?;
+    for (message, replies) in cases {
+        assert_eq!(rt; core.control(alloc, CONTROLLER, message)?, Answer::Send);
+        let answer = core.answer();
+        if answer.len() < 26 {
+            return Err("a head".into());
+        }
+        let (_, behind) = answer.split_at(26);
+        assert_eq!(rt; behind, replies);
+    }
+    Ok(())
+}
+
+#[test]
 fn ignores_answers(rt: HostRuntime) -> Result<(), Fail> {
     let alloc = rt.alloc();
     let mut core = Core::new(alloc, Config::default())?;
     for message in [
-        b"MEGACO/1 [127.0.0.1]:2945 Error=400{\"syntax\"}".as_slice(),
+        b"MEGACO/1 [127.0.0.1]:2945 TransactionResponseAck{1-5,9}".as_slice(),
+        b"MEGACO/1 [127.0.0.1]:2945 Error=400{\"syntax\"}",
         b"MEGACO/1 [127.0.0.1]:2945 Reply=1{Context=1{Add=RTP/1}}",
     ] {
         assert_eq!(rt; core.control(alloc, CONTROLLER, message)?, Answer::Silent);

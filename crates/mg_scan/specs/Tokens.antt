@@ -1,6 +1,7 @@
 -- The tokens of a text, by its bytes (RFC 3525, Annex B.2; which words and white space there are is the profile of this gateway).
 use Rattle.std.specs.Prelude.{◌≡◌, ℕ, ◌+◌, ◌<◌, ◌≤◌, Bool, true, false, ◌||◌, ◌&&◌, ◌==◌, not, nat_le, List, [], ◌∷◌, ◌++◌, length, take, drop, Option, Some, None, Result, Ok, Err, codes, if◌then◌else◌}
-use Rattle.std.specs.List.{prefix_len, position_or_len, slice_range}
+use Rattle.std.specs.List.{prefix_len, position_or_len, slice_range, list_any}
+use Rattle.std.specs.Option.{option_map}
 use Rattle.std.specs.Str.{str_eq_ignore_ascii_case}
 use Rattle.mg_scan.specs.declared.kind.TokenKind.{TokenKind}
 use Rattle.mg_scan.specs.declared.kind.TokenKind.TheVariants.{Word, Open, Close, Comma, Equals, Quoted, Octets}
@@ -72,10 +73,29 @@ token_at (b ∷ bs) =
     else (if b == 34 then quoted_at bs
     else Some (Err BadByte))))))
 
--- the token that begins with the first byte, where the token before may name a session description; none is read yet
+-- How many bytes stand before the brace that closes a session description: the first without a backslash before
+-- it. The byte before the first one may be a backslash.
+unfoldable pub content_len : Bool → List ℕ → Option ℕ
+content_len escaped [] = None
+content_len escaped (b ∷ bs) = if b == 125 && not escaped then Some 0 else option_map (λ n. 1 + n) (content_len (b == 92) bs)
+
+-- a byte 0 stands among the bytes
+abbrev pub has_null : List ℕ → Bool
+has_null bs = list_any (λ b. b == 0) bs
+
+-- a session description of so many bytes, if it is closed
+abbrev pub octets_closed : List ℕ → Option ℕ → Option (Result Taken ScanFault)
+octets_closed bs None = if has_null bs then Some (Err BadByte) else Some (Err OpenOctets)
+octets_closed bs (Some n) = if has_null (take n bs) then Some (Err BadByte) else taken Octets (take n bs) (drop (n + 1) bs)
+
+-- the session description behind an opening brace
+abbrev pub octets_at : List ℕ → Option (Result Taken ScanFault)
+octets_at bs = octets_closed bs (content_len false bs)
+
+-- the token that begins with the first byte, where the token before may name a session description
 unfoldable pub token_behind : Bool → List ℕ → Option (Result Taken ScanFault)
 token_behind named [] = None
-token_behind named (b ∷ bs) = if named && b == 123 then Some (Err OpenOctets) else token_at (b ∷ bs)
+token_behind named (b ∷ bs) = if named && b == 123 then octets_at bs else token_at (b ∷ bs)
 
 -- whether a session description follows a token
 unfoldable pub names_octets : TokenKind → List ℕ → Bool

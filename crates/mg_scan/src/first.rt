@@ -1,10 +1,11 @@
 ghost use Rattle.std.specs.Prelude.{◌≡◌, ◌<◌, drop, length};
-ghost use Rattle.mg_scan.specs.Tokens.{quoted_at, token_at, token_behind, names_octets, FindsAs};
+ghost use Rattle.mg_scan.specs.Tokens.{quoted_at, token_at, octets_at, token_behind, names_octets, FindsAs};
 
 use crate::bytes::{is_word_byte, word_len};
 use crate::fault::ScanFault;
 use crate::found::Found;
 use crate::kind::TokenKind;
+use crate::octets::content_len;
 use memchr::memchr3;
 
 /// The text behind an opening quotation mark, which is the first of the bytes.
@@ -49,6 +50,32 @@ fn token_at(bytes: &[u8]) -> Option<Result<Found, ScanFault>>
     }
 }
 
+/// The session description behind an opening brace, which is the first of the bytes.
+fn octets_at(bytes: &[u8]) -> Option<Result<Found, ScanFault>>
+    requires { 0 < length bytes.now }
+    ensures { FindsAs bytes.now (octets_at (drop 1 bytes.now)) result }
+{
+    let (_, tail) = bytes.split_at(1);
+    let Some(n) = content_len(tail) else {
+        let fault = if tail.contains(&0) {
+            ScanFault::BadByte
+        } else {
+            ScanFault::OpenOctets
+        };
+        return Some(Err(fault));
+    };
+    let (content, _) = tail.split_at(n);
+    if content.contains(&0) {
+        return Some(Err(ScanFault::BadByte));
+    }
+    Some(Ok(Found {
+        kind: TokenKind::Octets,
+        start: 1,
+        end: n + 1,
+        next: n + 2,
+    }))
+}
+
 /// The token at the front, where the token before it may be a word that a session description follows.
 #[tactic(auto, unfolding(crate::specs::Tokens::token_behind))]
 pub fn token_behind(named: bool, bytes: &[u8]) -> Option<Result<Found, ScanFault>>
@@ -56,7 +83,7 @@ pub fn token_behind(named: bool, bytes: &[u8]) -> Option<Result<Found, ScanFault
 {
     match bytes {
         [] => None,
-        [b'{', ..] if named => Some(Err(ScanFault::OpenOctets)),
+        [b'{', ..] if named => octets_at(bytes),
         _ => token_at(bytes),
     }
 }

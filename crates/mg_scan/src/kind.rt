@@ -12,6 +12,6 @@ pub enum TokenKind {
     /// A text between quotation marks, on one line. Its span leaves the marks out.
     Quoted,
     /// The session description between the braces behind `Local` or `Remote`. Its span leaves the
-    /// braces out.
+    /// braces out. A closing brace in it has a backslash before it.
     Octets,
 }

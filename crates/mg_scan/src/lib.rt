@@ -8,8 +8,9 @@
 //! assert_eq!(rt; scanner.next(), Some(Ok(Token { kind: TokenKind::Word, span: Span { start: 0, end: 7 } })));
 //! ```
 //!
-//! A token's text is the part of the source that its [`Span`] names. A byte that begins no token, or a
-//! closing mark that is missing, is a [`ScanFault`], and behind a fault there is no token.
+//! A token's text is the part of the source that its [`Span`] names. Behind the words `Local` and `Remote`
+//! a brace opens a session description, which is one token up to its closing brace. A byte that begins no
+//! token, or a closing mark that is missing, is a [`ScanFault`], and behind a fault there is no token.
 #![tactic(auto)]
 
 mod bytes;
@@ -17,6 +18,7 @@ mod fault;
 mod first;
 mod found;
 mod kind;
+mod octets;
 mod scanner;
 mod span;
 #[cfg(test)]

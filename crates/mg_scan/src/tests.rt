@@ -41,7 +41,7 @@ fn names_each_fault_once(rt: HostRuntime) {
         (b"\x7f", ScanFault::BadByte),
         (b"\"a", ScanFault::OpenQuote),
         (b"\"a\rb\"", ScanFault::OpenQuote),
-        (b"LOCAL {}", ScanFault::OpenOctets),
+        (b"LOCAL {", ScanFault::OpenOctets),
     ];
     for (text, fault) in cases {
         let mut scanner = Scanner::new(text);
@@ -52,4 +52,35 @@ fn names_each_fault_once(rt: HostRuntime) {
         assert_eq!(rt; last, Some(Err(fault)));
         assert_eq!(rt; scanner.next(), None);
     }
+}
+
+#[test]
+fn gives_a_session_description_as_one_token(rt: HostRuntime) -> Result<(), Fail> {
+    let cases: [(&[u8], &[u8]); 4] = [
+        (b"Local{a\\}b}", b"a\\}b"),
+        (b"r { {\"; } ", b" {\"; "),
+        (b"l{a\\\\}b}", b"a\\\\}b"),
+        (b"REMOTE{}", b""),
+    ];
+    for (text, content) in cases {
+        let mut scanner = Scanner::new(text);
+        let word = scanner.next().ok_or("a token")?.map_err(|_| "no fault")?;
+        assert_eq!(rt; word.kind, TokenKind::Word);
+        let octets = scanner.next().ok_or("a token")?.map_err(|_| "no fault")?;
+        assert_eq!(rt; octets.kind, TokenKind::Octets);
+        assert_eq!(rt; octets.span.text(text), content);
+        assert_eq!(rt; scanner.next(), None);
+    }
+    Ok(())
+}
+
+#[test]
+fn refuses_a_null_in_a_session_description(rt: HostRuntime) -> Result<(), Fail> {
+    let cases: [&[u8]; 2] = [b"Local{a\0}", b"Local{a\0"];
+    for text in cases {
+        let mut scanner = Scanner::new(text);
+        let _word = scanner.next().ok_or("a token")?.map_err(|_| "no fault")?;
+        assert_eq!(rt; scanner.next(), Some(Err(ScanFault::BadByte)));
+    }
+    Ok(())
 }

@@ -1,27 +1,15 @@
--- What is in the grammar is read.
-use Rattle.std.proofs.Common.{◌≡◌, ℕ, suc, ◌-◌, eqb, true, false, List, [], ◌∷◌, Option, Some, None, Result, Ok, refl, inl, inr, sym, ap, ◌∙◌, arith}
+-- What is in the grammar is read: marks, words, groups and lists. Each part also has no more tokens behind it than
+-- before it, which bounds the length of a list.
+use Rattle.std.proofs.Common.{◌≡◌, ℕ, zero, suc, ◌-◌, ◌+◌, ◌<◌, ◌≤◌, eqb, Bool, true, false, List, [], ◌∷◌, length, Option, Some, None, Result, Ok, refl, inl, inr, ap, ◌∙◌, arith}
 use Rattle.std.proofs.lemmas.Bool.{ne_eqb}
 use Rattle.mg_scan.specs.declared.kind.TokenKind.{TokenKind}
 use Rattle.mg_scan.specs.declared.kind.TokenKind.TheVariants.{Word, Open, Close, Comma, Equals, Quoted, Octets}
 use Rattle.mg_scan.specs.declared.span.Span.{Span}
 use Rattle.mg_scan.specs.declared.token.Token.{Token}
-use Rattle.mg_numbers.specs.Numbers.{number_of}
 use Rattle.mg_text.specs.declared.keyword.Keyword.{Keyword}
-use Rattle.mg_text.specs.declared.keyword.Keyword.TheVariants as keywords
-use Rattle.mg_text.specs.declared.context.ContextId.{ContextId}
-use Rattle.mg_text.specs.declared.context.ContextId.TheVariants.{Null}
-use Rattle.mg_text.specs.declared.command.Audit.{Audit}
-use Rattle.mg_text.specs.declared.command.Command.{Command}
-use Rattle.mg_text.specs.declared.request.Action.{Action}
-use Rattle.mg_text.specs.declared.body.Body.{Body}
-use Rattle.mg_text.specs.declared.message.Message.{Message}
-use Rattle.mg_text.specs.Keyword.{keyword_of}
-use Rattle.mg_text.specs.Words.{context_of}
-use Rattle.mg_text.specs.Head.{version_of}
-use Rattle.mg_text.specs.Reading.{is_kind, mark_at, after_mark, word_at, named_at, worded_at, after_group, group_at}
-use Rattle.mg_text.specs.Requests.{root_at, audit_at, an_audit, audits_root, command_at, null_at, action_of, action_at, request_at, reply_at, error_at, body_at}
-use Rattle.mg_text.specs.Text.{version_at, sender_at, text_at}
-use Rattle.mg_text.specs.Grammar.{IsMark, IsWord, IsNamed, IsWorded, IsPlain, IsBalanced, nothing, plain, nested, IsGroup, IsRootTerm, IsOptionalAudit, IsCommand, IsAction, IsRequest, IsReply, IsError, IsBody, IsSender, IsText}
+use Rattle.mg_text.specs.Reading.{is_kind, mark_at, after_mark, span_at, word_at, named_at, worded_at, term_at, after_group, group_at, filled_at, list_at, items_at, braced_at, any_braced_at, optional_braced_at}
+use Rattle.mg_text.specs.Grammar.{IsMark, IsSpan, IsWord, IsNamed, IsWorded, IsMore, IsListed, IsBraced, IsOptionalBraced, IsAnyBraced, IsPlain, IsBalanced, nothing, plain, nested, IsGroup, IsContent, IsTermName}
+use Rattle.mg_text.proofs.Sound.{balanced_shorter}
 
 is_kind-same : (k : TokenKind) → is_kind k k ≡ true
 is_kind-same Word = refl
@@ -32,28 +20,47 @@ is_kind-same Equals = refl
 is_kind-same Quoted = refl
 is_kind-same Octets = refl
 
-mark_read : (source : List ℕ) (kind : TokenKind) (ts rest : List Token) → IsMark kind ts rest → mark_at source kind ts ≡ Ok rest
+pub mark_read : (source : List ℕ) (kind : TokenKind) (ts rest : List Token) → IsMark kind ts rest → mark_at source kind ts ≡ Ok rest
 unfolding mark_at
 mark_read source kind ts rest m = rw (m.front, m.kind_is, is_kind-same kind) refl
 
-after_read : (kind : TokenKind) (ts rest : List Token) → IsMark kind ts rest → after_mark kind ts ≡ Some rest
+pub after_read : (kind : TokenKind) (ts rest : List Token) → IsMark kind ts rest → after_mark kind ts ≡ Some rest
 unfolding after_mark
 after_read kind ts rest m = rw (m.front, m.kind_is, is_kind-same kind) refl
 
 -- another mark stands there
-after_other : (kind other : TokenKind) (ts rest : List Token) → is_kind kind other ≡ false → IsMark kind ts rest → after_mark other ts ≡ None
+pub after_other : (kind other : TokenKind) (ts rest : List Token) → is_kind kind other ≡ false → IsMark kind ts rest → after_mark other ts ≡ None
 unfolding after_mark
 after_other kind other ts rest apart m = rw (m.front, m.kind_is, apart) refl
 
-word_read : (source : List ℕ) (w : Span) (ts rest : List Token) → IsWord w ts rest → word_at source ts ≡ Ok (w, rest)
-unfolding word_at
-word_read source w ts rest m = rw (m.front, m.kind_is, m.span_is) refl
+-- behind a part no opening brace and no equals sign stands, so that nothing more belongs to it
+pub record Stops (rest : List Token) : Type 0 where
+  pub «open» : after_mark Open rest ≡ None
+  pub equals : after_mark Equals rest ≡ None
 
-named_read : (source : List ℕ) (keyword : Keyword) (ts rest : List Token) → IsNamed source keyword ts rest → named_at source keyword ts ≡ Ok rest
+pub at_comma : (ts rest : List Token) → IsMark Comma ts rest → Stops ts
+at_comma ts rest m = record { «open» = after_other Comma Open ts rest refl m; equals = after_other Comma Equals ts rest refl m }
+
+pub at_close : (ts rest : List Token) → IsMark Close ts rest → Stops ts
+at_close ts rest m = record { «open» = after_other Close Open ts rest refl m; equals = after_other Close Equals ts rest refl m }
+
+pub span_read : (source : List ℕ) (kind : TokenKind) (w : Span) (ts rest : List Token) → IsSpan kind w ts rest → span_at source kind ts ≡ Ok (w, rest)
+unfolding span_at
+span_read source kind w ts rest m = rw (m.front, m.kind_is, is_kind-same kind, m.span_is) refl
+
+pub word_read : (source : List ℕ) (w : Span) (ts rest : List Token) → IsWord w ts rest → word_at source ts ≡ Ok (w, rest)
+word_read source w ts rest m = span_read source Word w ts rest m
+
+-- where one kind of token stands, no mark of another kind does
+pub span_other : (kind other : TokenKind) (w : Span) (ts rest : List Token) → is_kind kind other ≡ false → IsSpan kind w ts rest → after_mark other ts ≡ None
+unfolding after_mark
+span_other kind other w ts rest apart m = rw (m.front, m.kind_is, apart) refl
+
+pub named_read : (source : List ℕ) (keyword : Keyword) (ts rest : List Token) → IsNamed source keyword ts rest → named_at source keyword ts ≡ Ok rest
 unfolding named_at
 named_read source keyword ts rest m = rw (word_read source m.word ts rest m.is, m.named) refl
 
-worded_read : {X : Type 0} (meaning : List ℕ → Option X) (source : List ℕ) (x : X) (ts rest : List Token) → IsWorded meaning source x ts rest → worded_at meaning source ts ≡ Ok (x, rest)
+pub worded_read : {X : Type 0} (meaning : List ℕ → Option X) (source : List ℕ) (x : X) (ts rest : List Token) → IsWorded meaning source x ts rest → worded_at meaning source ts ≡ Ok (x, rest)
 unfolding worded_at
 worded_read meaning source x ts rest m = rw (word_read source m.word ts rest m.is, m.means) refl
 
@@ -79,86 +86,108 @@ balanced_read source depth _ _ (nested o c ts a rest opens closes inside behind)
     let back : after_group source (suc depth) (c ∷ a) ≡ after_group source depth a = rw (closes, more, one) refl in
     rw opens (balanced_read source (suc depth) ts (c ∷ a) inside ∙ back ∙ balanced_read source depth a rest behind)
 
-behind_read : (source : List ℕ) (ts rest : List Token) (m : IsGroup ts rest) → after_group source 0 m.a ≡ Ok rest
+pub behind_read : (source : List ℕ) (ts rest : List Token) (m : IsGroup ts rest) → after_group source 0 m.a ≡ Ok rest
 unfolding after_group
 behind_read source ts rest m = balanced_read source 0 m.a m.b m.inside ∙ (rw (m.close.front, m.close.kind_is) refl)
 
-group_read : (source : List ℕ) (ts rest : List Token) → IsGroup ts rest → group_at source ts ≡ Ok rest
+pub group_read : (source : List ℕ) (ts rest : List Token) → IsGroup ts rest → group_at source ts ≡ Ok rest
 unfolding group_at
 group_read source ts rest m = rw (mark_read source Open ts m.a m.«open») (behind_read source ts rest m)
 
-root_read : (source : List ℕ) (term : Span) (ts rest : List Token) → IsRootTerm source term ts rest → root_at source ts ≡ Ok (term, rest)
-unfolding root_at
-root_read source term ts rest m = rw (word_read source term ts rest m.is, m.root) refl
+pub term_read : (source : List ℕ) (w : Span) (ts rest : List Token) → IsTermName source w ts rest → term_at source ts ≡ Ok (w, rest)
+unfolding term_at
+term_read source w ts rest m = rw (word_read source w ts rest m.is, m.named) refl
 
-audit_is : (audit : Audit) → an_audit ≡ Some audit
-audit_is audit = refl
+-- in a group that has a token, the first token isn't the closing brace
+not_close : (ts b : List Token) → length b < length ts → IsBalanced ts b → after_mark Close ts ≡ None
+unfolding after_mark
+not_close _ _ filled (nothing ts) = absurd (omega arith)
+not_close _ b filled (plain t ts b' p inside) = let k = plain_not t.kind p in rw k.1 refl
+not_close _ b filled (nested o c ts a b' opens closes inside behind) = rw opens refl
 
--- where no Audit stands, what follows must not look like one
-audit_read : (source : List ℕ) (o : Option Audit) (ts rest : List Token) → after_mark Open rest ≡ None → IsOptionalAudit source o ts rest → audit_at source ts ≡ Ok (o, rest)
-unfolding audit_at
-audit_read source None ts rest stops m = rw (m, stops) refl
-audit_read source (Some audit) ts rest stops m =
-    rw (after_read Open ts m.a m.«open», named_read source keywords.Audit m.a m.b m.name, mark_read source Open m.b m.d m.open_words, mark_read source Close m.d m.e m.close_words, mark_read source Close m.e rest m.close)
-    (ap (λ (o : Option Audit). Ok (o, rest)) (audit_is audit))
+pub filled_read : (source : List ℕ) (b : Bool) (ts rest : List Token) → after_mark Open rest ≡ None → IsContent b ts rest → filled_at source ts ≡ Ok (b, rest)
+unfolding filled_at
+filled_read source true ts rest stops m =
+    let g = m.group in
+    rw (after_read Open ts g.a g.«open», not_close g.a g.b m.filled g.inside, behind_read source ts rest g) refl
+filled_read source false ts rest stops (inl none) = rw (none, stops) refl
+filled_read source false ts rest stops (inr empty) = rw (after_read Open ts empty.a empty.«open», after_read Close empty.a rest empty.close) refl
 
-command_read : (source : List ℕ) (x : Command) (ts rest : List Token) → after_mark Open rest ≡ None → IsCommand source x ts rest → command_at source ts ≡ Ok (x, rest)
-unfolding command_at
-command_read source x ts rest stops m =
-    let same : audits_root x.term x.audit ≡ x = λ i. record { word = sym m.word i; term = x.term; audit = x.audit } in
-    rw (named_read source keywords.AuditValue ts m.a m.name, mark_read source Equals m.a m.b m.equals, root_read source x.term m.b m.d m.term, audit_read source x.audit m.d rest stops m.audit)
-    (ap (λ (y : Command). Ok (y, rest)) same)
+pub mark_shorter : (kind : TokenKind) (ts rest : List Token) → IsMark kind ts rest → length rest < length ts
+mark_shorter kind ts rest m = omega (arith, ap length m.front)
 
-null_read : (source : List ℕ) (c : ContextId) (ts rest : List Token) → c ≡ Null → IsWorded context_of source c ts rest → null_at source ts ≡ Ok (c, rest)
-unfolding null_at
-null_read source c ts rest null m =
-    rw (worded_read context_of source c ts rest m) (rw null refl)
+pub span_shorter : (kind : TokenKind) (w : Span) (ts rest : List Token) → IsSpan kind w ts rest → length rest < length ts
+span_shorter kind w ts rest m = omega (arith, ap length m.front)
 
-action_read : (source : List ℕ) (x : Action) (ts rest : List Token) → IsAction source x ts rest → action_at source ts ≡ Ok (x, rest)
-unfolding action_at
-action_read source x ts rest m =
-    let same : action_of x.context m.command ≡ x = λ i. record { context = x.context; commands = sym m.only i } in
-    rw (named_read source keywords.Context ts m.a m.name, mark_read source Equals m.a m.b m.equals, null_read source x.context m.b m.d m.null m.context, mark_read source Open m.d m.e m.«open», command_read source m.command m.e m.f (after_other Close Open m.f rest refl m.close) m.is, mark_read source Close m.f rest m.close)
-    (ap (λ (y : Action). Ok (y, rest)) same)
+pub worded_shorter : {X : Type 0} (meaning : List ℕ → Option X) (source : List ℕ) (x : X) (ts rest : List Token) → IsWorded meaning source x ts rest → length rest < length ts
+worded_shorter meaning source x ts rest m = span_shorter Word m.word ts rest m.is
 
-abbrev read_as : Body → List Token → Result (Body × List Token) ℕ
-read_as x rest = Ok (x, rest)
+pub group_shorter : (ts rest : List Token) → IsGroup ts rest → length rest < length ts
+group_shorter ts rest m = omega (arith, mark_shorter Open ts m.a m.«open», balanced_shorter m.a m.b m.inside, mark_shorter Close m.b rest m.close)
 
-as_body : (x y : Body) (rest : List Token) → x ≡ y → read_as y rest ≡ read_as x rest
-as_body x y rest e = ap (λ (b : Body). read_as b rest) (sym e)
+pub content_shorter : (b : Bool) (ts rest : List Token) → IsContent b ts rest → length rest ≤ length ts
+content_shorter true ts rest m = omega (arith, group_shorter ts rest m.group)
+content_shorter false ts rest (inl none) = omega (arith, ap length none)
+content_shorter false ts rest (inr empty) = omega (arith, mark_shorter Open ts empty.a empty.«open», mark_shorter Close empty.a rest empty.close)
 
-request_read : (source : List ℕ) (x : Body) (ts rest : List Token) → IsRequest source x ts rest → body_at source ts ≡ Ok (x, rest)
-unfolding body_at request_at
-request_read source x ts rest m =
-    rw (worded_read keyword_of source keywords.Transaction ts m.a m.name, mark_read source Equals m.a m.b m.equals, worded_read number_of source m.number m.b m.d m.number_is, mark_read source Open m.d m.e m.«open», action_read source m.action m.e m.f m.is, mark_read source Close m.f rest m.close)
-    (as_body x _ rest m.body)
+module _ {X : Type 0} (source : List ℕ) (read : List Token → Result (X × List Token) ℕ) (P : X → List Token → List Token → Type 0) (complete : (ts : List Token) (x : X) (rest : List Token) → Stops rest → P x ts rest → read ts ≡ Ok (x, rest)) (shorter : (ts : List Token) (x : X) (rest : List Token) → P x ts rest → length rest ≤ length ts) where
+  more_shorter : (xs : List X) (ts rest : List Token) → IsMore P xs ts rest → length xs + length rest < length ts
+  more_shorter [] ts rest m = omega (arith, mark_shorter Close ts rest m)
+  more_shorter (x ∷ xs) ts rest m = omega (arith, mark_shorter Comma ts m.0 m.2, shorter m.0 x m.1 m.3, more_shorter xs m.1 rest m.4)
 
-reply_read : (source : List ℕ) (x : Body) (ts rest : List Token) → IsReply source x ts rest → body_at source ts ≡ Ok (x, rest)
-unfolding body_at reply_at
-reply_read source x ts rest m =
-    rw (worded_read keyword_of source keywords.Reply ts m.a m.name, mark_read source Equals m.a m.b m.equals, worded_read number_of source m.number m.b m.d m.number_is, group_read source m.d rest m.group)
-    (as_body x _ rest m.body)
+  list_shorter : (xs : List X) (ts rest : List Token) → IsListed P xs ts rest → length xs + length rest ≤ length ts
+  list_shorter [] ts rest h = absurd h
+  list_shorter (x ∷ xs) ts rest h = omega (arith, shorter ts x h.0 h.1, more_shorter xs h.0 rest h.2)
 
-error_read : (source : List ℕ) (x : Body) (ts rest : List Token) → IsError source x ts rest → body_at source ts ≡ Ok (x, rest)
-unfolding body_at error_at
-error_read source x ts rest m =
-    rw (worded_read keyword_of source keywords.Error ts m.a m.name, mark_read source Equals m.a m.b m.equals, word_read source m.word m.b m.d m.word_is, group_read source m.d rest m.group)
-    (as_body x _ rest m.body)
+  pub items_shorter : (xs : List X) (ts rest : List Token) → IsListed P xs ts rest → length rest ≤ length ts
+  items_shorter xs ts rest h = omega (arith, list_shorter xs ts rest h)
 
-body_read : (source : List ℕ) (x : Body) (ts rest : List Token) → IsBody source x ts rest → body_at source ts ≡ Ok (x, rest)
-body_read source x ts rest (inl m) = request_read source x ts rest m
-body_read source x ts rest (inr (inl m)) = reply_read source x ts rest m
-body_read source x ts rest (inr (inr m)) = error_read source x ts rest m
+  list_reads : (n : ℕ) (x : X) (xs : List X) (ts rest : List Token) → length xs < n → IsListed P (x ∷ xs) ts rest → list_at source read n ts ≡ Ok (x ∷ xs, rest)
+  unfolding list_at
+  list_reads zero x xs ts rest lt h = absurd (omega arith)
+  list_reads (suc n) x [] ts rest lt h =
+      rw (complete ts x h.0 (at_close h.0 rest h.2) h.1, after_other Close Comma h.0 rest refl h.2, mark_read source Close h.0 rest h.2) refl
+  list_reads (suc n) x (y ∷ ys) ts rest lt h =
+      rw (complete ts x h.0 (at_comma h.0 h.2.0 h.2.2) h.1, after_read Comma h.0 h.2.0 h.2.2, list_reads n y ys h.2.0 rest (omega arith) (h.2.1, h.2.3, h.2.4)) refl
 
-sender_read : (source : List ℕ) (s : Span) (ts rest : List Token) → IsSender source s ts rest → sender_at source ts ≡ Ok (s, rest)
-unfolding sender_at
-sender_read source s ts rest m = rw (word_read source s ts rest m.is, m.named) refl
+  pub items_read : (xs : List X) (ts rest : List Token) → IsListed P xs ts rest → items_at source read ts ≡ Ok (xs, rest)
+  items_read [] ts rest h = absurd h
+  items_read (x ∷ xs) ts rest h = list_reads (length ts) x xs ts rest (omega (arith, list_shorter (x ∷ xs) ts rest h)) h
 
--- the head of a message, and the text behind it
-pub head_read : (source : List ℕ) (n : ℕ) (ts rest : List Token) → IsWorded version_of source n ts rest → version_at source ts ≡ Ok (n, rest)
-head_read source n ts rest m = worded_read version_of source n ts rest m
+  pub braced_read : (xs : List X) (ts rest : List Token) → IsBraced P xs ts rest → braced_at source read ts ≡ Ok (xs, rest)
+  unfolding braced_at
+  braced_read xs ts rest m = rw (mark_read source Open ts m.a m.«open», items_read xs m.a rest m.are) refl
 
-pub text_read : (source : List ℕ) (m : Message) (ts : List Token) (is : IsText source m ts) → text_at source is.a ≡ Ok m
-unfolding text_at
-text_read source m ts is =
-    rw (sender_read source m.sender is.a is.b is.sender, body_read source m.body is.b [] is.body) refl
+  pub braced_shorter : (xs : List X) (ts rest : List Token) → IsBraced P xs ts rest → length rest < length ts
+  braced_shorter xs ts rest m = omega (arith, mark_shorter Open ts m.a m.«open», items_shorter xs m.a rest m.are)
+
+  pub optional_braced_read : (xs : List X) (ts rest : List Token) → after_mark Open rest ≡ None → IsOptionalBraced P xs ts rest → optional_braced_at source read ts ≡ Ok (xs, rest)
+  unfolding optional_braced_at
+  optional_braced_read [] ts rest stops m = rw (m, stops) refl
+  optional_braced_read (x ∷ xs) ts rest stops m = rw (after_read Open ts m.a m.«open», items_read (x ∷ xs) m.a rest m.are) refl
+
+  pub optional_braced_shorter : (xs : List X) (ts rest : List Token) → IsOptionalBraced P xs ts rest → length rest ≤ length ts
+  optional_braced_shorter [] ts rest m = omega (arith, ap length m)
+  optional_braced_shorter (x ∷ xs) ts rest m = omega (arith, braced_shorter (x ∷ xs) ts rest m)
+
+  -- where an item stands, no closing brace does
+  module _ (begins : (ts : List Token) (x : X) (rest : List Token) → P x ts rest → after_mark Close ts ≡ None) where
+    pub any_braced_read : (xs : List X) (ts rest : List Token) → IsAnyBraced P xs ts rest → any_braced_at source read ts ≡ Ok (xs, rest)
+    unfolding any_braced_at
+    any_braced_read [] ts rest m = rw (mark_read source Open ts m.a m.«open», after_read Close m.a rest m.close) refl
+    any_braced_read (x ∷ xs) ts rest m = rw (mark_read source Open ts m.a m.«open», begins m.a x m.are.0 m.are.1, items_read (x ∷ xs) m.a rest m.are) refl
+
+    pub any_braced_shorter : (xs : List X) (ts rest : List Token) → IsAnyBraced P xs ts rest → length rest < length ts
+    any_braced_shorter [] ts rest m = omega (arith, mark_shorter Open ts m.a m.«open», mark_shorter Close m.a rest m.close)
+    any_braced_shorter (x ∷ xs) ts rest m = braced_shorter (x ∷ xs) ts rest m
+
+-- words that stand for values, as items of a list
+module _ {X : Type 0} (meaning : List ℕ → Option X) (source : List ℕ) where
+  pub each_word_read : (ts : List Token) (x : X) (rest : List Token) → Stops rest → IsWorded meaning source x ts rest → worded_at meaning source ts ≡ Ok (x, rest)
+  each_word_read ts x rest stops m = worded_read meaning source x ts rest m
+
+  pub each_word_shorter : (ts : List Token) (x : X) (rest : List Token) → IsWorded meaning source x ts rest → length rest ≤ length ts
+  each_word_shorter ts x rest m = omega (arith, worded_shorter meaning source x ts rest m)
+
+  pub each_word_begins : (ts : List Token) (x : X) (rest : List Token) → IsWorded meaning source x ts rest → after_mark Close ts ≡ None
+  each_word_begins ts x rest m = span_other Word Close m.word ts rest refl m.is

@@ -1,6 +1,16 @@
 pub mod GroupSteps
 pub mod ScanLaws
+pub mod ListSteps
+pub mod PartSteps
+pub mod SequenceSteps
 pub mod Sound
+pub mod SoundMedia
+pub mod SoundCommands
+pub mod SoundItems
 pub mod Complete
+pub mod CompleteMedia
+pub mod CompleteCommands
+pub mod CompleteItems
+pub mod CountSteps
 pub mod ReadLaws
-pub mod WrittenLaws
+pub mod ProperLaws

@@ -1,30 +1,16 @@
--- What is read is in the grammar.
-use Rattle.std.proofs.Common.{◌≡◌, ℕ, zero, suc, ◌-◌, eqb, Bool, true, false, cond, List, [], ◌∷◌, length, Option, Some, None, Result, Ok, Err, refl, inl, inr, ◌⊎◌, sym, ap, subst, ◌∙◌, arith}
-use Rattle.std.proofs.lemmas.Bool.{eqb-true, ne_eqb}
-use Rattle.std.proofs.lemmas.List.{nil_from_length}
+-- What is read is in the grammar: tools, marks, words, groups and lists.
+use Rattle.std.proofs.Common.{◌≡◌, ℕ, zero, suc, ◌-◌, ◌<◌, ◌≤◌, eqb, Bool, true, false, cond, List, [], ◌∷◌, length, Option, Some, None, Result, Ok, Err, refl, inl, inr, ◌⊎◌, sym, ap, subst, ◌∙◌, arith}
+use Rattle.std.proofs.lemmas.Bool.{ne_eqb}
 use Rattle.mg_scan.specs.declared.kind.TokenKind.{TokenKind}
 use Rattle.mg_scan.specs.declared.kind.TokenKind.TheVariants.{Word, Open, Close, Comma, Equals, Quoted, Octets}
 use Rattle.mg_scan.specs.declared.span.Span.{Span}
 use Rattle.mg_scan.specs.declared.token.Token.{Token}
 use Rattle.mg_scan.specs.Span.{text_of}
-use Rattle.mg_numbers.specs.Numbers.{number_of}
 use Rattle.mg_text.specs.declared.keyword.Keyword.{Keyword}
-use Rattle.mg_text.specs.declared.keyword.Keyword.TheVariants as keywords
-use Rattle.mg_text.specs.declared.context.ContextId.{ContextId}
-use Rattle.mg_text.specs.declared.context.ContextId.TheVariants.{Null, Choose, All, Number}
-use Rattle.mg_text.specs.declared.command.Audit.{Audit}
-use Rattle.mg_text.specs.declared.command.Command.{Command}
-use Rattle.mg_text.specs.declared.request.Action.{Action}
-use Rattle.mg_text.specs.declared.body.Body.{Body}
-use Rattle.mg_text.specs.declared.message.Message.{Message}
-use Rattle.mg_text.specs.Keyword.{is_named, keyword_of}
-use Rattle.mg_text.specs.Words.{context_of, is_root}
-use Rattle.mg_text.specs.Head.{version_of}
-use Rattle.mg_text.specs.Sender.{is_sender}
-use Rattle.mg_text.specs.Reading.{◌>>=◌, if_some, is_kind, mark_at, after_mark, word_at, named_at, worded_at, keyword_at, number_at, context_at, after_group, group_at, place_of}
-use Rattle.mg_text.specs.Requests.{root_at, audit_at, an_audit, audits_root, command_at, is_null, null_at, action_of, action_at, request_at, reply_at, error_at, body_named, body_at}
-use Rattle.mg_text.specs.Text.{sender_at, message_of, text_at}
-use Rattle.mg_text.specs.Grammar.{IsMark, IsWord, IsNamed, IsWorded, IsPlain, IsBalanced, nothing, plain, nested, IsGroup, IsRootTerm, IsOptionalAudit, IsCommand, IsAction, IsBody, IsSender, IsText}
+use Rattle.mg_reply.specs.Term.{is_term}
+use Rattle.mg_text.specs.Keyword.{is_named}
+use Rattle.mg_text.specs.Reading.{◌>>=◌, if_some, is_kind, mark_at, after_mark, span_at, word_at, named_at, worded_at, term_at, after_group, group_at, filled_at, list_at, items_at, braced_at, any_braced_at, optional_braced_at}
+use Rattle.mg_text.specs.Grammar.{IsMark, IsSpan, IsWord, IsNamed, IsWorded, IsMore, IsListed, IsBraced, IsOptionalBraced, IsAnyBraced, IsPlain, IsBalanced, nothing, plain, nested, IsGroup, IsContent, IsTermName}
 
 -- the value of a step that did not fail
 pub bind_ok : {A B : Type 0} (r : Result A ℕ) (f : A → Result B ℕ) (y : B) → (r >>= f) ≡ Ok y → (x : A) × (r ≡ Ok x) × (f x ≡ Ok y)
@@ -69,12 +55,15 @@ after_found kind (t ∷ ts) rest e =
     let g = some_guard (is_kind t.kind kind) ts rest e in
     record { token = t; kind_is = is_kind-true t.kind kind g.0; front = ap (λ (r : List Token). t ∷ r) g.1 }
 
+pub span_found : (source : List ℕ) (kind : TokenKind) (ts : List Token) (x : Span × List Token) → span_at source kind ts ≡ Ok x → IsSpan kind x.0 ts x.1
+unfolding span_at
+span_found source kind [] x e = absurd cc
+span_found source kind (t ∷ ts) x e =
+    let g = guard_ok (is_kind t.kind kind) t.span.start (t.span, ts) x e in
+    record { token = t; kind_is = is_kind-true t.kind kind g.0; span_is = ap (λ (p : Span × List Token). p.0) g.1; front = ap (λ (p : Span × List Token). t ∷ p.1) g.1 }
+
 pub word_found : (source : List ℕ) (ts : List Token) (x : Span × List Token) → word_at source ts ≡ Ok x → IsWord x.0 ts x.1
-unfolding word_at
-word_found source [] x e = absurd cc
-word_found source (t ∷ ts) x e =
-    let g = guard_ok (is_kind t.kind Word) t.span.start (t.span, ts) x e in
-    record { token = t; kind_is = is_kind-true t.kind Word g.0; span_is = ap (λ (p : Span × List Token). p.0) g.1; front = ap (λ (p : Span × List Token). t ∷ p.1) g.1 }
+word_found source ts x e = span_found source Word ts x e
 
 pub named_found : (source : List ℕ) (keyword : Keyword) (ts rest : List Token) → named_at source keyword ts ≡ Ok rest → IsNamed source keyword ts rest
 unfolding named_at
@@ -99,7 +88,7 @@ worded_found meaning source ts x e =
     let g = worded-cases (meaning (text_of source w.0.0)) w.0.1 w.0.0.start x w.2 in
     record { word = w.0.0; means = g.0; is = subst (λ (r : List Token). IsWord w.0.0 ts r) g.1 (word_found source ts w.0 w.1) }
 
-abbrev IsSpelled : {X : Type 0} → (X → List Token → List Token → Type 0) → List Token → X × List Token → Type 0
+abbrev pub IsSpelled : {X : Type 0} → (X → List Token → List Token → Type 0) → List Token → X × List Token → Type 0
 IsSpelled P ts x = P x.0 ts x.1
 
 -- one side or the other of a test
@@ -139,7 +128,7 @@ close_found source (suc n) t ts rest closes e others =
     let more : eqb (suc n) 0 ≡ false = ne_eqb (suc n) 0 (λ q. absurd (omega arith)) in
     (t ∷ ts, ts, nothing (t ∷ ts), record { token = t; kind_is = closes; front = refl }, others n (ap (λ (m : ℕ). after_group source m ts) (sym one) ∙ (rw more at e)))
 
-group_found : (source : List ℕ) (n : ℕ) (ts rest : List Token) → after_group source n ts ≡ Ok rest → Closes n ts rest
+pub group_found : (source : List ℕ) (n : ℕ) (ts rest : List Token) → after_group source n ts ≡ Ok rest → Closes n ts rest
 unfolding after_group
 group_found source n [] rest e = absurd cc
 group_found source n (t ∷ ts) rest e =
@@ -159,169 +148,101 @@ group_at_found source ts rest e =
     let g = group_found source 0 a.0 rest a.2 in
     record { a = a.0; b = g.0; «open» = mark_found source Open ts a.0 a.1; inside = g.1; close = g.2 }
 
-root_found : (source : List ℕ) (ts : List Token) (x : Span × List Token) → root_at source ts ≡ Ok x → IsRootTerm source x.0 ts x.1
-unfolding root_at
-root_found source ts x e =
+pub term_found : (source : List ℕ) (ts : List Token) (x : Span × List Token) → term_at source ts ≡ Ok x → IsTermName source x.0 ts x.1
+unfolding term_at
+term_found source ts x e =
     let w = bind_ok (word_at source ts) _ x e in
-    let g = guard_ok (is_root (text_of source w.0.0)) w.0.0.start w.0 x w.2 in
-    subst (IsSpelled (IsRootTerm source) ts) g.1 (record { root = g.0; is = word_found source ts w.0 w.1 })
+    let g = guard_ok (is_term (text_of source w.0.0)) w.0.0.start w.0 x w.2 in
+    subst (IsSpelled (IsTermName source) ts) g.1 (record { named = g.0; is = word_found source ts w.0 w.1 })
 
-audit_found : (source : List ℕ) (ts : List Token) (x : Option Audit × List Token) → audit_at source ts ≡ Ok x → IsOptionalAudit source x.0 ts x.1
-unfolding audit_at
-audit_found source ts x e =
+pub balanced_shorter : (ts rest : List Token) → IsBalanced ts rest → length rest ≤ length ts
+balanced_shorter _ _ (nothing ts) = omega arith
+balanced_shorter _ _ (plain t ts rest p inside) = omega (arith, balanced_shorter ts rest inside)
+balanced_shorter _ _ (nested o c ts a rest opens closes inside behind) = omega (arith, balanced_shorter ts (c ∷ a) inside, balanced_shorter a rest behind)
+
+closes_there : (ts rest : List Token) → IsMark Close ts rest → after_mark Close ts ≡ Some rest
+unfolding after_mark
+closes_there ts rest m = rw (m.front, m.kind_is) refl
+
+never : (ts rest : List Token) → after_mark Close ts ≡ None → after_mark Close ts ≡ Some rest → ⊥
+never ts rest e h = cc
+
+-- a group whose first token doesn't close it has a token in it
+not_close : (ts b rest : List Token) → after_mark Close ts ≡ None → IsBalanced ts b → IsMark Close b rest → length b < length ts
+unfolding after_mark
+not_close _ _ rest none (nothing ts) close = absurd (never ts rest none (closes_there ts rest close))
+not_close _ b rest none (plain t ts b' p inside) close = omega (arith, balanced_shorter ts b inside)
+not_close _ b rest none (nested o c ts a b' opens closes inside behind) close = omega (arith, balanced_shorter ts (c ∷ a) inside, balanced_shorter a b behind)
+
+pub filled_found : (source : List ℕ) (ts : List Token) (x : Bool × List Token) → filled_at source ts ≡ Ok x → IsContent x.0 ts x.1
+unfolding filled_at
+filled_found source ts x e =
     elim (if_some_ok (after_mark Open ts) _ _ x e) [
       | inl some ↦
-          let a = bind_ok (named_at source keywords.Audit some.0) _ x some.2 in
-          let b = bind_ok (mark_at source Open a.0) _ x a.2 in
-          let d = bind_ok (mark_at source Close b.0) _ x b.2 in
-          let f = bind_ok (mark_at source Close d.0) _ x d.2 in
-          subst (IsSpelled (IsOptionalAudit source) ts) (ok_is (an_audit, f.0) x f.2) (record {
-            a = some.0;
-            b = a.0;
-            d = b.0;
-            e = d.0;
-            «open» = after_found Open ts some.0 some.1;
-            name = named_found source keywords.Audit some.0 a.0 a.1;
-            open_words = mark_found source Open a.0 b.0 b.1;
-            close_words = mark_found source Close b.0 d.0 d.1;
-            close = mark_found source Close d.0 f.0 f.1;
-          })
-      | inr none ↦ subst (IsSpelled (IsOptionalAudit source) ts) (ok_is _ x none.1) refl
+          let opens = after_found Open ts some.0 some.1 in
+          elim (if_some_ok (after_mark Close some.0) _ _ x some.2) [
+            | inl empty ↦ subst (IsSpelled IsContent ts) (ok_is _ x empty.2) (inr (record { a = some.0; «open» = opens; close = after_found Close some.0 empty.0 empty.1 }))
+            | inr full ↦
+                let rest = bind_ok (after_group source 0 some.0) _ x full.1 in
+                let g = group_found source 0 some.0 rest.0 rest.1 in
+                subst (IsSpelled IsContent ts) (ok_is _ x rest.2) (record { group = record { a = some.0; b = g.0; «open» = opens; inside = g.1; close = g.2 }; filled = not_close some.0 g.0 rest.0 full.0 g.1 g.2 })
+          ]
+      | inr none ↦ subst (IsSpelled IsContent ts) (ok_is _ x none.1) (inl refl)
     ]
 
-pub command_found : (source : List ℕ) (ts : List Token) (x : Command × List Token) → command_at source ts ≡ Ok x → IsCommand source x.0 ts x.1
-unfolding command_at
-command_found source ts x e =
-    let a = bind_ok (named_at source keywords.AuditValue ts) _ x e in
-    let b = bind_ok (mark_at source Equals a.0) _ x a.2 in
-    let d = bind_ok (root_at source b.0) _ x b.2 in
-    let f = bind_ok (audit_at source d.0.1) _ x d.2 in
-    subst (IsSpelled (IsCommand source) ts) (ok_is (audits_root d.0.0 f.0.0, f.0.1) x f.2) (record {
-      a = a.0;
-      b = b.0;
-      d = d.0.1;
-      word = refl;
-      name = named_found source keywords.AuditValue ts a.0 a.1;
-      equals = mark_found source Equals a.0 b.0 b.1;
-      term = root_found source b.0 d.0 d.1;
-      audit = audit_found source d.0.1 f.0 f.1;
-    })
+module _ {X : Type 0} (source : List ℕ) (read : List Token → Result (X × List Token) ℕ) (P : X → List Token → List Token → Type 0) (sound : (ts : List Token) (x : X × List Token) → read ts ≡ Ok x → P x.0 ts x.1) where
+  -- a list that was read is not empty: its first item, and more
+  list_found : (n : ℕ) (ts : List Token) (xs : List X × List Token) → list_at source read n ts ≡ Ok xs → IsListed P xs.0 ts xs.1
+  unfolding list_at
+  list_found zero ts xs e = absurd cc
+  list_found (suc n) ts xs e =
+      let first = bind_ok (read ts) _ xs e in
+      let p = sound ts first.0 first.1 in
+      elim (if_some_ok (after_mark Comma first.0.1) _ _ xs first.2) [
+        | inl more ↦
+            let others = bind_ok (list_at source read n more.0) _ xs more.2 in
+            let comma = after_found Comma first.0.1 more.0 more.1 in
+            subst (λ (y : List X × List Token). IsListed P y.0 ts y.1) (ok_is _ xs others.2) (first.0.1, p, after_comma others.0.0 first.0.1 more.0 others.0.1 comma (list_found n more.0 others.0 others.1))
+        | inr last ↦
+            let close = bind_ok (mark_at source Close first.0.1) _ xs last.1 in
+            subst (λ (y : List X × List Token). IsListed P y.0 ts y.1) (ok_is _ xs close.2) (first.0.1, p, mark_found source Close first.0.1 close.0 close.1)
+      ]
+    where
+      after_comma : (xs : List X) (ts a rest : List Token) → IsMark Comma ts a → IsListed P xs a rest → IsMore P xs ts rest
+      after_comma [] ts a rest comma h = absurd h
+      after_comma (x ∷ xs) ts a rest comma h = (a, h.0, comma, h.1, h.2)
 
-null_is : (c : ContextId) → is_null c ≡ true → c ≡ Null
-null_is Null e = refl
-null_is Choose e = absurd cc
-null_is All e = absurd cc
-null_is (Number n) e = absurd cc
+  pub items_found : (ts : List Token) (xs : List X × List Token) → items_at source read ts ≡ Ok xs → IsListed P xs.0 ts xs.1
+  items_found ts xs e = list_found (length ts) ts xs e
 
-null_found : (source : List ℕ) (ts : List Token) (x : ContextId × List Token) → null_at source ts ≡ Ok x → IsWorded context_of source x.0 ts x.1 × (x.0 ≡ Null)
-unfolding null_at
-null_found source ts x e =
-    let c = bind_ok (context_at source ts) _ x e in
-    let g = guard_ok (is_null c.0.0) (place_of source ts) c.0 x c.2 in
-    subst (λ (y : ContextId × List Token). IsWorded context_of source y.0 ts y.1 × (y.0 ≡ Null)) g.1 (worded_found context_of source ts c.0 c.1, null_is c.0.0 g.0)
+  pub braced_found : (ts : List Token) (xs : List X × List Token) → braced_at source read ts ≡ Ok xs → IsBraced P xs.0 ts xs.1
+  unfolding braced_at
+  braced_found ts xs e =
+      let a = bind_ok (mark_at source Open ts) _ xs e in
+      record { a = a.0; «open» = mark_found source Open ts a.0 a.1; are = items_found a.0 xs a.2 }
 
-pub action_found : (source : List ℕ) (ts : List Token) (x : Action × List Token) → action_at source ts ≡ Ok x → IsAction source x.0 ts x.1
-unfolding action_at
-action_found source ts x e =
-    let a = bind_ok (named_at source keywords.Context ts) _ x e in
-    let b = bind_ok (mark_at source Equals a.0) _ x a.2 in
-    let d = bind_ok (null_at source b.0) _ x b.2 in
-    let f = bind_ok (mark_at source Open d.0.1) _ x d.2 in
-    let g = bind_ok (command_at source f.0) _ x f.2 in
-    let h = bind_ok (mark_at source Close g.0.1) _ x g.2 in
-    let null = null_found source b.0 d.0 d.1 in
-    subst (IsSpelled (IsAction source) ts) (ok_is (action_of d.0.0 g.0.0, h.0) x h.2) (record {
-      a = a.0;
-      b = b.0;
-      d = d.0.1;
-      e = f.0;
-      f = g.0.1;
-      name = named_found source keywords.Context ts a.0 a.1;
-      equals = mark_found source Equals a.0 b.0 b.1;
-      context = null.0;
-      null = null.1;
-      «open» = mark_found source Open d.0.1 f.0 f.1;
-      command = g.0.0;
-      only = refl;
-      is = command_found source f.0 g.0 g.1;
-      close = mark_found source Close g.0.1 h.0 h.1;
-    })
+  some_optional : (xs : List X) (ts a rest : List Token) → IsMark Open ts a → IsListed P xs a rest → IsOptionalBraced P xs ts rest
+  some_optional [] ts a rest opens h = absurd h
+  some_optional (x ∷ xs) ts a rest opens h = record { a = a; «open» = opens; are = h }
 
-body_named_found : (source : List ℕ) (keyword : Keyword) (place : ℕ) (ts a : List Token) (x : Body × List Token) → IsWorded keyword_of source keyword ts a → body_named source keyword place a ≡ Ok x → IsBody source x.0 ts x.1
-unfolding request_at reply_at error_at
-body_named_found source keywords.Transaction place ts a x name e =
-    let b = bind_ok (mark_at source Equals a) _ x e in
-    let d = bind_ok (number_at source b.0) _ x b.2 in
-    let f = bind_ok (mark_at source Open d.0.1) _ x d.2 in
-    let g = bind_ok (action_at source f.0) _ x f.2 in
-    let h = bind_ok (mark_at source Close g.0.1) _ x g.2 in
-    inl (record {
-      a = a;
-      b = b.0;
-      d = d.0.1;
-      e = f.0;
-      f = g.0.1;
-      number = d.0.0;
-      action = g.0.0;
-      body = sym (ap (λ (y : Body × List Token). y.0) (ok_is _ x h.2));
-      name = name;
-      equals = mark_found source Equals a b.0 b.1;
-      number_is = worded_found number_of source b.0 d.0 d.1;
-      «open» = mark_found source Open d.0.1 f.0 f.1;
-      is = action_found source f.0 g.0 g.1;
-      close = subst (IsMark Close g.0.1) (ap (λ (y : Body × List Token). y.1) (ok_is _ x h.2)) (mark_found source Close g.0.1 h.0 h.1);
-    })
-body_named_found source keywords.Reply place ts a x name e =
-    let b = bind_ok (mark_at source Equals a) _ x e in
-    let d = bind_ok (number_at source b.0) _ x b.2 in
-    let f = bind_ok (group_at source d.0.1) _ x d.2 in
-    inr (inl (record {
-      a = a;
-      b = b.0;
-      d = d.0.1;
-      number = d.0.0;
-      body = sym (ap (λ (y : Body × List Token). y.0) (ok_is _ x f.2));
-      name = name;
-      equals = mark_found source Equals a b.0 b.1;
-      number_is = worded_found number_of source b.0 d.0 d.1;
-      group = subst (IsGroup d.0.1) (ap (λ (y : Body × List Token). y.1) (ok_is _ x f.2)) (group_at_found source d.0.1 f.0 f.1);
-    }))
-body_named_found source keywords.Error place ts a x name e =
-    let b = bind_ok (mark_at source Equals a) _ x e in
-    let d = bind_ok (word_at source b.0) _ x b.2 in
-    let f = bind_ok (group_at source d.0.1) _ x d.2 in
-    inr (inr (record {
-      a = a;
-      b = b.0;
-      d = d.0.1;
-      word = d.0.0;
-      body = sym (ap (λ (y : Body × List Token). y.0) (ok_is _ x f.2));
-      name = name;
-      equals = mark_found source Equals a b.0 b.1;
-      word_is = word_found source b.0 d.0 d.1;
-      group = subst (IsGroup d.0.1) (ap (λ (y : Body × List Token). y.1) (ok_is _ x f.2)) (group_at_found source d.0.1 f.0 f.1);
-    }))
-body_named_found source _ place ts a x name e = absurd cc
+  some_any : (xs : List X) (ts a rest : List Token) → IsMark Open ts a → IsListed P xs a rest → IsAnyBraced P xs ts rest
+  some_any [] ts a rest opens h = absurd h
+  some_any (x ∷ xs) ts a rest opens h = record { a = a; «open» = opens; are = h }
 
-body_found : (source : List ℕ) (ts : List Token) (x : Body × List Token) → body_at source ts ≡ Ok x → IsBody source x.0 ts x.1
-unfolding body_at
-body_found source ts x e =
-    let name = bind_ok (keyword_at source ts) _ x e in
-    body_named_found source name.0.0 (place_of source ts) ts name.0.1 x (worded_found keyword_of source ts name.0 name.1) name.2
+  pub any_braced_found : (ts : List Token) (xs : List X × List Token) → any_braced_at source read ts ≡ Ok xs → IsAnyBraced P xs.0 ts xs.1
+  unfolding any_braced_at
+  any_braced_found ts xs e =
+      let a = bind_ok (mark_at source Open ts) _ xs e in
+      let opens = mark_found source Open ts a.0 a.1 in
+      elim (if_some_ok (after_mark Close a.0) _ _ xs a.2) [
+        | inl none ↦ subst (λ (y : List X × List Token). IsAnyBraced P y.0 ts y.1) (ok_is _ xs none.2) (record { a = a.0; «open» = opens; close = after_found Close a.0 none.0 none.1 })
+        | inr some ↦ some_any xs.0 ts a.0 xs.1 opens (items_found a.0 xs some.1)
+      ]
 
-sender_found : (source : List ℕ) (ts : List Token) (x : Span × List Token) → sender_at source ts ≡ Ok x → IsSender source x.0 ts x.1
-unfolding sender_at
-sender_found source ts x e =
-    let w = bind_ok (word_at source ts) _ x e in
-    let g = guard_ok (is_sender (text_of source w.0.0)) w.0.0.start w.0 x w.2 in
-    subst (IsSpelled (IsSender source) ts) g.1 (record { named = g.0; is = word_found source ts w.0 w.1 })
-
--- a text behind its head
-pub text_found : (source : List ℕ) (ts a : List Token) (m : Message) → IsWorded version_of source 1 ts a → text_at source a ≡ Ok m → IsText source m ts
-unfolding text_at
-text_found source ts a m head e =
-    let s = bind_ok (sender_at source a) _ m e in
-    let b = bind_ok (body_at source s.0.1) _ m s.2 in
-    let g = guard_ok (eqb (length b.0.1) 0) (place_of source b.0.1) (message_of s.0.0 b.0.0) m b.2 in
-    let whole = subst (λ (r : List Token). IsBody source b.0.0 s.0.1 r) (nil_from_length b.0.1 (eqb-true _ _ g.0)) (body_found source s.0.1 b.0 b.1) in
-    subst (λ (y : Message). IsText source y ts) g.1 (record { a = a; b = s.0.1; head = head; sender = sender_found source a s.0 s.1; body = whole })
+  pub optional_braced_found : (ts : List Token) (xs : List X × List Token) → optional_braced_at source read ts ≡ Ok xs → IsOptionalBraced P xs.0 ts xs.1
+  unfolding optional_braced_at
+  optional_braced_found ts xs e =
+      elim (if_some_ok (after_mark Open ts) _ _ xs e) [
+        | inl some ↦ some_optional xs.0 ts some.0 xs.1 (after_found Open ts some.0 some.1) (items_found some.0 xs some.2)
+        | inr none ↦ subst (λ (y : List X × List Token). IsOptionalBraced P y.0 ts y.1) (ok_is _ xs none.1) refl
+      ]

@@ -1,9 +1,14 @@
 -- A message, and the head of one of another version.
-use Rattle.std.specs.Prelude.{◌≡◌, ◌≢◌, ℕ, ◌≤◌, false, List, [], ◌∷◌, length, Option, Some, None, Result, Err}
+use Rattle.std.specs.Prelude.{◌≡◌, ◌≢◌, ℕ, ◌+◌, ◌<◌, ◌≤◌, ◌⊎◌, false, List, [], ◌∷◌, length, Option, Some, None, Result, Err}
 use Rattle.mg_scan.specs.declared.fault.ScanFault.{ScanFault}
 use Rattle.mg_scan.specs.declared.token.Token.{Token}
 use Rattle.mg_scan.specs.Scanner.{Scanning, Gives, rest_of}
 use Rattle.mg_scan.specs.Tokens.{Taken, first_token}
+use Rattle.mg_text.specs.declared.request.Action.{Action}
+use Rattle.mg_text.specs.declared.body.MessageItem.{MessageItem}
+use Rattle.mg_text.specs.declared.body.MessageItem.TheVariants as items
+use Rattle.mg_text.specs.declared.body.Body.{Body}
+use Rattle.mg_text.specs.declared.body.Body.TheVariants as bodies
 use Rattle.mg_text.specs.declared.message.Message.{Message}
 use Rattle.mg_text.specs.Head.{version_of}
 use Rattle.mg_text.specs.Grammar.{IsText, IsWorded}
@@ -31,12 +36,45 @@ pub record AreTokens (source : List ℕ) (ts : List Token) (fault : Option ScanF
 abbrev pub IsShort : List ℕ → Type 0
 IsShort source = length source ≤ 8192
 
--- the bytes are a message, with this tree
-pub record IsMessage (source : List ℕ) (m : Message) : Type 0 where
+-- the bytes have a tree of the grammar, and it is this one
+pub record IsTree (source : List ℕ) (m : Message) : Type 0 where
   pub short : IsShort source
   pub tokens : List Token
   pub are : AreTokens source tokens None
   pub is : IsText source m tokens
+
+-- how many requests there are among items, and how many commands in all of them
+abbrev pub requests_in : List MessageItem → ℕ
+requests_in [] = 0
+requests_in (items.Request x ∷ xs) = 1 + requests_in xs
+requests_in (items.Acknowledgement ranges ∷ xs) = requests_in xs
+
+abbrev pub action_commands : List Action → ℕ
+action_commands [] = 0
+action_commands (x ∷ xs) = length x.commands + action_commands xs
+
+abbrev pub commands_in : List MessageItem → ℕ
+commands_in [] = 0
+commands_in (items.Request x ∷ xs) = action_commands x.actions + commands_in xs
+commands_in (items.Acknowledgement ranges ∷ xs) = commands_in xs
+
+abbrev pub items_of : Body → List MessageItem
+items_of (bodies.Requests xs) = xs
+items_of bodies.Ignored = []
+
+-- the bytes are a message, with this tree: at most 4 requests, and at most 64 commands in all of them
+pub record IsMessage (source : List ℕ) (m : Message) : Type 0 where
+  pub tree : IsTree source m
+  pub requests : requests_in (items_of m.body) ≤ 4
+  pub commands : commands_in (items_of m.body) ≤ 64
+
+-- a message asks for more
+abbrev pub AsksTooMuch : Message → Type 0
+AsksTooMuch m = (4 < requests_in (items_of m.body)) ⊎ (64 < commands_in (items_of m.body))
+
+-- the bytes are too long, or they have a tree that asks for too much
+abbrev pub IsTooMany : List ℕ → Type 0
+IsTooMany source = (8192 < length source) ⊎ ((m : Message) × IsTree source m × AsksTooMuch m)
 
 -- the bytes begin with the head of another version, whatever stands behind it
 pub record HasOtherVersion (source : List ℕ) (version : ℕ) : Type 0 where

@@ -1,5 +1,5 @@
 -- Reading a message: its head, its sender and its body.
-use Rattle.std.specs.Prelude.{◌≡◌, ℕ, ◌==◌, Bool, true, false, min, List, length, Result, Ok, Err, if◌then◌else◌}
+use Rattle.std.specs.Prelude.{◌≡◌, ℕ, ◌-◌, ◌==◌, ◌&&◌, nat_le, Bool, true, false, min, List, Option, Some, None, Result, Ok, Err, if◌then◌else◌}
 use Rattle.mg_scan.specs.declared.span.Span.{Span}
 use Rattle.mg_scan.specs.declared.token.Token.{Token}
 use Rattle.mg_scan.specs.Span.{text_of}
@@ -7,7 +7,9 @@ use Rattle.mg_text.specs.declared.fault.ReadFault.{ReadFault}
 use Rattle.mg_text.specs.declared.fault.ReadFault.TheVariants.{NoMemory, Syntax, Version, TooMany}
 use Rattle.mg_text.specs.declared.body.Body.{Body}
 use Rattle.mg_text.specs.declared.message.Message.{Message}
-use Rattle.mg_text.specs.Reading.{◌>>=◌, Gives, word_at, worded_at, place_of}
+use Rattle.mg_text.specs.declared.body.MessageItem.{MessageItem}
+use Rattle.mg_text.specs.Message.{requests_in, commands_in, items_of}
+use Rattle.mg_text.specs.Reading.{◌>>=◌, Gives, word_at, worded_at}
 use Rattle.mg_text.specs.Requests.{body_at}
 use Rattle.mg_text.specs.Head.{version_of}
 use Rattle.mg_text.specs.Sender.{is_sender}
@@ -27,7 +29,7 @@ unfoldable pub text_at : List ℕ → List Token → Result Message ℕ
 text_at source ts = do
   sender ← sender_at source ts
   body ← body_at source sender.1
-  if length body.1 == 0 then Ok (message_of sender.0 body.0) else Err (place_of source body.1)
+  Ok (message_of sender.0 body)
 
 -- a fault, its place brought within a source of this length
 abbrev pub fault_within : ℕ → ReadFault → ReadFault
@@ -35,6 +37,19 @@ fault_within len NoMemory = NoMemory
 fault_within len (Syntax place) = Syntax (min place len)
 fault_within len (Version n) = Version n
 fault_within len TooMany = TooMany
+
+-- what is left of a number behind another, if that is no more
+abbrev pub left_behind : ℕ → ℕ → Option ℕ
+left_behind most n = if nat_le n most then Some (most - n) else None
+
+-- there are at most so many requests, and at most so many commands in them
+abbrev pub is_within : ℕ → ℕ → List MessageItem → Bool
+is_within requests commands xs = nat_le (requests_in xs) requests && nat_le (commands_in xs) commands
+
+-- the message that was read, unless it asks for too much, or else the fault
+abbrev pub answer_of : ℕ → Result Message ReadFault → Result Message ReadFault
+answer_of len (Ok m) = if is_within 4 64 (items_of m.body) then Ok m else Err TooMany
+answer_of len (Err fault) = Err (fault_within len fault)
 
 -- a fact, unless memory ran out
 abbrev pub UnlessNoMemory : Result Message ReadFault → Type 0 → Type 0

@@ -1,27 +1,27 @@
+use crate::descriptor::Descriptor;
+use crate::items::Items;
+use mg_reply::CommandWord;
 use mg_scan::Span;
 
-/// What a command asks for (RFC 3525, section 7.2).
+/// A command's word with what stands straight before it.
 #[derive(Clone, Copy, Debug, PartialEq, Eq)]
-pub enum CommandWord {
-    Add,
-    Modify,
-    Move,
-    Subtract,
-    AuditValue,
-    AuditCapability,
-    Notify,
-    ServiceChange,
+pub struct CommandHead {
+    pub word: CommandWord,
+    pub is_optional: bool,
+    pub wants_wildcard: bool,
 }
 
-/// An Audit descriptor. For now it is one that names nothing.
-#[derive(Clone, Copy, Debug, PartialEq, Eq)]
-pub struct Audit;
-
-/// A command, the termination that it names, and its Audit descriptor if it has one.
-#[derive(Clone, Copy, Debug, PartialEq, Eq)]
+/// A command, the termination that it names, and its descriptors in their order.
+#[derive(Drop)]
 pub struct Command {
     pub word: CommandWord,
-    /// Where the termination's name stands in the message.
+    /// `O-` stands before the word: where the command fails, the ones behind it are still tried.
+    pub is_optional: bool,
+    /// `W-` stands before the word, or behind `O-`: one answer is wanted for all terminations that match.
+    pub wants_wildcard: bool,
+    /// Where the termination's name stands in the message: a word of 1 to 64 bytes.
     pub term: Span,
-    pub audit: Option<Audit>,
+    /// A Subtract or AuditValue has at most one, which is an Audit. Those of a Notify, ServiceChange or
+    /// AuditCapability aren't kept.
+    pub descriptors: Items<Descriptor>,
 }

@@ -2,19 +2,7 @@ ghost use Rattle.std.specs.Prelude.{◌≡◌};
 ghost use Rattle.mg_text.specs.Words.{context_of};
 
 use mg_numbers::number_of;
-
-/// The context that an action names (RFC 3525, section 6.1.2 and Annex B.2, ContextID).
-#[derive(Clone, Copy, Debug, PartialEq, Eq)]
-pub enum ContextId {
-    /// `-`: the null context, of terminations that are in none.
-    Null,
-    /// `$`: a context that the gateway is to make.
-    Choose,
-    /// `*`: every context.
-    All,
-    /// A context by its number.
-    Number(u32),
-}
+use mg_reply::ContextId;
 
 /// The context that a word stands for. The numbers 0, 4294967294 and 4294967295 are other ways to write
 /// `-`, `$` and `*`.

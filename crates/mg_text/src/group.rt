@@ -1,13 +1,13 @@
 ghost use Rattle.std.specs.Prelude.{◌≡◌};
-ghost use Rattle.mg_text.specs.Reading.{Gives, after_group, group_at};
+ghost use Rattle.mg_text.specs.Reading.{Gives, after_group, group_at, filled_at};
 
 use crate::fault::ReadFault;
-use crate::marks::{is_kind, mark_at};
+use crate::marks::{after_mark, is_kind, mark_at};
 use mg_scan::{Token, TokenKind};
 
 /// What stands behind the brace that closes a group, whose opening brace was read.
 #[tactic(auto, using(crate::proofs::GroupSteps::steps))]
-fn after_group<'t>(source: &[u8], tokens: &'t [Token]) -> Result<&'t [Token], ReadFault>
+pub fn after_group<'t>(source: &[u8], tokens: &'t [Token]) -> Result<&'t [Token], ReadFault>
     ensures { Gives (λ x. x.now) result (after_group source.now 0 tokens.now) }
 {
     let mut depth: usize = 0;
@@ -32,4 +32,19 @@ pub fn group_at<'t>(source: &[u8], tokens: &'t [Token]) -> Result<&'t [Token], R
 {
     let tokens = mark_at(source, TokenKind::Open, tokens)?;
     after_group(source, tokens)
+}
+
+/// Whether a group stands there that has a token in it, and what stands behind the group, if there is one.
+#[tactic(auto, unfolding(crate::specs::Reading::filled_at))]
+pub fn filled_at<'t>(source: &[u8], tokens: &'t [Token]) -> Result<(bool, &'t [Token]), ReadFault>
+    ensures { Gives (λ x. (x.0, x.1.now)) result (filled_at source.now tokens.now) }
+{
+    let Some(inside) = after_mark(TokenKind::Open, tokens) else {
+        return Ok((false, tokens));
+    };
+    if let Some(rest) = after_mark(TokenKind::Close, inside) {
+        return Ok((false, rest));
+    }
+    let rest = after_group(source, inside)?;
+    Ok((true, rest))
 }

@@ -2,57 +2,58 @@
 //!
 //! [`read`] turns the bytes of a datagram into a [`Message`], or says why they are none. The tree keeps the
 //! places of its texts in the source, and copies none of them. Replies are put together in a [`Reply`] and
-//! written by [`write_reply`] into [`Bytes`], which take their memory when they are made:
+//! written by [`write_reply`] into [`Bytes`], both of which stand in the crate `mg_reply`:
 //!
 //! ```rust
 //! let message = read(alloc, b"MEGACO/1 [127.0.0.1]:2945 Transaction=1{Context=-{AuditValue=ROOT}}")?;
 //! assert_eq!(rt; message.sender.text(source), b"[127.0.0.1]:2945");
 //! ```
 //!
-//! For now one request is read, which asks for `ROOT` in the null context; a message with a Reply or an
-//! Error body is ignored; and any other message is a syntax fault.
+//! A message is read whole or not at all. The tree keeps requests and acknowledgements in the order of the
+//! text, also what stands in it twice; Replies, Pending items and an Error body are read and left out.
 #![tactic(auto)]
 
+mod actions;
 mod body;
-mod bytes;
 mod command;
+mod commands;
 mod context;
-mod draft;
-mod error_number;
+mod controls;
+mod descriptor;
+mod descriptors;
 mod fault;
 mod group;
 mod head;
-mod item;
 mod items;
 mod keyword;
+mod lists;
 mod marks;
+mod media;
 mod message;
+mod properties;
+mod property;
 mod reading;
-mod reply;
 mod request;
-mod requests;
 mod scanning;
 mod sender;
-mod term;
+mod sequence;
+mod streams;
 #[cfg(test)]
 mod tests;
-mod writing;
+mod words;
 
-pub use crate::body::{Body, MessageItem};
-pub use crate::bytes::Bytes;
-pub use crate::command::{Audit, Command, CommandWord};
-pub use crate::context::ContextId;
-pub use crate::draft::REPLY_LIMIT;
-pub use crate::error_number::ErrorNumber;
+pub use crate::body::{Body, MessageItem, Range};
+pub use crate::command::Command;
+pub use crate::descriptor::{AuditWord, Descriptor, OtherWord};
 pub use crate::fault::ReadFault;
-pub use crate::item::{Item, Outcome, Parts};
 pub use crate::items::Items;
+pub use crate::media::{ControlPart, MediaPart, PropertyValue, StreamPart};
 pub use crate::message::Message;
-pub use crate::reading::{MESSAGE_LIMIT, one_tree, read};
-pub use crate::reply::{ITEM_LIMIT, Reply};
+pub use crate::property::{ContextWord, Property, Triple};
+pub use crate::reading::{COMMAND_LIMIT, MESSAGE_LIMIT, REQUEST_LIMIT, one_tree, read};
 pub use crate::request::{Action, Request};
-pub use crate::term::{TERM_LIMIT, Term};
-pub use crate::writing::{
-    ERROR_LIMIT, HEAD_LIMIT, TooLong, write_address, write_error, write_head, write_port,
-    write_reply,
+pub use mg_reply::{
+    Association, Bytes, CommandWord, ContextId, Control, ERROR_LIMIT, ErrorNumber, HEAD_LIMIT,
+    ITEM_LIMIT, Item, Media, Mode, Outcome, Parts, REPLY_LIMIT, Reply, Statistics, TERM_LIMIT,
+    Term, TooLong, write_address, write_error, write_head, write_port, write_reply,
 };

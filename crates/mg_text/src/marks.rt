@@ -1,10 +1,14 @@
 ghost use Rattle.std.specs.Prelude.{◌≡◌, Some, None, MatchOption};
-ghost use Rattle.mg_text.specs.Reading.{Gives, mark_at, after_mark, word_at, named_at, keyword_at, number_at, context_at, is_kind, place_of};
+ghost use Rattle.mg_text.specs.Words.{association_of, command_of, mode_of, switch_of};
+ghost use Rattle.mg_text.specs.Reading.{Gives, mark_at, after_mark, span_at, word_at, named_at, worded_at, keyword_at, number_at, context_at, term_at, is_kind, place_of};
 
-use crate::context::{ContextId, context_of};
+use crate::command::CommandHead;
+use crate::context::context_of;
 use crate::fault::ReadFault;
 use crate::keyword::{Keyword, is_named, keyword_of};
+use crate::words::{association_of, command_of, mode_of, switch_of};
 use mg_numbers::number_of;
+use mg_reply::{Association, ContextId, Mode, Term};
 use mg_scan::{Span, Token, TokenKind};
 
 /// Where the first of the tokens stands, or the source ends.
@@ -50,15 +54,26 @@ pub fn after_mark(kind: TokenKind, tokens: &[Token]) -> Option<&[Token]>
     }
 }
 
+/// The text of a token of a kind, and what stands behind it.
+#[tactic(auto, unfolding(crate::specs::Reading::span_at))]
+pub fn span_at<'t>(
+    source: &[u8],
+    kind: TokenKind,
+    tokens: &'t [Token],
+) -> Result<(Span, &'t [Token]), ReadFault>
+    ensures { Gives (λ x. (x.0, x.1.now)) result (span_at source.now kind tokens.now) }
+{
+    match tokens {
+        [first, rest @ ..] if is_kind(first.kind, kind) => Ok((first.span, rest)),
+        _ => Err(ReadFault::Syntax(place_of(source, tokens))),
+    }
+}
+
 /// A word, and what stands behind it.
-#[tactic(auto, unfolding(crate::specs::Reading::word_at))]
 pub fn word_at<'t>(source: &[u8], tokens: &'t [Token]) -> Result<(Span, &'t [Token]), ReadFault>
     ensures { Gives (λ x. (x.0, x.1.now)) result (word_at source.now tokens.now) }
 {
-    match tokens {
-        [first, rest @ ..] if is_kind(first.kind, TokenKind::Word) => Ok((first.span, rest)),
-        _ => Err(ReadFault::Syntax(place_of(source, tokens))),
-    }
+    span_at(source, TokenKind::Word, tokens)
 }
 
 /// What stands behind a word of the encoding, in one of its forms.
@@ -116,6 +131,72 @@ pub fn context_at<'t>(
     let (word, rest) = word_at(source, tokens)?;
     match context_of(word.text(source)) {
         Some(context) => Ok((context, rest)),
+        None => Err(ReadFault::Syntax(word.start)),
+    }
+}
+
+/// An association, and what stands behind it.
+#[tactic(auto, unfolding(crate::specs::Reading::worded_at))]
+pub fn association_at<'t>(
+    source: &[u8],
+    tokens: &'t [Token],
+) -> Result<(Association, &'t [Token]), ReadFault>
+    ensures { Gives (λ x. (x.0, x.1.now)) result (worded_at association_of source.now tokens.now) }
+{
+    let (word, rest) = word_at(source, tokens)?;
+    match association_of(word.text(source)) {
+        Some(value) => Ok((value, rest)),
+        None => Err(ReadFault::Syntax(word.start)),
+    }
+}
+
+/// A mode, and what stands behind it.
+#[tactic(auto, unfolding(crate::specs::Reading::worded_at))]
+pub fn mode_at<'t>(source: &[u8], tokens: &'t [Token]) -> Result<(Mode, &'t [Token]), ReadFault>
+    ensures { Gives (λ x. (x.0, x.1.now)) result (worded_at mode_of source.now tokens.now) }
+{
+    let (word, rest) = word_at(source, tokens)?;
+    match mode_of(word.text(source)) {
+        Some(value) => Ok((value, rest)),
+        None => Err(ReadFault::Syntax(word.start)),
+    }
+}
+
+/// `ON` or `OFF`, and what stands behind it.
+#[tactic(auto, unfolding(crate::specs::Reading::worded_at))]
+pub fn switch_at<'t>(source: &[u8], tokens: &'t [Token]) -> Result<(bool, &'t [Token]), ReadFault>
+    ensures { Gives (λ x. (x.0, x.1.now)) result (worded_at switch_of source.now tokens.now) }
+{
+    let (word, rest) = word_at(source, tokens)?;
+    match switch_of(word.text(source)) {
+        Some(value) => Ok((value, rest)),
+        None => Err(ReadFault::Syntax(word.start)),
+    }
+}
+
+/// A command's word, and what stands behind it.
+#[tactic(auto, unfolding(crate::specs::Reading::worded_at))]
+pub fn command_head_at<'t>(
+    source: &[u8],
+    tokens: &'t [Token],
+) -> Result<(CommandHead, &'t [Token]), ReadFault>
+    ensures { Gives (λ x. (x.0, x.1.now)) result (worded_at command_of source.now tokens.now) }
+{
+    let (word, rest) = word_at(source, tokens)?;
+    match command_of(word.text(source)) {
+        Some(value) => Ok((value, rest)),
+        None => Err(ReadFault::Syntax(word.start)),
+    }
+}
+
+/// The name of a termination, and what stands behind it.
+#[tactic(auto, unfolding(crate::specs::Reading::term_at))]
+pub fn term_at<'t>(source: &[u8], tokens: &'t [Token]) -> Result<(Span, &'t [Token]), ReadFault>
+    ensures { Gives (λ x. (x.0, x.1.now)) result (term_at source.now tokens.now) }
+{
+    let (word, rest) = word_at(source, tokens)?;
+    match Term::new(word.text(source)) {
+        Some(_) => Ok((word, rest)),
         None => Err(ReadFault::Syntax(word.start)),
     }
 }

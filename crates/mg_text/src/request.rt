@@ -1,11 +1,14 @@
 use crate::command::Command;
-use crate::context::ContextId;
 use crate::items::Items;
+use crate::property::Property;
+use mg_reply::ContextId;
 
-/// Commands on one context, in their order.
+/// What is asked of one context: properties and then commands, each in their order, and at least one of
+/// both together.
 #[derive(Drop)]
 pub struct Action {
     pub context: ContextId,
+    pub properties: Items<Property>,
     pub commands: Items<Command>,
 }
 

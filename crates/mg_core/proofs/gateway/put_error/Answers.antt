@@ -1,7 +1,7 @@
 use Rattle.std.proofs.Common.{◌+◌, length, ap, arith}
-use Rattle.mg_text.specs.Bytes.{Written}
-use Rattle.mg_text.specs.Written.{head_text}
-use Rattle.mg_text.specs.ErrorNumber.{error_text}
+use Rattle.mg_reply.specs.Bytes.{Written}
+use Rattle.mg_reply.specs.Written.{head_text}
+use Rattle.mg_reply.specs.ErrorNumber.{error_text}
 use Rattle.mg_core.proofs.AnswerLaws.{appended-total}
 use Rattle.mg_core.proofs.gateway.put_error.Goals as goal
 

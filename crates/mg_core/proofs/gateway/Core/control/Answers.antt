@@ -1,20 +1,21 @@
-use Rattle.std.proofs.Common.{◌++◌, ◌∙◌, sym, ap}
-use Rattle.mg_text.specs.Bytes.{Written}
-use Rattle.mg_text.specs.Written.{head_text}
-use Rattle.mg_core.specs.Answer.{heartbeat_text, refusal_of}
-use Rattle.mg_core.proofs.AnswerLaws.{is_asked, is_refused, refuses_answers}
+use Rattle.std.proofs.Common.{ℕ, List, [], ◌++◌, ◌∙◌, sym, ap}
+use Rattle.mg_reply.specs.Bytes.{Written}
+use Rattle.mg_reply.specs.Written.{head_text}
+use Rattle.mg_core.specs.Answer.{refusal_of, replies_text}
+use Rattle.mg_core.proofs.AnswerLaws.{is_refused, is_replied, refuses_answers}
 use Rattle.mg_core.proofs.gateway.Core.control.Goals as goal
-
-pub returns-in-Some-clause-answered : goal.returns-in-Some-clause-answered
-returns-in-Some-clause-answered c =
-    let behind = heartbeat_text c.in-Some.number in
-    let config = c.self.inside.config in
-    let found = rw c.in-Ok.is at c.read.ensures.found in
-    let text = c.put_heartbeat.ensures.text ∙ ap (λ (w : Written). w.text ++ (head_text config.address config.control_port ++ behind)) c.clear.ensures.value in
-    rw (← c.self.view_is) (behind, is_asked c.args.bytes.now c.in-Ok.message c.in-Some.number found (sym c.request_number.ensures.value ∙ c.in-Some.is), text)
 
 pub returns-in-Err-clause-answered : goal.returns-in-Err-clause-answered
 returns-in-Err-clause-answered c =
     let read = rw c.in-Err.is at c.read.ensures in
     rw (← c.self.view_is) (refuses_answers c.self.inside.config c.args.bytes.now (refusal_of c.in-Err.fault) c.refuse.result c.refuse.new.self.answer c.refuse.ensures.refused
-    (λ e refused. is_refused c.args.bytes.now c.in-Err.fault e refused read.only read.long read.long_only read.version read.version_only))
+    (λ e refused. is_refused c.args.bytes.now c.in-Err.fault e refused read.long read.long_only read.version read.version_only read.syntax))
+
+pub returns-clause-answered : goal.returns-clause-answered
+returns-clause-answered c =
+    let config = c.self.inside.config in
+    let found = rw c.in-Ok.is at c.read.ensures.found in
+    let empty = ap (λ (w : Written). w.text) c.clear.ensures.value in
+    let head = ap (λ (w : Written). w.text) c.write_head.ensures.value ∙ ap (λ (text : List ℕ). text ++ head_text config.address config.control_port) empty in
+    let text = c.put_replies.ensures.text ∙ ap (λ (text : List ℕ). text ++ replies_text c.args.bytes.now [] c.items_of-items.result.now) head in
+    rw (← c.self.view_is) (replies_text c.args.bytes.now [] c.items_of-items.result.now, is_replied c.args.bytes.now c.in-Ok.message c.items_of-items.result.now c.items_of-items.ensures.value found (sym c.if-not-has_requests.ensures.value), text)

@@ -1,5 +1,5 @@
 use Rattle.std.proofs.Common.{◌++◌, ◌∙◌, Err, ap}
-use Rattle.mg_text.specs.Bytes.{Written}
+use Rattle.mg_reply.specs.Bytes.{Written}
 use Rattle.mg_core.specs.Run.{answer_line}
 use Rattle.std.proofs.lemmas.Result.{err_from_is_err_and}
 use Rattle.mg_core.proofs.LineLaws.{silent_ran, sent_ran}

@@ -1,0 +1,9 @@
+pub mod DraftLaws
+pub mod ListedLaws
+pub mod StreamLaws
+pub mod ActionLaws
+pub mod ReplyLaws
+pub mod WrittenLaws
+pub mod BraceLaws
+pub mod PrefixLaws
+pub mod TermLaws

@@ -1,0 +1,12 @@
+use Rattle.std.proofs.Common.{◌∙◌, ap, sym, codes}
+use Rattle.mg_reply.specs.Draft.{drafted}
+use Rattle.mg_reply.specs.Listed.{listed}
+use Rattle.mg_reply.specs.Media.{remote_text, optional}
+use Rattle.mg_reply.proofs.DraftLaws.{then}
+use Rattle.mg_reply.proofs.ListedLaws.{listed-one}
+use Rattle.mg_reply.proofs.parts_writing.put_next_remote.Goals as goal
+
+pub returns-in-Some : goal.returns-in-Some
+returns-in-Some c =
+    let text = remote_text c.in-Some.chosen in
+    record { value = then c.args.draft.now c.put.new.self c.put_remote.new.draft (codes ",") text c.put.ensures.value c.put_remote.ensures.value ∙ ap (drafted c.args.draft.now) (sym (listed-one (codes ",") text)) ∙ ap (λ o. drafted c.args.draft.now (listed (codes ",") (optional remote_text o))) (sym c.in-Some.is) }

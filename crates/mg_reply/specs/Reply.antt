@@ -1,0 +1,62 @@
+-- A reply by its items.
+use Rattle.std.specs.Prelude.{◌≡◌, ℕ, ◌+◌, ◌-◌, ◌*◌, ◌^◌, ◌<◌, ◌≤◌, Bool, true, false, ◌&&◌, ◌||◌, ◌==◌, not, List, [], ◌∷◌, ◌++◌, length, if◌then◌else◌}
+use Rattle.mg_reply.specs.declared.item.Item.{Item}
+use Rattle.mg_reply.specs.declared.item.Item.TheVariants.{Triple, Command, Fault, Action}
+
+-- The number of the transaction, the items so far, the room that is left, whether items wait for the end of their
+-- action, and whether an item found no room.
+pub record Answered : Type 0 where
+  pub number : ℕ
+  pub items : List Item
+  pub room : ℕ
+  pub has_pending : Bool
+  pub is_long : Bool
+
+abbrev pub started : ℕ → Answered
+started n = record { number = n; items = []; room = 1600; has_pending = false; is_long = false }
+
+abbrev pub is_action : Item → Bool
+is_action (Triple a b association) = false
+is_action (Command word term outcome) = false
+is_action (Fault e) = false
+is_action (Action id) = true
+
+-- whether the last of these ends an action; where there is none, what was said before
+abbrev pub last_is_action : Bool → List Item → Bool
+last_is_action before [] = before
+last_is_action before (x ∷ xs) = last_is_action (is_action x) xs
+
+-- one error alone, the refusal of the whole request
+abbrev pub is_refusal : List Item → Bool
+is_refusal (Fault e ∷ []) = true
+is_refusal _ = false
+
+-- A reply that can be written, or is told to be too long: one error alone, or actions of which the last has ended.
+abbrev pub is_whole : Answered → Bool
+is_whole r = r.is_long || is_refusal r.items || last_is_action false r.items
+
+abbrev pub IsWhole : Answered → Type 0
+IsWhole r = is_whole r ≡ true
+
+abbrev pub marked : Answered → Answered
+marked r = record { number = r.number; items = r.items; room = r.room; has_pending = r.has_pending; is_long = true }
+
+-- with an item more, which takes so much room
+abbrev pub with_item : Answered → Item → ℕ → Answered
+with_item r item size = record { number = r.number; items = r.items ++ item ∷ []; room = r.room - size; has_pending = not (is_action item); is_long = r.is_long }
+
+-- The end of an action that has items takes no room, any other item takes one place, and where there is none it
+-- marks the reply.
+abbrev pub after_put : Answered → Item → Answered
+after_put r item =
+    if is_action item && r.has_pending then with_item r item 0
+    else (if r.room == 0 then marked r else with_item r item 1)
+
+-- Which items wait is seen of the last, and there are twice as many places as there was room, so that each
+-- item's action finds one
+pub record IsReply (number : ℕ) (items : List Item) (capacity room : ℕ) (has_pending : Bool) : Type 0 where
+  pub in_range : number < 2 ^ 32
+  pub small : room ≤ 1600
+  pub reserved : 3200 ≤ capacity
+  pub pending : has_pending ≡ not (last_is_action true items)
+  pub used : length items + (if has_pending then 1 else 0) + 2 * room ≤ 3200

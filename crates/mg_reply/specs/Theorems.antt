@@ -1,0 +1,21 @@
+-- What holds of replies as a whole.
+use Rattle.std.specs.Prelude.{◌≡◌, ℕ, Bool, true, ◌&&◌, List, [], ◌++◌}
+use Rattle.std.specs.List.{list_all}
+use Rattle.mg_reply.specs.declared.item.Item.{Item}
+use Rattle.mg_reply.specs.declared.item.Item.TheVariants.{Triple, Command, Fault, Action}
+use Rattle.mg_reply.specs.Term.{is_term}
+use Rattle.mg_reply.specs.Written.{reply_text}
+
+-- whether the names in an item are names of terminations, as they are in each that is made
+abbrev pub has_terms : Item → Bool
+has_terms (Triple a b association) = is_term a && is_term b
+has_terms (Command word term outcome) = is_term term
+has_terms (Fault e) = true
+has_terms (Action id) = true
+
+-- no reply's text goes on behind another reply's text
+abbrev pub NoProperPrefix : Type 0
+NoProperPrefix =
+    (n m : ℕ) (xs ys : List Item) (rest : List ℕ)
+    → list_all has_terms xs ≡ true → list_all has_terms ys ≡ true
+    → reply_text m ys ≡ reply_text n xs ++ rest → rest ≡ []

@@ -1,0 +1,183 @@
+ghost use Rattle.std.specs.Prelude.{◌≡◌, ◌&&◌, ◌++◌, ◌∷◌, [], codes};
+ghost use Rattle.mg_reply.specs.Draft.{drafted};
+ghost use Rattle.mg_reply.specs.Listed.{listed, grouped};
+ghost use Rattle.mg_reply.specs.Marks.{is_empty, mark_of, closing};
+ghost use Rattle.mg_reply.specs.Entries.{outcome_text, item_text, texts_of, topology_entry, entries_of};
+ghost use Rattle.mg_reply.specs.Written.{context_text, action_text, actions_text};
+
+use crate::association::Association;
+use crate::command_word::CommandWord;
+use crate::context_id::ContextId;
+use crate::draft::Draft;
+use crate::entry_kind::EntryKind;
+use crate::item::Item;
+use crate::outcome::Outcome;
+use crate::parts_writing::{put_number, put_parts};
+use crate::term::Term;
+
+fn put_context(draft: &mut Draft, id: ContextId)
+    ensures value { draft.new ≡ drafted draft.old (context_text id) }
+{
+    match id {
+        ContextId::Null => draft.put(b"-"),
+        ContextId::Choose => draft.put(b"$"),
+        ContextId::All => draft.put(b"*"),
+        ContextId::Number(n) => put_number(draft, u64::from(n)),
+    }
+}
+
+#[tactic(auto, using(crate::proofs::DraftLaws::joins), unfolding(crate::specs::Listed::listed))]
+fn put_outcome(draft: &mut Draft, outcome: Outcome)
+    ensures value { draft.new ≡ drafted draft.old (outcome_text outcome) }
+{
+    match outcome {
+        Outcome::Failed(number) => {
+            draft.put(b"{");
+            draft.put(number.descriptor().as_bytes());
+            draft.put(b"}");
+        }
+        Outcome::Done(parts) => put_parts(draft, parts),
+    }
+}
+
+#[tactic(auto, using(crate::proofs::DraftLaws::joins))]
+fn put_triple(draft: &mut Draft, a: &Term, b: &Term, association: Association)
+    ensures value { draft.new ≡ drafted draft.old (item_text (Item.Triple a.now b.now association)) }
+{
+    draft.put(a.as_slice());
+    draft.put(b",");
+    draft.put(b.as_slice());
+    draft.put(b",");
+    draft.put(association.as_str().as_bytes());
+}
+
+#[tactic(auto, using(crate::proofs::DraftLaws::joins))]
+fn put_command(draft: &mut Draft, word: CommandWord, term: &Term, outcome: Outcome)
+    ensures value { draft.new ≡ drafted draft.old (item_text (Item.Command word term.now outcome)) }
+{
+    draft.put(word.as_str().as_bytes());
+    draft.put(b"=");
+    draft.put(term.as_slice());
+    put_outcome(draft, outcome);
+}
+
+/// An item by itself.
+fn put_item(draft: &mut Draft, item: &Item)
+    ensures value { draft.new ≡ drafted draft.old (item_text item.now) }
+{
+    match item {
+        Item::Triple(a, b, association) => put_triple(draft, a, b, *association),
+        Item::Command(word, term, outcome) => put_command(draft, *word, term, *outcome),
+        Item::Fault(number) => draft.put(number.descriptor().as_bytes()),
+        Item::Action(_) => draft.put(b""),
+    }
+}
+
+/// The mark before the next part of a list.
+fn mark_of(opening: &[u8], is_first: bool) -> &[u8]
+    ensures value { result.now ≡ mark_of opening.now is_first }
+{
+    if is_first { opening } else { b"," }
+}
+
+/// What closes a list, unless it has no part.
+fn close(draft: &mut Draft, is_empty: bool)
+    ensures value { draft.new ≡ drafted draft.old (closing is_empty) }
+{
+    if is_empty {
+        draft.put(b"");
+    } else {
+        draft.put(b"}");
+    }
+}
+
+/// An item with the mark before it, if it is of this kind. Tells whether the next part is the first.
+#[tactic(auto, using(crate::proofs::ListedLaws::one_other), unfolding(crate::specs::Listed::listed))]
+fn put_if_of(
+    draft: &mut Draft,
+    opening: &[u8],
+    is_first: bool,
+    kind: EntryKind,
+    item: &Item,
+) -> bool
+    ensures value { draft.new ≡ drafted draft.old (listed (mark_of opening.now is_first) (texts_of kind (item.now ∷ []))) }
+    ensures first { result ≡ (is_first && is_empty (texts_of kind (item.now ∷ []))) }
+{
+    if !item.is_of(kind) {
+        draft.put(b"");
+        return is_first;
+    }
+    draft.put(mark_of(opening, is_first));
+    put_item(draft, item);
+    false
+}
+
+/// The items of a kind, with an opening before the first part of the list and a comma before each other. Tells
+/// whether the next part is the first.
+fn put_all(
+    draft: &mut Draft,
+    opening: &[u8],
+    is_first: bool,
+    kind: EntryKind,
+    items: &[Item],
+) -> bool
+    ensures value { draft.new ≡ drafted draft.old (listed (mark_of opening.now is_first) (texts_of kind items.now)) }
+    ensures first { result ≡ (is_first && is_empty (texts_of kind items.now)) }
+{
+    let mut is_next_first = is_first;
+    for item in items {
+        is_next_first = put_if_of(draft, opening, is_next_first, kind, item);
+    }
+    draft.put(b"");
+    is_next_first
+}
+
+/// The topology, as the first entry. Tells whether the next entry is the first.
+fn put_topology(draft: &mut Draft, items: &[Item]) -> bool
+    ensures value { draft.new ≡ drafted draft.old (listed (codes "{") (topology_entry (texts_of EntryKind.Triples items.now))) }
+    ensures first { result ≡ is_empty (topology_entry (texts_of EntryKind.Triples items.now)) }
+{
+    let is_empty = put_all(draft, b"{Topology{", true, EntryKind::Triples, items);
+    close(draft, is_empty);
+    is_empty
+}
+
+/// The entries of an action, in braces, if there is one.
+fn put_entries(draft: &mut Draft, items: &[Item])
+    ensures value { draft.new ≡ drafted draft.old (grouped (entries_of items.now)) }
+{
+    let is_first = put_topology(draft, items);
+    let is_first = put_all(draft, b"{", is_first, EntryKind::Commands, items);
+    let is_empty = put_all(draft, b"{", is_first, EntryKind::Faults, items);
+    close(draft, is_empty);
+}
+
+/// An action with its entries, and a mark before it.
+#[tactic(auto, using(crate::proofs::DraftLaws::joins))]
+fn put_action(draft: &mut Draft, mark: &[u8], id: ContextId, items: &[Item])
+    ensures value { draft.new ≡ drafted draft.old (mark.now ++ action_text id items.now) }
+{
+    draft.put(mark);
+    draft.put(b"Context=");
+    put_context(draft, id);
+    put_entries(draft, items);
+}
+
+/// All actions of a reply.
+pub(crate) fn put_actions(draft: &mut Draft, items: &[Item])
+    ensures value { draft.new ≡ drafted draft.old (actions_text [] [] items.now) }
+{
+    let mut from = 0;
+    let mut mark: &[u8] = b"";
+    for (i, item) in items.iter().enumerate() {
+        let Some(id) = item.action_id() else {
+            continue;
+        };
+        let (ended, _) = items.split_at(i);
+        let (_, entries) = ended.split_at(from);
+        put_action(draft, mark, id, entries);
+        from = i + 1;
+        mark = b",";
+    }
+    draft.put(b"");
+}

@@ -1,0 +1,77 @@
+ghost use Rattle.std.specs.Prelude.{◌≡◌, ◌≤◌, [], length, Some, ℕ, List};
+ghost use Rattle.mg_reply.specs.Draft.{drafted, closed};
+
+use crate::bytes::Bytes;
+use std::marker::Model;
+use std::mem;
+
+/// The bytes of the longest reply that is written.
+pub const REPLY_LIMIT: usize = 16000;
+
+/// A reply that is being written behind a text: its text so far, or that it grew too long.
+#[derive(Drop)]
+pub struct Draft {
+    bytes: Bytes,
+    start: usize,
+    left: usize,
+    is_full: bool,
+}
+
+impl Model for Draft {
+    ghost use Rattle.std.specs.Prelude.{◌+◌, ◌-◌, length, take, drop};
+    ghost use Rattle.mg_reply.specs.Draft.{Drafted, text_of, IsDraft};
+
+    ghost Value = { Drafted };
+
+    ghost view = { λ d. record { front = take d.start d.bytes.text; room = d.bytes.room + length d.bytes.text - d.start; text = text_of d.is_full (drop d.start d.bytes.text) } };
+
+    ghost invariant = { λ d. IsDraft d.bytes d.start d.left d.is_full };
+}
+
+impl Draft {
+    /// Begins a reply behind the text of some bytes, which the draft holds until it is closed.
+    pub fn begin(bytes: &mut Bytes) -> Self
+        requires room { REPLY_LIMIT ≤ bytes.old.room }
+        ensures value { result ≡ record { front = bytes.old.text; room = bytes.old.room; text = Some [] } }
+    {
+        let empty = Bytes::none_like(bytes);
+        let bytes = mem::replace(bytes, empty);
+        let start = bytes.as_slice().len();
+        Draft {
+            bytes,
+            start,
+            left: REPLY_LIMIT,
+            is_full: false,
+        }
+    }
+
+    /// Puts a part behind the reply, unless it grows too long by it.
+    #[tactic(auto, unfolding(crate::specs::Draft::drafted))]
+    pub fn put(&mut self, part: &[u8])
+        ensures value { self.new ≡ drafted self.old part.now }
+    {
+        if self.is_full || part.len() > self.left {
+            self.is_full = true;
+        } else {
+            self.bytes.push(part);
+            self.left -= part.len();
+        }
+    }
+
+    /// The bytes with the whole reply, or as they were before a reply that grew too long, and whether it
+    /// did.
+    pub fn close(self) -> (Bytes, bool)
+        ensures value { closed self result.0 result.1 }
+    {
+        let Draft {
+            mut bytes,
+            start,
+            left: _,
+            is_full,
+        } = self;
+        if is_full {
+            bytes.truncate(start);
+        }
+        (bytes, is_full)
+    }
+}

@@ -1,0 +1,59 @@
+//! Replies of a gateway in text encoding (Megaco, RFC 3525, Annex B): put together item by item, and written.
+//!
+//! A [`Reply`] takes all its memory when it is made, and so do the [`Bytes`] that its text is written to:
+//!
+//! ```rust
+//! let mut reply = Reply::new(alloc)?;
+//! let mut text = Bytes::new(alloc, REPLY_LIMIT)?;
+//! reply.start(7);
+//! reply.put(Item::Command(CommandWord::AuditValue, Term::root(), Outcome::Failed(ErrorNumber::NotServed)));
+//! reply.put(Item::Action(ContextId::Null));
+//! assert!(rt; write_reply(&reply, &mut text).is_ok());
+//! ```
+//!
+//! The end of an action is put behind the items that it owns, in whatever order they come: they are written as the
+//! topology, the commands and the errors. A reply that is one [`Item::Fault`] alone refuses the whole request. One with
+//! more items than it has room for, and one whose text would be longer than 16,000 bytes, is told so by
+//! [`write_reply`], which then writes nothing. [`theorems`] has what holds of replies as a whole.
+#![tactic(auto)]
+
+mod action_writing;
+mod association;
+mod bytes;
+mod command_word;
+mod context_id;
+mod control;
+mod draft;
+mod entry_kind;
+mod error_number;
+mod item;
+mod media;
+mod mode;
+mod outcome;
+mod parts_writing;
+mod reply;
+mod statistics;
+mod term;
+#[cfg(test)]
+mod tests;
+pub mod theorems;
+mod writing;
+
+pub use crate::association::Association;
+pub use crate::bytes::Bytes;
+pub use crate::command_word::CommandWord;
+pub use crate::context_id::ContextId;
+pub use crate::control::Control;
+pub use crate::draft::REPLY_LIMIT;
+pub use crate::error_number::ErrorNumber;
+pub use crate::item::Item;
+pub use crate::media::Media;
+pub use crate::mode::Mode;
+pub use crate::outcome::{Outcome, Parts};
+pub use crate::reply::{ITEM_LIMIT, Reply};
+pub use crate::statistics::Statistics;
+pub use crate::term::{TERM_LIMIT, Term};
+pub use crate::writing::{
+    ERROR_LIMIT, HEAD_LIMIT, TooLong, write_address, write_error, write_head, write_port,
+    write_reply,
+};

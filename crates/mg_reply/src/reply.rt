@@ -1,0 +1,115 @@
+ghost use Rattle.std.specs.Prelude.{◌≡◌, [], true, false, IfOk};
+ghost use Rattle.mg_reply.specs.Reply.{after_put, started, is_action, is_whole, IsWhole};
+
+use crate::entry_kind::EntryKind;
+use crate::item::Item;
+use std::alloc::{AllocError, Global};
+use std::marker::Model;
+
+/// How many items a reply has room for. An action that has items takes no room of its own.
+pub const ITEM_LIMIT: usize = 1600;
+
+/// A reply that is put together item by item, in memory that was taken when it was made.
+#[derive(Drop)]
+pub struct Reply {
+    number: u32,
+    items: Vec<Item>,
+    room: usize,
+    has_pending: bool,
+    is_long: bool,
+}
+
+impl Model for Reply {
+    ghost use Rattle.mg_reply.specs.Reply.{Answered, IsReply};
+
+    ghost Value = { Answered };
+
+    ghost view = { λ r. record { number = r.number; items = r.items.items; room = r.room; has_pending = r.has_pending; is_long = r.is_long } };
+
+    ghost use Rattle.std.specs.Prelude.{vec_capacity};
+
+    ghost invariant = { λ r. IsReply r.number r.items.items (vec_capacity r.items) r.room r.has_pending };
+}
+
+impl Reply {
+    /// An empty reply to transaction 0. This takes all the memory.
+    pub fn new(alloc: Global) -> Result<Self, AllocError>
+        ensures value { IfOk result (λ reply. reply ≡ started 0) }
+    {
+        Ok(Reply {
+            number: 0,
+            items: Vec::with_capacity(alloc, 2 * ITEM_LIMIT)?,
+            room: ITEM_LIMIT,
+            has_pending: false,
+            is_long: false,
+        })
+    }
+
+    /// Empties the reply, and begins that to a transaction.
+    pub fn start(&mut self, number: u32)
+        ensures value { self.new ≡ started number }
+    {
+        self.number = number;
+        self.items.clear();
+        self.room = ITEM_LIMIT;
+        self.has_pending = false;
+        self.is_long = false;
+    }
+
+    /// Puts an item behind the others. One that finds no room is dropped, and the reply is marked as too
+    /// long.
+    #[tactic(auto, using(crate::proofs::ReplyLaws::last_items))]
+    pub fn put(&mut self, item: Item)
+        ensures value { self.new ≡ after_put self.old item }
+        ensures ended { is_action item ≡ true → IsWhole self.new }
+    {
+        let is_action = matches!(item, Item::Action(_));
+        let is_free = is_action && self.has_pending;
+        if !is_free {
+            if self.room == 0 {
+                self.is_long = true;
+                return;
+            }
+            self.room -= 1;
+        }
+        self.items.push_reserved(item);
+        self.has_pending = !is_action;
+    }
+
+    /// The number of the transaction.
+    pub fn number(&self) -> u32
+        ensures value { result ≡ self.now.number }
+    {
+        self.number
+    }
+
+    /// The items that were put.
+    pub fn items(&self) -> &[Item]
+        ensures value { result.now ≡ self.now.items }
+    {
+        self.items.as_slice()
+    }
+
+    /// Whether the reply can be written, or is told to be too long: one error alone, or actions of which the last
+    /// has ended.
+    #[tactic(auto, using(crate::proofs::ReplyLaws::last_items))]
+    pub fn is_whole(&self) -> bool
+        ensures value { result ≡ is_whole self.now }
+    {
+        if self.is_long {
+            return true;
+        }
+        match self.items() {
+            [] => false,
+            [item] => item.is_of(EntryKind::Faults) || !self.has_pending,
+            [_, _, ..] => !self.has_pending,
+        }
+    }
+
+    /// Whether an item found no room.
+    pub fn is_long(&self) -> bool
+        ensures value { result ≡ self.now.is_long }
+    {
+        self.is_long
+    }
+}

@@ -1,0 +1,128 @@
+ghost use Rattle.std.specs.Prelude.{◌≡◌, ◌≤◌, ◌||◌, ◌++◌, nat_lt, length, OnOk, OnErr, is_err, codes, decimal};
+ghost use Rattle.mg_sdp.specs.Written.{address_text};
+ghost use Rattle.mg_reply.specs.Bytes.{appended};
+ghost use Rattle.mg_reply.specs.Draft.{drafted};
+ghost use Rattle.mg_reply.specs.ErrorNumber.{error_text};
+ghost use Rattle.mg_reply.specs.Reply.{IsWhole};
+ghost use Rattle.mg_reply.specs.Written.{head_text, items_text, reply_text};
+
+use crate::action_writing::put_actions;
+use crate::bytes::Bytes;
+use crate::draft::{Draft, REPLY_LIMIT};
+use crate::error_number::ErrorNumber;
+use crate::item::Item;
+use crate::parts_writing::put_number;
+use crate::reply::Reply;
+use itoa::Buffer;
+
+/// A reply's text would be longer than 16,000 bytes.
+#[derive(Clone, Copy, Debug, PartialEq, Eq)]
+pub struct TooLong;
+
+/// The bytes of the longest head.
+pub const HEAD_LIMIT: usize = 33;
+
+/// The bytes of the longest error.
+pub const ERROR_LIMIT: usize = 64;
+
+/// Writes a number in plain decimal.
+fn push_decimal(n: u16, out: &mut Bytes)
+    requires room { length (decimal n) ≤ out.old.room }
+    ensures value { out.new ≡ appended out.old (decimal n) }
+{
+    let mut buffer = Buffer::new();
+    out.push(buffer.format(n).as_bytes());
+}
+
+/// Writes a port in plain decimal, which takes at most 5 bytes.
+#[tactic(auto, using(crate::proofs::WrittenLaws::lengths))]
+pub fn write_port(port: u16, out: &mut Bytes)
+    requires room { 5 ≤ out.old.room }
+    ensures value { out.new ≡ appended out.old (decimal port) }
+    ensures short { length (decimal port) ≤ 5 }
+{
+    push_decimal(port, out);
+}
+
+/// Writes an IPv4 address in plain decimal, which takes at most 15 bytes.
+#[tactic(auto, using(crate::proofs::WrittenLaws::lengths))]
+pub fn write_address(address: [u8; 4], out: &mut Bytes)
+    requires room { 15 ≤ out.old.room }
+    ensures value { out.new ≡ appended out.old (address_text address) }
+    ensures short { length (address_text address) ≤ 15 }
+{
+    let [a, b, c, d] = address;
+    push_decimal(u16::from(a), out);
+    out.push(b".");
+    push_decimal(u16::from(b), out);
+    out.push(b".");
+    push_decimal(u16::from(c), out);
+    out.push(b".");
+    push_decimal(u16::from(d), out);
+}
+
+/// Writes the head of a message from the gateway at this address and port, which takes at most 33 bytes.
+#[tactic(auto, using(crate::proofs::WrittenLaws::lengths))]
+pub fn write_head(address: [u8; 4], port: u16, out: &mut Bytes)
+    requires room { HEAD_LIMIT ≤ out.old.room }
+    ensures value { out.new ≡ appended out.old (head_text address port) }
+    ensures short { length (head_text address port) ≤ HEAD_LIMIT }
+{
+    out.push(b"MEGACO/1 [");
+    write_address(address, out);
+    out.push(b"]:");
+    write_port(port, out);
+    out.push(b"\n");
+}
+
+/// Writes an error: its number and its text, which take at most 64 bytes.
+#[tactic(auto, using(crate::proofs::WrittenLaws::lengths))]
+pub fn write_error(number: ErrorNumber, out: &mut Bytes)
+    requires room { ERROR_LIMIT ≤ out.old.room }
+    ensures value { out.new ≡ appended out.old (error_text number) }
+    ensures short { length (error_text number) ≤ ERROR_LIMIT }
+{
+    out.push(number.descriptor().as_bytes());
+}
+
+#[tactic(auto, using(crate::proofs::DraftLaws::joins))]
+fn put_items(draft: &mut Draft, items: &[Item])
+    ensures value { draft.new ≡ drafted draft.old (items_text items.now) }
+{
+    match items {
+        [Item::Fault(number)] => draft.put(number.descriptor().as_bytes()),
+        _ => put_actions(draft, items),
+    }
+}
+
+#[tactic(auto, using(crate::proofs::DraftLaws::joins))]
+fn put_reply(draft: &mut Draft, number: u32, items: &[Item])
+    ensures value { draft.new ≡ drafted draft.old (reply_text number items.now) }
+{
+    draft.put(b"Reply=");
+    put_number(draft, u64::from(number));
+    draft.put(b"{");
+    put_items(draft, items);
+    draft.put(b"}");
+}
+
+/// Writes the text of a reply behind what stands in `out`. Where the reply was marked, or its text is longer
+/// than 16,000 bytes, nothing is written.
+#[tactic(auto, unfolding(crate::specs::Draft::drafted))]
+pub fn write_reply(reply: &Reply, out: &mut Bytes) -> Result<(), TooLong>
+    requires room { REPLY_LIMIT ≤ out.old.room }
+    requires whole { IsWhole reply.now }
+    ensures ok { OnOk result (out.new ≡ appended out.old (reply_text reply.now.number reply.now.items)) }
+    ensures too_long { is_err result ≡ (reply.now.is_long
+        || nat_lt REPLY_LIMIT (length (reply_text reply.now.number reply.now.items))) }
+    ensures err { OnErr result (out.new ≡ out.old) }
+{
+    if reply.is_long() {
+        return Err(TooLong);
+    }
+    let mut draft = Draft::begin(out);
+    put_reply(&mut draft, reply.number(), reply.items());
+    let (bytes, is_full) = draft.close();
+    *out = bytes;
+    if is_full { Err(TooLong) } else { Ok(()) }
+}

@@ -1,0 +1,139 @@
+ghost use Rattle.std.specs.Prelude.{◌≡◌};
+ghost use Rattle.mg_text.specs.Reading.{Gives};
+ghost use Rattle.mg_text.specs.Grammar.{has_slash};
+ghost use Rattle.mg_text.specs.Media.{value_at, optional_value_at, switched_at, mode_part_at, package_part_at, control_at};
+ghost use Rattle.mg_text.specs.declared.media.ControlPart.TheVariants as controls;
+
+use crate::fault::ReadFault;
+use crate::group::after_group;
+use crate::keyword::{Keyword, keyword_of};
+use crate::lists::Rule;
+use crate::marks::{after_mark, mark_at, mode_at, switch_at, word_at};
+use crate::media::{ControlPart, PropertyValue};
+use mg_scan::{Span, Token, TokenKind};
+use std::alloc::Global;
+
+/// The value of a package's property, and what stands behind it.
+#[tactic(auto, unfolding(crate::specs::Media::value_at))]
+fn value_at<'t>(
+    source: &[u8],
+    tokens: &'t [Token],
+) -> Result<(PropertyValue, &'t [Token]), ReadFault>
+    ensures { Gives (λ x. (x.0, x.1.now)) result (value_at source.now tokens.now) }
+{
+    match tokens {
+        [] => Err(ReadFault::Syntax(source.len())),
+        [first, rest @ ..] => match first.kind {
+            TokenKind::Word => Ok((PropertyValue::Word(first.span), rest)),
+            TokenKind::Quoted => Ok((PropertyValue::Quoted(first.span), rest)),
+            TokenKind::Open => {
+                let rest = after_group(source, rest)?;
+                Ok((PropertyValue::Group, rest))
+            }
+            _ => Err(ReadFault::Syntax(first.span.start)),
+        },
+    }
+}
+
+/// The value of a package's property behind an equals sign, if one stands there.
+#[tactic(auto, unfolding(crate::specs::Media::optional_value_at))]
+fn optional_value_at<'t>(
+    source: &[u8],
+    tokens: &'t [Token],
+) -> Result<(Option<PropertyValue>, &'t [Token]), ReadFault>
+    ensures { Gives (λ x. (x.0, x.1.now)) result (optional_value_at source.now tokens.now) }
+{
+    let Some(rest) = after_mark(TokenKind::Equals, tokens) else {
+        return Ok((None, tokens));
+    };
+    let (value, rest) = value_at(source, rest)?;
+    Ok((Some(value), rest))
+}
+
+/// Whether a slash stands in a word, as in the name of a package's property.
+fn has_slash(text: &[u8]) -> bool
+    ensures value { result ≡ has_slash text.now }
+{
+    text.contains(&b'/')
+}
+
+/// A mode behind its word.
+#[tactic(auto, unfolding(crate::specs::Media::mode_part_at))]
+fn mode_part_at<'t>(
+    source: &[u8],
+    tokens: &'t [Token],
+) -> Result<(ControlPart, &'t [Token]), ReadFault>
+    ensures { Gives (λ x. (x.0, x.1.now)) result (mode_part_at source.now tokens.now) }
+{
+    let rest = mark_at(source, TokenKind::Equals, tokens)?;
+    let (mode, rest) = mode_at(source, rest)?;
+    Ok((ControlPart::Mode(mode), rest))
+}
+
+/// A reserved value behind its word.
+#[tactic(auto, unfolding(crate::specs::Media::switched_at))]
+fn value_part_at<'t>(
+    source: &[u8],
+    tokens: &'t [Token],
+) -> Result<(ControlPart, &'t [Token]), ReadFault>
+    ensures { Gives (λ x. (x.0, x.1.now)) result (switched_at source.now controls.ReservedValue tokens.now) }
+{
+    let rest = mark_at(source, TokenKind::Equals, tokens)?;
+    let (is_on, rest) = switch_at(source, rest)?;
+    Ok((ControlPart::ReservedValue(is_on), rest))
+}
+
+/// A reserved group behind its word.
+#[tactic(auto, unfolding(crate::specs::Media::switched_at))]
+fn group_part_at<'t>(
+    source: &[u8],
+    tokens: &'t [Token],
+) -> Result<(ControlPart, &'t [Token]), ReadFault>
+    ensures { Gives (λ x. (x.0, x.1.now)) result (switched_at source.now controls.ReservedGroup tokens.now) }
+{
+    let rest = mark_at(source, TokenKind::Equals, tokens)?;
+    let (is_on, rest) = switch_at(source, rest)?;
+    Ok((ControlPart::ReservedGroup(is_on), rest))
+}
+
+/// A package's property behind its name.
+#[tactic(auto, unfolding(crate::specs::Media::package_part_at))]
+fn package_part_at<'t>(
+    source: &[u8],
+    name: Span,
+    tokens: &'t [Token],
+) -> Result<(ControlPart, &'t [Token]), ReadFault>
+    ensures { Gives (λ x. (x.0, x.1.now)) result (package_part_at source.now name tokens.now) }
+{
+    if !has_slash(name.text(source)) {
+        return Err(ReadFault::Syntax(name.start));
+    }
+    let (value, rest) = optional_value_at(source, tokens)?;
+    Ok((ControlPart::Property(name, value), rest))
+}
+
+/// A part of a LocalControl.
+pub struct AControlPart;
+
+impl Rule for AControlPart {
+    type Output = ControlPart;
+
+    ghost reads = { λ _ source tokens. control_at source tokens };
+
+    #[tactic(auto, unfolding(crate::specs::Media::control_at))]
+    fn read<'t>(
+        &self,
+        alloc: Global,
+        source: &[u8],
+        tokens: &'t [Token],
+    ) -> Result<(ControlPart, &'t [Token]), ReadFault> {
+        let _ = alloc;
+        let (name, rest) = word_at(source, tokens)?;
+        match keyword_of(name.text(source)) {
+            Some(Keyword::Mode) => mode_part_at(source, rest),
+            Some(Keyword::ReservedValue) => value_part_at(source, rest),
+            Some(Keyword::ReservedGroup) => group_part_at(source, rest),
+            _ => package_part_at(source, name, rest),
+        }
+    }
+}

@@ -1,0 +1,46 @@
+use crate::items::Items;
+use mg_reply::Mode;
+use mg_scan::Span;
+
+/// The value of a property in a LocalControl.
+#[derive(Clone, Copy, Debug, PartialEq, Eq)]
+pub enum PropertyValue {
+    Word(Span),
+    /// A text between quotation marks, without them.
+    Quoted(Span),
+    /// Braces with anything between them.
+    Group,
+}
+
+/// A part of a LocalControl (RFC 3525, section 7.1.7).
+#[derive(Clone, Copy, Debug, PartialEq, Eq)]
+pub enum ControlPart {
+    Mode(Mode),
+    /// Whether it is `ON`.
+    ReservedValue(bool),
+    /// Whether it is `ON`.
+    ReservedGroup(bool),
+    /// A package's property: its name, and its value if it has one.
+    Property(Span, Option<PropertyValue>),
+}
+
+/// A part of a stream (RFC 3525, section 7.1.6).
+#[derive(Drop)]
+pub enum StreamPart {
+    /// The session description of the gateway's side, without its braces.
+    Local(Span),
+    /// The session description of the other side, without its braces.
+    Remote(Span),
+    LocalControl(Items<ControlPart>),
+}
+
+/// A part of a Media descriptor (RFC 3525, section 7.1.4).
+#[derive(Drop)]
+pub enum MediaPart {
+    /// A part that stands straight in the descriptor: it belongs to stream 1.
+    Part(StreamPart),
+    /// A stream by its number, and its parts.
+    Stream(u32, Items<StreamPart>),
+    /// Whether it has content.
+    TerminationState(bool),
+}

@@ -4,6 +4,9 @@
 //! standard output.
 #![tactic(auto)]
 
+ghost use Rattle.std.specs.Prelude.{◌≡◌, ◌≢◌};
+ghost use Rattle.std.specs.IoError.{error_kind};
+
 mod options;
 mod program;
 mod replay;
@@ -24,7 +27,10 @@ fn words(rt: &HostRuntime) -> io::Result<Vec<String>> {
 }
 
 /// Tells why the arguments can't be read, and answers how the program ends.
-fn tell<E: Write>(error: &io::Error, errors: &mut E) -> Status {
+fn tell<E: Write>(error: &io::Error, errors: &mut E) -> Status
+    ensures memory { error_kind error.now ≡ ErrorKind.OutOfMemory → result ≡ Status.NoMemory }
+    ensures usage { error_kind error.now ≢ ErrorKind.OutOfMemory → result ≡ Status.Usage }
+{
     if error.kind() == ErrorKind::OutOfMemory {
         let _ = writeln!(errors, "no memory");
         return Status::NoMemory;

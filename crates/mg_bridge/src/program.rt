@@ -1,7 +1,9 @@
-ghost use Rattle.std.specs.Prelude.{◌≡◌, ◌≤◌, ◌⊎◌};
-ghost use Rattle.mg_bridge.specs.Replay.{Replayed};
+ghost use Rattle.std.specs.Prelude.{◌≡◌, ◌≤◌, map};
+ghost use Rattle.clap.specs.Words.{kind_of};
+ghost use Rattle.mg_bridge.specs.Options.{asked};
+ghost use Rattle.mg_bridge.specs.Replay.{EndsWith, Tells};
 
-use crate::options::{command, config_of};
+use crate::options::asked_config;
 use crate::replay::replay;
 use crate::status::Status;
 use clap::Error;
@@ -11,20 +13,25 @@ use std::convert::AsStr;
 use std::io::{Read, Write};
 
 /// Tells a text of the command line's, a usage fault or help, and answers how the program ends.
-fn tell<W: Write, E: Write>(error: &Error, output: &mut W, errors: &mut E) -> Status {
-    if matches!(error.kind(), ErrorKind::OutOfMemory) {
-        let _ = writeln!(errors, "no memory");
-        return Status::NoMemory;
-    }
-    if error.use_stderr() {
-        let _ = write!(errors, "{error}");
-        return Status::Usage;
-    }
-    match write!(output, "{error}") {
-        Ok(()) => Status::Done,
-        Err(_) => {
-            let _ = writeln!(errors, "write failed");
-            Status::Failed
+fn tell<W: Write, E: Write>(error: &Error, output: &mut W, errors: &mut E) -> Status
+    ensures told { Tells (kind_of error.now) output.old output.new result }
+    ensures quiet { result ≡ Status.Done → errors.new ≡ errors.old }
+{
+    match error.kind() {
+        ErrorKind::OutOfMemory => {
+            let _ = writeln!(errors, "no memory");
+            Status::NoMemory
+        }
+        ErrorKind::DisplayHelp | ErrorKind::DisplayVersion => match write!(output, "{error}") {
+            Ok(()) => Status::Done,
+            Err(_) => {
+                let _ = writeln!(errors, "write failed");
+                Status::Failed
+            }
+        },
+        _ => {
+            let _ = write!(errors, "{error}");
+            Status::Usage
         }
     }
 }
@@ -40,21 +47,14 @@ pub fn program<'a, S: AsStr, R: Read, W: Write, E: Write>(
     errors: &mut E,
 ) -> u8
     ensures status { result ≤ 4 }
-    // The input is left alone, or the script on it was run.
-    ensures ran { (input.new ≡ input.old)
-        ⊎ Replayed (R.remaining input.old) (W.contents output.old) (W.contents output.new) result }
+    // What the words ask for was done as far as the status says.
+    ensures ends { EndsWith R.remaining W.contents (asked (map S.text words.now)) input.old input.new output.old
+        output.new result }
+    ensures quiet { result ≡ 0 → errors.new ≡ errors.old }
 {
-    let parsed = match command(alloc) {
-        Ok(command) => command.try_get_matches_from(words),
-        Err(error) => Err(error),
-    };
-    let matches = match parsed {
-        Ok(matches) => matches,
-        Err(error) => return tell(&error, output, errors).code(),
-    };
-    let status = match matches.subcommand() {
-        Some((_, options)) => replay(alloc, config_of(options), input, output, errors),
-        None => Status::Usage,
+    let status = match asked_config(alloc, words) {
+        Ok(config) => replay(alloc, config, input, output, errors),
+        Err(error) => tell(&error, output, errors),
     };
     status.code()
 }

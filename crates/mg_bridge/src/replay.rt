@@ -1,3 +1,4 @@
+ghost use Rattle.std.specs.Prelude.{◌≡◌};
 ghost use Rattle.mg_bridge.specs.Replay.{Replays};
 
 use crate::status::Status;
@@ -15,6 +16,7 @@ pub fn replay<R: Read, W: Write, E: Write>(
     errors: &mut E,
 ) -> Status
     ensures value { Replays config (R.remaining input.old) (W.contents output.old) (W.contents output.new) result }
+    ensures quiet { result ≡ Status.Done → errors.new ≡ errors.old }
 {
     let outcome = run(alloc, config, input, output);
     if let Err(fault) = &outcome {

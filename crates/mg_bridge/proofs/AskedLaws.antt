@@ -1,0 +1,110 @@
+-- What follows of the words for which the command line finds no fault, or one.
+use Rattle.std.proofs.Common.{◌≡◌, ◌⊎◌, ◌&&◌, ◌∙◌, Bool, true, false, not, List, [], ◌∷◌, Option, Some, None, is_some, inl, inr, refl, sym, ap, subst, true≢false, Result, Ok, Err}
+use Rattle.std.specs.Prelude.{IfErr, IsErrAnd, option_map, unwrap_or}
+use Rattle.std.proofs.lemmas.Bool.{and_parts}
+use Rattle.std.specs.List.{list_any}
+use Rattle.clap.specs.Facts.{explicit_source}
+use Rattle.clap.specs.Walk.{Held, Names, Row, Text, finished, nothing_held, settled_rows, stop_after, walk, walk_from}
+use Rattle.clap.specs.Simple.{App, HasMatchesOf, Shape, argument_words, built, is_simple, names_of, subcommand_of, subcommand_rows_of}
+use Rattle.clap.specs.Kinds.{Kinds, IsAmong, check_kinds, or_else}
+use Rattle.clap.specs.Faults.{defaults_fault, entered_fault, fault_of, is_free_app, is_simple_and_free, level_fault, settle_fault, walk_fault}
+use Rattle.clap.specs.Matches.{has_subcommand}
+use Rattle.clap.specs.Values.{kind_of}
+use Rattle.clap.specs.declared.error.Error.{Error}
+use Rattle.clap.specs.declared.error.kind.ErrorKind.{ErrorKind}
+use Rattle.clap.specs.declared.parser.matches.ArgMatches.{ArgMatches}
+use Rattle.clap.specs.declared.parser.matches.ArgMatches.TheViews.{out-ArgMatches}
+use Rattle.clap.specs.declared.error.kind.ErrorKind.TheVariants.{OutOfMemory}
+use Rattle.mg_bridge.specs.Options.{IsRefused, asked, asked_by, command_line, config_in, options, replay, replay_line}
+
+abbrev has_kinds : Kinds → Bool
+has_kinds [] = false
+has_kinds (kind ∷ kinds) = true
+
+or_else-nil : (first next : Kinds) → or_else first next ≡ [] → next ≡ []
+or_else-nil [] next none = none
+or_else-nil (kind ∷ kinds) next none = absurd (true≢false (ap has_kinds none))
+
+met_where_wanted : (met help wants argument : Bool) → wants ≡ true → check_kinds (not met && help) (not met && wants) argument ≡ [] → met ≡ true
+met_where_wanted true help wants argument wanted none = refl
+met_where_wanted false true wants argument wanted none = absurd (true≢false (ap has_kinds none))
+met_where_wanted false false true argument wanted none = absurd (true≢false (ap has_kinds none))
+met_where_wanted false false false argument wanted none = absurd (true≢false (sym wanted))
+
+-- a level of a command line that wants a subcommand finds one where it finds no fault
+level_met : (level : Shape) (names : Names) (held : Held) (words : List Text) (met : Bool) (below : Kinds) → level.subcommand_required ≡ true
+    → level_fault level names held words met below ≡ [] → met ≡ true
+level_met level names held words met below wanted none =
+    let end = (walk level.rules names held words).held in
+    let walked = or_else-nil (walk_fault level names (walk_from held) words) _ none in
+    let entered = or_else-nil below _ walked in
+    let settled = or_else-nil (settle_fault level.rules level.args_override_self end) _ entered in
+    let filled = or_else-nil (defaults_fault (settled_rows level.rules end.pending end.rows) level.rules) _ settled in
+    met_where_wanted met
+    (level.arg_required_else_help && not (list_any (λ (r : Row). explicit_source r.source) (finished level.rules end)))
+    level.subcommand_required _ wanted filled
+
+wants_subcommand : (built command_line).top.subcommand_required ≡ true
+unfolding command_line
+wants_subcommand = refl
+
+is_simple_line : is_simple_and_free command_line ≡ true
+unfolding command_line replay_line options
+is_simple_line = refl
+
+has_met : (words : List Text) → fault_of command_line words ≡ [] → is_some (subcommand_of command_line words) ≡ true
+has_met words none = level_met (built command_line).top (names_of (built command_line)) nothing_held (argument_words command_line words)
+    (is_some (subcommand_of command_line words)) (entered_fault (built command_line) (stop_after (built command_line).top.rules (names_of (built command_line))
+    (argument_words command_line words))) wants_subcommand none
+
+run_by : (kinds : Kinds) (found : Option (Text × List Row)) (rows : List Row) → kinds ≡ [] → option_map (λ f. f.1) found ≡ Some rows
+    → asked_by kinds found ≡ replay (config_in rows)
+run_by [] (Some found) rows none is = ap replay (ap config_in (ap (λ (o : Option (List Row)). unwrap_or o rows) is))
+run_by [] None rows none is = absurd (true≢false (sym (ap is_some is)))
+run_by (kind ∷ kinds) found rows none is = absurd (true≢false (ap has_kinds none))
+
+refused_by : (kinds : Kinds) (found : Option (Text × List Row)) (kind : ErrorKind) → (kind ≡ OutOfMemory) ⊎ IsAmong kind kinds
+    → IsRefused (asked_by kinds found) kind
+refused_by [] (Some found) kind (inl memory) = memory
+refused_by [] (Some found) kind (inr among) = absurd among
+refused_by [] None kind why = why
+refused_by (first ∷ kinds) found kind why = why
+
+is_some-map : {A B : Type 0} (f : A → B) (o : Option A) → is_some (option_map f o) ≡ is_some o
+is_some-map f None = refl
+is_some-map f (Some a) = refl
+
+-- what a parse by the program's command line says of what its words ask for
+module _ (line : App) (words : List Text) (is : line ≡ command_line) where
+  simple : is_simple_and_free line ≡ true
+  simple = ap is_simple_and_free is ∙ is_simple_line
+
+  no_fault : (is_simple_and_free line ≡ true → fault_of line words ≡ []) → fault_of command_line words ≡ []
+  no_fault passes = ap (λ (l : App). fault_of l words) (sym is) ∙ passes simple
+
+  subcommand_is : (m : ArgMatches) → HasMatchesOf line words m → subcommand_rows_of m ≡ subcommand_of command_line words
+  subcommand_is m matches = (matches (and_parts (is_simple line) (is_free_app (built line)) simple).0).1 ∙ ap (λ (l : App). subcommand_of l words) is
+
+  -- matches have a subcommand
+  pub meets_subcommand : (m : ArgMatches) → (is_simple_and_free line ≡ true → fault_of line words ≡ []) → HasMatchesOf line words m
+      → has_subcommand m ≡ true
+  meets_subcommand m passes matches =
+      sym (is_some-map _ (out-ArgMatches m).subcommand) ∙ (ap is_some (subcommand_is m matches) ∙ has_met words (no_fault passes))
+
+  -- matches ask for a run by the options of the subcommand
+  pub asks_run : (m : ArgMatches) (rows : List Row) → (is_simple_and_free line ≡ true → fault_of line words ≡ []) → HasMatchesOf line words m
+      → Some rows ≡ option_map (λ f. f.1) (subcommand_rows_of m) → asked words ≡ replay (config_in rows)
+  unfolding asked
+  asks_run m rows passes matches found =
+      run_by _ _ rows (no_fault passes) (ap (option_map (λ (f : Text × List Row). f.1)) (sym (subcommand_is m matches)) ∙ sym found)
+
+  -- an error says why they ask for none
+  pub asks_none : (kind : ErrorKind) → (is_simple_and_free line ≡ true → (kind ≡ OutOfMemory) ⊎ IsAmong kind (fault_of line words)) → IsRefused (asked words) kind
+  unfolding asked
+  asks_none kind fails = refused_by _ _ kind (subst (λ (l : App). (kind ≡ OutOfMemory) ⊎ IsAmong kind (fault_of l words)) is (fails simple))
+
+-- an error that was passed on
+pub passed_on : {T : Type 0} (r : Result T Error) (error : Error) (Q : ErrorKind → Type 0) → IsErrAnd r (λ e. e ≡ error) → Q (kind_of error)
+    → IfErr r (λ e. Q (kind_of e))
+passed_on (Ok value) error Q is why = tt
+passed_on (Err e) error Q is why = subst (λ (x : Error). Q (kind_of x)) (sym is) why

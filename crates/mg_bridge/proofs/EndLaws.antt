@@ -1,0 +1,52 @@
+-- How the program ends where its words led to no run.
+use Rattle.std.proofs.Common.{◌≡◌, ℕ, List, [], Option, Some, None, Err, refl, sym, ap, subst, arith, append-nil}
+use Rattle.std.specs.Io.KnownBytes.{Appends}
+use Rattle.clap.specs.declared.error.kind.ErrorKind.{ErrorKind}
+use Rattle.mg_core.specs.declared.config.Config.{Config}
+use Rattle.mg_core.specs.declared.fault.RunFault.{RunFault}
+use Rattle.mg_core.specs.declared.fault.RunFault.TheVariants as faults
+use Rattle.mg_core.specs.Script.{lines_of}
+use Rattle.mg_bridge.specs.declared.status.Status.{Status}
+use Rattle.mg_bridge.specs.declared.status.Status.TheVariants.{Done, BadLine, Usage, Failed, NoMemory}
+use Rattle.mg_bridge.specs.Status.{code_of, status_of}
+use Rattle.mg_bridge.specs.Options.{Asked, IsRefused, refused, replay}
+use Rattle.mg_bridge.specs.Replay.{Ends, Replays, Tells}
+
+appends_nothing : (old : Option (List ℕ)) → Appends old old []
+appends_nothing None = tt
+appends_nothing (Some held) = sym (append-nil held)
+
+not_begun : (config : Config) (input old : Option (List ℕ)) → Replays config input old old NoMemory
+unfolding status_of
+not_begun config None old = record { outcome = Err faults.NoMemory; is = refl; ran = tt }
+not_begun config (Some script) old = record {
+  outcome = Err faults.NoMemory;
+  is = refl;
+  ran = ([], lines_of script, refl, record { out = []; runs = refl; written = appends_nothing old });
+}
+
+-- a fault of the words was told, and their input was left alone
+pub ends_told : {R W : Type 0} (remaining : R → Option (List ℕ)) (contents : W → Option (List ℕ)) (asked : Asked) (kind : ErrorKind)
+    (input rest : R) (old new : W) (status : Status) → IsRefused asked kind → Tells kind old new status → rest ≡ input
+    → Ends remaining contents asked input rest old new status
+ends_told remaining contents (replay config) kind input rest old new status memory told left =
+    let no_memory = subst (λ k. Tells k old new status) memory told in
+    rw (no_memory.0, no_memory.1) (not_begun config (remaining input) (contents old))
+ends_told remaining contents (refused kinds) kind input rest old new status why told left = (left, record { kind = kind; among = why; told = told })
+
+-- a run that ended by a fault isn't done
+pub fault_is_told : (fault : RunFault) → status_of (Err fault) ≡ Done → ⊥
+unfolding status_of code_of
+fault_is_told (faults.Script line) done = let same : ◌≡◌ {A = ℕ} 1 0 = ap code_of done in absurd (omega arith)
+fault_is_told faults.BadConfig done = let same : ◌≡◌ {A = ℕ} 2 0 = ap code_of done in absurd (omega arith)
+fault_is_told faults.Read done = let same : ◌≡◌ {A = ℕ} 3 0 = ap code_of done in absurd (omega arith)
+fault_is_told faults.Write done = let same : ◌≡◌ {A = ℕ} 3 0 = ap code_of done in absurd (omega arith)
+fault_is_told faults.NoMemory done = let same : ◌≡◌ {A = ℕ} 4 0 = ap code_of done in absurd (omega arith)
+
+pub only_done_is_zero : (status : Status) → code_of status ≡ 0 → status ≡ Done
+unfolding code_of
+only_done_is_zero Done nought = refl
+only_done_is_zero BadLine nought = let same : ◌≡◌ {A = ℕ} 1 0 = nought in absurd (omega arith)
+only_done_is_zero Usage nought = let same : ◌≡◌ {A = ℕ} 2 0 = nought in absurd (omega arith)
+only_done_is_zero Failed nought = let same : ◌≡◌ {A = ℕ} 3 0 = nought in absurd (omega arith)
+only_done_is_zero NoMemory nought = let same : ◌≡◌ {A = ℕ} 4 0 = nought in absurd (omega arith)

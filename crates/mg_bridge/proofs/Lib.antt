@@ -1,0 +1,5 @@
+pub mod AskedLaws
+pub mod AskedRows
+pub mod CommandLaws
+pub mod EndLaws
+pub mod NumberLaws

@@ -1,0 +1,15 @@
+pub mod OrderLaws
+pub mod TableLaws
+pub mod MemberLaws
+pub mod CallLaws
+pub mod WorldLaws
+pub mod SeatLaws
+pub mod SettingsLaws
+pub mod CountLaws
+pub mod AgreeLaws
+pub mod ListsLaws
+pub mod LastLaws
+pub mod StateLaws
+pub mod RoomsLaws
+pub mod Rows
+pub mod SoundLaws

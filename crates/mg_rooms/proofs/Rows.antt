@@ -1,0 +1,147 @@
+-- Small runs, computed.
+use Rattle.std.specs.Prelude.{◌≡◌, ℕ, List, [], ◌∷◌, ◌++◌, Option, Some, None, Result, Ok, Err, refl, replicate}
+use Rattle.mg_rooms.specs.declared.target.Target.{Target}
+use Rattle.mg_rooms.specs.declared.target.Target.TheVariants.{Null, New, Number}
+use Rattle.mg_rooms.specs.declared.refusal.Refusal.{Refusal}
+use Rattle.mg_rooms.specs.declared.refusal.Refusal.TheVariants.{UnknownContext, NoContextLeft, UnknownTermination, NoTerminationLeft, AlreadyInContext, ContextFull, NotInContext, NoMedia}
+use Rattle.mg_rooms.specs.declared.mode.Mode.TheVariants.{SendOnly}
+use Rattle.mg_rooms.specs.declared.media_setting.MediaSetting.TheVariants.{Offer as Offered}
+use Rattle.mg_rooms.specs.declared.settings.Settings.{Settings}
+use Rattle.mg_rooms.specs.declared.limits.Limits.{Limits}
+use Rattle.mg_rooms.specs.declared.record.Record.{Record}
+use Rattle.mg_rooms.specs.declared.done.Done.{Done}
+use Rattle.mg_rooms.specs.World.{World, start_of, record_at, context_at, members_at}
+use Rattle.mg_rooms.specs.Outcome.{add, modify, move_to, subtract}
+
+abbrev limits : ℕ → ℕ → ℕ → Limits
+limits slots first_termination first_context = record { address = 127 ∷ 0 ∷ 0 ∷ 1 ∷ []; base_port = 30000; slots = slots; first_termination = first_termination; first_context = first_context }
+
+-- a gateway with so many slots
+abbrev with_slots : ℕ → World
+with_slots slots = start_of (limits slots 1 1)
+
+abbrev no_settings : Settings
+no_settings = record { mode = None; depth = None; local = None; remote = None }
+
+abbrev Command : Type 0
+Command = World → Result (World × Done) Refusal
+
+abbrev adds : Target → Command
+adds target w = add w target no_settings
+
+abbrev modifies : Target → ℕ → Command
+modifies target n w = modify w target n no_settings
+
+abbrev moves : Target → ℕ → Command
+moves target n w = move_to w target n no_settings
+
+abbrev subtracts : Target → ℕ → Command
+subtracts target n w = subtract w target n
+
+abbrev after : World → Result (World × Done) Refusal → World
+after w (Ok (next, done)) = next
+after w (Err refusal) = w
+
+-- the world after commands, of which each that is refused changes nothing
+abbrev run : List Command → World → World
+run [] w = w
+run (command ∷ commands) w = run commands (after w (command w))
+
+abbrev answer_of : Result (World × Done) Refusal → Result (ℕ × ℕ) Refusal
+answer_of (Ok (next, done)) = Ok (done.context, done.termination)
+answer_of (Err refusal) = Err refusal
+
+-- the context and the termination, or the refusal, of each command
+abbrev answers : List Command → World → List (Result (ℕ × ℕ) Refusal)
+answers [] w = []
+answers (command ∷ commands) w = answer_of (command w) ∷ answers commands (after w (command w))
+
+-- so many Adds in a context that is made for them
+abbrev full : ℕ → ℕ → List Command
+full c n = adds New ∷ replicate n (adds (Number c))
+
+-- ## Numbers, slots and contexts
+
+pub first_numbers : answers (adds New ∷ adds (Number 1) ∷ adds New ∷ []) (with_slots 128) ≡ Ok (1, 1) ∷ Ok (1, 2) ∷ Ok (2, 3) ∷ []
+unfolding add
+first_numbers = refl
+
+pub no_slot_left : answers (adds New ∷ adds (Number 1) ∷ []) (with_slots 1) ≡ Ok (1, 1) ∷ Err NoTerminationLeft ∷ []
+unfolding add
+no_slot_left = refl
+
+-- a slot is used again, a number is not
+pub slot_used_again : answers (full 1 1 ++ subtracts (Number 1) 2 ∷ adds (Number 1) ∷ []) (with_slots 128) ≡ Ok (1, 1) ∷ Ok (1, 2) ∷ Ok (1, 2) ∷ Ok (1, 3) ∷ []
+unfolding add subtract
+slot_used_again = refl
+
+abbrev slot_of : Option Record → Option ℕ
+slot_of None = None
+slot_of (Some r) = Some r.slot
+
+pub least_slot : slot_of (record_at (run (full 1 3 ++ subtracts (Number 1) 3 ∷ subtracts (Number 1) 2 ∷ adds (Number 1) ∷ []) (with_slots 128)) 5) ≡ Some 1
+unfolding add subtract
+least_slot = refl
+
+pub last_termination : answers (adds New ∷ adds (Number 1) ∷ []) (start_of (limits 128 4294967295 1)) ≡ Ok (1, 4294967295) ∷ Err NoTerminationLeft ∷ []
+unfolding add
+last_termination = refl
+
+pub last_context : answers (adds New ∷ adds New ∷ []) (start_of (limits 128 1 4294967293)) ≡ Ok (4294967293, 1) ∷ Err NoContextLeft ∷ []
+unfolding add
+last_context = refl
+
+-- a context that ended isn't made again, and its number isn't used again
+pub ends_with_last_member : answers (adds New ∷ subtracts (Number 1) 1 ∷ adds (Number 1) ∷ adds New ∷ []) (with_slots 128) ≡ Ok (1, 1) ∷ Ok (1, 1) ∷ Err UnknownContext ∷ Ok (2, 2) ∷ []
+unfolding add subtract
+ends_with_last_member = refl
+
+-- ## Full contexts
+
+pub full_context : answers (adds (Number 1) ∷ moves New 5 ∷ adds (Number 1) ∷ []) (run (full 1 31) (with_slots 128)) ≡ Err ContextFull ∷ Ok (2, 5) ∷ Ok (1, 33) ∷ []
+unfolding add move_to
+full_context = refl
+
+-- where no slot is left either, that is what is told
+pub no_slot_before_full : answers (adds (Number 1) ∷ subtracts (Number 2) 40 ∷ adds (Number 2) ∷ []) (run (full 1 31 ++ (full 2 31 ++ (full 3 31 ++ full 4 31))) (with_slots 128)) ≡ Err NoTerminationLeft ∷ Ok (2, 40) ∷ Ok (2, 129) ∷ []
+unfolding add subtract
+no_slot_before_full = refl
+
+pub slot_of_the_last : slot_of (record_at (run (full 1 31 ++ (full 2 31 ++ (full 3 31 ++ (full 4 31 ++ subtracts (Number 2) 40 ∷ adds (Number 2) ∷ [])))) (with_slots 128)) 129) ≡ Some 39
+unfolding add subtract
+slot_of_the_last = refl
+
+-- with all contexts there none can be made, not even for the only member of one
+pub no_context_left : answers (moves New 1 ∷ adds New ∷ []) (run (replicate 64 (adds New)) (with_slots 128)) ≡ Err NoContextLeft ∷ Err NoContextLeft ∷ []
+unfolding add move_to
+no_context_left = refl
+
+-- ## Names and contexts
+
+pub wrong_contexts : answers (moves Null 1 ∷ moves (Number 1) 1 ∷ modifies Null 1 ∷ modifies (Number 7) 1 ∷ modifies New 1 ∷ modifies New 9 ∷ modifies (Number 9) 9 ∷ subtracts (Number 2) 1 ∷ []) (run (adds New ∷ adds New ∷ []) (with_slots 128))
+    ≡ Err UnknownContext ∷ Err AlreadyInContext ∷ Err NotInContext ∷ Err UnknownContext ∷ Err UnknownContext ∷ Err UnknownTermination ∷ Err UnknownTermination ∷ Err NotInContext ∷ []
+unfolding add modify move_to subtract
+wrong_contexts = refl
+
+-- who moves in goes last; its old context ends when it was alone there
+pub moves_in_last : members_at (run (full 1 2 ++ moves New 1 ∷ moves (Number 1) 1 ∷ []) (with_slots 128)) 1 ≡ 2 ∷ 3 ∷ 1 ∷ []
+unfolding add move_to
+moves_in_last = refl
+
+pub moved_out_of_its_own : context_at (run (full 1 2 ++ moves New 1 ∷ moves (Number 1) 1 ∷ []) (with_slots 128)) 2 ≡ None
+unfolding add move_to
+moved_out_of_its_own = refl
+
+-- ## Media
+
+-- an alternative that cannot be served
+abbrev unserved : Settings
+unserved = record { mode = Some SendOnly; depth = None; local = Some (Offered (None ∷ [])); remote = None }
+
+pub refused_media : modify (run (adds New ∷ []) (with_slots 128)) (Number 1) 1 unserved ≡ Err NoMedia
+unfolding add modify
+refused_media = refl
+
+pub refused_media_makes_nothing : answers ((λ w. add w New unserved) ∷ adds New ∷ []) (with_slots 128) ≡ Err NoMedia ∷ Ok (1, 1) ∷ []
+unfolding add
+refused_media_makes_nothing = refl

@@ -1,0 +1,18 @@
+use Rattle.std.proofs.Common.{ap, None}
+use Rattle.mg_rooms.specs.Tables.{world_of}
+use Rattle.mg_rooms.proofs.CallLaws.{removed_is, with_terminations, unchanged_termination}
+use Rattle.mg_rooms.proofs.tables.Tables.remove.Goals as goal
+
+pub returns-in-Some : goal.returns-in-Some
+returns-in-Some c = record {
+  value =
+      let found = rw c.deref.ensures.value at c.in-Some.ensures.value in
+      rw (← c.self.view_is) (ap (with_terminations (world_of c.self.inside)) (removed_is c.self.inside.slots.items c.args.number c.in-Some.slot found));
+}
+
+pub returns-in_default : goal.returns-in_default
+returns-in_default c = record {
+  value =
+      let found = rw c.deref.ensures.value at c.in_default.ensures.value in
+      rw (← c.self.view_is) (unchanged_termination c.self.inside c.args.number (λ _. None) found);
+}

@@ -1,0 +1,28 @@
+use Rattle.std.proofs.Common.{ap, Some}
+use Rattle.mg_rooms.specs.Tables.{world_of}
+use Rattle.mg_rooms.proofs.CallLaws.{replaced_kept, replaced_is, with_terminations, unchanged_termination}
+use Rattle.mg_rooms.proofs.tables.Tables.replace.Goals as goal
+
+pub invariant_of-self : goal.invariant_of-self
+invariant_of-self c =
+    let found = rw c.deref.ensures.value at c.in-Some.ensures.value in
+    let same = rw (← c.self.view_is) at c.requires.slot in
+    record {
+      limits = c.self.invariant.limits;
+      slots = replaced_kept _ _ _ c.args.changed c.in-Some.slot c.self.invariant.slots found same;
+      rooms = c.self.invariant.rooms;
+    }
+
+pub returns-in-Some : goal.returns-in-Some
+returns-in-Some c = record {
+  value =
+      let found = rw c.deref.ensures.value at c.in-Some.ensures.value in
+      rw (← c.self.view_is) (ap (with_terminations (world_of c.self.inside)) (replaced_is c.self.inside.slots.items c.args.changed c.in-Some.slot found));
+}
+
+pub returns-in_default : goal.returns-in_default
+returns-in_default c = record {
+  value =
+      let found = rw c.deref.ensures.value at c.in_default.ensures.value in
+      rw (← c.self.view_is) (unchanged_termination c.self.inside c.args.changed.number (λ _. Some c.args.changed) found);
+}

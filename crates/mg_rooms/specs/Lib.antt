@@ -1,0 +1,16 @@
+pub mod World
+pub mod Outcome
+pub mod Changes
+pub mod Members
+pub mod Record
+pub mod Settings
+pub mod Mode
+pub mod Limits
+pub mod Refusal
+pub mod Results
+pub mod Order
+pub mod Tables
+pub mod Entries
+pub mod Entering
+pub mod Sound
+pub mod Lasting

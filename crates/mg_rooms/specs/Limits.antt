@@ -1,0 +1,25 @@
+-- What the terminations and contexts of a gateway are made within (this project's own).
+use Rattle.std.specs.Prelude.{◌≡◌, ℕ, ◌+◌, ◌-◌, ◌*◌, ◌%◌, ◌<◌, ◌≤◌}
+use Rattle.mg_rooms.specs.declared.limits.Limits.{Limits}
+use Rattle.mg_rooms.specs.declared.limits.TheConstants.{TERMINATIONS, LAST_CONTEXT}
+
+-- the UDP port of a slot
+abbrev pub port_of : Limits → ℕ → ℕ
+port_of limits slot = limits.base_port + 2 * slot
+
+-- there is a slot and not too many, and each has an even UDP port
+pub record HasPool (limits : Limits) : Type 0 where
+  pub some_slot : 0 < limits.slots
+  pub few_slots : limits.slots ≤ TERMINATIONS
+  pub base : 0 < limits.base_port
+  pub even : limits.base_port % 2 ≡ 0
+  pub last : port_of limits (limits.slots - 1) ≤ 65535
+
+-- a context number 0 stands for the null context, and those above the last for $ and *
+pub record HasFirstNumbers (limits : Limits) : Type 0 where
+  pub termination : 0 < limits.first_termination
+  pub context : 0 < limits.first_context
+  pub few_contexts : limits.first_context ≤ LAST_CONTEXT
+
+abbrev pub IsValid : Limits → Type 0
+IsValid limits = HasPool limits × HasFirstNumbers limits

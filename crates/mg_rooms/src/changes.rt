@@ -1,0 +1,96 @@
+//! What a command changes of terminations and contexts, each step by itself.
+
+ghost use Rattle.std.specs.Prelude.{◌≡◌, ◌<◌, IfSome, Some, true, length};
+ghost use Rattle.mg_rooms.specs.World.{record_at, members_at, free_slot, has_termination_left};
+ghost use Rattle.mg_rooms.specs.Changes.{inserted, replaced, removed, made, joined, entered, left};
+ghost use Rattle.mg_rooms.specs.Entering.{CanEnter, CanEnterAt};
+
+use crate::context::Context;
+use crate::entries::{enter_entry, leave_entry, room_of, slot_of};
+use crate::limits::MEMBERS;
+use crate::members::Members;
+use crate::place::Place;
+use crate::record::Record;
+use crate::tables::Tables;
+
+impl Tables {
+    /// The number of the termination that is made next.
+    pub(crate) fn next_number(&self) -> u32
+        requires left { has_termination_left self.now ≡ true }
+        ensures value { result ≡ self.now.next_termination }
+    {
+        self.next_termination as u32
+    }
+
+    /// Makes a termination in a free slot.
+    pub(crate) fn insert(&mut self, fresh: Record)
+        requires slot { free_slot self.old ≡ Some fresh.slot }
+        requires number { fresh.number ≡ self.old.next_termination }
+        ensures value { self.new ≡ inserted self.old fresh }
+    {
+        self.slots[fresh.slot as usize] = Some(fresh);
+        self.next_termination += 1;
+    }
+
+    /// Writes a termination's record.
+    pub(crate) fn replace(&mut self, changed: Record)
+        requires slot { IfSome (record_at self.old changed.number) (λ r. r.slot ≡ changed.slot) }
+        ensures value { self.new ≡ replaced self.old changed }
+    {
+        if let Some(slot) = slot_of(&self.slots, changed.number) {
+            self.slots[slot] = Some(changed);
+        }
+    }
+
+    /// Ends a termination.
+    pub(crate) fn remove(&mut self, number: u32)
+        ensures value { self.new ≡ removed self.old number }
+    {
+        if let Some(slot) = slot_of(&self.slots, number) {
+            self.slots[slot] = None;
+        }
+    }
+
+    /// Lets a termination leave a context, which ends with its last member.
+    pub(crate) fn leave(&mut self, context: u32, number: u32)
+        ensures value { self.new ≡ left self.old context number }
+    {
+        if let Some(room) = room_of(&self.rooms, context) {
+            leave_entry(&mut self.rooms[room], number);
+        }
+    }
+
+    /// Lets a termination enter at a place that is free.
+    pub(crate) fn enter(&mut self, place: Place, number: u32)
+        requires can { CanEnter self.old place }
+        ensures value { self.new ≡ entered self.old place number }
+    {
+        match place.made {
+            Some(room) => self.make(place.context, room, number),
+            None => self.join(place.context, number),
+        }
+    }
+
+    /// Lets a termination enter a context that is there.
+    fn join(&mut self, context: u32, number: u32)
+        requires room { length (members_at self.old context) < MEMBERS }
+        ensures value { self.new ≡ joined self.old context number }
+    {
+        if let Some(room) = room_of(&self.rooms, context) {
+            enter_entry(&mut self.rooms[room], number);
+        }
+    }
+
+    /// Makes a context with its first member.
+    fn make(&mut self, context: u32, room: u8, member: u32)
+        requires can { CanEnterAt self.old.contexts self.old.next_context context (Some room) }
+        ensures value { self.new ≡ made self.old context room member }
+    {
+        self.rooms[room as usize] = Some(Context {
+            number: context,
+            room,
+            members: Members::alone(member),
+        });
+        self.next_context += 1;
+    }
+}

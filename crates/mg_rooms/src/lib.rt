@@ -1,0 +1,63 @@
+//! The terminations and contexts of a gateway under command (RFC 3525, section 6).
+//!
+//! [`Rooms`] keeps the terminations by slot and the contexts by room. A slot is a place for a termination
+//! and its media port, a room a place for a context, and a seat a place for a member in its context. Slots,
+//! rooms and seats are small numbers that are used again, so that the crates above can keep what they know
+//! of terminations, contexts and members in tables of a fixed size. The numbers of terminations and
+//! contexts rise, and none is used twice.
+//!
+//! Each command names the action's context by a [`Target`] and, but for an Add, a termination by its number.
+//! It is either done, or refused by the first check that fails, and then nothing has changed:
+//!
+//! ```rust
+//! let mut rooms = Rooms::new(alloc, limits)?;
+//! let done = rooms.add(Target::New, &Settings::default())?;
+//! assert_eq!(rt; rooms.members(done.context), [done.termination].as_slice());
+//! assert_eq!(rt; rooms.subtract(Target::Null, done.termination), Err(Refusal::NotInContext));
+//! ```
+//!
+//! [`Rooms::new`] takes the memory for all that there can be, and no other call takes any.
+//!
+//! Contracts see a world: the terminations and contexts in the order of their numbers (`specs/World.antt`).
+//! Each call's contract is the outcome of its command on that world (`specs/Outcome.antt`). [`laws`] has
+//! what holds of each world that a gateway comes to, and what a command leaves as it was.
+#![tactic(auto)]
+
+mod changes;
+mod checks;
+mod context;
+mod done;
+mod entries;
+pub mod laws;
+mod limits;
+mod media_setting;
+mod members;
+mod mode;
+mod outcomes;
+mod place;
+mod record;
+mod refusal;
+mod rooms;
+mod settings;
+mod tables;
+mod target;
+#[cfg(test)]
+mod tests;
+
+pub use done::Done;
+pub use limits::{CONTEXTS, LAST_CONTEXT, LAST_TERMINATION, Limits, MEMBERS, TERMINATIONS};
+pub use media_setting::MediaSetting;
+pub use mode::{Mode, mode_listens, mode_talks};
+pub use record::Record;
+pub use refusal::Refusal;
+pub use rooms::Rooms;
+pub use settings::{FIRST_DEPTH, MAX_DEPTH, MIN_DEPTH, Settings};
+pub use target::Target;
+// A crate can name a gateway's terminations and contexts in a contract only if the types of their fields
+// are exported.
+#[doc(hidden)]
+pub use context::Context;
+#[doc(hidden)]
+pub use members::Members;
+#[doc(hidden)]
+pub use tables::Tables;

@@ -1,0 +1,68 @@
+ghost use Rattle.std.specs.Prelude.{◌≡◌};
+ghost use Rattle.mg_rooms.specs.Record.{fresh, at_place, done};
+
+use crate::done::Done;
+use crate::mode::Mode;
+use crate::place::Place;
+use crate::settings::FIRST_DEPTH;
+use mg_sdp::Chosen;
+
+/// A termination.
+#[derive(Clone, Copy, Debug, PartialEq, Eq)]
+pub struct Record {
+    /// Its number, which no other termination of the gateway ever has.
+    pub number: u32,
+    /// The context that it is in.
+    pub context: u32,
+    /// The slot that it holds until it is subtracted, below the gateway's number of slots.
+    pub slot: u8,
+    /// The seat that it holds while it is in this context, below [`MEMBERS`](crate::MEMBERS).
+    pub seat: u8,
+    /// The mode of its stream.
+    pub mode: Mode,
+    /// The depth of its play list, in packets of 20 ms.
+    pub depth: u8,
+    /// What the gateway receives, with the gateway's own address and the termination's own port.
+    pub local: Option<Chosen>,
+    /// What the gateway sends, and where to.
+    pub remote: Option<Chosen>,
+}
+
+impl Record {
+    /// A termination as it is made.
+    pub(crate) fn fresh(number: u32, slot: u8, place: Place) -> Record
+        ensures value { result ≡ fresh number slot place }
+    {
+        Record {
+            number,
+            context: place.context,
+            slot,
+            seat: place.seat,
+            mode: Mode::Inactive,
+            depth: FIRST_DEPTH,
+            local: None,
+            remote: None,
+        }
+    }
+
+    /// The termination at another place.
+    pub(crate) fn at_place(self, place: Place) -> Record
+        ensures value { result ≡ at_place self place }
+    {
+        Record {
+            context: place.context,
+            seat: place.seat,
+            ..self
+        }
+    }
+
+    /// What a command on the termination was done on.
+    pub(crate) fn done(self) -> Done
+        ensures value { result ≡ done self }
+    {
+        Done {
+            context: self.context,
+            termination: self.number,
+        }
+    }
+}

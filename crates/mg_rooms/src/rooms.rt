@@ -1,0 +1,148 @@
+ghost use Rattle.std.specs.Prelude.{◌≡◌, ◌≤◌, IfOk, OnErr, length, option_map};
+ghost use Rattle.mg_rooms.specs.Limits.{IsValid};
+ghost use Rattle.mg_rooms.specs.World.{start_of, record_at, context_at, members_at, holder_of};
+ghost use Rattle.mg_rooms.specs.Lasting.{Lasts};
+ghost use Rattle.mg_rooms.specs.Outcome.{Gives, member, add, modify, move_to, subtract};
+
+use crate::done::Done;
+use crate::limits::{Limits, MEMBERS};
+use crate::record::Record;
+use crate::refusal::Refusal;
+use crate::settings::Settings;
+use crate::tables::Tables;
+use crate::target::Target;
+use std::alloc::{AllocError, Global};
+use std::marker::Model;
+
+/// The terminations and contexts of a gateway.
+///
+/// Contracts see the terminations and the contexts in the order of their numbers, and the numbers of the
+/// next ones (`specs/World.antt`). [`laws`](crate::laws) has what holds of them after any commands.
+#[derive(Drop)]
+pub struct Rooms {
+    tables: Tables,
+}
+
+impl Model for Rooms {
+    ghost use Rattle.mg_rooms.specs.World.{World};
+
+    ghost Value = { World };
+
+    ghost use Rattle.mg_rooms.specs.Sound.{IsSound};
+
+    ghost view = { λ a. a.tables };
+
+    ghost invariant = { λ a. IsSound a.tables };
+}
+
+impl Rooms {
+    ghost use Rattle.mg_rooms.specs.Sound.{IsSound};
+
+    /// A gateway without terminations and contexts. It takes the memory for all that there can be, and
+    /// no other call takes any.
+    pub fn new(alloc: Global, limits: Limits) -> Result<Rooms, AllocError>
+        requires valid { IsValid limits }
+        ensures start { IfOk result (λ rooms. rooms ≡ start_of limits) }
+    {
+        let tables = Tables::new(alloc, limits)?;
+        Ok(Rooms { tables })
+    }
+
+    /// The termination with this number.
+    pub fn record(&self, number: u32) -> Option<Record>
+        ensures value { result ≡ record_at self.now number }
+    {
+        self.tables.record(number)
+    }
+
+    /// The numbers of a context's members in the order of their entry. A context that isn't there has
+    /// none.
+    pub fn members(&self, context: u32) -> &[u32]
+        ensures value { result.now ≡ members_at self.now context }
+        ensures few { length result.now ≤ MEMBERS }
+    {
+        self.tables.members(context)
+    }
+
+    /// The room of a context, below [`CONTEXTS`](crate::CONTEXTS): a number that no other context has
+    /// while this one is there.
+    pub fn room(&self, context: u32) -> Option<u8>
+        ensures value { result ≡ option_map (λ x. x.room) (context_at self.now context) }
+    {
+        self.tables.room(context)
+    }
+
+    /// The number of the termination that holds a slot.
+    pub fn at_slot(&self, slot: u8) -> Option<u32>
+        ensures value { result ≡ option_map (λ r. r.number) (holder_of self.now slot) }
+    {
+        self.tables.at_slot(slot)
+    }
+
+    /// A member of the action's context, as a command that names it finds it.
+    pub fn find(&self, target: Target, number: u32) -> Result<Record, Refusal>
+        ensures value { result ≡ member self.now target number }
+    {
+        self.tables.member(target, number)
+    }
+
+    /// Makes a termination in the action's context, and the context too where it is new (RFC 3525,
+    /// section 7.2.1).
+    #[tactic(auto, using(crate::proofs::RoomsLaws::laws))]
+    pub fn add(&mut self, target: Target, settings: &Settings) -> Result<Done, Refusal>
+        ensures outcome { Gives self.old self.new result (add self.old target settings.now) }
+        ensures refused { OnErr result (self.new ≡ self.old) }
+        ensures lasts { Lasts self.old self.new }
+    {
+        self.tables.add(target, settings)
+    }
+
+    /// Changes a member of the action's context (RFC 3525, section 7.2.2).
+    #[tactic(auto, using(crate::proofs::RoomsLaws::laws))]
+    pub fn modify(
+        &mut self,
+        target: Target,
+        number: u32,
+        settings: &Settings,
+    ) -> Result<Done, Refusal>
+        ensures outcome { Gives self.old self.new result (modify self.old target number settings.now) }
+        ensures refused { OnErr result (self.new ≡ self.old) }
+        ensures lasts { Lasts self.old self.new }
+    {
+        self.tables.modify(target, number, settings)
+    }
+
+    /// Takes a termination into the action's context, out of the one that it is in, which ends where it
+    /// was the last there (RFC 3525, section 7.2.4).
+    #[tactic(auto, using(crate::proofs::RoomsLaws::laws))]
+    pub fn move_to(
+        &mut self,
+        target: Target,
+        number: u32,
+        settings: &Settings,
+    ) -> Result<Done, Refusal>
+        ensures outcome { Gives self.old self.new result (move_to self.old target number settings.now) }
+        ensures refused { OnErr result (self.new ≡ self.old) }
+        ensures lasts { Lasts self.old self.new }
+    {
+        self.tables.move_to(target, number, settings)
+    }
+
+    /// Takes a member out of the action's context and ends it. The context ends with its last member
+    /// (RFC 3525, section 7.2.3).
+    #[tactic(auto, using(crate::proofs::RoomsLaws::laws))]
+    pub fn subtract(&mut self, target: Target, number: u32) -> Result<Done, Refusal>
+        ensures outcome { Gives self.old self.new result (subtract self.old target number) }
+        ensures refused { OnErr result (self.new ≡ self.old) }
+        ensures lasts { Lasts self.old self.new }
+    {
+        self.tables.subtract(target, number)
+    }
+
+    /// What holds of each gateway.
+    pub(crate) fn know(&self)
+        ensures sound { IsSound self.now }
+    {
+        let _ = &self.tables;
+    }
+}

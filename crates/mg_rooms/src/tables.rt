@@ -1,0 +1,121 @@
+ghost use Rattle.std.specs.Prelude.{◌≡◌, ◌<◌, ◌≤◌, ◌==◌, ◌&&◌, IfOk, IfSome, length, find, option_map};
+ghost use Rattle.std.specs.List.{list_any};
+ghost use Rattle.mg_rooms.specs.Limits.{IsValid};
+ghost use Rattle.mg_rooms.specs.World.{start_of, record_at, context_at, members_at, holder_of, free_slot, free_seat};
+
+use crate::context::Context;
+use crate::entries::{self, empty_place, empty_table, room_of, slot_of};
+use crate::limits::{CONTEXTS, Limits, MEMBERS};
+use crate::record::Record;
+use std::alloc::{AllocError, Global};
+use std::marker::Model;
+
+/// The terminations by slot and the contexts by room. Contracts see them in the order of their numbers.
+///
+/// Its calls that change something keep what the tables need and no more: the members of contexts and
+/// the contexts of terminations agree in [`Rooms`](crate::Rooms) alone.
+#[derive(Drop)]
+pub struct Tables {
+    pub(crate) limits: Limits,
+    pub(crate) slots: Vec<Option<Record>>,
+    pub(crate) rooms: Vec<Option<Context>>,
+    pub(crate) next_termination: u64,
+    pub(crate) next_context: u64,
+}
+
+impl Model for Tables {
+    ghost use Rattle.mg_rooms.specs.World.{World};
+
+    ghost Value = { World };
+
+    ghost use Rattle.mg_rooms.specs.Tables.{world_of, IsKept};
+
+    ghost view = { world_of };
+
+    ghost invariant = { IsKept };
+}
+
+impl Tables {
+    /// Tables without terminations.
+    pub(crate) fn new(alloc: Global, limits: Limits) -> Result<Tables, AllocError>
+        requires valid { IsValid limits }
+        ensures value { IfOk result (λ tables. tables ≡ start_of limits) }
+    {
+        let slots = empty_table(alloc, usize::from(limits.slots))?;
+        let rooms = empty_table(alloc, CONTEXTS)?;
+        Ok(Tables {
+            limits,
+            slots,
+            rooms,
+            next_termination: u64::from(limits.first_termination),
+            next_context: u64::from(limits.first_context),
+        })
+    }
+
+    /// The record of a termination.
+    pub(crate) fn record(&self, number: u32) -> Option<Record>
+        ensures value { result ≡ record_at self.now number }
+        ensures slot { IfSome result (λ r. r.slot < self.now.limits.slots) }
+    {
+        let slot = slot_of(&self.slots, number)?;
+        self.slots[slot]
+    }
+
+    /// The members of a context in the order of their entry; none where it is not there.
+    pub(crate) fn members(&self, context: u32) -> &[u32]
+        ensures value { result.now ≡ members_at self.now context }
+        ensures few { length result.now ≤ MEMBERS }
+    {
+        match room_of(&self.rooms, context) {
+            Some(room) => match &self.rooms[room] {
+                Some(found) => found.members.as_slice(),
+                None => &[],
+            },
+            None => &[],
+        }
+    }
+
+    /// The room of a context.
+    pub(crate) fn room(&self, context: u32) -> Option<u8>
+        ensures value { result ≡ option_map (λ x. x.room) (context_at self.now context) }
+    {
+        let room = room_of(&self.rooms, context)?;
+        Some(room as u8)
+    }
+
+    /// The termination that holds a slot.
+    pub(crate) fn at_slot(&self, slot: u8) -> Option<u32>
+        ensures value { result ≡ option_map (λ r. r.number) (holder_of self.now slot) }
+    {
+        let slot = usize::from(slot);
+        if slot < self.slots.len() {
+            let record = self.slots[slot]?;
+            Some(record.number)
+        } else {
+            None
+        }
+    }
+
+    /// The least slot that no termination holds.
+    pub(crate) fn free_slot(&self) -> Option<u8>
+        ensures value { result ≡ free_slot self.now }
+        ensures below { IfSome result (λ slot. slot < self.now.limits.slots) }
+    {
+        let slot = empty_place(&self.slots)?;
+        Some(slot as u8)
+    }
+
+    /// Whether a termination of the context holds the seat.
+    fn is_seated(&self, context: u32, seat: u8) -> bool
+        ensures value { result ≡ list_any (λ r. (r.context == context) && (r.seat == seat)) self.now.terminations }
+    {
+        entries::is_seated(&self.slots, context, seat)
+    }
+
+    /// The least seat of the context that no termination in it holds.
+    pub(crate) fn free_seat(&self, context: u32) -> Option<u8>
+        ensures value { result ≡ free_seat self.now context }
+    {
+        (0..MEMBERS as u8).find(|seat| !self.is_seated(context, *seat))
+    }
+}

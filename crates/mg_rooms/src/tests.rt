@@ -1,0 +1,288 @@
+use crate::{
+    Done, Limits, MediaSetting, Mode, Record, Refusal, Rooms, Settings, Target, mode_listens,
+    mode_talks,
+};
+use mg_g711::Law;
+use mg_sdp::{Chosen, read_sessions};
+use std::process::Abort;
+use std::test::Fail;
+
+const LIMITS: Limits = Limits {
+    address: [127, 0, 0, 1],
+    base_port: 30000,
+    slots: 128,
+    first_termination: 1,
+    first_context: 1,
+};
+
+/// Makes a context and fills it.
+fn fill_context(rt: &impl Abort, rooms: &mut Rooms, context: u32) {
+    let first = rooms.add(Target::New, &Settings::default());
+    assert_eq!(rt; first.map(|done| done.context), Ok(context));
+    for _ in 1..32 {
+        let next = rooms.add(Target::Number(context), &Settings::default());
+        assert_eq!(rt; next.map(|done| done.context), Ok(context));
+    }
+}
+
+fn local(content: &[u8]) -> MediaSetting {
+    match read_sessions(content) {
+        Ok(sessions) => MediaSetting::Offer(sessions),
+        Err(_) => MediaSetting::Unreadable,
+    }
+}
+
+#[test]
+fn slots_and_contexts_fill_up(rt: HostRuntime) -> Result<(), Fail> {
+    let mut rooms = Rooms::new(rt.alloc(), LIMITS)?;
+    for context in 1..5 {
+        fill_context(&rt, &mut rooms, context);
+    }
+    let settings = Settings::default();
+    assert_eq!(rt;
+        rooms.add(Target::Number(1), &settings),
+        Err(Refusal::NoTerminationLeft)
+    );
+
+    let gone = rooms.subtract(Target::Number(2), 40);
+    assert_eq!(rt;
+        gone,
+        Ok(Done {
+            context: 2,
+            termination: 40
+        })
+    );
+    assert_eq!(rt; rooms.at_slot(39), None);
+    assert_eq!(rt;
+        rooms.add(Target::Number(1), &settings),
+        Err(Refusal::ContextFull)
+    );
+
+    let added = rooms.add(Target::Number(2), &settings);
+    assert_eq!(rt;
+        added,
+        Ok(Done {
+            context: 2,
+            termination: 129
+        })
+    );
+    assert_eq!(rt; rooms.at_slot(39), Some(129));
+    assert_eq!(rt; rooms.members(2).last().copied(), Some(129));
+    assert_eq!(rt; LIMITS.port_of(39), 30078);
+    Ok(())
+}
+
+#[test]
+fn settings_are_set_and_refused(rt: HostRuntime) -> Result<(), Fail> {
+    let mut rooms = Rooms::new(rt.alloc(), LIMITS)?;
+    let done = rooms.add(Target::New, &Settings::default());
+    assert_eq!(rt;
+        done,
+        Ok(Done {
+            context: 1,
+            termination: 1
+        })
+    );
+    let fresh = Record {
+        number: 1,
+        context: 1,
+        slot: 0,
+        seat: 0,
+        mode: Mode::Inactive,
+        depth: 4,
+        local: None,
+        remote: None,
+    };
+    assert_eq!(rt; rooms.record(1), Some(fresh));
+
+    let unserved = Settings {
+        mode: Some(Mode::SendOnly),
+        depth: Some(1),
+        local: Some(local(b"v=0\nm=audio $ RTP/AVP 18\n")),
+        remote: None,
+    };
+    assert_eq!(rt;
+        rooms.modify(Target::Number(1), 1, &unserved),
+        Err(Refusal::NoMedia)
+    );
+    assert_eq!(rt; rooms.record(1), Some(fresh));
+
+    let served = Settings {
+        mode: Some(Mode::SendOnly),
+        depth: Some(1),
+        local: Some(local(b"v=0\nc=IN IP4 $\nm=audio $ RTP/AVP 18 8 0\n")),
+        remote: Some(local(b"v=0\nc=IN IP4 127.0.0.1\nm=audio 40000 RTP/AVP 0\n")),
+    };
+    assert_eq!(rt;
+        rooms.modify(Target::Number(1), 1, &served),
+        Ok(Done {
+            context: 1,
+            termination: 1
+        })
+    );
+    let changed = Record {
+        mode: Mode::SendOnly,
+        depth: 2,
+        local: Some(Chosen {
+            address: [127, 0, 0, 1],
+            port: 30000,
+            law: Law::A,
+        }),
+        remote: Some(Chosen {
+            address: [127, 0, 0, 1],
+            port: 40000,
+            law: Law::Mu,
+        }),
+        ..fresh
+    };
+    assert_eq!(rt; rooms.find(Target::Number(1), 1), Ok(changed));
+
+    let cleared = Settings {
+        mode: None,
+        depth: None,
+        local: Some(local(b"")),
+        remote: Some(MediaSetting::Clear),
+    };
+    let _ = rooms.modify(Target::Number(1), 1, &cleared);
+    let blank = Record {
+        mode: Mode::SendOnly,
+        depth: 2,
+        ..fresh
+    };
+    assert_eq!(rt; rooms.record(1), Some(blank));
+    Ok(())
+}
+
+#[test]
+fn terminations_move(rt: HostRuntime) -> Result<(), Fail> {
+    let mut rooms = Rooms::new(rt.alloc(), LIMITS)?;
+    let settings = Settings::default();
+    let _ = rooms.add(Target::New, &settings);
+    let _ = rooms.add(Target::Number(1), &settings);
+    assert_eq!(rt;
+        rooms.move_to(Target::Null, 1, &settings),
+        Err(Refusal::UnknownContext)
+    );
+    assert_eq!(rt;
+        rooms.move_to(Target::Number(1), 1, &settings),
+        Err(Refusal::AlreadyInContext)
+    );
+    assert_eq!(rt;
+        rooms.move_to(Target::New, 3, &settings),
+        Err(Refusal::UnknownTermination)
+    );
+
+    let moved = rooms.move_to(Target::New, 1, &settings);
+    assert_eq!(rt;
+        moved,
+        Ok(Done {
+            context: 2,
+            termination: 1
+        })
+    );
+    assert_eq!(rt; rooms.room(1), Some(0));
+    assert_eq!(rt; rooms.room(2), Some(1));
+    assert_eq!(rt; rooms.find(Target::New, 1), Err(Refusal::UnknownContext));
+
+    let back = rooms.move_to(Target::Number(1), 1, &settings);
+    assert_eq!(rt;
+        back,
+        Ok(Done {
+            context: 1,
+            termination: 1
+        })
+    );
+    assert_eq!(rt; rooms.members(1), [2, 1].as_slice());
+    assert_eq!(rt; rooms.room(2), None);
+    Ok(())
+}
+
+#[test]
+fn numbers_end(rt: HostRuntime) -> Result<(), Fail> {
+    let limits = Limits {
+        first_termination: 4294967294,
+        first_context: 4294967293,
+        ..LIMITS
+    };
+    let mut rooms = Rooms::new(rt.alloc(), limits)?;
+    let settings = Settings::default();
+    let first = rooms.add(Target::New, &settings);
+    assert_eq!(rt;
+        first,
+        Ok(Done {
+            context: 4294967293,
+            termination: 4294967294
+        })
+    );
+    assert_eq!(rt;
+        rooms.add(Target::New, &settings),
+        Err(Refusal::NoContextLeft)
+    );
+    let last = rooms.add(Target::Number(4294967293), &settings);
+    assert_eq!(rt;
+        last,
+        Ok(Done {
+            context: 4294967293,
+            termination: 4294967295
+        })
+    );
+    let none = rooms.add(Target::Number(4294967293), &settings);
+    assert_eq!(rt; none, Err(Refusal::NoTerminationLeft));
+    assert_eq!(rt; none.map_err(|refusal| refusal.number()), Err(432));
+    Ok(())
+}
+
+#[test]
+fn limits_are_told(rt: HostRuntime) -> Result<(), Fail> {
+    assert!(rt; LIMITS.is_valid());
+    for slots in [0, 129] {
+        assert!(rt; !Limits { slots, ..LIMITS }.is_valid());
+    }
+    assert!(rt;
+        !Limits {
+            base_port: 30001,
+            ..LIMITS
+        }
+        .is_valid()
+    );
+    assert!(rt;
+        Limits {
+            base_port: 65530,
+            slots: 3,
+            ..LIMITS
+        }
+        .is_valid()
+    );
+    assert!(rt;
+        !Limits {
+            base_port: 65530,
+            slots: 4,
+            ..LIMITS
+        }
+        .is_valid()
+    );
+    assert!(rt;
+        !Limits {
+            first_context: 4294967294,
+            ..LIMITS
+        }
+        .is_valid()
+    );
+    Ok(())
+}
+
+#[test]
+fn modes_are_seen_from_outside(rt: HostRuntime) -> Result<(), Fail> {
+    let modes = [
+        (Mode::Inactive, false, false),
+        (Mode::SendOnly, false, true),
+        (Mode::ReceiveOnly, true, false),
+        (Mode::SendReceive, true, true),
+        (Mode::Loopback, false, false),
+    ];
+    for (mode, talks, listens) in modes {
+        assert_eq!(rt; mode_talks(mode), talks);
+        assert_eq!(rt; mode_listens(mode), listens);
+    }
+    Ok(())
+}

@@ -3,7 +3,7 @@ use Rattle.std.proofs.Common.{◌≡◌, List, [], ◌∷◌, refl, codes}
 use Rattle.clap.proofs.OnLiterals.{clap_on_literals}
 use Rattle.clap.specs.Walk.{Text}
 use Rattle.clap.specs.declared.error.kind.ErrorKind.TheVariants as kind
-use Rattle.mg_core.specs.Config.{standard}
+use Rattle.mg_engine.specs.Config.{standard}
 use Rattle.mg_bridge.specs.Options.{asked, command_line, config_in, options, refused, replay, replay_line}
 
 abbrev slots : Text → List Text

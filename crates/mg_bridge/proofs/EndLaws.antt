@@ -2,7 +2,8 @@
 use Rattle.std.proofs.Common.{◌≡◌, ℕ, List, [], Option, Some, None, Err, refl, sym, ap, subst, arith, append-nil}
 use Rattle.std.specs.Io.KnownBytes.{Appends}
 use Rattle.clap.specs.declared.error.kind.ErrorKind.{ErrorKind}
-use Rattle.mg_core.specs.declared.config.Config.{Config}
+use Rattle.mg_engine.specs.declared.config.Config.{Config}
+use Rattle.mg_core.specs.World.{start_of}
 use Rattle.mg_core.specs.declared.fault.RunFault.{RunFault}
 use Rattle.mg_core.specs.declared.fault.RunFault.TheVariants as faults
 use Rattle.mg_core.specs.Script.{lines_of}
@@ -22,7 +23,7 @@ not_begun config None old = record { outcome = Err faults.NoMemory; is = refl; r
 not_begun config (Some script) old = record {
   outcome = Err faults.NoMemory;
   is = refl;
-  ran = ([], lines_of script, refl, record { out = []; runs = refl; written = appends_nothing old });
+  ran = ([], lines_of script, refl, (start_of config, record { out = []; runs = (refl, refl); written = appends_nothing old }));
 }
 
 -- a fault of the words was told, and their input was left alone

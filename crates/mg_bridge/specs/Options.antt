@@ -9,8 +9,8 @@ use Rattle.clap.specs.Faults.{fault_of}
 use Rattle.clap.specs.declared.error.kind.ErrorKind.{ErrorKind}
 use Rattle.clap.specs.declared.error.kind.ErrorKind.TheVariants.{OutOfMemory}
 use Rattle.clap.specs.declared.builder.value_parser.ValueParser.TheVariants.{Signed}
-use Rattle.mg_core.specs.declared.config.Config.{Config}
-use Rattle.mg_core.specs.Config.{standard}
+use Rattle.mg_engine.specs.declared.config.Config.{Config}
+use Rattle.mg_engine.specs.Config.{standard}
 
 -- an option with this name that takes one number, from 0 to `most`
 abbrev pub number_rule : Text → ℕ → Rule

@@ -1,6 +1,6 @@
 -- What the program does with a script, and how it ends on its words.
 use Rattle.std.specs.Prelude.{◌≡◌, ◌⊎◌, ℕ, List, ◌∷◌, Option, Result, IfSome}
-use Rattle.mg_core.specs.declared.config.Config.{Config}
+use Rattle.mg_engine.specs.declared.config.Config.{Config}
 use Rattle.mg_core.specs.declared.counts.Counts.{Counts}
 use Rattle.mg_core.specs.declared.fault.RunFault.{RunFault}
 use Rattle.mg_core.specs.Run.{ScriptRan}

@@ -1,2 +1,5 @@
-pub mod Steps
-pub mod WholeLaws
+pub mod FaultSteps
+pub mod PropertySteps
+pub mod AskedSteps
+pub mod RunLaws
+pub mod Rows

@@ -1,21 +1,30 @@
 //! Transactions of a controller (RFC 3525, section 8): what each command of a request comes to, and the reply.
 //!
 //! A [`Request`](mg_text::Request) names its terminations by places in its message, so [`transaction`] is handed
-//! the message too. It puts what came of each command into a [`Reply`](mg_text::Reply) and takes no memory:
+//! the message too. It does what the commands ask on an [`Engine`](mg_engine::Engine), puts what came of each into a
+//! [`Reply`](mg_text::Reply), and takes no memory:
 //!
 //! ```rust
-//! transaction(source, &request, &mut reply);
+//! transaction(&mut engine, source, &request, &mut reply);
 //! assert!(rt; write_reply(&reply, &mut text).is_ok());
 //! ```
 //!
 //! The commands of a request are tried in their order, action by action, up to the first that fails. What was not
-//! tried isn't told.
+//! tried isn't told. A command that is refused leaves the engine as it was.
 #![tactic(auto)]
 
+mod asked;
+mod checks;
+mod faults;
 mod name;
+mod outcomes;
+mod parts;
+mod properties;
 mod requests;
+mod served;
 #[cfg(test)]
 mod tests;
+mod wanted;
 
 pub use crate::name::{Name, name_of, written_name};
 pub use crate::requests::transaction;

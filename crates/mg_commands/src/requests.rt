@@ -1,53 +1,84 @@
-ghost use Rattle.std.specs.Prelude.{◌≡◌, true};
+ghost use Rattle.std.specs.Prelude.{◌≡◌, ◌⊎◌, ◌<◌, length, true};
 ghost use Rattle.std.specs.List.{list_all};
 ghost use Rattle.mg_reply.specs.Reply.{IsWhole};
 ghost use Rattle.mg_text.specs.Proper.{command_is_proper, action_is_proper, request_is_proper};
-ghost use Rattle.mg_commands.specs.Transaction.{command_item, is_refused, is_served, replied, with_action, with_actions, with_commands};
+ghost use Rattle.mg_commands.specs.Transaction.{RunsTo, ActsTo, RepliesTo, target_of, id_of, is_refused, with_command, with_commands, with_action, with_actions, replied};
 
-use crate::name::{Name, name_of, written_name};
-use mg_text::{
-    Action, Command, CommandWord, ContextId, ErrorNumber, Item, Outcome, Parts, Reply, Request,
-};
+use crate::name::written_name;
+use crate::outcomes::outcome;
+use mg_engine::{Engine, Target};
+use mg_text::{Action, Command, ContextId, ErrorNumber, Item, Outcome, Reply, Request};
 
-/// Whether a command is served: for now an audit of `ROOT` in the null context alone.
-fn is_served(source: &[u8], context: ContextId, command: &Command) -> bool
-    ensures value { result ≡ is_served source.now context command.now }
-{
-    matches!(command.word, CommandWord::AuditValue)
-        && (matches!(context, ContextId::Null)
-            && (!command.is_optional
-                && (!command.wants_wildcard
-                    && matches!(name_of(command.term.text(source)), Name::Root))))
-}
-
-/// What is told of a command that was tried.
-fn command_item(source: &[u8], command: &Command, is_served: bool) -> Item
+/// Tries a command in the action's context. The answer is the action's context behind it, and whether it was done.
+fn try_command(
+    engine: &mut Engine,
+    source: &[u8],
+    command: &Command,
+    target: Target,
+    reply: &mut Reply,
+) -> (Target, bool)
     requires proper { command_is_proper source.now command.now ≡ true }
-    ensures value { result ≡ command_item source.now command.now is_served }
+    ensures ran { RunsTo engine.old engine.new result.0 reply.new result.1 (λ w.
+        with_command source.now command.now (record { world = w; target = target; reply = reply.old })) }
 {
-    let term = written_name(command.term.text(source));
-    let outcome = if is_served {
-        Outcome::Done(Parts::default())
-    } else {
-        Outcome::Failed(ErrorNumber::NotServed)
-    };
-    Item::Command(command.word, term, outcome)
-}
-
-/// Tries the commands of an action up to the first that fails. The answer is whether all were done.
-#[tactic(auto, using(crate::proofs::Steps::command_steps))]
-fn try_commands(source: &[u8], context: ContextId, commands: &[Command], reply: &mut Reply) -> bool
-    requires proper { list_all (command_is_proper source.now) commands.now ≡ true }
-    ensures value { (reply.new, result) ≡ with_commands source.now context commands.now reply.old }
-{
-    for command in commands {
-        let is_served = is_served(source, context, command);
-        reply.put(command_item(source, command, is_served));
-        if !is_served {
-            return false;
+    match outcome(engine, source, target, command) {
+        Ok(served) => {
+            let done = Outcome::Done(served.parts);
+            reply.put(Item::Command(command.word, served.term, done));
+            (served.target, true)
+        }
+        Err(number) => {
+            let term = written_name(command.term.text(source));
+            reply.put(Item::Command(command.word, term, Outcome::Failed(number)));
+            (target, false)
         }
     }
-    true
+}
+
+/// Tries the commands of an action up to the first that fails.
+#[tactic(auto, using(crate::proofs::RunLaws::propers))]
+fn try_commands(
+    engine: &mut Engine,
+    source: &[u8],
+    commands: &[Command],
+    target: Target,
+    reply: &mut Reply,
+) -> (Target, bool)
+    requires proper { list_all (command_is_proper source.now) commands.now ≡ true }
+    ensures ran { RunsTo engine.old engine.new result.0 reply.new result.1 (λ w.
+        with_commands source.now commands.now (record { world = w; target = target; reply = reply.old })) }
+{
+    let mut target = target;
+    for command in commands {
+        let (next, is_done) = try_command(engine, source, command, target, reply);
+        if !is_done {
+            return (next, false);
+        }
+        target = next;
+    }
+    (target, true)
+}
+
+/// The context that an action begins in.
+fn target_of(context: ContextId) -> Target
+    ensures value { result ≡ target_of context }
+{
+    match context {
+        ContextId::Null | ContextId::All => Target::Null,
+        ContextId::Choose => Target::New,
+        ContextId::Number(number) => Target::Number(number),
+    }
+}
+
+/// The context that the reply names.
+fn id_of(target: Target) -> ContextId
+    ensures value { result ≡ id_of target }
+{
+    match target {
+        Target::Null => ContextId::Null,
+        Target::New => ContextId::Choose,
+        Target::Number(number) => ContextId::Number(number),
+    }
 }
 
 /// Whether an action is refused as a whole: for now each with a property before its commands, and one of all
@@ -60,28 +91,34 @@ fn is_refused(action: &Action) -> bool
 
 /// Tries an action. The answer is whether it was done whole.
 #[tactic(auto, unfolding(crate::specs::Transaction::with_action))]
-fn try_action(source: &[u8], action: &Action, reply: &mut Reply) -> bool
+fn try_action(engine: &mut Engine, source: &[u8], action: &Action, reply: &mut Reply) -> bool
     requires proper { action_is_proper source.now action.now ≡ true }
-    ensures value { (reply.new, result) ≡ with_action source.now action.now reply.old }
+    ensures ran { ActsTo engine.old engine.new reply.new result (λ w.
+        with_action source.now action.now (record { world = w; reply = reply.old })) }
+    ensures whole { IsWhole reply.new }
 {
-    let is_done = if is_refused(action) {
+    if is_refused(action) {
         reply.put(Item::Fault(ErrorNumber::NotServed));
-        false
-    } else {
-        try_commands(source, action.context, action.commands.as_slice(), reply)
-    };
-    reply.put(Item::Action(action.context));
+        reply.put(Item::Action(action.context));
+        return false;
+    }
+    let target = target_of(action.context);
+    let commands = action.commands.as_slice();
+    let (target, is_done) = try_commands(engine, source, commands, target, reply);
+    reply.put(Item::Action(id_of(target)));
     is_done
 }
 
 /// Tries actions up to the first that isn't done whole.
-#[tactic(auto, using(crate::proofs::Steps::action_steps))]
-fn try_actions(source: &[u8], actions: &[Action], reply: &mut Reply)
+#[tactic(auto, using(crate::proofs::RunLaws::propers))]
+fn try_actions(engine: &mut Engine, source: &[u8], actions: &[Action], reply: &mut Reply)
     requires proper { list_all (action_is_proper source.now) actions.now ≡ true }
-    ensures value { reply.new ≡ with_actions source.now actions.now reply.old }
+    ensures ran { RepliesTo engine.old engine.new reply.new (λ w.
+        with_actions source.now actions.now (record { world = w; reply = reply.old })) }
+    ensures whole { IsWhole reply.old ⊎ (0 < length actions.now) → IsWhole reply.new }
 {
     for action in actions {
-        if !try_action(source, action, reply) {
+        if !try_action(engine, source, action, reply) {
             return;
         }
     }
@@ -90,12 +127,11 @@ fn try_actions(source: &[u8], actions: &[Action], reply: &mut Reply)
 /// Runs a request of the message that stands in `source`: tries its commands in their order up to the first
 /// that fails, and puts what came of them into the reply, which is emptied before. An action that is refused as
 /// a whole ends the request too.
-#[tactic(auto, using(crate::proofs::WholeLaws::wholes))]
-pub fn transaction(source: &[u8], request: &Request, reply: &mut Reply)
+pub fn transaction(engine: &mut Engine, source: &[u8], request: &Request, reply: &mut Reply)
     requires proper { request_is_proper source.now request.now ≡ true }
-    ensures value { reply.new ≡ replied source.now request.now }
+    ensures ran { RepliesTo engine.old engine.new reply.new (replied source.now request.now) }
     ensures whole { IsWhole reply.new }
 {
     reply.start(request.number);
-    try_actions(source, request.actions.as_slice(), reply);
+    try_actions(engine, source, request.actions.as_slice(), reply);
 }

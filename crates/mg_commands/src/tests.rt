@@ -1,10 +1,11 @@
 use crate::transaction;
+use mg_engine::{Config, Engine};
 use mg_text::{Body, Bytes, MessageItem, Reply, read, write_reply};
 use std::alloc::Global;
 use std::test::Fail;
 
-/// The text of the reply to the one request of a message.
-fn reply_to(alloc: Global, source: &[u8]) -> Result<Bytes, Fail> {
+/// The text of the reply to a message that is one request.
+fn reply_to(alloc: Global, engine: &mut Engine, source: &[u8]) -> Result<Bytes, Fail> {
     let message = read(alloc, source)?;
     let mut reply = Reply::new(alloc)?;
     let mut text = Bytes::new(alloc, 16_000)?;
@@ -14,30 +15,116 @@ fn reply_to(alloc: Global, source: &[u8]) -> Result<Bytes, Fail> {
     let [MessageItem::Request(request)] = items.as_slice() else {
         return Err("one request".into());
     };
-    transaction(source, request, &mut reply);
+    transaction(engine, source, request, &mut reply);
     write_reply(&reply, &mut text).map_err(|_| "a short reply")?;
     Ok(text)
 }
 
+/// Whether these requests are answered so, one after another, by a new engine.
+fn are_answered(alloc: Global, cases: &[(&[u8], &[u8])]) -> Result<bool, Fail> {
+    let mut engine = Engine::new(alloc, Config::default()).map_err(|_| "sound")?;
+    for (request, want) in cases {
+        let text = reply_to(alloc, &mut engine, request)?;
+        if text.as_slice() != *want {
+            return Ok(false);
+        }
+    }
+    Ok(true)
+}
+
 #[test]
-fn tries_commands_up_to_the_first_that_fails(rt: HostRuntime) -> Result<(), Fail> {
-    let text = reply_to(
-        rt.alloc(),
-        b"!/1 a T=1{C=-{AV=root{AT{M,M}},AV=rtp/1,AV=ROOT},C=-{AV=ROOT}}",
-    )?;
-    assert_eq!(rt;
-        text.as_slice(),
-        b"Reply=1{Context=-{AuditValue=ROOT,AuditValue=RTP/1{Error=501{\"not served\"}}}}".as_slice()
-    );
+fn refuses_by_the_first_check(rt: HostRuntime) -> Result<(), Fail> {
+    let cases: [(&[u8], &[u8]); 10] = [
+        (
+            b"!/1 a T=1{C=9{MF=RTP/9{M{O{rv=ON},TS{x}}}}}",
+            b"Reply=1{Context=9{Modify=RTP/9{Error=444{\"descriptor not served\"}}}}",
+        ),
+        (
+            b"!/1 a T=1{C=9{MF=RTP/9{M{O{rv=ON}}}}}",
+            b"Reply=1{Context=9{Modify=RTP/9{Error=501{\"not served\"}}}}",
+        ),
+        (
+            b"!/1 a T=1{C=9{MF=RTP/9{M{O{a/b=1}}}}}",
+            b"Reply=1{Context=9{Modify=RTP/9{Error=445{\"property not served\"}}}}",
+        ),
+        (
+            b"!/1 a T=1{C=9{MF=RTP/9{Signals{},Signals{x}}}}",
+            b"Reply=1{Context=9{Modify=RTP/9{Error=448{\"descriptor twice\"}}}}",
+        ),
+        (
+            b"!/1 a T=1{C=9{MF=RTP/9{Signals{x},Signals{}}}}",
+            b"Reply=1{Context=9{Modify=RTP/9{Error=444{\"descriptor not served\"}}}}",
+        ),
+        (
+            b"!/1 a T=1{C=9{MF=RTP/9{M{L{},ST=1{L{}}}}}}",
+            b"Reply=1{Context=9{Modify=RTP/9{Error=448{\"descriptor twice\"}}}}",
+        ),
+        (
+            b"!/1 a T=1{C=9{MF=RTP/9{M{ST=2{L{}},ST=3{L{}},ST=2{L{}}}}}}",
+            b"Reply=1{Context=9{Modify=RTP/9{Error=448{\"descriptor twice\"}}}}",
+        ),
+        (
+            b"!/1 a T=1{C=9{MF=RTP/9{M{ST=2{L{}},ST=3{L{}}}}}}",
+            b"Reply=1{Context=9{Modify=RTP/9{Error=501{\"not served\"}}}}",
+        ),
+        (
+            b"!/1 a T=1{C=9{MF=rtp/9}}",
+            b"Reply=1{Context=9{Modify=RTP/9{Error=430{\"unknown termination\"}}}}",
+        ),
+        (
+            b"!/1 a T=1{C=9{A=Root}}",
+            b"Reply=1{Context=9{Add=ROOT{Error=410{\"identifier not allowed here\"}}}}",
+        ),
+    ];
+    assert!(rt; are_answered(rt.alloc(), &cases)?);
     Ok(())
 }
 
 #[test]
-fn refuses_an_action_as_a_whole(rt: HostRuntime) -> Result<(), Fail> {
-    let text = reply_to(rt.alloc(), b"!/1 a T=4{C=*{AV=*},C=-{AV=ROOT}}")?;
-    assert_eq!(rt;
-        text.as_slice(),
-        b"Reply=4{Context=*{Error=501{\"not served\"}}}".as_slice()
-    );
+fn tells_what_was_done(rt: HostRuntime) -> Result<(), Fail> {
+    let cases: [(&[u8], &[u8]); 4] = [
+        (
+            b"!/1 a T=1{C=${A=${M{O{MO=RC,nt/jit=21},L{v=0\nm=audio $ RTP/AVP 8\n}}}}}",
+            b"Reply=1{Context=1{Add=RTP/1{Media{Stream=1{Local{v=0\r\nc=IN IP4 127.0.0.1\r\nm=audio 30000 RTP/AVP 8\r\na=ptime:20\r\n}}}}}}",
+        ),
+        (
+            b"!/1 a T=2{C=1{MF=RTP/1{M{L{}},AT{M}}}}",
+            b"Reply=2{Context=1{Modify=RTP/1{Media{Stream=1{LocalControl{Mode=ReceiveOnly,nt/jit=40}}}}}}",
+        ),
+        (
+            b"!/1 a T=3{C=1{AV=RTP/1{AT{SA}},S=RTP/1}}",
+            b"Reply=3{Context=1{AuditValue=RTP/1{Statistics{rtp/ps=0,rtp/pr=0,nt/os=0,nt/or=0}},Subtract=RTP/1{Statistics{rtp/ps=0,rtp/pr=0,nt/os=0,nt/or=0}}}}",
+        ),
+        (
+            b"!/1 a T=4{C=*{AV=*},C=-{AV=ROOT}}",
+            b"Reply=4{Context=*{Error=501{\"not served\"}}}",
+        ),
+    ];
+    assert!(rt; are_answered(rt.alloc(), &cases)?);
+    Ok(())
+}
+
+#[test]
+fn ends_a_request_with_what_fails(rt: HostRuntime) -> Result<(), Fail> {
+    let cases: [(&[u8], &[u8]); 5] = [
+        (
+            b"!/1 a T=1{C=${A=$,A=$}}",
+            b"Reply=1{Context=1{Add=RTP/1,Add=RTP/2}}",
+        ),
+        (
+            b"!/1 a T=2{C=1{MV=RTP/1,A=$}}",
+            b"Reply=2{Context=1{Move=RTP/1{Error=433{\"already in a context\"}}}}",
+        ),
+        (
+            b"!/1 a T=3{C=${MV=RTP/1,MF=RTP/2,A=$}}",
+            b"Reply=3{Context=2{Move=RTP/1,Modify=RTP/2{Error=435{\"termination not in context\"}}}}",
+        ),
+        (
+            b"!/1 a T=4{C=1{S=RTP/2{AT{}},A=$},C=-{AV=ROOT}}",
+            b"Reply=4{Context=1{Subtract=RTP/2,Add=${Error=411{\"unknown context\"}}}}",
+        ),
+        (b"!/1 a T=5{C=2{A=$}}", b"Reply=5{Context=2{Add=RTP/3}}"),
+    ];
+    assert!(rt; are_answered(rt.alloc(), &cases)?);
     Ok(())
 }

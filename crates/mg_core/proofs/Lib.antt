@@ -1,4 +1,3 @@
-pub mod PortLaws
 pub mod AnswerLaws
 pub mod ReplyLaws
 pub mod EscapeSteps

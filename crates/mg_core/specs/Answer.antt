@@ -1,4 +1,4 @@
--- What a gateway answers to a control datagram.
+-- What a gateway answers to a control datagram, and what becomes of the world by it.
 use Rattle.std.specs.Prelude.{◌≡◌, ℕ, ◌||◌, nat_lt, Bool, true, false, List, [], ◌∷◌, ◌++◌, length, Option, Some, None, Result, Ok, Err, if◌then◌else◌}
 use Rattle.std.specs.List.{list_any}
 use Rattle.mg_text.specs.declared.message.Message.{Message}
@@ -13,8 +13,10 @@ use Rattle.mg_reply.specs.declared.error_number.ErrorNumber.TheVariants.{Syntax,
 use Rattle.mg_reply.specs.ErrorNumber.{error_text}
 use Rattle.mg_reply.specs.Reply.{Answered}
 use Rattle.mg_reply.specs.Written.{head_text, reply_text}
-use Rattle.mg_commands.specs.Transaction.{replied}
-use Rattle.mg_core.specs.declared.config.Config.{Config}
+use Rattle.mg_engine.specs.Stands.{Kept}
+use Rattle.mg_commands.specs.Transaction.{State, replied}
+use Rattle.mg_engine.specs.declared.config.Config.{Config}
+use Rattle.mg_core.specs.World.{World, Holds}
 use Rattle.mg_core.specs.declared.fault.NoMemory.{NoMemory}
 use Rattle.mg_core.specs.declared.answer.Answer.{Answer}
 use Rattle.mg_core.specs.declared.answer.Answer.TheVariants.{Send, Silent}
@@ -41,20 +43,38 @@ is_request (items.Acknowledgement ranges) = false
 abbrev pub has_requests : List MessageItem → Bool
 has_requests xs = list_any is_request xs
 
--- what is written for an item: a mark and the reply, if it is a request
-abbrev pub item_text : List ℕ → List ℕ → MessageItem → List ℕ
-item_text source mark (items.Request request) = mark ++ sent_text (replied source request)
-item_text source mark (items.Acknowledgement ranges) = []
+-- a mark and the reply behind it, and the world with what the request left of the gateway
+abbrev pub marked : List ℕ → World → State → List ℕ × World
+marked mark w s = (mark ++ sent_text s.reply, record w { gateway = s.world })
+
+-- What is written for an item, and the world after it: a mark and the reply, if it is a request. An acknowledgement
+-- leaves the world as it was.
+abbrev pub item_replied : List ℕ → List ℕ → MessageItem → World → List ℕ × World
+item_replied source mark (items.Request request) w = marked mark w (replied source request w.gateway)
+item_replied source mark (items.Acknowledgement ranges) w = ([], w)
 
 -- the mark of the next reply: a line feed behind the first
 abbrev pub mark_behind : List ℕ → MessageItem → List ℕ
 mark_behind mark (items.Request request) = 10 ∷ []
 mark_behind mark (items.Acknowledgement ranges) = mark
 
--- the replies to the requests among items, the first with this mark before it
-unfoldable pub replies_text : List ℕ → List ℕ → List MessageItem → List ℕ
-replies_text source mark [] = []
-replies_text source mark (x ∷ xs) = item_text source mark x ++ replies_text source (mark_behind mark x) xs
+-- a text before what is written behind it
+abbrev pub behind : List ℕ → List ℕ × World → List ℕ × World
+behind text p = (text ++ p.0, p.1)
+
+-- what is written behind what was, in the world that it came to
+abbrev pub followed : (World → List ℕ × World) → List ℕ × World → List ℕ × World
+followed rest p = behind p.0 (rest p.1)
+
+-- The replies to the requests among items, the first with this mark before it, and the world after them: each request
+-- is run in the world that the one before it left.
+unfoldable pub replied_to : List ℕ → List ℕ → List MessageItem → World → List ℕ × World
+replied_to source mark [] w = ([], w)
+replied_to source mark (x ∷ xs) w = followed (replied_to source (mark_behind mark x) xs) (item_replied source mark x w)
+
+-- a text grew by what was written, and an engine that held each world w holds the world after it
+abbrev pub Puts : Kept → Kept → List ℕ → List ℕ → (World → List ℕ × World) → Type 0
+Puts old new before text f = (w : World) → Holds old w → (after : World) × (out : List ℕ) × (f w ≡ (out, after)) × (text ≡ before ++ out) × Holds new after
 
 -- bytes of a fit length that have no head of another version, and no tree of the grammar
 pub record IsNoMessage (bytes : List ℕ) : Type 0 where
@@ -62,12 +82,13 @@ pub record IsNoMessage (bytes : List ℕ) : Type 0 where
   pub no_version : (n : ℕ) → HasOtherVersion bytes n → ⊥
   pub no_tree : (m : Message) → IsTree bytes m → ⊥
 
--- what stands behind the head of an answer
-pub data AnswersWith (bytes : List ℕ) : List ℕ → Type 0 where
-  replies : (m : Message) → IsMessage bytes m → has_requests (items_of m.body) ≡ true → AnswersWith bytes (replies_text bytes [] (items_of m.body))
-  too_many : IsTooMany bytes → AnswersWith bytes (error_text NotServed)
-  other_version : (n : ℕ) → HasOtherVersion bytes n → AnswersWith bytes (error_text Version)
-  no_message : IsNoMessage bytes → AnswersWith bytes (error_text Syntax)
+-- What stands behind the head of an answer to a message in the world w, and the world after it. What is refused as a whole
+-- leaves the world as it was.
+pub data AnswersWith (bytes : List ℕ) (w : World) : World → List ℕ → Type 0 where
+  replies : (m : Message) (after : World) (text : List ℕ) → IsMessage bytes m → has_requests (items_of m.body) ≡ true → replied_to bytes [] (items_of m.body) w ≡ (text, after) → AnswersWith bytes w after text
+  too_many : IsTooMany bytes → AnswersWith bytes w w (error_text NotServed)
+  other_version : (n : ℕ) → HasOtherVersion bytes n → AnswersWith bytes w w (error_text Version)
+  no_message : IsNoMessage bytes → AnswersWith bytes w w (error_text Syntax)
 
 -- a message that asks for no answer
 pub record IsIgnored (bytes : List ℕ) : Type 0 where
@@ -75,10 +96,11 @@ pub record IsIgnored (bytes : List ℕ) : Type 0 where
   pub is : IsMessage bytes message
   pub ignored : has_requests (items_of message.body) ≡ false
 
--- what is answered, and the text of the answer
-abbrev pub Answers : Config → List ℕ → Answer → List ℕ → Type 0
-Answers config bytes Silent text = IsIgnored bytes × (text ≡ [])
-Answers config bytes Send text = (behind : List ℕ) × AnswersWith bytes behind × (text ≡ head_text config.address config.control_port ++ behind)
+-- What is answered in the world w, with the text of the answer, and the world after it. Silence leaves the world as it
+-- was.
+abbrev pub Answers : Config → List ℕ → World → World → Answer → List ℕ → Type 0
+Answers config bytes w after Silent text = IsIgnored bytes × (text ≡ []) × (after ≡ w)
+Answers config bytes w after Send text = (rest : List ℕ) × AnswersWith bytes w after rest × (text ≡ head_text config.address config.control_port ++ rest)
 
 -- the answer where a message is refused, or where memory ran out
 abbrev pub Refuses : Config → Option ErrorNumber → Result Answer NoMemory → List ℕ → Type 0

@@ -1,6 +1,6 @@
-pub mod Config
 pub mod Peer
 pub mod Core
+pub mod World
 pub mod Answer
 pub mod Script
 pub mod Run

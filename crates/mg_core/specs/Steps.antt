@@ -1,11 +1,13 @@
 -- The steps of a run: one line, and the bytes of one read.
 use Rattle.std.specs.Prelude.{◌≡◌, ℕ, ◌+◌, ◌≤◌, take, List, [], ◌∷◌, ◌++◌, length, Option, Some, None, Result, Ok, Err}
 use Rattle.std.specs.Io.KnownBytes.{Keeps, Appends, Consumes, IsAtEnd}
-use Rattle.mg_core.specs.declared.config.Config.{Config}
+use Rattle.mg_engine.specs.declared.config.Config.{Config}
+use Rattle.mg_engine.specs.Stands.{Kept}
+use Rattle.mg_core.specs.World.{World, Holds}
 use Rattle.mg_core.specs.declared.fault.RunFault.{RunFault}
 use Rattle.mg_core.specs.declared.fault.RunFault.TheVariants as faults
-use Rattle.mg_core.specs.declared.fault.StartFault.{StartFault}
-use Rattle.mg_core.specs.declared.fault.StartFault.TheVariants as starts
+use Rattle.mg_engine.specs.declared.fault.StartFault.{StartFault}
+use Rattle.mg_engine.specs.declared.fault.StartFault.TheVariants as starts
 use Rattle.mg_core.specs.declared.peer.Peer.{Peer}
 use Rattle.mg_core.specs.declared.event.Event.TheVariants.{Control}
 use Rattle.mg_core.specs.Script.{event_of, lines_behind}
@@ -29,38 +31,43 @@ Writes text old new (Err faults.NoMemory) = ⊥
 Writes text old new (Err faults.BadConfig) = ⊥
 Writes text old new (Err (faults.Script n)) = ⊥
 
--- a control datagram was run, or why it was not
-abbrev pub ControlRan : Config → Peer → List ℕ → Option (List ℕ) → Option (List ℕ) → Result (Unit {0}) RunFault → Type 0
-ControlRan config source bytes old new (Ok done) = (out : List ℕ) × Outputs config (Some (Control source bytes)) out × Appends old new out
-ControlRan config source bytes old new (Err faults.Write) = (front : List ℕ) × (rest : List ℕ) × Outputs config (Some (Control source bytes)) (front ++ rest) × Appends old new front
-ControlRan config source bytes old new (Err faults.NoMemory) = Keeps old new
-ControlRan config source bytes old new (Err faults.Read) = ⊥
-ControlRan config source bytes old new (Err faults.BadConfig) = ⊥
-ControlRan config source bytes old new (Err (faults.Script n)) = ⊥
+-- A control datagram was run in the world w, or why it was not, and the world after it.
+abbrev pub ControlRan : Config → Peer → List ℕ → World → World → Option (List ℕ) → Option (List ℕ) → Result (Unit {0}) RunFault → Type 0
+ControlRan config source bytes w after old new (Ok done) = (out : List ℕ) × Outputs config w (Some (Control source bytes)) out after × Appends old new out
+ControlRan config source bytes w after old new (Err faults.Write) = (front : List ℕ) × (rest : List ℕ) × Outputs config w (Some (Control source bytes)) (front ++ rest) after × Appends old new front
+ControlRan config source bytes w after old new (Err faults.NoMemory) = Keeps old new × (after ≡ w)
+ControlRan config source bytes w after old new (Err faults.Read) = ⊥
+ControlRan config source bytes w after old new (Err faults.BadConfig) = ⊥
+ControlRan config source bytes w after old new (Err (faults.Script n)) = ⊥
 
 -- a line was run, or why it was not
-abbrev pub LineRan : Config → ℕ → List ℕ → Option (List ℕ) → Option (List ℕ) → Result (Unit {0}) RunFault → Type 0
-LineRan config number line old new (Ok done) = Ran config (line ∷ []) old new
-LineRan config number line old new (Err (faults.Script n)) = (n ≡ number) × (event_of line ≡ None) × Keeps old new
-LineRan config number line old new (Err faults.Write) = RanInPart config (line ∷ []) old new
-LineRan config number line old new (Err faults.NoMemory) = Keeps old new
-LineRan config number line old new (Err faults.Read) = ⊥
-LineRan config number line old new (Err faults.BadConfig) = ⊥
+abbrev pub LineRan : Config → ℕ → List ℕ → World → World → Option (List ℕ) → Option (List ℕ) → Result (Unit {0}) RunFault → Type 0
+LineRan config number line w after old new (Ok done) = Ran config w (line ∷ []) after old new
+LineRan config number line w after old new (Err (faults.Script n)) = (n ≡ number) × (event_of line ≡ None) × Keeps old new × (after ≡ w)
+LineRan config number line w after old new (Err faults.Write) = RanInPart config w (line ∷ []) after old new
+LineRan config number line w after old new (Err faults.NoMemory) = Keeps old new × (after ≡ w)
+LineRan config number line w after old new (Err faults.Read) = ⊥
+LineRan config number line w after old new (Err faults.BadConfig) = ⊥
 
 -- The lines that end in some bytes were run, and the line behind them is begun; or why they were not, whatever stands
 -- behind the bytes.
-abbrev pub BytesRan : Config → ℕ → ℕ → List ℕ → List ℕ → List ℕ → Option (List ℕ) → Option (List ℕ) → Result (Unit {0}) RunFault → Type 0
-BytesRan config before after begun bytes left old new (Ok done) = (lines : List (List ℕ)) × ((rest : List ℕ) → lines_behind begun (bytes ++ rest) ≡ lines ++ lines_behind left rest) × (after ≡ before + length lines) × Ran config lines old new
-BytesRan config before after begun bytes left old new (Err (faults.Script n)) = (lines : List (List ℕ)) × ((rest : List ℕ) → (bad : List ℕ) × (others : List (List ℕ)) × (lines_behind begun (bytes ++ rest) ≡ lines ++ bad ∷ others) × (event_of bad ≡ None)) × (n ≡ before + length lines + 1) × Ran config lines old new
-BytesRan config before after begun bytes left old new (Err faults.Write) = (lines : List (List ℕ)) × ((rest : List ℕ) → (others : List (List ℕ)) × (lines_behind begun (bytes ++ rest) ≡ lines ++ others)) × RanInPart config lines old new
-BytesRan config before after begun bytes left old new (Err faults.NoMemory) = (lines : List (List ℕ)) × ((rest : List ℕ) → (others : List (List ℕ)) × (lines_behind begun (bytes ++ rest) ≡ lines ++ others)) × Ran config lines old new
-BytesRan config before after begun bytes left old new (Err faults.Read) = ⊥
-BytesRan config before after begun bytes left old new (Err faults.BadConfig) = ⊥
+abbrev pub BytesRan : Config → ℕ → ℕ → List ℕ → List ℕ → List ℕ → World → World → Option (List ℕ) → Option (List ℕ) → Result (Unit {0}) RunFault → Type 0
+BytesRan config count counted begun bytes left w after old new (Ok done) = (lines : List (List ℕ)) × ((rest : List ℕ) → lines_behind begun (bytes ++ rest) ≡ lines ++ lines_behind left rest) × (counted ≡ count + length lines) × Ran config w lines after old new
+BytesRan config count counted begun bytes left w after old new (Err (faults.Script n)) = (lines : List (List ℕ)) × ((rest : List ℕ) → (bad : List ℕ) × (others : List (List ℕ)) × (lines_behind begun (bytes ++ rest) ≡ lines ++ bad ∷ others) × (event_of bad ≡ None)) × (n ≡ count + length lines + 1) × Ran config w lines after old new
+BytesRan config count counted begun bytes left w after old new (Err faults.Write) = (lines : List (List ℕ)) × ((rest : List ℕ) → (others : List (List ℕ)) × (lines_behind begun (bytes ++ rest) ≡ lines ++ others)) × RanInPart config w lines after old new
+BytesRan config count counted begun bytes left w after old new (Err faults.NoMemory) = (lines : List (List ℕ)) × ((rest : List ℕ) → (others : List (List ℕ)) × (lines_behind begun (bytes ++ rest) ≡ lines ++ others)) × Ran config w lines after old new
+BytesRan config count counted begun bytes left w after old new (Err faults.Read) = ⊥
+BytesRan config count counted begun bytes left w after old new (Err faults.BadConfig) = ⊥
 
 -- the line that was begun is the last, if there is one
-abbrev pub Finishes : Config → ℕ → List ℕ → Option (List ℕ) → Option (List ℕ) → Result (Unit {0}) RunFault → Type 0
-Finishes config before [] old new result = (result ≡ Ok tt) × Keeps old new
-Finishes config before (b ∷ bs) old new result = LineRan config (before + 1) (b ∷ bs) old new result
+abbrev pub Finishes : Config → ℕ → List ℕ → World → World → Option (List ℕ) → Option (List ℕ) → Result (Unit {0}) RunFault → Type 0
+Finishes config count [] w after old new result = (result ≡ Ok tt) × Keeps old new × (after ≡ w)
+Finishes config count (b ∷ bs) w after old new result = LineRan config (count + 1) (b ∷ bs) w after old new result
+
+-- a step's relation of the world before it and the world after it: an engine that stood for each world w stands for
+-- the world after it
+abbrev pub Steps : Kept → Kept → (World → World → Type 0) → Type 0
+Steps old new R = (w : World) → Holds old w → (after : World) × R w after × Holds new after
 
 -- so many bytes were read, or the end was there, or reading failed
 abbrev pub ReadsSome : List ℕ → Option (List ℕ) → Option (List ℕ) → Result (Option ℕ) RunFault → Type 0

@@ -1,18 +1,20 @@
 ghost use Rattle.std.specs.Prelude.{◌≡◌, ◌≤◌, ◌+◌, ◌*◌, ◌++◌, ◌↔◌, [], ◌∷◌, true, length, IfOk, OnOk, OnErr, Option};
 ghost use Rattle.mg_reply.specs.Written.{head_text};
 ghost use Rattle.mg_reply.specs.ErrorNumber.{error_text};
-ghost use Rattle.mg_core.specs.Config.{IsSound};
+ghost use Rattle.mg_engine.specs.Config.{IsSound};
+ghost use Rattle.mg_engine.specs.World.{stats_of};
+ghost use Rattle.mg_core.specs.World.{World, StandsFor, start_of};
 ghost use Rattle.mg_reply.specs.Bytes.{appended};
 ghost use Rattle.mg_reply.specs.Reply.{IsWhole};
 ghost use Rattle.mg_text.specs.Message.{items_of, requests_in};
 ghost use Rattle.mg_text.specs.Proper.{are_proper, item_is_proper};
-ghost use Rattle.mg_core.specs.Answer.{Answers, Refuses, has_requests, item_text, mark_behind, refusal_of, replies_text, sent_text};
+ghost use Rattle.mg_core.specs.Answer.{Answers, Puts, Refuses, has_requests, item_replied, mark_behind, refusal_of, replied_to, sent_text};
 
 use crate::answer::Answer;
-use crate::config::Config;
-use crate::fault::{NoMemory, StartFault};
+use crate::fault::NoMemory;
 use crate::peer::Peer;
 use mg_commands::transaction;
+use mg_engine::{Config, Engine, Rooms, StartFault, Stats};
 use mg_text::{
     Body, Bytes, ErrorNumber, Item, MessageItem, REPLY_LIMIT, ReadFault, Reply, read, write_error,
     write_head, write_reply,
@@ -25,9 +27,13 @@ pub const ANSWER_LIMIT: usize = 64036;
 
 /// The gateway as a machine of events: it is handed datagrams, and tells the answers. It opens nothing,
 /// waits for nothing and knows no clock.
+///
+/// It keeps no history. So contracts speak of each world that its engine stood for before a call, and of the
+/// world that it stands for afterwards.
 #[derive(Drop)]
 pub struct Core {
     config: Config,
+    engine: Engine,
     reply: Reply,
     answer: Bytes,
 }
@@ -38,7 +44,7 @@ impl Model for Core {
 
     ghost Value = { Standing };
 
-    ghost view = { λ c. record { config = c.config; answer = c.answer.text } };
+    ghost view = { λ c. record { config = c.config; engine = c.engine; answer = c.answer.text } };
 
     ghost invariant = { λ c. c.answer.room + length c.answer.text ≡ 64036 };
 }
@@ -107,6 +113,7 @@ fn put_reply(reply: &mut Reply, answer: &mut Bytes)
 /// request. What is answered is the mark of the next reply.
 #[tactic(auto, using(crate::proofs::ReplyLaws::one_reply))]
 fn put_item<'m>(
+    engine: &mut Engine,
     source: &[u8],
     item: &MessageItem,
     mark: &'m [u8],
@@ -115,13 +122,15 @@ fn put_item<'m>(
 ) -> &'m [u8]
     requires proper { item_is_proper source.now item.now ≡ true }
     requires room { 16001 * requests_in (item.now ∷ []) + length mark.now ≤ 1 + answer.old.room }
-    ensures text { answer.new ≡ appended answer.old (item_text source.now mark.now item.now) }
+    ensures ran { Puts engine.old engine.new answer.old.text answer.new.text (item_replied source.now mark.now item.now) }
     ensures mark { result.now ≡ mark_behind mark.now item.now }
-    ensures short { length (item_text source.now mark.now item.now) ≤ length mark.now + 16000 * requests_in (item.now ∷ []) }
+    ensures total { answer.new.room + length answer.new.text ≡ answer.old.room + length answer.old.text }
+    ensures short { length answer.new.text + length result.now
+        ≤ length answer.old.text + length mark.now + 16001 * requests_in (item.now ∷ []) }
 {
     match item {
         MessageItem::Request(request) => {
-            transaction(source, request, reply);
+            transaction(engine, source, request, reply);
             answer.push(mark);
             put_reply(reply, answer);
             b"\n"
@@ -129,18 +138,25 @@ fn put_item<'m>(
         MessageItem::Acknowledgement(_) => mark,
     }
 }
+
 /// Writes the replies to the requests among some items of the message that stands in `source`, with a line feed
 /// between each two.
 #[tactic(auto, using(crate::proofs::ReplyLaws::replying))]
-fn put_replies(source: &[u8], items: &[MessageItem], reply: &mut Reply, answer: &mut Bytes)
+fn put_replies(
+    engine: &mut Engine,
+    source: &[u8],
+    items: &[MessageItem],
+    reply: &mut Reply,
+    answer: &mut Bytes,
+)
     requires proper { are_proper source.now items.now ≡ true }
     requires room { 16001 * requests_in items.now ≤ 1 + answer.old.room }
-    ensures text { answer.new.text ≡ answer.old.text ++ replies_text source.now [] items.now }
+    ensures ran { Puts engine.old engine.new answer.old.text answer.new.text (replied_to source.now [] items.now) }
     ensures total { answer.new.room + length answer.new.text ≡ answer.old.room + length answer.old.text }
 {
     let mut mark: &[u8] = b"";
     for item in items {
-        mark = put_item(source, item, mark, reply, answer);
+        mark = put_item(engine, source, item, mark, reply, answer);
     }
 }
 
@@ -148,14 +164,12 @@ impl Core {
     /// A gateway with this configuration. This takes all the memory that it holds.
     pub fn new(alloc: Global, config: Config) -> Result<Self, StartFault>
         ensures bad { (result ≡ Err StartFault.BadConfig) ↔ ¬ IsSound config }
-        ensures started { IfOk result (λ core. core ≡ record { config = config; answer = [] }) }
+        ensures started { IfOk result (λ core. (core.config ≡ config) × (core.answer ≡ []) × StandsFor core (start_of config)) }
         ensures sound { OnOk result (IsSound config) }
     {
-        if !config.is_sound() {
-            return Err(StartFault::BadConfig);
-        }
         Ok(Core {
             config,
+            engine: Engine::new(alloc, config)?,
             reply: Reply::new(alloc)?,
             answer: Bytes::new(alloc, ANSWER_LIMIT)?,
         })
@@ -165,8 +179,9 @@ impl Core {
     /// and where it runs out nothing has changed but the last answer, which is empty.
     pub fn control(&mut self, alloc: Global, source: Peer, bytes: &[u8]) -> Result<Answer, NoMemory>
         ensures config { self.new.config ≡ self.old.config }
-        ensures answered { IfOk result (λ answer. Answers self.old.config bytes.now answer self.new.answer) }
-        ensures no_memory { OnErr result (self.new.answer ≡ []) }
+        ensures answered { IfOk result (λ answer. (w : World) → StandsFor self.old w → (after : World)
+            × Answers self.old.config bytes.now w after answer self.new.answer × StandsFor self.new after) }
+        ensures no_memory { OnErr result (self.new ≡ record self.old { answer = [] }) }
         ensures short { length self.new.answer ≤ ANSWER_LIMIT }
     {
         let _ = source;
@@ -184,7 +199,13 @@ impl Core {
             self.config.control_port,
             &mut self.answer,
         );
-        put_replies(bytes, items, &mut self.reply, &mut self.answer);
+        put_replies(
+            &mut self.engine,
+            bytes,
+            items,
+            &mut self.reply,
+            &mut self.answer,
+        );
         Ok(Answer::Send)
     }
 
@@ -192,6 +213,7 @@ impl Core {
     fn refuse(&mut self, fault: ReadFault) -> Result<Answer, NoMemory>
         requires empty { self.old.answer ≡ [] }
         ensures config { self.new.config ≡ self.old.config }
+        ensures engine { self.new.engine ≡ self.old.engine }
         ensures refused { Refuses self.old.config (refusal_of fault) result self.new.answer }
         ensures short { length self.new.answer ≤ ANSWER_LIMIT }
     {
@@ -209,5 +231,19 @@ impl Core {
         ensures value { result.now ≡ self.now.answer }
     {
         self.answer.as_slice()
+    }
+
+    /// The terminations and contexts.
+    pub fn rooms(&self) -> &Rooms
+        ensures value { (w : World) → StandsFor self.now w → result.now ≡ w.gateway.rooms }
+    {
+        self.engine.rooms()
+    }
+
+    /// The counters of a termination.
+    pub fn stats(&self, number: u32) -> Option<Stats>
+        ensures value { (w : World) → StandsFor self.now w → result ≡ stats_of w.gateway number }
+    {
+        self.engine.stats(number)
     }
 }

@@ -1,16 +1,17 @@
 ghost use Rattle.std.specs.Prelude.{◌≡◌, ◌+◌, length, IfOk, OnOk};
-ghost use Rattle.mg_core.specs.Steps.{ControlRan, LineRan};
-ghost use Rattle.mg_core.specs.Config.{IsSound};
+ghost use Rattle.mg_core.specs.Steps.{ControlRan, LineRan, Steps};
+ghost use Rattle.mg_engine.specs.Config.{IsSound};
+ghost use Rattle.mg_core.specs.World.{StandsFor, start_of};
 
 use crate::answer::Answer;
-use crate::config::Config;
 use crate::counts::Counts;
 use crate::event::Event;
-use crate::fault::{RunFault, StartFault};
+use crate::fault::RunFault;
 use crate::gateway::{ANSWER_LIMIT, Core};
 use crate::output::{push_answer, write_whole};
 use crate::peer::Peer;
 use crate::script::{LineFault, event_of};
+use mg_engine::{Config, StartFault};
 use mg_text::Bytes;
 use std::alloc::Global;
 use std::io::Write;
@@ -34,6 +35,7 @@ impl LineRunner {
         ensures bad { result ≡ Err StartFault.BadConfig → ¬ IsSound config }
         ensures sound { OnOk result (IsSound config) }
         ensures config { IfOk result (λ runner. runner.core.config ≡ config) }
+        ensures start { IfOk result (λ runner. StandsFor runner.core (start_of config)) }
         ensures lines { IfOk result (λ runner. runner.counts.lines ≡ 0) }
     {
         Ok(LineRunner {
@@ -54,7 +56,8 @@ impl LineRunner {
     ) -> Result<(), RunFault>
         ensures config { self.new.core.config ≡ self.old.core.config }
         ensures lines { self.new.counts.lines ≡ self.old.counts.lines }
-        ensures value { ControlRan self.old.core.config source bytes.now (W.contents writer.old) (W.contents writer.new) result }
+        ensures value { Steps self.old.core.engine self.new.core.engine (λ w after.
+            ControlRan self.old.core.config source bytes.now w after (W.contents writer.old) (W.contents writer.new) result) }
     {
         let Ok(answer) = self.core.control(alloc, source, bytes) else {
             return Err(RunFault::NoMemory);
@@ -82,7 +85,8 @@ impl LineRunner {
     ) -> Result<(), RunFault>
         ensures config { self.new.core.config ≡ self.old.core.config }
         ensures lines { self.new.counts.lines ≡ self.old.counts.lines }
-        ensures value { LineRan self.old.core.config number line.now (W.contents writer.old) (W.contents writer.new) result }
+        ensures value { Steps self.old.core.engine self.new.core.engine (λ w after.
+            LineRan self.old.core.config number line.now w after (W.contents writer.old) (W.contents writer.new) result) }
     {
         match event_of(alloc, line) {
             Err(LineFault::Bad) => Err(RunFault::Script(number)),

@@ -1,11 +1,11 @@
 ghost use Rattle.std.specs.Prelude.{◌≡◌, Some, IfSome, OnOk};
-ghost use Rattle.mg_core.specs.Config.{IsSound};
+ghost use Rattle.mg_engine.specs.Config.{IsSound};
 ghost use Rattle.mg_core.specs.Run.{ScriptRan};
 
-use crate::config::Config;
 use crate::counts::Counts;
-use crate::fault::{RunFault, StartFault};
+use crate::fault::RunFault;
 use crate::script_runner::ScriptRunner;
+use mg_engine::{Config, StartFault};
 use std::alloc::Global;
 use std::io::{Read, Write};
 

@@ -1,13 +1,14 @@
 ghost use Rattle.std.specs.Prelude.{◌≡◌, ◌+◌, ◌*◌, ◌^◌, ◌<◌, ◌≤◌, [], ℕ, List, length, Some, OnOk, IfOk, Result};
-ghost use Rattle.mg_core.specs.Config.{IsSound};
+ghost use Rattle.mg_engine.specs.Config.{IsSound};
+ghost use Rattle.mg_core.specs.World.{StandsFor, start_of};
 ghost use Rattle.mg_core.specs.Script.{without_return};
 ghost use Rattle.mg_core.specs.Run.{ScriptRan};
-ghost use Rattle.mg_core.specs.Steps.{LineRan, BytesRan, Finishes, ReadsSome};
+ghost use Rattle.mg_core.specs.Steps.{LineRan, BytesRan, Finishes, ReadsSome, Steps};
 
-use crate::config::Config;
 use crate::counts::Counts;
-use crate::fault::{RunFault, StartFault};
+use crate::fault::RunFault;
 use crate::line_runner::LineRunner;
+use mg_engine::{Config, StartFault};
 use mg_text::Bytes;
 use std::alloc::Global;
 use std::io::{ErrorKind, Read, Write};
@@ -57,6 +58,7 @@ impl ScriptRunner {
         ensures bad { result ≡ Err StartFault.BadConfig → ¬ IsSound config }
         ensures sound { OnOk result (IsSound config) }
         ensures config { IfOk result (λ s. s.runner.core.config ≡ config) }
+        ensures start { IfOk result (λ s. StandsFor s.runner.core (start_of config)) }
         ensures lines { IfOk result (λ s. s.runner.counts.lines ≡ 0) }
         ensures begun { IfOk result (λ s. s.begun.text ≡ []) }
     {
@@ -72,8 +74,9 @@ impl ScriptRunner {
         ensures config { self.new.runner.core.config ≡ self.old.runner.core.config }
         ensures begun { OnOk result (self.new.begun.text ≡ []) }
         ensures lines { OnOk result (self.new.runner.counts.lines ≡ self.old.runner.counts.lines + 1) }
-        ensures value { LineRan self.old.runner.core.config (self.old.runner.counts.lines + 1)
-            (without_return self.old.begun.text) (W.contents writer.old) (W.contents writer.new) result }
+        ensures value { Steps self.old.runner.core.engine self.new.runner.core.engine (λ w after.
+            LineRan self.old.runner.core.config (self.old.runner.counts.lines + 1) (without_return self.old.begun.text)
+            w after (W.contents writer.old) (W.contents writer.new) result) }
     {
         let number = self.runner.counts.lines + 1;
         let line = without_return(self.begun.as_slice());
@@ -93,8 +96,9 @@ impl ScriptRunner {
         requires few { self.old.runner.counts.lines + length bytes.now < 2 ^ 64 }
         ensures config { self.new.runner.core.config ≡ self.old.runner.core.config }
         ensures lines { OnOk result (self.new.runner.counts.lines ≤ self.old.runner.counts.lines + length bytes.now) }
-        ensures value { BytesRan self.old.runner.core.config self.old.runner.counts.lines self.new.runner.counts.lines
-            self.old.begun.text bytes.now self.new.begun.text (W.contents writer.old) (W.contents writer.new) result }
+        ensures value { Steps self.old.runner.core.engine self.new.runner.core.engine (λ w after.
+            BytesRan self.old.runner.core.config self.old.runner.counts.lines self.new.runner.counts.lines
+            self.old.begun.text bytes.now self.new.begun.text w after (W.contents writer.old) (W.contents writer.new) result) }
     {
         for b in bytes {
             if *b == b'\n' {
@@ -112,8 +116,9 @@ impl ScriptRunner {
     /// Takes the last line, if one was begun: it has no line feed.
     fn finish<W: Write>(&mut self, alloc: Global, writer: &mut W) -> Result<(), RunFault>
         requires few { self.old.runner.counts.lines + 1 < 2 ^ 64 }
-        ensures value { Finishes self.old.runner.core.config self.old.runner.counts.lines self.old.begun.text
-            (W.contents writer.old) (W.contents writer.new) result }
+        ensures value { Steps self.old.runner.core.engine self.new.runner.core.engine (λ w after.
+            Finishes self.old.runner.core.config self.old.runner.counts.lines self.old.begun.text w after
+            (W.contents writer.old) (W.contents writer.new) result) }
     {
         let line = self.begun.as_slice();
         if line.is_empty() {
@@ -125,13 +130,14 @@ impl ScriptRunner {
         Ok(())
     }
 
-    /// Reads a whole script and runs it.
+    /// Reads a whole script and runs it on a gateway where nothing was done.
     pub fn take_all<R: Read, W: Write>(
         &mut self,
         alloc: Global,
         reader: &mut R,
         writer: &mut W,
     ) -> Result<(), RunFault>
+        requires start { StandsFor self.old.runner.core (start_of self.old.runner.core.config) }
         requires lines { self.old.runner.counts.lines ≡ 0 }
         requires begun { self.old.begun.text ≡ [] }
         ensures value { (script : List ℕ) → R.remaining reader.old ≡ Some script →

@@ -19,10 +19,46 @@ const LINE: &[u8] =
 const REPLY_LINE: &[u8] =
     b"say 127.0.0.1:2945 MEGACO/1 [127.0.0.1]:2944\\nReply=1{Context=-{AuditValue=ROOT}}\n";
 
+/// The first of some messages, one after another, that a core doesn't answer so.
+fn first_wrong(
+    alloc: Global,
+    core: &mut Core,
+    cases: &[(&[u8], &[u8])],
+) -> Result<Option<usize>, Fail> {
+    for (i, (message, answer)) in cases.iter().enumerate() {
+        let sent = core.control(alloc, CONTROLLER, message)?;
+        if sent != Answer::Send || core.answer() != *answer {
+            return Ok(Some(i));
+        }
+    }
+    Ok(None)
+}
+
+/// The first of some requests of the controller, one after another, that a new bridge doesn't answer so.
+fn first_wrong_reply(
+    alloc: Global,
+    config: Config,
+    cases: &[(&[u8], &[u8])],
+) -> Result<Option<usize>, Fail> {
+    let mut core = Core::new(alloc, config)?;
+    for (i, (request, reply)) in cases.iter().enumerate() {
+        let mut message = Vec::from_slice(alloc, b"MEGACO/1 [127.0.0.1]:2945 ")?;
+        message.extend_from_slice(request)?;
+        let mut answer = Vec::from_slice(alloc, b"MEGACO/1 [127.0.0.1]:2944\n")?;
+        answer.extend_from_slice(reply)?;
+        let cases = [(message.as_slice(), answer.as_slice())];
+        if first_wrong(alloc, &mut core, &cases)?.is_some() {
+            return Ok(Some(i));
+        }
+    }
+    Ok(None)
+}
+
+const SYNTAX: &[u8] = b"MEGACO/1 [127.0.0.1]:2944\nError=400{\"syntax\"}";
+
 #[test]
 fn answers_messages(rt: HostRuntime) -> Result<(), Fail> {
     let alloc = rt.alloc();
-    let syntax = b"MEGACO/1 [127.0.0.1]:2944\nError=400{\"syntax\"}".as_slice();
     let cases: [(&[u8], &[u8]); 9] = [
         (HEARTBEAT, REPLY),
         (
@@ -30,68 +66,223 @@ fn answers_messages(rt: HostRuntime) -> Result<(), Fail> {
             REPLY,
         ),
         (b"MEGACO/01 <mgc.example> T=1{C=0{AV=ROOT}}", REPLY),
-        (b"", syntax),
+        (b"", SYNTAX),
         (
             b"MEGACO/2",
             b"MEGACO/1 [127.0.0.1]:2944\nError=406{\"version\"}",
         ),
-        (b"MEGACO/2x", syntax),
-        (b"MEGACO/1 [127.0.0.256] T=1{C=-{AV=ROOT}}", syntax),
-        (b"MEGACO/1 mg T=4294967296{C=-{AV=ROOT}}", syntax),
+        (b"MEGACO/2x", SYNTAX),
+        (b"MEGACO/1 [127.0.0.256] T=1{C=-{AV=ROOT}}", SYNTAX),
+        (b"MEGACO/1 mg T=4294967296{C=-{AV=ROOT}}", SYNTAX),
         (
             b"MEGACO/1 mg Error=400{\"syntax\"} T=1{C=-{AV=ROOT}}",
-            syntax,
+            SYNTAX,
         ),
     ];
     let mut core = Core::new(alloc, Config::default())?;
-    for (message, answer) in cases {
-        assert_eq!(rt; core.control(alloc, CONTROLLER, message)?, Answer::Send);
-        assert_eq!(rt; core.answer(), answer);
-    }
+    assert_eq!(rt; first_wrong(alloc, &mut core, &cases)?, None);
     Ok(())
 }
 
 #[test]
 fn answers_each_request(rt: HostRuntime) -> Result<(), Fail> {
-    let alloc = rt.alloc();
     let cases: [(&[u8], &[u8]); 6] = [
         (
-            b"!/1 a T=1{C=-{AV=ROOT{AT{M,M}}}}",
+            b"T=1{C=-{AV=ROOT{AT{M,M}}}}",
             b"Reply=1{Context=-{AuditValue=ROOT}}",
         ),
         (
-            b"!/1 a T=1{C=-{AV=ROOT}}K{7}T=2{C=-{AV=ROOT}}T=3{C=0{AV=Root}}T=4{C=00{AV=root}}",
+            b"T=1{C=-{AV=ROOT}}K{7}T=2{C=-{AV=ROOT}}T=3{C=0{AV=Root}}T=4{C=00{AV=root}}",
             b"Reply=1{Context=-{AuditValue=ROOT}}\nReply=2{Context=-{AuditValue=ROOT}}\n\
             Reply=3{Context=-{AuditValue=ROOT}}\nReply=4{Context=-{AuditValue=ROOT}}",
         ),
         (
-            b"!/1 a T=1{C=-{AV=ROOT}}T=2{C=-{AV=ROOT}}T=3{C=-{AV=ROOT}}T=4{C=-{AV=ROOT}}T=5{C=-{AV=ROOT}}",
+            b"T=1{C=-{AV=ROOT}}T=2{C=-{AV=ROOT}}T=3{C=-{AV=ROOT}}T=4{C=-{AV=ROOT}}T=5{C=-{AV=ROOT}}",
             b"Error=501{\"not served\"}",
         ),
         (
-            b"!/1 a Transaction=4{Context=*{AuditValue=*}}",
-            b"Reply=4{Context=*{Error=501{\"not served\"}}}",
-        ),
-        (
-            b"!/1 a Transaction=5{Context=-{ServiceChange=ROOT{Services{Method=Restart}}}}",
-            b"Reply=5{Context=-{ServiceChange=ROOT{Error=501{\"not served\"}}}}",
-        ),
-        (
-            b"!/1 a T=6{C=-{AV=ROOT,O-AV=ROOT,AV=ROOT}}T=007{C=1{AV=ROOT}}",
+            b"T=6{C=-{AV=ROOT,O-AV=ROOT,AV=ROOT}}T=007{C=1{AV=ROOT}}",
             b"Reply=6{Context=-{AuditValue=ROOT,AuditValue=ROOT{Error=501{\"not served\"}}}}\n\
-            Reply=7{Context=1{AuditValue=ROOT{Error=501{\"not served\"}}}}",
+            Reply=7{Context=1{AuditValue=ROOT{Error=410{\"identifier not allowed here\"}}}}",
+        ),
+        (
+            b"Transaction=1{Context=-{AuditValue=ROOT}}Transaction=2{Context=-{AuditValue=RTP/1}}",
+            b"Reply=1{Context=-{AuditValue=ROOT}}\n\
+            Reply=2{Context=-{AuditValue=RTP/1{Error=430{\"unknown termination\"}}}}",
+        ),
+        (
+            b"Transaction=6{Context=${Add=$}}Transaction=7{Context=1{Subtract=RTP/1{Audit{}}}}",
+            b"Reply=6{Context=1{Add=RTP/1}}\nReply=7{Context=1{Subtract=RTP/1}}",
+        ),
+    ];
+    let wrong = first_wrong_reply(rt.alloc(), Config::default(), &cases)?;
+    assert_eq!(rt; wrong, None);
+    Ok(())
+}
+
+#[test]
+fn answers_a_message_of_many_lines(rt: HostRuntime) -> Result<(), Fail> {
+    let alloc = rt.alloc();
+    let cases: [(&[u8], &[u8]); 2] = [
+        (
+            b"MEGACO/1 [123.123.123.4]:55555\nTransaction = 10003 {\nContext = $ {\nAdd = $ {\n\
+            Media {\nStream = 1 {\nLocalControl { Mode = ReceiveOnly, nt/jit=40 }, ; in ms\nLocal {\n\
+            v=0\nc=IN IP4 $\nm=audio $ RTP/AVP 4\na=ptime:30\n\
+            v=0\nc=IN IP4 $\nm=audio $ RTP/AVP 0\na=ptime:20\n}\n}}}}}",
+            b"MEGACO/1 [127.0.0.1]:2944\nReply=10003{Context=1{Add=RTP/1{Media{Stream=1{Local{\
+            v=0\r\nc=IN IP4 127.0.0.1\r\nm=audio 30000 RTP/AVP 0\r\na=ptime:20\r\n}}}}}}",
+        ),
+        (
+            b"MEGACO/1 [127.0.0.1]:2945 \
+            Transaction=2{Context=1{AuditValue=RTP/1{Audit{Media,Statistics}}}}",
+            b"MEGACO/1 [127.0.0.1]:2944\nReply=2{Context=1{AuditValue=RTP/1{Media{Stream=1{\
+            LocalControl{Mode=ReceiveOnly,nt/jit=40},\
+            Local{v=0\r\nc=IN IP4 127.0.0.1\r\nm=audio 30000 RTP/AVP 0\r\na=ptime:20\r\n}}},\
+            Statistics{rtp/ps=0,rtp/pr=0,nt/os=0,nt/or=0}}}}",
         ),
     ];
     let mut core = Core::new(alloc, Config::default())?;
-    for (message, replies) in cases {
-        assert_eq!(rt; core.control(alloc, CONTROLLER, message)?, Answer::Send);
-        let answer = core.answer();
-        if answer.len() < 26 {
-            return Err("a head".into());
+    assert_eq!(rt; first_wrong(alloc, &mut core, &cases)?, None);
+    assert_eq!(rt; core.rooms().members(1), [1].as_slice());
+    assert!(rt; core.stats(1).is_some() && core.stats(2).is_none());
+    Ok(())
+}
+
+#[test]
+fn runs_commands(rt: HostRuntime) -> Result<(), Fail> {
+    let cases: [(&[u8], &[u8]); 9] = [
+        (
+            b"Transaction=1{Context=${Add=$}}",
+            b"Reply=1{Context=1{Add=RTP/1}}",
+        ),
+        (
+            b"Transaction=2{Context=1{Modify=RTP/1{Media{LocalControl{Mode=SendOnly},\
+            Local{v=0\nm=audio $ RTP/AVP 18\n}}}}}",
+            b"Reply=2{Context=1{Modify=RTP/1{Error=515{\"no media that can be served\"}}}}",
+        ),
+        (
+            b"Transaction=3{Context=1{AuditValue=RTP/1{Audit{Media}}}}",
+            b"Reply=3{Context=1{AuditValue=RTP/1{Media{Stream=1{\
+            LocalControl{Mode=Inactive,nt/jit=80}}}}}}",
+        ),
+        (
+            b"Transaction=4{Context=-{Move=RTP/1}}",
+            b"Reply=4{Context=-{Move=RTP/1{Error=411{\"unknown context\"}}}}",
+        ),
+        (
+            b"Transaction=5{Context=1{Move=RTP/1}}",
+            b"Reply=5{Context=1{Move=RTP/1{Error=433{\"already in a context\"}}}}",
+        ),
+        (
+            b"Transaction=6{Context=-{Modify=RTP/1}}",
+            b"Reply=6{Context=-{Modify=RTP/1{Error=435{\"termination not in context\"}}}}",
+        ),
+        (
+            b"Transaction=7{Context=7{Modify=RTP/1}}",
+            b"Reply=7{Context=7{Modify=RTP/1{Error=411{\"unknown context\"}}}}",
+        ),
+        (
+            b"Transaction=8{Context=1{Subtract=RTP/1{Audit{}},Add=$}}",
+            b"Reply=8{Context=1{Subtract=RTP/1,Add=${Error=411{\"unknown context\"}}}}",
+        ),
+        (
+            b"Transaction=9{Context=${Add=$,Subtract=RTP/2{Audit{}},Add=$}}",
+            b"Reply=9{Context=2{Add=RTP/2,Subtract=RTP/2,Add=${Error=411{\"unknown context\"}}}}",
+        ),
+    ];
+    let wrong = first_wrong_reply(rt.alloc(), Config::default(), &cases)?;
+    assert_eq!(rt; wrong, None);
+    Ok(())
+}
+
+#[test]
+fn refuses_commands(rt: HostRuntime) -> Result<(), Fail> {
+    let cases: [(&[u8], &[u8]); 5] = [
+        (
+            b"Transaction=1{Context=9{Modify=RTP/9{Media{LocalControl{ReservedValue=ON},\
+            TerminationState{Buffer=OFF}}}}}",
+            b"Reply=1{Context=9{Modify=RTP/9{Error=444{\"descriptor not served\"}}}}",
+        ),
+        (
+            b"Transaction=2{Context=9{Modify=RTP/9{Media{LocalControl{ReservedValue=ON}}}}}",
+            b"Reply=2{Context=9{Modify=RTP/9{Error=501{\"not served\"}}}}",
+        ),
+        (
+            b"Transaction=3{Context=9{Modify=RTP/9}}",
+            b"Reply=3{Context=9{Modify=RTP/9{Error=430{\"unknown termination\"}}}}",
+        ),
+        (
+            b"Transaction=4{Context=*{AuditValue=*}}",
+            b"Reply=4{Context=*{Error=501{\"not served\"}}}",
+        ),
+        (
+            b"Transaction=5{Context=-{ServiceChange=ROOT{Services{Method=Restart}}}}",
+            b"Reply=5{Context=-{ServiceChange=ROOT{Error=501{\"not served\"}}}}",
+        ),
+    ];
+    let wrong = first_wrong_reply(rt.alloc(), Config::default(), &cases)?;
+    assert_eq!(rt; wrong, None);
+    Ok(())
+}
+
+#[test]
+fn makes_a_context_with_what_is_done(rt: HostRuntime) -> Result<(), Fail> {
+    let cases: [(&[u8], &[u8]); 3] = [
+        (
+            b"Transaction=5{Context=${Add=${Media{Local{v=0\nc=IN IP4 $\nm=audio $ RTP/AVP 18\n}}}}}",
+            b"Reply=5{Context=${Add=${Error=515{\"no media that can be served\"}}}}",
+        ),
+        (
+            b"Transaction=8{Context=${Modify=RTP/9,Add=$}}",
+            b"Reply=8{Context=${Modify=RTP/9{Error=430{\"unknown termination\"}}}}",
+        ),
+        (
+            b"Transaction=6{Context=${Add=$}}",
+            b"Reply=6{Context=1{Add=RTP/1}}",
+        ),
+    ];
+    let wrong = first_wrong_reply(rt.alloc(), Config::default(), &cases)?;
+    assert_eq!(rt; wrong, None);
+    Ok(())
+}
+
+#[test]
+fn limits_terminations(rt: HostRuntime) -> Result<(), Fail> {
+    let alloc = rt.alloc();
+    let one = Config {
+        slots: 1,
+        ..Config::default()
+    };
+    let cases: [(&[u8], &[u8]); 1] = [(
+        b"Transaction=1{Context=${Add=$,Add=$}}",
+        b"Reply=1{Context=1{Add=RTP/1,Add=${Error=432{\"no termination or port left\"}}}}",
+    )];
+    assert_eq!(rt; first_wrong_reply(alloc, one, &cases)?, None);
+    let mut adds = Vec::from_slice(alloc, b"Transaction=1{Context=${Add=$")?;
+    let mut done = Vec::from_slice(alloc, b"Reply=1{Context=1{Add=RTP/1")?;
+    for n in 2..33u8 {
+        adds.extend_from_slice(b",Add=$")?;
+        done.extend_from_slice(b",Add=RTP/")?;
+        if n >= 10 {
+            done.push(b'0' + n / 10)?;
         }
-        let (_, behind) = answer.split_at(26);
-        assert_eq!(rt; behind, replies);
+        done.push(b'0' + n % 10)?;
     }
+    adds.extend_from_slice(b"}}")?;
+    done.extend_from_slice(b"}}")?;
+    let cases: [(&[u8], &[u8]); 3] = [
+        (adds.as_slice(), done.as_slice()),
+        (
+            b"Transaction=2{Context=1{Add=$}}",
+            b"Reply=2{Context=1{Add=${Error=434{\"context full\"}}}}",
+        ),
+        (
+            b"Transaction=3{Context=${Move=RTP/5}}",
+            b"Reply=3{Context=2{Move=RTP/5}}",
+        ),
+    ];
+    let wrong = first_wrong_reply(alloc, Config::default(), &cases)?;
+    assert_eq!(rt; wrong, None);
     Ok(())
 }
 
@@ -134,10 +325,7 @@ fn limits_a_datagram(rt: HostRuntime) -> Result<(), Fail> {
         assert_eq!(rt; HEARTBEAT[closing], b'}');
         let (cut, _) = HEARTBEAT.split_at(closing);
         assert_eq!(rt; core.control(alloc, CONTROLLER, cut)?, Answer::Send);
-        assert_eq!(rt;
-            core.answer(),
-            b"MEGACO/1 [127.0.0.1]:2944\nError=400{\"syntax\"}".as_slice()
-        );
+        assert_eq!(rt; core.answer(), SYNTAX);
     }
     Ok(())
 }

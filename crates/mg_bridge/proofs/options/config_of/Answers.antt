@@ -1,7 +1,7 @@
 use Rattle.std.proofs.Common.{◌≡◌, refl, codes}
 use Rattle.std.specs.Str.Parse.{ParsesUnsigned, ExplainsUnsignedError, HasUnsignedDigitsIfOk}
 use Rattle.clap.specs.Words.{found_of}
-use Rattle.mg_core.specs.Config.{standard}
+use Rattle.mg_engine.specs.Config.{standard}
 use Rattle.mg_bridge.specs.Options.{config_in}
 use Rattle.mg_bridge.proofs.NumberLaws.{read_option}
 use Rattle.mg_bridge.proofs.options.config_of.Goals as goal

@@ -1,11 +1,12 @@
-use Rattle.std.proofs.Common.{◌≡◌, ◌+◌, ◌*◌, ◌≤◌, ◌++◌, [], drop, length}
+use Rattle.std.proofs.Common.{◌≡◌, ◌+◌, ◌*◌, ◌≤◌, [], drop, length}
 use Rattle.mg_text.specs.Message.{requests_in}
-use Rattle.mg_core.specs.Answer.{replies_text}
+use Rattle.mg_core.specs.Answer.{replied_to}
+use Rattle.mg_core.proofs.ReplyLaws.{IsUnderWay}
 use Rattle.mg_core.proofs.gateway.put_replies.Given as goal
 
 abbrev pub invariant-loop-item : goal.invariant-loop-item
 invariant-loop-item l = record {
-  text : l.answer.text ++ replies_text l.source l.mark (drop l.item-index l.items) ≡ l.initial.answer.text ++ replies_text l.source [] l.items;
+  ran : IsUnderWay l.initial.engine l.engine l.initial.answer.text l.answer.text (replied_to l.source [] l.items) (replied_to l.source l.mark (drop l.item-index l.items));
   room : 16001 * requests_in (drop l.item-index l.items) + length l.mark ≤ 1 + l.answer.room;
   total : l.answer.room + length l.answer.text ≡ l.initial.answer.room + length l.initial.answer.text;
 }

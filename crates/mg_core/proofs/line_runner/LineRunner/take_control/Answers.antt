@@ -2,7 +2,7 @@ use Rattle.std.proofs.Common.{◌++◌, ◌∙◌, Err, ap}
 use Rattle.mg_reply.specs.Bytes.{Written}
 use Rattle.mg_core.specs.Run.{answer_line}
 use Rattle.std.proofs.lemmas.Result.{err_from_is_err_and}
-use Rattle.mg_core.proofs.LineLaws.{silent_ran, sent_ran}
+use Rattle.mg_core.proofs.LineLaws.{silent_steps, sent_steps}
 use Rattle.mg_core.proofs.line_runner.LineRunner.take_control.Goals as goal
 
 pub returns-in_err-write_whole-in-Send-clause-value : goal.returns-in_err-write_whole-in-Send-clause-value
@@ -12,10 +12,11 @@ returns-in_err-write_whole-in-Send-clause-value g c =
     c.as_slice.ensures.value ∙ ap (λ (w : Written). w.text) c.push_answer.ensures.value
     ∙ ap (λ (w : Written). w.text ++ answer_line c.args.source c.answer.result.now) c.clear.ensures.value
     ∙ ap (answer_line c.args.source) c.answer.ensures.value in
-    rw (p.1, p.2) (sent_ran c.args.self.now.core.config c.args.source c.args.bytes.now c.control.new.self.answer c.as_slice.result.now
+    rw (p.1, p.2) (sent_steps c.args.self.now.core.config c.args.source c.args.bytes.now c.control.new.self.answer c.as_slice.result.now
+    c.args.self.now.core.engine c.control.new.self.engine
     (g.W.Write.contents c.args.writer.now) (g.W.Write.contents c.write_whole.new.writer) (Err c.in_err-write_whole-in-Send.field-0.0)
     (rw c.in-Send.is at c.in-Ok.ensures.answered) line c.in_err-write_whole-in-Send.ensures.value)
 
 pub returns-in-Silent-clause-value : goal.returns-in-Silent-clause-value
 returns-in-Silent-clause-value g c =
-    silent_ran c.args.self.now.core.config c.args.source c.args.bytes.now c.control.new.self.answer (g.W.Write.contents c.args.writer.now) (rw c.in-Silent.is at c.in-Ok.ensures.answered)
+    silent_steps c.args.self.now.core.config c.args.source c.args.bytes.now c.control.new.self.answer c.args.self.now.core.engine c.control.new.self.engine (g.W.Write.contents c.args.writer.now) (rw c.in-Silent.is at c.in-Ok.ensures.answered)

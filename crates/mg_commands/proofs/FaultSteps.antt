@@ -1,0 +1,48 @@
+-- One step of a walk over parts, each looked at with those before it.
+use Rattle.std.proofs.Common.{◌≡◌, ℕ, ◌+◌, ◌<◌, ◌≤◌, List, [], ◌∷◌, length, get_or, take, drop, Option, Some, None, refl, sym, ap, ◌∙◌}
+use Rattle.std.proofs.lemmas.List.{drop_more, drop_all, take_more}
+use Rattle.mg_reply.specs.declared.error_number.ErrorNumber.{ErrorNumber}
+use Rattle.std.proofs.Common.{false}
+use Rattle.std.specs.List.{list_any}
+use Rattle.mg_text.specs.declared.media.PropertyValue.{PropertyValue}
+use Rattle.mg_text.specs.declared.media.ControlPart.{ControlPart}
+use Rattle.mg_text.specs.declared.media.ControlPart.TheVariants as controls
+use Rattle.mg_scan.specs.declared.span.Span.{Span}
+use Rattle.mg_commands.specs.Faults.{first_fault, is_jitter, is_single, same_control}
+
+pub walk_next : {X : Type 0} (f : List X → X → Option ErrorNumber) (xs : List X) (i : ℕ) (d : X) → i < length xs → f (take i xs) (get_or xs i d) ≡ None → first_fault f (take (i + 1) xs) (drop (i + 1) xs) ≡ first_fault f (take i xs) (drop i xs)
+unfolding first_fault
+walk_next f xs i d lt e = rw (drop_more xs i d lt, take_more xs i d lt, e) refl
+
+pub walk_found : {X : Type 0} (f : List X → X → Option ErrorNumber) (xs : List X) (i : ℕ) (d : X) (fault : ErrorNumber) → i < length xs → f (take i xs) (get_or xs i d) ≡ Some fault → first_fault f (take i xs) (drop i xs) ≡ Some fault
+unfolding first_fault
+walk_found f xs i d fault lt e = rw (drop_more xs i d lt, e) refl
+
+-- the fault that was found is the first
+pub walk_hit : {X : Type 0} (f : List X → X → Option ErrorNumber) (xs : List X) (i : ℕ) (x d : X) (before : List X) (r w : Option ErrorNumber) (fault : ErrorNumber) → i < length xs → x ≡ get_or xs i d → before ≡ take i xs → r ≡ f before x → r ≡ Some fault → first_fault f (take i xs) (drop i xs) ≡ w → Some fault ≡ w
+walk_hit f xs i x d before r w fault lt is front called some h =
+    let one : f (take i xs) (get_or xs i d) ≡ Some fault = ap (f (take i xs)) (sym is) ∙ ap (λ (b : List _). f b x) (sym front) ∙ sym called ∙ some in
+    sym (walk_found f xs i d fault lt one) ∙ h
+
+pub walk_end : {X : Type 0} (f : List X → X → Option ErrorNumber) (xs : List X) (i : ℕ) → length xs ≤ i → first_fault f (take i xs) (drop i xs) ≡ None
+unfolding first_fault
+walk_end f xs i le = rw (drop_all i xs le) refl
+
+-- a property that may stand again is the same as none
+pub same_as_none : (source : List ℕ) (a : Span) (v : Option PropertyValue) (y : ControlPart) → is_jitter source a ≡ false → same_control source (controls.Property a v) y ≡ false
+same_as_none source a v (controls.Mode m) e = refl
+same_as_none source a v (controls.ReservedValue on) e = refl
+same_as_none source a v (controls.ReservedGroup on) e = refl
+same_as_none source a v (controls.Property b w) e = rw e refl
+
+pub others_stood : (source : List ℕ) (a : Span) (v : Option PropertyValue) (xs : List ControlPart) → is_jitter source a ≡ false → list_any (same_control source (controls.Property a v)) xs ≡ false
+others_stood source a v [] e = refl
+others_stood source a v (x ∷ xs) e = rw (same_as_none source a v x e, others_stood source a v xs e) refl
+
+pub stood_of_others : (source : List ℕ) (x : ControlPart) (xs : List ControlPart) → is_single source x ≡ false → list_any (same_control source x) xs ≡ false
+stood_of_others source (controls.Mode m) xs e = absurd (cc e)
+stood_of_others source (controls.ReservedValue on) xs e = absurd (cc e)
+stood_of_others source (controls.ReservedGroup on) xs e = absurd (cc e)
+stood_of_others source (controls.Property a v) xs e = others_stood source a v xs e
+
+pub ruleset walking = (walk_next, walk_found, walk_end)

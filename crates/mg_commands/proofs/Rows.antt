@@ -1,0 +1,92 @@
+-- What small requests come to, by computing.
+use Rattle.std.proofs.Common.{◌≡◌, ℕ, List, [], ◌∷◌, None, refl, codes, false}
+use Rattle.mg_scan.specs.declared.span.Span.{Span}
+use Rattle.mg_reply.specs.declared.command_word.CommandWord.{CommandWord}
+use Rattle.mg_reply.specs.declared.command_word.CommandWord.TheVariants.{Add, Modify, Move, Subtract}
+use Rattle.mg_reply.specs.declared.context_id.ContextId.{ContextId}
+use Rattle.mg_reply.specs.declared.context_id.ContextId.TheVariants.{Choose, Number}
+use Rattle.mg_reply.specs.declared.error_number.ErrorNumber.{ErrorNumber}
+use Rattle.mg_reply.specs.declared.error_number.ErrorNumber.TheVariants.{UnknownContext, UnknownTermination, NoTerminationLeft, AlreadyInContext}
+use Rattle.mg_reply.specs.declared.item.Item.{Item}
+use Rattle.mg_reply.specs.declared.item.Item.TheVariants as items
+use Rattle.mg_reply.specs.declared.outcome.Outcome.TheVariants.{Failed, Done}
+use Rattle.mg_reply.specs.Term.{rtp_name}
+use Rattle.mg_rooms.specs.Outcome.{add, modify, move_to, subtract}
+use Rattle.mg_engine.specs.Config.{standard}
+use Rattle.mg_engine.specs.World.{World, start_of}
+use Rattle.mg_text.specs.declared.command.Command.{Command}
+use Rattle.mg_text.specs.declared.descriptor.Descriptor.{Descriptor}
+use Rattle.mg_text.specs.declared.descriptor.Descriptor.TheVariants.{Audit}
+use Rattle.mg_text.specs.declared.request.Request.{Request}
+use Rattle.mg_commands.specs.Asked.{with_descriptors}
+use Rattle.mg_commands.specs.Faults.{first_fault}
+use Rattle.mg_commands.specs.Name.{name_of, behind_rtp, name_in_rtp, written_name}
+use Rattle.mg_commands.specs.Outcome.{outcome}
+use Rattle.mg_commands.specs.Properties.{first_of}
+use Rattle.mg_commands.specs.Transaction.{replied, with_actions, with_action, with_commands}
+
+abbrev source : List ℕ
+source = codes "$RTP/1RTP/2RTP/9"
+
+abbrev choose : Span
+choose = record { start = 0; end = 1 }
+
+abbrev first : Span
+first = record { start = 1; end = 6 }
+
+abbrev second : Span
+second = record { start = 6; end = 11 }
+
+abbrev ninth : Span
+ninth = record { start = 11; end = 16 }
+
+abbrev command : CommandWord → Span → List Descriptor → Command
+command word term xs = record { word = word; is_optional = false; wants_wildcard = false; term = term; descriptors = xs }
+
+abbrev request : ContextId → List Command → Request
+request context cs = record { number = 1; actions = record { context = context; properties = []; commands = cs } ∷ [] }
+
+abbrev after : World → ContextId → List Command → World
+after w context cs = (replied source (request context cs) w).world
+
+abbrev told : World → ContextId → List Command → List Item
+told w context cs = (replied source (request context cs) w).reply.items
+
+abbrev begun : World
+begun = start_of standard
+
+abbrev added : Command
+added = command Add choose []
+
+abbrev done : CommandWord → List ℕ → Item
+done word term = items.Command word term (Done (record { media = None; statistics = None }))
+
+abbrev failed : CommandWord → List ℕ → ErrorNumber → Item
+failed word term e = items.Command word term (Failed e)
+
+abbrev one_member : World
+one_member = after begun Choose (added ∷ [])
+
+two_terminations_enter_one_context : told begun Choose (added ∷ added ∷ []) ≡ done Add (rtp_name 1) ∷ done Add (rtp_name 2) ∷ items.Action (Number 1) ∷ []
+unfolding with_actions with_action with_commands outcome add name_of behind_rtp name_in_rtp first_fault first_of with_descriptors
+two_terminations_enter_one_context = refl
+
+an_unknown_name_ends_the_request : told begun Choose (command Modify ninth [] ∷ added ∷ []) ≡ failed Modify (rtp_name 9) UnknownTermination ∷ items.Action Choose ∷ []
+unfolding with_actions with_action with_commands outcome add modify name_of behind_rtp name_in_rtp written_name first_fault first_of with_descriptors
+an_unknown_name_ends_the_request = refl
+
+one_slot_is_used_up : told (start_of (record standard { slots = 1 })) Choose (added ∷ added ∷ []) ≡ done Add (rtp_name 1) ∷ failed Add (codes "$") NoTerminationLeft ∷ items.Action (Number 1) ∷ []
+unfolding with_actions with_action with_commands outcome add name_of behind_rtp name_in_rtp written_name first_fault first_of with_descriptors
+one_slot_is_used_up = refl
+
+a_context_ends_with_its_last_member : told one_member (Number 1) (command Subtract first (Audit [] ∷ []) ∷ added ∷ []) ≡ done Subtract (rtp_name 1) ∷ failed Add (codes "$") UnknownContext ∷ items.Action (Number 1) ∷ []
+unfolding with_actions with_action with_commands outcome add subtract name_of behind_rtp name_in_rtp written_name first_fault first_of with_descriptors
+a_context_ends_with_its_last_member = refl
+
+an_ended_context_stays_the_action_s : told (after one_member (Number 1) (command Subtract first [] ∷ [])) Choose (added ∷ command Subtract second (Audit [] ∷ []) ∷ added ∷ []) ≡ done Add (rtp_name 2) ∷ done Subtract (rtp_name 2) ∷ failed Add (codes "$") UnknownContext ∷ items.Action (Number 2) ∷ []
+unfolding with_actions with_action with_commands outcome add subtract name_of behind_rtp name_in_rtp written_name first_fault first_of with_descriptors
+an_ended_context_stays_the_action_s = refl
+
+a_member_cannot_move_to_its_context : told one_member (Number 1) (command Move first [] ∷ []) ≡ failed Move (rtp_name 1) AlreadyInContext ∷ items.Action (Number 1) ∷ []
+unfolding with_actions with_action with_commands outcome add move_to name_of behind_rtp name_in_rtp written_name first_fault first_of with_descriptors
+a_member_cannot_move_to_its_context = refl

@@ -1,0 +1,115 @@
+//! What is looked at before a command is done. Nothing is changed here.
+
+ghost use Rattle.std.specs.Prelude.{◌≡◌};
+ghost use Rattle.mg_engine.specs.World.{World};
+ghost use Rattle.mg_engine.specs.Stands.{StandsFor};
+ghost use Rattle.mg_commands.specs.Outcome.{error_of, is_served_word, is_served, if_served, unless, descriptors_checked, checked, to_be_made, number_in};
+
+use crate::asked::{Asked, asked_of};
+use crate::faults::descriptors_fault;
+use crate::name::Name;
+use crate::properties::properties_fault;
+use mg_engine::{Engine, Refusal};
+use mg_text::{Command, CommandWord, Descriptor, ErrorNumber};
+
+/// The error number of a refusal.
+pub fn error_of(refusal: Refusal) -> ErrorNumber
+    ensures value { result ≡ error_of refusal }
+{
+    match refusal {
+        Refusal::UnknownContext => ErrorNumber::UnknownContext,
+        Refusal::NoContextLeft => ErrorNumber::NoContextLeft,
+        Refusal::UnknownTermination => ErrorNumber::UnknownTermination,
+        Refusal::NoTerminationLeft => ErrorNumber::NoTerminationLeft,
+        Refusal::AlreadyInContext => ErrorNumber::AlreadyInContext,
+        Refusal::ContextFull => ErrorNumber::ContextFull,
+        Refusal::NotInContext => ErrorNumber::NotInContext,
+        Refusal::NoMedia => ErrorNumber::NoMedia,
+    }
+}
+
+fn is_served_word(word: CommandWord) -> bool
+    ensures value { result ≡ is_served_word word }
+{
+    match word {
+        CommandWord::Add
+        | CommandWord::Modify
+        | CommandWord::Move
+        | CommandWord::Subtract
+        | CommandWord::AuditValue => true,
+        CommandWord::AuditCapability | CommandWord::Notify | CommandWord::ServiceChange => false,
+    }
+}
+
+/// Whether a command is served at all. For now an optional one isn't, nor one for all terminations; one reply for
+/// all that match never is.
+fn is_served(name: Name, command: &Command) -> bool
+    ensures value { result ≡ is_served name command.now }
+{
+    !(!is_served_word(command.word)
+        || command.wants_wildcard
+        || command.is_optional
+        || matches!(name, Name::All))
+}
+
+fn if_served(is_served: bool) -> Result<(), ErrorNumber>
+    ensures value { result ≡ if_served is_served }
+{
+    if is_served {
+        Ok(())
+    } else {
+        Err(ErrorNumber::NotServed)
+    }
+}
+
+fn unless(fault: Option<ErrorNumber>) -> Result<(), ErrorNumber>
+    ensures value { result ≡ unless fault }
+{
+    match fault {
+        Some(number) => Err(number),
+        None => Ok(()),
+    }
+}
+
+/// What descriptors ask for, if they are served.
+fn descriptors_checked(source: &[u8], descriptors: &[Descriptor]) -> Result<Asked, ErrorNumber>
+    ensures value { result ≡ descriptors_checked source.now descriptors.now }
+{
+    unless(descriptors_fault(source, descriptors))?;
+    unless(properties_fault(source, descriptors))?;
+    Ok(asked_of(source, descriptors))
+}
+
+/// What a command asks for, if its text is served.
+pub fn checked(source: &[u8], name: Name, command: &Command) -> Result<Asked, ErrorNumber>
+    ensures value { result ≡ checked source.now name command.now }
+{
+    if_served(is_served(name, command))?;
+    descriptors_checked(source, command.descriptors.as_slice())
+}
+
+/// That an Add names a termination to be made, and none by its name.
+pub fn to_be_made(engine: &Engine, name: Name) -> Result<(), ErrorNumber>
+    ensures value { (w : World) → StandsFor engine.now w → result ≡ to_be_made w name }
+{
+    match name {
+        Name::Choose => Ok(()),
+        Name::Root | Name::All => Err(ErrorNumber::IdentifierNotAllowed),
+        Name::Number(number) => match engine.rooms().record(number) {
+            Some(_) => Err(ErrorNumber::AlreadyInContext),
+            None => Err(ErrorNumber::UnknownTermination),
+        },
+        Name::Other => Err(ErrorNumber::UnknownTermination),
+    }
+}
+
+/// The number of the termination that a command names.
+pub fn number_in(name: Name) -> Result<u32, ErrorNumber>
+    ensures value { result ≡ number_in name }
+{
+    match name {
+        Name::Choose | Name::Root | Name::All => Err(ErrorNumber::IdentifierNotAllowed),
+        Name::Number(number) => Ok(number),
+        Name::Other => Err(ErrorNumber::UnknownTermination),
+    }
+}

@@ -1,0 +1,11 @@
+use Rattle.std.proofs.Common.{◌++◌, ◌∙◌, ap, append_assoc}
+use Rattle.mg_reply.specs.Bytes.{Written}
+use Rattle.mg_core.specs.Answer.{sent_text}
+use Rattle.mg_core.proofs.ReplyLaws.{request_put}
+use Rattle.mg_core.proofs.gateway.put_item.Goals as goal
+
+pub returns-in-Request-clause-ran : goal.returns-in-Request-clause-ran
+returns-in-Request-clause-ran c =
+    let sent = sent_text c.transaction.new.reply in
+    let text = ap (λ (w : Written). w.text) c.put_reply.ensures.text ∙ ap (λ (w : Written). w.text ++ sent) c.push.ensures.value ∙ append_assoc c.args.answer.now.text c.args.mark.now sent in
+    rw c.in-Request.is (request_put c.args.source.now c.args.mark.now c.in-Request.request c.args.engine.now c.transaction.new.engine c.transaction.new.reply c.args.answer.now.text c.put_reply.new.answer.text c.transaction.ensures.ran text)

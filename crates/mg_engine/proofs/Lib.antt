@@ -1,0 +1,3 @@
+pub mod PortLaws
+pub mod OutcomeLaws
+pub mod StandsLaws

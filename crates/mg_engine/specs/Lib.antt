@@ -1,0 +1,4 @@
+pub mod Config
+pub mod World
+pub mod Outcome
+pub mod Stands

@@ -1,0 +1,89 @@
+ghost use Rattle.std.specs.Prelude.{◌≡◌, ◌↔◌, IsTrue};
+
+use mg_rooms::Limits;
+
+/// What a gateway is started with. Its media ports are the pool of even ports `base_port`, `base_port + 2`,
+/// .. up to `base_port + 2 * (slots - 1)`.
+#[derive(Clone, Copy, Debug, PartialEq, Eq)]
+pub struct Config {
+    /// The IPv4 address that the gateway tells in its answers.
+    pub address: [u8; 4],
+    /// The UDP port for control messages.
+    pub control_port: u16,
+    /// The first UDP port for media.
+    pub base_port: u16,
+    /// How many media ports there are, from 1 to 128.
+    pub slots: u16,
+    /// The number of the first termination.
+    pub first_termination: u32,
+    /// The number of the first context.
+    pub first_context: u32,
+    /// The SSRC of termination n is this plus n.
+    pub ssrc: u32,
+    /// The sequence number of a termination's first packet.
+    pub sequence: u16,
+    /// The timestamp of a termination's first tick.
+    pub timestamp: u32,
+}
+
+impl Default for Config {
+    ghost use Rattle.std.specs.Prelude.{◌≡◌};
+    ghost use Rattle.mg_engine.specs.Config.{standard};
+
+    ghost is_default = { λ config. config ≡ standard };
+
+    fn default() -> Self {
+        Config {
+            address: [127, 0, 0, 1],
+            control_port: 2944,
+            base_port: 30000,
+            slots: 128,
+            first_termination: 1,
+            first_context: 1,
+            ssrc: 0,
+            sequence: 0,
+            timestamp: 0,
+        }
+    }
+}
+
+impl Config {
+    ghost use Rattle.mg_engine.specs.Config.{IsSound, HasControlPort, limits_of};
+
+    /// Whether a gateway can be started with it: the pool of media ports is not empty, even, and within the
+    /// ports that there are, the control port is not one of them, and the first numbers are in range.
+    pub fn is_sound(&self) -> bool
+        ensures value { IsTrue result ↔ IsSound self.now }
+    {
+        self.limits().is_valid() && self.has_control_port()
+    }
+
+    /// What terminations and contexts are made within.
+    pub fn limits(&self) -> Limits
+        ensures value { result ≡ limits_of self.now }
+    {
+        Limits {
+            address: self.address,
+            base_port: self.base_port,
+            slots: self.slots,
+            first_termination: self.first_termination,
+            first_context: self.first_context,
+        }
+    }
+
+    fn has_control_port(&self) -> bool
+        ensures value { IsTrue result ↔ HasControlPort self.now }
+    {
+        if self.control_port == 0 {
+            return false;
+        }
+        if self.control_port < self.base_port {
+            return true;
+        }
+        let behind = self.control_port - self.base_port;
+        if behind % 2 == 1 {
+            return true;
+        }
+        behind / 2 >= self.slots
+    }
+}

@@ -1,0 +1,28 @@
+use mg_rooms::{Settings, Target};
+
+/// What a command asks of the gateway, with the action's context as its target (RFC 3525, section 7.2).
+#[derive(Debug, Drop)]
+pub enum Edit {
+    /// Makes a termination in the context.
+    Add {
+        target: Target,
+        settings: Settings,
+    },
+    /// Changes a member of the context.
+    Modify {
+        target: Target,
+        number: u32,
+        settings: Settings,
+    },
+    /// Takes a termination into the context, out of the one that it is in.
+    Move {
+        target: Target,
+        number: u32,
+        settings: Settings,
+    },
+    /// Ends a member of the context.
+    Subtract {
+        target: Target,
+        number: u32,
+    },
+}

@@ -1,0 +1,23 @@
+use std::alloc::AllocError;
+use thiserror::Error;
+
+/// Why a gateway was not started.
+#[derive(Clone, Copy, Debug, PartialEq, Eq, Error)]
+pub enum StartFault {
+    /// The configuration isn't sound, as `Config::is_sound` tells.
+    #[error("bad configuration")]
+    BadConfig,
+    #[error("no memory")]
+    NoMemory,
+}
+
+impl From<AllocError> for StartFault {
+    ghost use Rattle.std.specs.Prelude.{◌≡◌};
+    ghost use Rattle.mg_engine.specs.declared.fault.StartFault.TheVariants as faults;
+
+    ghost from_gives = { λ _ e. e ≡ faults.NoMemory };
+
+    fn from(_value: AllocError) -> Self {
+        StartFault::NoMemory
+    }
+}

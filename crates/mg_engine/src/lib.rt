@@ -1,0 +1,34 @@
+//! The state of a conference media gateway: its terminations and contexts, and what edits do to them.
+//!
+//! An [`Engine`] takes all its memory when it is made. A controller's commands come to it as [`Edit`]s, each of which
+//! is done or refused with a [`Refusal`](mg_rooms::Refusal), and a refused one changes nothing:
+//!
+//! ```rust
+//! let mut engine = Engine::new(alloc, Config::default())?;
+//! let edit = Edit::Add { target: Target::New, settings: Settings::default() };
+//! let done = engine.edit(&edit)?;
+//! assert_eq!(rt; engine.rooms().members(done.context), [done.termination].as_slice());
+//! ```
+//!
+//! The engine keeps no history, and what it keeps may be shorter than what it stands for. So its contracts speak of
+//! each `World` (`specs/World.antt`) that it stood for before a call, and say which one it stands for afterwards
+//! (`StandsFor` in `specs/Stands.antt`).
+#![tactic(auto)]
+
+mod config;
+mod edit;
+mod engine;
+mod fault;
+mod stats;
+#[cfg(test)]
+mod tests;
+
+pub use crate::config::Config;
+pub use crate::edit::Edit;
+pub use crate::engine::Engine;
+pub use crate::fault::StartFault;
+pub use crate::stats::Stats;
+pub use mg_rooms::{
+    Done, Limits, MediaSetting, Mode, Record, Refusal, Rooms, Settings, Target, mode_listens,
+    mode_talks,
+};

@@ -5,7 +5,8 @@ use Rattle.std.proofs.lemmas.Bool.Decides.{nat_tests}
 use Rattle.mg_topology.specs.declared.mask.TheConstants.{MEMBERS}
 use Rattle.mg_topology.specs.declared.triple.Triple.{Triple}
 use Rattle.mg_topology.specs.Mask.{has_seat}
-use Rattle.mg_topology.specs.Triple.{speaks_of, word_of, word_after}
+use Rattle.mg_topology.specs.Triple.{speaks_of, word_of}
+use Rattle.mg_topology.specs.aids.Word.{word_after}
 use Rattle.mg_topology.specs.Edits.{Edit, Enter, Leave, Apply, is_held, last_word, allows, lets_hear, apply_all}
 use Rattle.mg_topology.specs.Topology.{Kept, holds, hears, StandsFor}
 use Rattle.mg_topology.proofs.MaskLemmas.{has_seat-inside}

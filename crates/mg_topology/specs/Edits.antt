@@ -1,5 +1,5 @@
--- The edits of one context, newest first, and what they say of its seats (RFC 3525, section 7.1.18).
--- That a newcomer and each member hear each other is this project's own rule.
+-- The edits of one context, newest first, and what they say of its seats (RFC 3525, section
+-- 7.1.18). That a newcomer and each member hear each other is this project's own rule.
 use Rattle.std.specs.Prelude.{ℕ, Bool, true, false, not, ◌&&◌, ◌||◌, ◌==◌, Option, Some, None, if◌then◌else◌, List, [], ◌∷◌}
 use Rattle.mg_topology.specs.Triple.{speaks_of, word_of}
 use Rattle.mg_topology.specs.declared.triple.Triple.{Triple}
@@ -36,7 +36,8 @@ lets_hear es listener talker = allows (last_word es listener talker) listener ta
 -- whether the listener hears the talker: both are held, they differ, and the last word lets it
 abbrev pub hears_in : List Edit → ℕ → ℕ → Bool
 hears_in es listener talker =
-    is_held es listener && (is_held es talker && (not (listener == talker) && lets_hear es listener talker))
+    is_held es listener
+    && (is_held es talker && (not (listener == talker) && lets_hear es listener talker))
 
 -- the edits, and then the triples in order
 abbrev pub apply_all : List Triple → List Edit → List Edit

@@ -1,11 +1,23 @@
 -- A set of seats as the bits of a number (this project's own).
-use Rattle.std.specs.Prelude.{ℕ, ◌<◌, Bool, ◌==◌, bit_and, IsTrue, IsFalse}
+use Rattle.std.specs.Prelude.{ℕ, ◌<◌, Bool, ◌==◌, bit_and, List, length, IsTrue, IsFalse}
 use Rattle.std.specs.Int.{bit_at}
-use Rattle.mg_topology.specs.declared.mask.TheConstants.{MEMBERS}
+use Rattle.std.specs.List.{filter, range_with_len}
+
+-- Seats are the numbers below it: a context has at most so many members, and a mask so many bits.
+abbrev pub seat_limit : ℕ
+seat_limit = 32
 
 -- whether the seat is in the set: bit s stands for seat s
 unfoldable pub has_seat : ℕ → ℕ → Bool
 has_seat mask seat = bit_at mask seat == 1
+
+-- the seats of the set, in rising order
+unfoldable pub seats_of : ℕ → List ℕ
+seats_of mask = filter (has_seat mask) (range_with_len 0 seat_limit)
+
+-- how many seats the set has
+abbrev pub seat_count : ℕ → ℕ
+seat_count mask = length (seats_of mask)
 
 -- whether no seat is in both sets
 unfoldable pub is_disjoint : ℕ → ℕ → Bool
@@ -23,6 +35,6 @@ IsEmpty mask = (seat : ℕ) → IsFalse (has_seat mask seat)
 
 -- the seat is the lowest of the set
 pub record IsLowest (mask seat : ℕ) : Type 0 where
-  pub below_limit : seat < MEMBERS
+  pub below_limit : seat < seat_limit
   pub is_in : IsTrue (has_seat mask seat)
   pub is_least : (s : ℕ) → s < seat → IsFalse (has_seat mask s)

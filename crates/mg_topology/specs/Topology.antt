@@ -1,8 +1,7 @@
 -- What a topology is seen as, and which lists of edits it stands for (this project's own).
 use Rattle.std.specs.Prelude.{◌≡◌, ℕ, Bool, not, ◌&&◌, ◌==◌, nat_lt, List, slice_index}
-use Rattle.mg_topology.specs.Mask.{has_seat}
+use Rattle.mg_topology.specs.Mask.{seat_limit, has_seat}
 use Rattle.mg_topology.specs.Edits.{Edit, is_held, hears_in}
-use Rattle.mg_topology.specs.declared.mask.TheConstants.{MEMBERS}
 
 -- what is kept: the held seats as a mask, and for each listener a row, the mask of those that its
 -- last words let it hear. What a row says of itself or of a seat that is not held means nothing.
@@ -10,15 +9,16 @@ pub record Kept : Type 0 where
   pub held : ℕ
   pub rows : List ℕ
 
--- whether the seat is held; none is from the member limit on
+-- whether the seat is held; none is from the seat limit on
 abbrev pub holds : Kept → ℕ → Bool
-holds kept seat = nat_lt seat MEMBERS && has_seat kept.held seat
+holds kept seat = nat_lt seat seat_limit && has_seat kept.held seat
 
 -- whether the listener hears the talker: both are held, they differ, and the row has the talker
 abbrev pub hears : Kept → ℕ → ℕ → Bool
 hears kept listener talker =
     holds kept listener
-    && (holds kept talker && (not (listener == talker) && has_seat (slice_index kept.rows listener) talker))
+    && (holds kept talker
+    && (not (listener == talker) && has_seat (slice_index kept.rows listener) talker))
 
 -- what is kept agrees with the edits, for each seat and for each pair
 pub record StandsFor (kept : Kept) (es : List Edit) : Type 0 where

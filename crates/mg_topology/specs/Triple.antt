@@ -1,11 +1,12 @@
 -- What one triple of a topology descriptor says (RFC 3525, section 7.1.18).
-use Rattle.std.specs.Prelude.{◌≡◌, ℕ, Bool, true, false, ◌&&◌, ◌||◌, not, if◌then◌else◌}
+use Rattle.std.specs.Prelude.{◌≡◌, ℕ, Bool, true, false, ◌&&◌, ◌||◌, not}
 use Rattle.mg_topology.specs.Mask.{has_seat, is_disjoint, HaveCommonSeat}
 use Rattle.mg_topology.specs.declared.triple.Triple.{Triple}
 use Rattle.mg_topology.specs.declared.association.Association.{Association}
 use Rattle.mg_topology.specs.declared.association.Association.TheVariants.{Isolate, Oneway, Bothway}
 
--- the triple's own direction leads from the talker to the listener: from its first set to its second
+-- the triple's own direction leads from the talker to the listener, from its first set to its
+-- second
 abbrev pub leads : Triple → ℕ → ℕ → Bool
 leads triple talker listener = has_seat triple.first talker && has_seat triple.second listener
 
@@ -22,11 +23,6 @@ lets Bothway forward = true
 -- what a triple says of a pair that it speaks of: whether the listener hears the talker
 abbrev pub word_of : Triple → ℕ → ℕ → Bool
 word_of triple listener talker = lets triple.association (leads triple talker listener)
-
--- what holds of a pair after the triple, by what held before
-abbrev pub word_after : Triple → ℕ → ℕ → Bool → Bool
-word_after triple listener talker before =
-    if speaks_of triple listener talker then word_of triple listener talker else before
 
 -- a Oneway triple has a seat in both of its sets
 abbrev pub Overlaps : Triple → Type 0

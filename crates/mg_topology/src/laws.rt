@@ -3,12 +3,13 @@
 //! Each function here does nothing, and its contract is the law. A crate above calls one where a
 //! proof needs what it says. The lists of edits stand newest first.
 
-ghost use Rattle.std.specs.Prelude.{◌≡◌, ◌≢◌, ℕ, ◌<◌, ◌≤◌, ◌^◌, ◌∷◌, ◌++◌, ◌==◌, ◌||◌, ◌↔◌, List, Some, IsTrue, IsFalse, Any};
-ghost use Rattle.std.specs.List.{list_any};
+ghost use Rattle.std.specs.Prelude.{◌≡◌, ◌≢◌, ℕ, ◌<◌, ◌≤◌, ◌^◌, [], ◌∷◌, ◌++◌, ◌==◌, ◌||◌, ◌↔◌, Bool, List, Some, IsTrue, IsFalse, Any, Contains};
+ghost use Rattle.std.specs.List.{list_any, filter, range_with_len};
+ghost use Rattle.std.specs.List.Sorted.{IsStrictlyIncreasing};
 ghost use Rattle.mg_topology.specs.declared.triple.Triple.{Triple};
 ghost use Rattle.mg_topology.specs.declared.association.Association.TheVariants.{Isolate, Oneway, Bothway};
 ghost use Rattle.mg_topology.specs.declared.mask.TheConstants.{EMPTY, FULL, MEMBERS};
-ghost use Rattle.mg_topology.specs.Mask.{has_seat, IsEmpty};
+ghost use Rattle.mg_topology.specs.Mask.{seat_limit, has_seat, seats_of, seat_count, IsEmpty};
 ghost use Rattle.mg_topology.specs.Triple.{leads, speaks_of, overlaps, Overlaps};
 ghost use Rattle.mg_topology.specs.Edits.{Edit, Enter, Leave, Apply, is_held, last_word, lets_hear, hears_in, touches};
 
@@ -89,4 +90,17 @@ pub fn masks_are_sets()
     ensures above { (mask seat : ℕ) → mask < 2 ^ MEMBERS → MEMBERS ≤ seat →
         IsFalse (has_seat mask seat) }
     ensures same { (a b : ℕ) → ((seat : ℕ) → has_seat a seat ≡ has_seat b seat) → a ≡ b }
+{}
+
+/// The list of a mask's seats has each of them and no other, in rising order, so it has at most as
+/// many as there are seats. Whatever tells the same of each seat as the mask gives the same list.
+pub fn seats_are_listed()
+    ensures seats { (mask seat : ℕ) →
+        Contains (seats_of mask) seat ↔ ((seat < seat_limit) × IsTrue (has_seat mask seat)) }
+    ensures rising { (mask : ℕ) → IsStrictlyIncreasing (seats_of mask) }
+    ensures count { (mask : ℕ) → seat_count mask ≤ seat_limit }
+    ensures empty { (mask : ℕ) → IsEmpty mask → seats_of mask ≡ [] }
+    ensures test { (mask : ℕ) (is_in : ℕ → Bool) →
+        ((seat : ℕ) → seat < seat_limit → has_seat mask seat ≡ is_in seat) →
+        seats_of mask ≡ filter is_in (range_with_len 0 seat_limit) }
 {}

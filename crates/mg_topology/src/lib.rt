@@ -31,6 +31,7 @@ mod association;
 pub mod laws;
 pub mod mask;
 mod overlap;
+mod seats;
 #[cfg(test)]
 mod tests;
 mod topology;
@@ -39,5 +40,6 @@ mod triple;
 pub use association::Association;
 pub use mask::{MEMBERS, Mask};
 pub use overlap::Overlap;
+pub use seats::Seats;
 pub use topology::Topology;
 pub use triple::Triple;

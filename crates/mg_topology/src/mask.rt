@@ -1,17 +1,21 @@
 //! Sets of seats as bits: bit s of a [`Mask`] is 1 where seat s is in the set.
 //!
 //! A mask is a plain number, as its users want to print, store and compare it as one. Still, it
-//! can't be taken for a seat, since a seat is a `usize`. Contracts read a mask only by the one test
-//! `has_seat` of `specs/Mask.antt`, so no code or proof outside this module deals with bits.
+//! can't be taken for a seat, since a seat is a `usize`. Contracts read a mask only by the test
+//! `has_seat` of `specs/Mask.antt` and by the list `seats_of`, so no code or proof outside this
+//! module deals with bits.
 
-ghost use Rattle.std.specs.Prelude.{◌≡◌, ℕ, ◌<◌, ◌≤◌, ◌&&◌, ◌||◌, ◌==◌, ◌↔◌, not, true, false, IsTrue, IsFalse, IfSome, IfNone, if◌then◌else◌};
-ghost use Rattle.mg_topology.specs.Mask.{has_seat, is_disjoint, HaveCommonSeat, IsLowest, IsEmpty};
+ghost use Rattle.std.specs.Prelude.{◌≡◌, ℕ, ◌+◌, ◌<◌, ◌≤◌, ◌∷◌, ◌&&◌, ◌||◌, ◌==◌, ◌↔◌, not, true, false, IsTrue, IsFalse, IfSome, IfNone, All, length, if◌then◌else◌};
+ghost use Rattle.mg_topology.specs.Mask.{seat_limit, has_seat, seats_of, seat_count, is_disjoint, HaveCommonSeat, IsLowest, IsEmpty};
+
+use crate::seats::Seats;
 
 /// A set of seats, one bit for each of [`MEMBERS`]. This line alone sets its width.
 pub type Mask = u32;
 
-/// How many members a context has at most: a seat is a number below it.
-pub const MEMBERS: usize = 32;
+/// How many members a context has at most, which is as many as a mask has bits: a seat is a number
+/// below it.
+pub const MEMBERS: usize = Mask::BITS as usize;
 
 /// The set without a seat.
 pub const EMPTY: Mask = 0;
@@ -48,8 +52,10 @@ pub fn without_seat(mask: Mask, seat: usize) -> Mask
     requires { seat < MEMBERS }
     ensures seats { (s : ℕ) → has_seat result s ≡ (if s == seat then false else has_seat mask s) }
 
-    // So a walk that takes seat after seat away ends.
+    // So a walk that takes seat after seat away ends, after as many steps as the set has seats.
     ensures smaller { IsTrue (has_seat mask seat) → result < mask }
+    ensures fewer { IsTrue (has_seat mask seat) → seat_count mask ≡ seat_count result + 1 }
+    ensures rest { IsLowest mask seat → seats_of mask ≡ seat ∷ seats_of result }
 {
     difference(mask, of_seat(seat))
 }
@@ -96,9 +102,17 @@ pub fn is_disjoint(a: Mask, b: Mask) -> bool
     intersection(a, b) == EMPTY
 }
 
-/// The lowest seat of the set, if it has one.
-///
-/// To walk a set, take its lowest seat away, by [`without_seat`], until there is none.
+/// The seats of the set, in rising order. The walk has as many steps as the set has seats.
+pub fn seats(mask: Mask) -> Seats
+    ensures value { result ≡ seats_of mask }
+    ensures each { All (λ seat. (seat < seat_limit) × IsTrue (has_seat mask seat)) result }
+    ensures at_most { length result ≤ seat_limit }
+{
+    Seats::new(mask)
+}
+
+/// The lowest seat of the set, if it has one. To walk a set that changes on the way, take its
+/// lowest seat away, by [`without_seat`], until there is none.
 pub fn first_seat(mask: Mask) -> Option<usize>
     ensures some { IfSome result (λ seat. IsLowest mask seat) }
     ensures none { IfNone result (IsEmpty mask) }

@@ -102,3 +102,14 @@ fn masks(rt: HostRuntime) {
     assert_eq!(rt; mask::first_seat(0b1100), Some(2));
     assert_eq!(rt; mask::first_seat(mask::EMPTY), None);
 }
+
+#[test]
+fn walk_gives_each_seat_in_rising_order(rt: HostRuntime) {
+    let mut seats = mask::seats(0b1000_0110);
+    assert_eq!(rt; seats.next(), Some(1));
+    assert_eq!(rt; seats.next(), Some(2));
+    assert_eq!(rt; seats.next(), Some(7));
+    assert_eq!(rt; seats.next(), None);
+    assert_eq!(rt; mask::seats(mask::FULL).count(), 32);
+    assert_eq!(rt; mask::seats(mask::EMPTY).count(), 0);
+}

@@ -1,7 +1,8 @@
 ghost use Rattle.std.specs.Prelude.{◌≡◌, ℕ, ◌<◌, ◌↔◌, ◌∷◌, [], List, true, false, slice_index, if◌then◌else◌, ◌==◌, Any, IsTrue, IsFalse, IsErr, OnOk, OnErr};
 ghost use Rattle.std.specs.List.{list_any};
 ghost use Rattle.mg_topology.specs.Mask.{has_seat};
-ghost use Rattle.mg_topology.specs.Triple.{overlaps, word_after, Overlaps};
+ghost use Rattle.mg_topology.specs.Triple.{overlaps, Overlaps};
+ghost use Rattle.mg_topology.specs.aids.Word.{word_after};
 
 use crate::mask::{self, MEMBERS, Mask};
 use crate::{Overlap, Triple};
@@ -61,7 +62,10 @@ impl Topology {
     pub fn enter(&mut self, seat: usize)
         requires below_limit { seat < MEMBERS }
         requires free { IsFalse (holds self.old seat) }
-        ensures { (es : List Edit) → StandsFor self.old es → StandsFor self.new (Enter seat ∷ es) }
+        ensures edits { (es : List Edit) → StandsFor self.old es →
+            StandsFor self.new (Enter seat ∷ es) }
+        ensures seats { (s : ℕ) →
+            holds self.new s ≡ (if s == seat then true else holds self.old s) }
     {
         self.held = mask::with_seat(self.held, seat);
         let_all_hear(&mut self.rows, seat);
@@ -71,7 +75,10 @@ impl Topology {
     /// The member on the seat leaves. Nothing changes between the others.
     pub fn leave(&mut self, seat: usize)
         requires held { IsTrue (holds self.old seat) }
-        ensures { (es : List Edit) → StandsFor self.old es → StandsFor self.new (Leave seat ∷ es) }
+        ensures edits { (es : List Edit) → StandsFor self.old es →
+            StandsFor self.new (Leave seat ∷ es) }
+        ensures seats { (s : ℕ) →
+            holds self.new s ≡ (if s == seat then false else holds self.old s) }
     {
         self.held = mask::without_seat(self.held, seat);
     }
@@ -82,6 +89,7 @@ impl Topology {
         ensures overlap { IsErr result ↔ Any Overlaps triples.now }
         ensures ok { OnOk result ((es : List Edit) → StandsFor self.old es →
             StandsFor self.new (apply_all triples.now es)) }
+        ensures seats { (seat : ℕ) → holds self.new seat ≡ holds self.old seat }
         ensures err { OnErr result (self.new ≡ self.old) }
     {
         if any_overlaps(triples) {
@@ -95,7 +103,9 @@ impl Topology {
 
     #[tactic(auto, using(crate::proofs::TopologyLemmas::apply_stands))]
     fn apply_one(&mut self, triple: &Triple)
-        ensures { (es : List Edit) → StandsFor self.old es → StandsFor self.new (Apply triple.now ∷ es) }
+        ensures edits { (es : List Edit) → StandsFor self.old es →
+            StandsFor self.new (Apply triple.now ∷ es) }
+        ensures held { self.new.held ≡ self.old.held }
     {
         apply_to_rows(&mut self.rows, triple);
     }

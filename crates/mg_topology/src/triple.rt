@@ -20,7 +20,8 @@ pub struct Triple {
 }
 
 impl Triple {
-    ghost use Rattle.mg_topology.specs.Triple.{overlaps, word_after};
+    ghost use Rattle.mg_topology.specs.Triple.{overlaps};
+    ghost use Rattle.mg_topology.specs.aids.Word.{word_after};
 
     /// Whether it is a Oneway triple with a seat in both of its sets.
     pub(crate) fn overlaps(&self) -> bool

@@ -1,6 +1,6 @@
 use Rattle.std.proofs.Common.{◌≡◌, ℕ, ◌<◌, ◌≤◌, slice_index}
 use Rattle.mg_topology.specs.Mask.{has_seat}
-use Rattle.mg_topology.specs.Triple.{word_after}
+use Rattle.mg_topology.specs.aids.Word.{word_after}
 use Rattle.mg_topology.proofs.topology.apply_to_rows.Given as goal
 
 -- the rows below the index are written, and the others are as they were

@@ -1,0 +1,253 @@
+-- How each edit takes what a table keeps from one list of edits to the next, and what it then tells.
+use Rattle.std.proofs.Common.{Result, Ok, Err, OnOk, OnErr, length-set, ◌≡◌, ◌≢◌, ℕ, ◌<◌, Bool, true, false, not, ◌&&◌, ◌==◌, cond, All, List, [], ◌∷◌, length, slice_set, get_or, get_or-set_same, get_or-set_other, nat_lt, inl, inr, refl, sym, ap, ◌∙◌, arith}
+use Rattle.std.proofs.Math.ListN.{get_or-eq_default}
+use Rattle.std.proofs.Math.Logic.{∥∥₁_map}
+use Rattle.std.proofs.lemmas.List.{get_or_default}
+use Rattle.std.proofs.lemmas.Bool.{cases_eq, cases_lt, ne_eqb, eq-eqb, and_left, and_right, both_ways}
+use Rattle.std.proofs.lemmas.Bool.Decides.{nat_tests}
+use Rattle.mg_topology.specs.declared.overlap.Overlap.{Overlap}
+use Rattle.mg_topology.specs.declared.triple.Triple.{Triple}
+use Rattle.mg_topology.specs.Mask.{seat_limit, has_seat, IsEmpty}
+use Rattle.mg_topology.specs.Edits as topology
+use Rattle.mg_topology.specs.Topology as kept
+use Rattle.mg_flow.specs.declared.place.Place.{Place}
+use Rattle.mg_flow.specs.Place.{is_same, beside, are_together}
+use Rattle.mg_flow.specs.Edits.{Edit, Enter, Leave, SetMode, Apply, apply_all, edits_in, is_held, talks_in, listens_in, lets_hear, hears_in, flows_in, is_silenced_in}
+use Rattle.mg_flow.specs.aids.Room.{flows_to, is_kept_from, IsVacant, SetsSeat}
+use Rattle.mg_flow.specs.aids.Table.{IsTable}
+use Rattle.mg_flow.specs.Table.{Room, vacant, room_at, talks, listens, holds, hears, flows, is_silenced, StandsFor}
+
+-- ---- a table in which one room was written
+
+room_at-own : (table : List Room) (i : ℕ) (r : Room) → i < length table → room_at (slice_set table i r) i ≡ r
+room_at-own table i r within = rw get_or-set_same
+
+room_at-other : (table : List Room) (i k : ℕ) (r : Room) → k ≢ i → room_at (slice_set table i r) k ≡ room_at table k
+room_at-other table i k r apart = rw get_or-set_other
+
+-- a room as the code reads it
+room_at-read : (table : List Room) (i : ℕ) (room : Room) → i < length table → room ≡ get_or table i room → room ≡ room_at table i
+room_at-read table i room within is = is ∙ get_or_default table i room vacant within
+
+-- the room of the place is read, which is the i-th, and s is the place's seat
+pub record IsRead (table : List Room) (place : Place) (i s : ℕ) (room : Room) : Type 0 where
+  pub number : i ≡ place.room
+  pub seat : s ≡ place.seat
+  pub within : i < length table
+  pub is : room ≡ get_or table i room
+
+found_at : {table : List Room} {place : Place} {i s : ℕ} {room : Room} → IsRead table place i s room → room ≡ room_at table i
+found_at {table} {place} {i} {s} {room} read = room_at-read table i room read.within read.is
+
+found : {table : List Room} {place : Place} {i s : ℕ} {room : Room} → IsRead table place i s room → room ≡ room_at table place.room
+found {table} read = found_at read ∙ ap (room_at table) read.number
+
+-- a place that is held is in a room of the table
+pub held_within : (table : List Room) (place : Place) (i : ℕ) → IsEmpty 0 → i ≡ place.room → holds table place ≡ true → i < length table
+held_within table place i none number held =
+    elim (cases_lt i (length table)) [
+      | inl below ↦ below
+      | inr above ↦
+          (let at_end : room_at table place.room ≡ vacant = ap (room_at table) (sym number) ∙ get_or-eq_default table vacant above in
+          let no_seat = and_right (nat_lt place.seat seat_limit) (has_seat 0 place.seat) (none place.seat) in
+          let free : holds table place ≡ false = ap (λ (r : Room). kept.holds r.topology place.seat) at_end ∙ no_seat in
+          absurd (both_ways _ free held))
+    ]
+
+-- one seat of one room is set, in the mask that f reads
+seat_set : (f : Room → ℕ) {table : List Room} {place : Place} {i s : ℕ} {old : Room} (new : Room) (b : Bool) → IsRead table place i s old
+    → ((k : ℕ) → has_seat (f new) k ≡ cond (k == s) b (has_seat (f old) k)) → (p : Place)
+    → has_seat (f (room_at (slice_set table i new) p.room)) p.seat ≡ cond (is_same p place) b (has_seat (f (room_at table p.room)) p.seat)
+seat_set f {table} {place} {i} {s} {old} new b read seats p =
+    elim (cases_eq p.room i) [
+      | inl e ↦
+          rw (eq-eqb p.room place.room (e ∙ read.number), e, room_at-own table i new read.within, ← read.seat, ← found_at read) (seats p.seat)
+      | inr ne ↦
+          rw (ne_eqb p.room place.room (λ e. ne (e ∙ sym read.number)), room_at-other table i p.room new ne) refl
+    ]
+
+-- ---- a new table
+
+vacant_room : IsEmpty 0 → IsVacant vacant
+vacant_room none = record {
+  topology = record {
+    seats = λ s. and_right (nat_lt s seat_limit) (has_seat 0 s) (none s);
+    pairs = λ l t. and_left _ _ (and_right (nat_lt l seat_limit) (has_seat 0 l) (none l));
+  };
+  talks = none;
+  listens = none;
+}
+
+vacant_at : (table : List Room) → IsEmpty 0 → All IsVacant table → (k : ℕ) → IsVacant (room_at table k)
+vacant_at table none each k =
+    elim (cases_lt k (length table)) [
+      | inl below ↦ each k vacant below
+      | inr above ↦ rw (get_or-eq_default table vacant above) (vacant_room none)
+    ]
+
+pub new_stands : (table : List Room) → IsEmpty 0 → All IsVacant table → StandsFor table []
+new_stands table none each = record {
+  topologies = λ k. (vacant_at table none each k).topology;
+  talkers = λ p. (vacant_at table none each p.room).talks p.seat;
+  listeners = λ p. (vacant_at table none each p.room).listens p.seat;
+}
+
+-- ---- the edits, one by one
+
+-- what an edit of one room owes: its own topology, and who talks and who listens everywhere
+edited : (table : List Room) (i : ℕ) (r : Room) (es es' : List Edit) → i < length table
+    → (kept.StandsFor (room_at table i).topology (edits_in i es) → kept.StandsFor r.topology (edits_in i es'))
+    → ((k : ℕ) → k ≢ i → edits_in k es' ≡ edits_in k es)
+    → ((p : Place) → talks (slice_set table i r) p ≡ talks_in es' p)
+    → ((p : Place) → listens (slice_set table i r) p ≡ listens_in es' p)
+    → StandsFor table es → StandsFor (slice_set table i r) es'
+edited table i r es es' within own quiet talkers listeners h = record {
+  topologies = λ k. elim (cases_eq k i) [
+    | inl e ↦ rw (e, room_at-own table i r within) (own (h.topologies i))
+    | inr ne ↦ rw (room_at-other table i k r ne, quiet k ne) (h.topologies k)
+  ];
+  talkers = talkers;
+  listeners = listeners;
+}
+
+-- The old room is read, and the new one is written.
+
+pub enter_stands : {table : List Room} {place : Place} {i s : ℕ} {old new : Room} {t l : Bool} → IsRead table place i s old
+    → ((edits : List topology.Edit) → kept.StandsFor old.topology edits → kept.StandsFor new.topology (topology.Enter s ∷ edits))
+    → SetsSeat old new s true t l
+    → (es : List Edit) → StandsFor table es → StandsFor (slice_set table i new) (Enter place t l ∷ es)
+enter_stands {table} {place} {i} {s} {old} {new} {t} {l} read edits set es h =
+    edited table i new es (Enter place t l ∷ es) read.within
+    (λ x. rw (eq-eqb place.room i (sym read.number), ← read.seat) (edits (edits_in i es) (rw (found_at read) x)))
+    (λ k ne. rw (ne_eqb place.room k (λ e. ne (sym e ∙ sym read.number))) refl)
+    (λ p. seat_set (λ (x : Room). x.talks) new t read set.talkers p ∙ ap (cond (is_same p place) t) (h.talkers p))
+    (λ p. seat_set (λ (x : Room). x.listens) new l read set.listeners p ∙ ap (cond (is_same p place) l) (h.listeners p))
+    h
+
+pub leave_stands : {table : List Room} {place : Place} {i s : ℕ} {old new : Room} → IsRead table place i s old
+    → ((edits : List topology.Edit) → kept.StandsFor old.topology edits → kept.StandsFor new.topology (topology.Leave s ∷ edits))
+    → SetsSeat old new s false false false
+    → (es : List Edit) → StandsFor table es → StandsFor (slice_set table i new) (Leave place ∷ es)
+leave_stands {table} {place} {i} {s} {old} {new} read edits set es h =
+    edited table i new es (Leave place ∷ es) read.within
+    (λ x. rw (eq-eqb place.room i (sym read.number), ← read.seat) (edits (edits_in i es) (rw (found_at read) x)))
+    (λ k ne. rw (ne_eqb place.room k (λ e. ne (sym e ∙ sym read.number))) refl)
+    (λ p. seat_set (λ (x : Room). x.talks) new false read set.talkers p ∙ ap (cond (is_same p place) false) (h.talkers p))
+    (λ p. seat_set (λ (x : Room). x.listens) new false read set.listeners p ∙ ap (cond (is_same p place) false) (h.listeners p))
+    h
+
+pub mode_stands : {table : List Room} {place : Place} {i s : ℕ} {old new : Room} {t l : Bool} → IsRead table place i s old
+    → new.topology ≡ old.topology → SetsSeat old new s true t l
+    → (es : List Edit) → StandsFor table es → StandsFor (slice_set table i new) (SetMode place t l ∷ es)
+mode_stands {table} {place} {i} {s} {old} {new} {t} {l} read same set es h =
+    edited table i new es (SetMode place t l ∷ es) read.within
+    (λ x. rw (same, found_at read) x)
+    (λ k ne. refl)
+    (λ p. seat_set (λ (x : Room). x.talks) new t read set.talkers p ∙ ap (cond (is_same p place) t) (h.talkers p))
+    (λ p. seat_set (λ (x : Room). x.listens) new l read set.listeners p ∙ ap (cond (is_same p place) l) (h.listeners p))
+    h
+
+-- ---- triples in order
+
+own_triples : (room : ℕ) (triples : List Triple) (es : List Edit)
+    → edits_in room (apply_all room triples es) ≡ topology.apply_all triples (edits_in room es)
+own_triples room [] es = refl
+own_triples room (triple ∷ triples) es =
+    own_triples room triples (Apply room triple ∷ es)
+    ∙ ap (λ x. topology.apply_all triples (cond x (topology.Apply triple ∷ edits_in room es) (edits_in room es))) (eq-eqb room room refl)
+
+other_triples : (room k : ℕ) (triples : List Triple) (es : List Edit)
+    → k ≢ room → edits_in k (apply_all room triples es) ≡ edits_in k es
+other_triples room k [] es ne = refl
+other_triples room k (triple ∷ triples) es ne =
+    other_triples room k triples (Apply room triple ∷ es) ne
+    ∙ ap (λ x. cond x (topology.Apply triple ∷ edits_in k es) (edits_in k es)) (ne_eqb room k (λ e. ne (sym e)))
+
+talks_in-triples : (room : ℕ) (triples : List Triple) (es : List Edit) (p : Place)
+    → talks_in (apply_all room triples es) p ≡ talks_in es p
+talks_in-triples room [] es p = refl
+talks_in-triples room (triple ∷ triples) es p = talks_in-triples room triples (Apply room triple ∷ es) p
+
+listens_in-triples : (room : ℕ) (triples : List Triple) (es : List Edit) (p : Place)
+    → listens_in (apply_all room triples es) p ≡ listens_in es p
+listens_in-triples room [] es p = refl
+listens_in-triples room (triple ∷ triples) es p = listens_in-triples room triples (Apply room triple ∷ es) p
+
+seat_kept : (f : Room → ℕ) (table : List Room) (i : ℕ) (r : Room) (p : Place) → i < length table → f r ≡ f (room_at table i)
+    → has_seat (f (room_at (slice_set table i r) p.room)) p.seat ≡ has_seat (f (room_at table p.room)) p.seat
+seat_kept f table i r p within same =
+    elim (cases_eq p.room i) [
+      | inl e ↦ rw (e, room_at-own table i r within, same) refl
+      | inr ne ↦ rw (room_at-other table i p.room r ne) refl
+    ]
+
+pub triples_stand : (table : List Room) (room i : ℕ) (triples : List Triple) (old new : Room) → i ≡ room → i < length table → old ≡ get_or table i old
+    → ((edits : List topology.Edit) → kept.StandsFor old.topology edits → kept.StandsFor new.topology (topology.apply_all triples edits))
+    → new.talks ≡ old.talks → new.listens ≡ old.listens
+    → (es : List Edit) → StandsFor table es → StandsFor (slice_set table i new) (apply_all room triples es)
+triples_stand table room i triples old new number within is edits talkers listeners es h =
+    let here : old ≡ room_at table i = room_at-read table i old within is in
+    rw (← number) (edited table i new es (apply_all i triples es) within
+    (λ x. rw (own_triples i triples es) (edits (edits_in i es) (rw here x)))
+    (λ k ne. other_triples i k triples es ne)
+    (λ p. seat_kept (λ (x : Room). x.talks) table i new p within (rw (← here) talkers) ∙ h.talkers p ∙ sym (talks_in-triples i triples es p))
+    (λ p. seat_kept (λ (x : Room). x.listens) table i new p within (rw (← here) listeners) ∙ h.listeners p ∙ sym (listens_in-triples i triples es p))
+    h)
+
+-- ---- there is a list of edits after each edit
+
+pub IsTable-edited : (table : List Room) (i : ℕ) (new : Room) (edit : List Edit → List Edit)
+    → ((es : List Edit) → StandsFor table es → StandsFor (slice_set table i new) (edit es)) → IsTable table → IsTable (slice_set table i new)
+IsTable-edited table i new edit stands h = record {
+  rooms = length-set table i new ∙ h.rooms;
+  edits = ∥∥₁_map h.edits (λ (x : (es : List Edit) × StandsFor table es). (edit x.0, stands x.0 x.1));
+}
+
+-- a room that is written as it was
+same_stands : (table : List Room) (i : ℕ) (old new : Room) → i < length table → old ≡ get_or table i old → new ≡ old
+    → (es : List Edit) → StandsFor table es → StandsFor (slice_set table i new) es
+same_stands table i old new within is same es h =
+    let here : new ≡ room_at table i = same ∙ room_at-read table i old within is in
+    edited table i new es es within
+    (λ x. rw here x)
+    (λ k ne. refl)
+    (λ p. seat_kept (λ (x : Room). x.talks) table i new p within (ap (λ (x : Room). x.talks) here) ∙ h.talkers p)
+    (λ p. seat_kept (λ (x : Room). x.listens) table i new p within (ap (λ (x : Room). x.listens) here) ∙ h.listeners p)
+    h
+
+pub IsTable-tried : (result : Result (Unit {0}) Overlap) (table : List Room) (i : ℕ) (old new : Room) (edit : List Edit → List Edit)
+    → i < length table → old ≡ get_or table i old
+    → OnOk result ((es : List Edit) → StandsFor table es → StandsFor (slice_set table i new) (edit es)) → OnErr result (new ≡ old)
+    → IsTable table → IsTable (slice_set table i new)
+IsTable-tried (Ok u) table i old new edit within is ok err h = IsTable-edited table i new edit ok h
+IsTable-tried (Err e) table i old new edit within is ok err h = IsTable-edited table i new (λ es. es) (same_stands table i old new within is err) h
+
+-- ---- what a table tells
+
+pub hears-stands : (table : List Room) (es : List Edit) (l t : Place) → StandsFor table es
+    → hears table l t ≡ hears_in es l t
+hears-stands table es l t h = grind (arith, nat_tests, (h.topologies l.room).pairs l.seat t.seat)
+
+pub flows-stands : (table : List Room) (es : List Edit) (l t : Place) → StandsFor table es
+    → flows table l t ≡ flows_in es l t
+flows-stands table es l t h = rw (h.talkers t, h.listeners l, hears-stands table es l t h) refl
+
+not_both : (x w : Bool) → (x && not (x && w)) ≡ (x && not w)
+not_both true w = refl
+not_both false w = refl
+
+pub is_silenced-stands : (table : List Room) (es : List Edit) (l t : Place) → StandsFor table es
+    → is_silenced table l t ≡ is_silenced_in es l t
+is_silenced-stands table es l t h =
+    rw (h.talkers t, hears-stands table es l t h, (h.topologies l.room).seats l.seat, (h.topologies t.room).seats t.seat)
+    (ap (λ x. talks_in es t && x) (not_both (are_together (is_held es) l t) (lets_hear es l t)))
+
+-- what the masks of a room that is read tell of a place, as the table tells it
+
+pub flows-read : {table : List Room} {place : Place} {i s : ℕ} {room : Room} → IsRead table place i s room
+    → (seat : ℕ) → flows_to room.topology room.talks room.listens s seat ≡ flows table place (beside place seat)
+flows-read {table} {place} read seat = rw (found read, read.seat, eq-eqb place.room place.room refl) refl
+
+pub is_silenced-read : {table : List Room} {place : Place} {i s : ℕ} {room : Room} → IsRead table place i s room
+    → (seat : ℕ) → is_kept_from room.topology room.talks s seat ≡ is_silenced table place (beside place seat)
+is_silenced-read {table} {place} read seat = rw (found read, read.seat, eq-eqb place.room place.room refl) (grind arith)

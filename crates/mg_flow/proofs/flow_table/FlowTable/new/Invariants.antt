@@ -1,0 +1,10 @@
+use Rattle.std.proofs.Common.{◌≡◌, length, All}
+use Rattle.mg_flow.specs.aids.Room.{IsVacant}
+use Rattle.mg_flow.proofs.flow_table.FlowTable.new.Given as goal
+
+-- so many rooms are made, and nobody has entered one
+abbrev pub invariant-loop : goal.invariant-loop
+invariant-loop l = record {
+  many : length l.rooms.items ≡ l.counter;
+  vacant : All IsVacant l.rooms.items;
+}

@@ -1,0 +1,13 @@
+use Rattle.std.proofs.Common.{◌≡◌, ℕ, ◌<◌, length, slice_index}
+use Rattle.mg_topology.specs.Mask.{seat_limit, has_seat}
+use Rattle.mg_flow.specs.aids.Room.{flows_to, is_kept_from}
+use Rattle.mg_flow.proofs.masks.Masks.of.Given as goal
+
+-- the masks of the listeners so far are written
+abbrev pub invariant-loop-listener : goal.invariant-loop-listener
+invariant-loop-listener l = record {
+  open_length : length l.open ≡ seat_limit;
+  silenced_length : length l.silenced ≡ seat_limit;
+  flows : (k talker : ℕ) → k < l.listener → has_seat (slice_index l.open k) talker ≡ flows_to l.topology l.talks l.listens k talker;
+  kept : (k talker : ℕ) → k < l.listener → has_seat (slice_index l.silenced k) talker ≡ is_kept_from l.topology l.talks k talker;
+}

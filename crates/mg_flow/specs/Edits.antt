@@ -1,0 +1,82 @@
+-- The edits of all rooms, newest first, and what they say of places (RFC 3525, sections 7.1.7 and
+-- 7.1.18). That a newcomer and each member hear each other is this project's own rule.
+use Rattle.std.specs.Prelude.{ℕ, Bool, false, not, ◌&&◌, ◌==◌, if◌then◌else◌, List, [], ◌∷◌}
+use Rattle.mg_topology.specs.declared.triple.Triple.{Triple}
+use Rattle.mg_topology.specs.Edits as topology
+use Rattle.mg_flow.specs.declared.place.Place.{Place}
+use Rattle.mg_flow.specs.Place.{is_same, are_together}
+
+-- A member enters, one leaves, or the mode of one changes, which says whether it talks and whether
+-- it listens; or a triple is applied in a room.
+pub data Edit : Type 0 where
+  Enter : (place : Place) → (talks listens : Bool) → Edit
+  Leave : (place : Place) → Edit
+  SetMode : (place : Place) → (talks listens : Bool) → Edit
+  Apply : (room : ℕ) → (triple : Triple) → Edit
+
+-- the edits, and then the triples in order
+abbrev pub apply_all : ℕ → List Triple → List Edit → List Edit
+apply_all room [] es = es
+apply_all room (triple ∷ triples) es = apply_all room triples (Apply room triple ∷ es)
+
+-- the edits of a room, and one more, if it is of the room
+abbrev pub with_edit_if : Bool → topology.Edit → List topology.Edit → List topology.Edit
+with_edit_if is_here edit es = if is_here then edit ∷ es else es
+
+-- the edits of one room, as its topology has them
+abbrev pub edits_in : ℕ → List Edit → List topology.Edit
+edits_in room [] = []
+edits_in room (Enter p talks listens ∷ es) =
+    with_edit_if (p.room == room) (topology.Enter p.seat) (edits_in room es)
+edits_in room (Leave p ∷ es) =
+    with_edit_if (p.room == room) (topology.Leave p.seat) (edits_in room es)
+edits_in room (SetMode p talks listens ∷ es) = edits_in room es
+edits_in room (Apply r triple ∷ es) =
+    with_edit_if (r == room) (topology.Apply triple) (edits_in room es)
+
+-- whether the place is held
+abbrev pub is_held : List Edit → Place → Bool
+is_held es place = topology.is_held (edits_in place.room es) place.seat
+
+-- whether the member on the place talks, by what was last said of it
+abbrev pub talks_in : List Edit → Place → Bool
+talks_in [] place = false
+talks_in (Enter p talks listens ∷ es) place =
+    if is_same place p then talks else talks_in es place
+talks_in (Leave p ∷ es) place = if is_same place p then false else talks_in es place
+talks_in (SetMode p talks listens ∷ es) place =
+    if is_same place p then talks else talks_in es place
+talks_in (Apply room triple ∷ es) place = talks_in es place
+
+-- whether it listens, by what was last said of it
+abbrev pub listens_in : List Edit → Place → Bool
+listens_in [] place = false
+listens_in (Enter p talks listens ∷ es) place =
+    if is_same place p then listens else listens_in es place
+listens_in (Leave p ∷ es) place = if is_same place p then false else listens_in es place
+listens_in (SetMode p talks listens ∷ es) place =
+    if is_same place p then listens else listens_in es place
+listens_in (Apply room triple ∷ es) place = listens_in es place
+
+-- whether the last word on two places of one room lets the listener hear the talker
+abbrev pub lets_hear : List Edit → Place → Place → Bool
+lets_hear es listener talker =
+    topology.lets_hear (edits_in listener.room es) listener.seat talker.seat
+
+-- whether the listener hears the talker: they are different members of one room, and the last word
+-- lets it
+abbrev pub hears_in : List Edit → Place → Place → Bool
+hears_in es listener talker =
+    are_together (is_held es) listener talker && lets_hear es listener talker
+
+-- whether the talker's speech goes to the listener: the one talks, the other listens and hears it
+abbrev pub flows_in : List Edit → Place → Place → Bool
+flows_in es listener talker =
+    talks_in es talker && (listens_in es listener && hears_in es listener talker)
+
+-- whether the talker is silenced for the listener: it is another member of the room, it talks, and
+-- the last word keeps it from the listener
+abbrev pub is_silenced_in : List Edit → Place → Place → Bool
+is_silenced_in es listener talker =
+    talks_in es talker
+    && (are_together (is_held es) listener talker && not (lets_hear es listener talker))

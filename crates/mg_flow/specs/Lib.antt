@@ -1,0 +1,4 @@
+pub mod Edits
+pub mod Place
+pub mod Table
+pub mod aids

@@ -1,0 +1,22 @@
+-- The places of a gateway's members (this project's own).
+use Rattle.std.specs.Prelude.{ℕ, ◌<◌, Bool, not, ◌&&◌, ◌==◌}
+use Rattle.mg_topology.specs.Mask.{seat_limit}
+use Rattle.mg_flow.specs.declared.place.Place.{Place}
+
+-- one of 64 rooms, and a seat in it
+pub record IsWithinLimits (place : Place) : Type 0 where
+  pub room : place.room < 64
+  pub seat : place.seat < seat_limit
+
+-- whether they are one place
+abbrev pub is_same : Place → Place → Bool
+is_same a b = (a.room == b.room) && (a.seat == b.seat)
+
+-- the place of a seat in the same room
+abbrev pub beside : Place → ℕ → Place
+beside place seat = record { room = place.room; seat = seat }
+
+-- whether two places are held, by a test that tells it, and are different ones of one room
+abbrev pub are_together : (Place → Bool) → Place → Place → Bool
+are_together is_held a b =
+    is_held a && (is_held b && ((a.room == b.room) && not (a.seat == b.seat)))

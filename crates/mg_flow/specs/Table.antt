@@ -1,0 +1,82 @@
+-- What a flow table is seen as, and which lists of edits it stands for (this project's own).
+use Rattle.std.specs.Prelude.{◌≡◌, ◌≢◌, ℕ, Bool, not, ◌&&◌, ◌==◌, if◌then◌else◌, List, [], slice_index_or}
+use Rattle.mg_topology.specs.Mask.{has_seat}
+use Rattle.mg_topology.specs.Topology as topology
+use Rattle.mg_flow.specs.declared.place.Place.{Place}
+use Rattle.mg_flow.specs.Place.{is_same, are_together}
+use Rattle.mg_flow.specs.Edits.{Edit, edits_in, talks_in, listens_in}
+
+-- what is kept of a room: its topology, and the seats of those who talk and of those who listen
+pub record Room : Type 0 where
+  pub topology : topology.Kept
+  pub talks : ℕ
+  pub listens : ℕ
+
+-- a room that nobody has entered
+abbrev pub vacant : Room
+vacant = record { topology = record { held = 0; rows = [] }; talks = 0; listens = 0 }
+
+-- a room of a table, which is the list of its rooms; any other is vacant
+abbrev pub room_at : List Room → ℕ → Room
+room_at table room = slice_index_or table room vacant
+
+-- whether the place is held
+abbrev pub holds : List Room → Place → Bool
+holds table place = topology.holds (room_at table place.room).topology place.seat
+
+-- whether the member on the place talks
+abbrev pub talks : List Room → Place → Bool
+talks table place = has_seat (room_at table place.room).talks place.seat
+
+-- whether it listens
+abbrev pub listens : List Room → Place → Bool
+listens table place = has_seat (room_at table place.room).listens place.seat
+
+-- whether the listener hears the talker, which is in the same room
+abbrev pub hears : List Room → Place → Place → Bool
+hears table listener talker =
+    (listener.room == talker.room)
+    && topology.hears (room_at table listener.room).topology listener.seat talker.seat
+
+-- whether the talker's speech goes to the listener
+abbrev pub flows : List Room → Place → Place → Bool
+flows table listener talker =
+    talks table talker && (listens table listener && hears table listener talker)
+
+-- whether the talker is silenced for the listener
+abbrev pub is_silenced : List Room → Place → Place → Bool
+is_silenced table listener talker =
+    talks table talker
+    && (are_together (holds table) listener talker && not (hears table listener talker))
+
+-- what is kept agrees with the edits, for each room and for each place
+pub record StandsFor (table : List Room) (es : List Edit) : Type 0 where
+  pub topologies : (room : ℕ) →
+      topology.StandsFor (room_at table room).topology (edits_in room es)
+  pub talkers : (place : Place) → talks table place ≡ talks_in es place
+  pub listeners : (place : Place) → listens table place ≡ listens_in es place
+
+-- there is a list of edits that the table stands for
+abbrev pub StandsForSome : List Room → Type 0
+StandsForSome table = ∥ ((es : List Edit) × StandsFor table es) ∥₁
+
+-- All rooms but the one are as they were, and with them all that is told of their places.
+abbrev pub KeepsOthers : List Room → List Room → ℕ → Type 0
+KeepsOthers old new room = (other : ℕ) → other ≢ room → room_at new other ≡ room_at old other
+
+-- The place is now held, or not, and its member talks, or not, and listens, or not; each other
+-- place is as it was.
+pub record SetsPlace (old new : List Room) (place : Place)
+    (is_held does_talk does_listen : Bool) : Type 0 where
+  pub held : (p : Place) →
+      holds new p ≡ (if is_same p place then is_held else holds old p)
+  pub talkers : (p : Place) →
+      talks new p ≡ (if is_same p place then does_talk else talks old p)
+  pub listeners : (p : Place) →
+      listens new p ≡ (if is_same p place then does_listen else listens old p)
+
+-- each place is held, and each member talks and listens, as before
+pub record KeepsPlaces (old new : List Room) : Type 0 where
+  pub held : (p : Place) → holds new p ≡ holds old p
+  pub talkers : (p : Place) → talks new p ≡ talks old p
+  pub listeners : (p : Place) → listens new p ≡ listens old p

@@ -1,0 +1,3 @@
+-- Tools of the proofs.
+pub mod Room
+pub mod Table

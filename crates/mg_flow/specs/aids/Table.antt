@@ -1,0 +1,7 @@
+-- What holds of each flow table.
+use Rattle.std.specs.Prelude.{◌≡◌, List, length}
+use Rattle.mg_flow.specs.Table.{Room, StandsForSome}
+
+pub record IsTable (table : List Room) : Type 0 where
+  pub rooms : length table ≡ 64
+  pub edits : StandsForSome table

@@ -1,0 +1,196 @@
+ghost use Rattle.std.specs.Prelude.{◌≡◌, ℕ, ◌<◌, ◌∷◌, [], List, true, false, ◌↔◌, Any, IsTrue, IsFalse, IsErr, IfOk, OnOk, OnErr};
+ghost use Rattle.mg_topology.specs.Mask.{has_seat};
+ghost use Rattle.mg_topology.specs.Triple.{Overlaps};
+ghost use Rattle.mg_flow.specs.Place.{IsWithinLimits, beside};
+
+use crate::place::Place;
+use crate::room::Room;
+use mg_topology::laws::masks_are_sets;
+use mg_topology::mask::{self, Mask};
+use mg_topology::{Overlap, Triple};
+use std::alloc::{AllocError, Global};
+use std::marker::Model;
+
+/// How many rooms a table has: a gateway has at most so many contexts.
+pub const ROOMS: usize = 64;
+
+/// Who hears whom in all rooms of a gateway, and for each listener the masks of its talkers.
+///
+/// Contracts see the list of the rooms, each with its topology and with the masks of those who
+/// talk and of those who listen, and read it by the words of `specs/Table.antt`.
+/// [`FlowTable::new`] stands for the empty list of edits, and each call leads from the lists that
+/// the table stood for to those with its edits. So each table stands for one
+/// ([`each_table_stands_for_edits`]).
+///
+/// [`each_table_stands_for_edits`]: crate::laws::each_table_stands_for_edits
+#[derive(Debug, Drop)]
+pub struct FlowTable {
+    rooms: Vec<Room>,
+}
+
+impl Model for FlowTable {
+    ghost use Rattle.std.specs.Prelude.{List};
+    ghost use Rattle.mg_flow.specs.Table.{Room};
+    ghost use Rattle.mg_flow.specs.aids.Table.{IsTable};
+
+    ghost Value = { List Room };
+
+    ghost view = { λ table. table.rooms.items };
+
+    ghost invariant = { λ table. IsTable table.rooms.items };
+}
+
+impl FlowTable {
+    ghost use Rattle.mg_flow.specs.Edits.{Edit, Enter, Leave, SetMode, apply_all, is_held, hears_in, flows_in, is_silenced_in};
+    ghost use Rattle.mg_flow.specs.Table.{StandsFor, StandsForSome, KeepsOthers, SetsPlace, KeepsPlaces, holds, hears, flows, is_silenced};
+
+    /// The table of a gateway whose rooms nobody has entered.
+    ///
+    /// It takes the memory for all rooms, and no other call takes any. Fails only where that is
+    /// refused.
+    pub fn new(alloc: Global) -> Result<Self, AllocError>
+        ensures edits { IfOk result (λ table. StandsFor table []) }
+    {
+        masks_are_sets();
+        let mut rooms = Vec::with_capacity(alloc, ROOMS)?;
+        for _ in 0..ROOMS {
+            rooms.push(Room::new())?;
+        }
+        Ok(FlowTable { rooms })
+    }
+
+    /// Whether the place is held. None is that isn't within the limits.
+    pub fn holds(&self, place: Place) -> bool
+        ensures kept { result ≡ holds self.now place }
+        ensures edits { (es : List Edit) → StandsFor self.now es → result ≡ is_held es place }
+    {
+        masks_are_sets();
+        match self.rooms.get(usize::from(place.room)) {
+            Some(room) => room.holds(usize::from(place.seat)),
+            None => false,
+        }
+    }
+
+    /// The seats of the room that are held.
+    pub fn held(&self, room: u8) -> Mask
+        ensures kept { (seat : ℕ) →
+            has_seat result seat ≡ holds self.now (record { room = room; seat = seat }) }
+        ensures edits { (es : List Edit) → StandsFor self.now es → (seat : ℕ) →
+            has_seat result seat ≡ is_held es (record { room = room; seat = seat }) }
+    {
+        masks_are_sets();
+        match self.rooms.get(usize::from(room)) {
+            Some(room) => room.held(),
+            None => mask::EMPTY,
+        }
+    }
+
+    /// Whether the listener hears the talker: both places are held, in one room, and differ, and
+    /// the last word on the two lets it.
+    pub fn hears(&self, listener: Place, talker: Place) -> bool
+        ensures kept { result ≡ hears self.now listener talker }
+        ensures edits { (es : List Edit) → StandsFor self.now es →
+            result ≡ hears_in es listener talker }
+    {
+        masks_are_sets();
+        if listener.room != talker.room {
+            return false;
+        }
+        match self.rooms.get(usize::from(listener.room)) {
+            Some(room) => room.hears(usize::from(listener.seat), usize::from(talker.seat)),
+            None => false,
+        }
+    }
+
+    /// The seats of those in its room whose speech goes to the listener on the place.
+    pub fn open(&self, place: Place) -> &Mask
+        requires { IsTrue (holds self.now place) }
+        ensures kept { (seat : ℕ) →
+            has_seat result.now seat ≡ flows self.now place (beside place seat) }
+        ensures edits { (es : List Edit) → StandsFor self.now es → (seat : ℕ) →
+            has_seat result.now seat ≡ flows_in es place (beside place seat) }
+        ensures held { (seat : ℕ) → IsTrue (has_seat result.now seat) →
+            IsTrue (holds self.now (beside place seat)) }
+    {
+        masks_are_sets();
+        let room = &self.rooms[usize::from(place.room)];
+        room.open(usize::from(place.seat))
+    }
+
+    /// The seats of the talking members of its room whom the last word keeps from the listener on
+    /// the place. Whether it listens doesn't count.
+    pub fn silenced(&self, place: Place) -> &Mask
+        requires { IsTrue (holds self.now place) }
+        ensures kept { (seat : ℕ) →
+            has_seat result.now seat ≡ is_silenced self.now place (beside place seat) }
+        ensures edits { (es : List Edit) → StandsFor self.now es → (seat : ℕ) →
+            has_seat result.now seat ≡ is_silenced_in es place (beside place seat) }
+        ensures held { (seat : ℕ) → IsTrue (has_seat result.now seat) →
+            IsTrue (holds self.now (beside place seat)) }
+    {
+        masks_are_sets();
+        let room = &self.rooms[usize::from(place.room)];
+        room.silenced(usize::from(place.seat))
+    }
+
+    /// A member takes the free place. It and each other member of the room hear each other.
+    pub fn on_enter(&mut self, place: Place, talks: bool, listens: bool)
+        requires within { IsWithinLimits place }
+        requires free { IsFalse (holds self.old place) }
+        ensures edits { (es : List Edit) → StandsFor self.old es →
+            StandsFor self.new (Enter place talks listens ∷ es) }
+        ensures place { SetsPlace self.old self.new place true talks listens }
+        ensures others { KeepsOthers self.old self.new place.room }
+    {
+        let room = &mut self.rooms[usize::from(place.room)];
+        room.enter(usize::from(place.seat), talks, listens);
+    }
+
+    /// The member on the place leaves. Nothing changes between the others.
+    pub fn on_leave(&mut self, place: Place)
+        requires { IsTrue (holds self.old place) }
+        ensures edits { (es : List Edit) → StandsFor self.old es →
+            StandsFor self.new (Leave place ∷ es) }
+        ensures place { SetsPlace self.old self.new place false false false }
+        ensures others { KeepsOthers self.old self.new place.room }
+    {
+        masks_are_sets();
+        let room = &mut self.rooms[usize::from(place.room)];
+        room.leave(usize::from(place.seat));
+    }
+
+    /// The mode of the member on the place changes: whether it talks, and whether it listens.
+    pub fn on_mode(&mut self, place: Place, talks: bool, listens: bool)
+        requires { IsTrue (holds self.old place) }
+        ensures edits { (es : List Edit) → StandsFor self.old es →
+            StandsFor self.new (SetMode place talks listens ∷ es) }
+        ensures place { SetsPlace self.old self.new place true talks listens }
+        ensures others { KeepsOthers self.old self.new place.room }
+    {
+        masks_are_sets();
+        let room = &mut self.rooms[usize::from(place.room)];
+        room.set_mode(usize::from(place.seat), talks, listens);
+    }
+
+    /// Applies all triples in the room, in order, so that of those that speak of a pair the last
+    /// one counts, or none of them, where a Oneway triple has a seat in both of its sets.
+    pub fn on_triples(&mut self, room: u8, triples: &[Triple]) -> Result<(), Overlap>
+        requires { room < 64 }
+        ensures overlap { IsErr result ↔ Any Overlaps triples.now }
+        ensures ok { OnOk result ((es : List Edit) → StandsFor self.old es →
+            StandsFor self.new (apply_all room triples.now es)) }
+        ensures places { KeepsPlaces self.old self.new }
+        ensures others { KeepsOthers self.old self.new room }
+        ensures err { OnErr result (self.new ≡ self.old) }
+    {
+        let spoken_of = &mut self.rooms[usize::from(room)];
+        spoken_of.apply(triples)
+    }
+
+    /// Shows that each table stands for some list of edits, and does nothing.
+    pub(crate) fn know(&self)
+        ensures { StandsForSome self.now }
+    {
+        let _rooms = &self.rooms;
+    }
+}

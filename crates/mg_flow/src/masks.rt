@@ -1,0 +1,66 @@
+ghost use Rattle.std.specs.Prelude.{◌≡◌, ℕ, ◌<◌};
+ghost use Rattle.mg_topology.specs.Mask.{has_seat};
+ghost use Rattle.mg_flow.specs.aids.Room.{flows_to, is_kept_from};
+
+use mg_topology::Topology;
+use mg_topology::laws::masks_are_sets;
+use mg_topology::mask::{self, MEMBERS, Mask};
+
+/// For each listener of a room, by its seat, two sets of talkers.
+#[derive(Debug, Drop)]
+pub(crate) struct Masks {
+    /// Those whose speech goes to the listener.
+    pub(crate) open: [Mask; MEMBERS],
+    /// Those whom the last word keeps from the listener.
+    pub(crate) silenced: [Mask; MEMBERS],
+}
+
+impl Masks {
+    ghost use Rattle.mg_flow.specs.Table.{Room};
+    ghost use Rattle.mg_flow.specs.aids.Room.{AreMasks};
+
+    /// The masks of a room by its topology, and by who talks and who listens.
+    pub(crate) fn of(topology: &Topology, talks: Mask, listens: Mask) -> Masks
+        ensures { let room : Room =
+            record { topology = topology.now; talks = talks; listens = listens } in
+            AreMasks room result.open result.silenced }
+    {
+        let mut open = [mask::EMPTY; MEMBERS];
+        let mut silenced = [mask::EMPTY; MEMBERS];
+        for listener in 0..MEMBERS {
+            open[listener] = open_row(topology, talks, listens, listener);
+            silenced[listener] = silenced_row(topology, talks, listener);
+        }
+        Masks { open, silenced }
+    }
+}
+
+/// The talkers whose speech goes to the listener.
+fn open_row(topology: &Topology, talks: Mask, listens: Mask, listener: usize) -> Mask
+    requires { listener < MEMBERS }
+    ensures { (talker : ℕ) →
+        has_seat result talker ≡ flows_to topology.now talks listens listener talker }
+{
+    masks_are_sets();
+    if mask::has_seat(listens, listener) {
+        mask::intersection(topology.talkers(listener), talks)
+    } else {
+        mask::EMPTY
+    }
+}
+
+/// The talking members other than the listener whom the last word keeps from it.
+fn silenced_row(topology: &Topology, talks: Mask, listener: usize) -> Mask
+    requires { listener < MEMBERS }
+    ensures { (talker : ℕ) →
+        has_seat result talker ≡ is_kept_from topology.now talks listener talker }
+{
+    masks_are_sets();
+    if topology.holds(listener) {
+        let talking = mask::intersection(topology.held(), talks);
+        let others = mask::without_seat(talking, listener);
+        mask::difference(others, topology.talkers(listener))
+    } else {
+        mask::EMPTY
+    }
+}

@@ -1,0 +1,11 @@
+/// Where a member is: a room of the gateway, and a seat in it.
+///
+/// A room is a place for a context, a seat one for a member of it. Both are used again when the
+/// context has ended or the member has left.
+#[derive(Clone, Copy, Debug, PartialEq, Eq, Hash)]
+pub struct Place {
+    /// The room, below [`ROOMS`](crate::ROOMS).
+    pub room: u8,
+    /// The seat, below [`MEMBERS`](mg_topology::MEMBERS).
+    pub seat: u8,
+}

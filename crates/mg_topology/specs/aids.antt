@@ -1,0 +1,2 @@
+-- Tools of the proofs.
+pub mod Word

@@ -1,0 +1,9 @@
+-- How a triple changes one row of talkers, which the code keeps.
+use Rattle.std.specs.Prelude.{ℕ, Bool, if◌then◌else◌}
+use Rattle.mg_topology.specs.declared.triple.Triple.{Triple}
+use Rattle.mg_topology.specs.Triple.{speaks_of, word_of}
+
+-- what holds of a pair after the triple, by what held before
+abbrev pub word_after : Triple → ℕ → ℕ → Bool → Bool
+word_after triple listener talker before =
+    if speaks_of triple listener talker then word_of triple listener talker else before

@@ -3,7 +3,6 @@ use Rattle.std.specs.Prelude.{◌≡◌, ℕ, ◌-◌, ◌≤◌, min, ℤ, Bool
 use Rattle.std.specs.List.{list_all}
 use Rattle.circular_buffer.specs.Buffer.{Buffer}
 use Rattle.mg_g711.specs.Frame.{IsFrame}
-use Rattle.mg_playout.specs.declared.places.TheConstants.{MIN_DEPTH, MAX_DEPTH}
 
 -- the places from 0 on, as many as the depth. A frame is the list of its samples.
 abbrev pub FramePlaces : Type 0
@@ -35,11 +34,11 @@ resized places depth = take depth places ++ empty_places (depth - length places)
 
 -- what holds of the places of every play list: they are 2 to 16, and their frames are whole
 pub record ArePlaces (places : FramePlaces) : Type 0 where
-  pub at_least : MIN_DEPTH ≤ length places
-  pub at_most : length places ≤ MAX_DEPTH
+  pub at_least : 2 ≤ length places
+  pub at_most : length places ≤ 16
   pub frames : All (λ place. IfSome place IsFrame) places
 
 -- what holds of the ring that keeps them
 pub record IsRingOfPlaces (ring : Buffer (Option (List ℤ))) : Type 0 where
-  pub capacity : ring.capacity ≡ MAX_DEPTH
+  pub capacity : ring.capacity ≡ 16
   pub items : ArePlaces ring.items

@@ -7,8 +7,6 @@ use Rattle.mg_playout.specs.declared.phase.Phase.{Phase}
 use Rattle.mg_playout.specs.declared.phase.Phase.TheVariants.{Idle, Wait, Run}
 use Rattle.mg_playout.specs.declared.placed.Placed.{Placed}
 use Rattle.mg_playout.specs.declared.placed.Placed.TheVariants as answer
-use Rattle.mg_playout.specs.declared.places.TheConstants.{FIRST_DEPTH}
-use Rattle.mg_playout.specs.declared.sequence.TheConstants.{MAX_DROPOUT, MAX_MISORDER}
 use Rattle.mg_playout.specs.declared.source.Source.{Source}
 use Rattle.mg_playout.specs.declared.turn.Turn.{Turn}
 use Rattle.mg_playout.specs.declared.turn.Turn.TheVariants.{Start, Late, Again, At, Push}
@@ -31,7 +29,7 @@ depth_of list = length list.places
 
 -- what a play list begins as
 abbrev pub first_state : PlayList
-first_state = record { phase = Idle; source = None; places = empty_places FIRST_DEPTH }
+first_state = record { phase = Idle; source = None; places = empty_places 4 }
 
 -- a start: the frame's sequence number is the next one, and the wait is half of the depth in ticks
 abbrev pub started : PlayList → ℕ → ℕ → List ℤ → PlayList
@@ -67,7 +65,7 @@ turn_of_place phase places place =
 -- where a frame of the source belongs, by its distance from the next one
 abbrev pub turn_at : PlayList → ℤ → Turn
 turn_at list distance =
-    if int_lt distance (neg_ℤ MAX_MISORDER) || int_le MAX_DROPOUT distance then Start
+    if int_lt distance (neg_ℤ (pos 100)) || int_le (pos 3000) distance then Start
     else if int_lt distance (pos 0) then Late
     else turn_of_place list.phase list.places (nat_abs distance)
 

@@ -1,5 +1,5 @@
 -- Laws of counts, of what is found, and of what holds of each, when a list grows at its end or one entry changes.
-use Rattle.std.proofs.Common.{◌≡◌, ℕ, ◌+◌, ◌≤◌, Bool, true, false, cond, List, [], ◌∷◌, ◌++◌, Option, Some, None, refl, sym, ◌∙◌, ap, subst, arith, inl, inr, ◌==◌, find, option_to_list, option_and_then, IfSome}
+use Rattle.std.proofs.Common.{◌≡◌, ℕ, zero, suc, ◌+◌, ◌<◌, ◌≤◌, length, get_or, Bool, true, false, cond, List, [], ◌∷◌, ◌++◌, Option, Some, None, refl, sym, ◌∙◌, ap, subst, arith, inl, inr, ◌==◌, find, option_to_list, option_and_then, IfSome}
 use Rattle.std.specs.List.{list_any, count_by, AllByRecursion}
 use Rattle.std.proofs.lemmas.Bool.{cases_Bool, eqb-true, or_parts}
 use Rattle.std.proofs.lemmas.List.Sums.{sum_by-cons, sum_by-append, sum_by_push}
@@ -71,6 +71,43 @@ module _ {A : Type 0} where
             let later : find q ys ≡ Some x = rw e at h in
             let rest = count-found p q ys x later is in
             omega arith
+      ]
+
+  -- what stands in a list and passes is counted
+  count-at : (p : A → Bool) (xs : List A) (i : ℕ) (d : A) → i < length xs → p (get_or xs i d) ≡ true → 1 ≤ count_by p xs
+  count-at p [] i d lt e = absurd (omega arith)
+  count-at p (x ∷ xs) zero d lt e = let step = count-cons p x xs in let first = one-true (p x) e in omega arith
+  count-at p (x ∷ xs) (suc i) d lt e =
+      let step = count-cons p x xs in
+      let rest : 1 ≤ count_by p xs = count-at p xs i d (omega arith) e in
+      omega arith
+
+  -- the only one that passes is found, wherever it stands
+  pub find-at : (p : A → Bool) (xs : List A) (i : ℕ) (d : A) → i < length xs → p (get_or xs i d) ≡ true → count_by p xs ≤ 1 → find p xs ≡ Some (get_or xs i d)
+  find-at p [] i d lt e one_only = absurd (omega arith)
+  find-at p (x ∷ xs) zero d lt e one_only = rw e refl
+  find-at p (x ∷ xs) (suc i) d lt e one_only =
+      let step = count-cons p x xs in
+      let rest : 1 ≤ count_by p xs = count-at p xs i d (omega arith) e in
+      elim (cases_Bool (p x)) [
+        | inl first ↦ let is = one-true (p x) first in absurd (omega arith)
+        | inr none ↦ rw none (find-at p xs i d (omega arith) e (omega arith))
+      ]
+
+  -- the only one that passes is found, where another test finds it
+  pub find-found : (p q : A → Bool) (xs : List A) (x : A) → find q xs ≡ Some x → p x ≡ true → count_by p xs ≤ 1 → find p xs ≡ Some x
+  find-found p q [] x found e one_only = absurd (cc found)
+  find-found p q (y ∷ ys) x found e one_only =
+      let step = count-cons p y ys in
+      elim (cases_Bool (q y)) [
+        | inl first ↦ let same : Some y ≡ Some x = rw first at found in let is : y ≡ x = cc in let passes : p y ≡ true = ap p is ∙ e in rw passes same
+        | inr later ↦
+            let rest : find q ys ≡ Some x = rw later at found in
+            let some : 1 ≤ count_by p ys = count-found p q ys x rest e in
+            elim (cases_Bool (p y)) [
+              | inl first ↦ let is = one-true (p y) first in absurd (omega arith)
+              | inr none ↦ rw none (find-found p q ys x rest e (omega arith))
+            ]
       ]
 
   pub find-none : (p : A → Bool) (xs : List A) → count_by p xs ≡ 0 → find p xs ≡ None

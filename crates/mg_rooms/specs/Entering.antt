@@ -3,13 +3,13 @@ use Rattle.std.specs.Prelude.{◌≡◌, ℕ, ◌<◌, ◌≤◌, List, length, 
 use Rattle.std.specs.List.{list_any}
 use Rattle.mg_rooms.specs.declared.context.Context.{Context}
 use Rattle.mg_rooms.specs.declared.place.Place.{Place}
-use Rattle.mg_rooms.specs.declared.limits.TheConstants.{CONTEXTS, MEMBERS, LAST_CONTEXT}
+use Rattle.mg_rooms.specs.Limits.{most_contexts, most_members, greatest_context}
 use Rattle.mg_rooms.specs.World.{World, least_below, members_of}
 
 -- a free room for a context that is made, or a context that is not full
 abbrev pub CanEnterAt : List Context → ℕ → ℕ → Option ℕ → Type 0
-CanEnterAt contexts next c (Some room) = (least_below CONTEXTS (λ k. not (list_any (λ x. x.room == k) contexts)) ≡ Some room) × (c ≡ next) × (next ≤ LAST_CONTEXT)
-CanEnterAt contexts next c None = length (members_of (find (λ x. x.number == c) contexts)) < MEMBERS
+CanEnterAt contexts next c (Some room) = (least_below most_contexts (λ k. not (list_any (λ x. x.room == k) contexts)) ≡ Some room) × (c ≡ next) × (next ≤ greatest_context)
+CanEnterAt contexts next c None = length (members_of (find (λ x. x.number == c) contexts)) < most_members
 
 abbrev pub CanEnter : World → Place → Type 0
 CanEnter w place = CanEnterAt w.contexts w.next_context place.context place.made

@@ -10,7 +10,7 @@ use Rattle.mg_rooms.specs.declared.target.Target.{Target}
 use Rattle.mg_rooms.specs.declared.target.Target.TheVariants as targets
 use Rattle.mg_rooms.specs.declared.refusal.Refusal.{Refusal}
 use Rattle.mg_rooms.specs.declared.refusal.Refusal.TheVariants as refusals
-use Rattle.mg_rooms.specs.declared.limits.TheConstants.{CONTEXTS, MEMBERS}
+use Rattle.mg_rooms.specs.Limits.{most_contexts, most_members}
 use Rattle.mg_rooms.specs.Results.{◌>>=◌, passes}
 use Rattle.mg_rooms.specs.World.{World, record_at, context_at, members_at, free_slot, free_room, free_seat, has_termination_left, has_context_left}
 use Rattle.mg_rooms.specs.Record.{fresh, at_place, with_settings, done}
@@ -62,14 +62,14 @@ new_slot w = do
 -- a seat in a context that is there; one is free where it has not as many members as it can have
 abbrev pub new_seat : World → ℕ → Result Place Refusal
 new_seat w c = do
-  _ ← passes (nat_lt (length (members_at w c)) MEMBERS) refusals.ContextFull
+  _ ← passes (nat_lt (length (members_at w c)) most_members) refusals.ContextFull
   seat ← ok_or (free_seat w c) refusals.ContextFull
   Ok (record { context = c; seat = seat; made = None })
 
 -- the first seat of one more context; a room is free where there are not as many as there can be
 abbrev pub new_context : World → Result Place Refusal
 new_context w = do
-  _ ← passes (nat_lt (length w.contexts) CONTEXTS && has_context_left w) refusals.NoContextLeft
+  _ ← passes (nat_lt (length w.contexts) most_contexts && has_context_left w) refusals.NoContextLeft
   room ← ok_or (free_room w) refusals.NoContextLeft
   Ok (record { context = w.next_context; seat = 0; made = Some room })
 

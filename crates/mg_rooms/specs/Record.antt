@@ -3,7 +3,6 @@ use Rattle.std.specs.Prelude.{ℕ, None, Result, Ok}
 use Rattle.mg_rooms.specs.declared.mode.Mode.TheVariants.{Inactive}
 use Rattle.mg_rooms.specs.declared.refusal.Refusal.{Refusal}
 use Rattle.mg_rooms.specs.declared.settings.Settings.{Settings}
-use Rattle.mg_rooms.specs.declared.settings.TheConstants.{FIRST_DEPTH}
 use Rattle.mg_rooms.specs.declared.limits.Limits.{Limits}
 use Rattle.mg_rooms.specs.declared.record.Record.{Record}
 use Rattle.mg_rooms.specs.declared.place.Place.{Place}
@@ -14,7 +13,7 @@ use Rattle.mg_rooms.specs.Settings.{mode_after, depth_after, local_after, remote
 
 -- as it is made
 abbrev pub fresh : ℕ → ℕ → Place → Record
-fresh number slot place = record { number = number; context = place.context; slot = slot; seat = place.seat; mode = Inactive; depth = FIRST_DEPTH; local = None; remote = None }
+fresh number slot place = record { number = number; context = place.context; slot = slot; seat = place.seat; mode = Inactive; depth = 4; local = None; remote = None }
 
 -- at another place; all else goes with it
 abbrev pub at_place : Record → Place → Record

@@ -9,15 +9,14 @@ use Rattle.mg_rooms.specs.declared.refusal.Refusal.{Refusal}
 use Rattle.mg_rooms.specs.declared.refusal.Refusal.TheVariants.{NoMedia}
 use Rattle.mg_rooms.specs.declared.media_setting.MediaSetting.{MediaSetting}
 use Rattle.mg_rooms.specs.declared.media_setting.MediaSetting.TheVariants.{Clear, Offer as Offered, Unreadable}
-use Rattle.mg_rooms.specs.declared.settings.TheConstants.{MIN_DEPTH, MAX_DEPTH}
 
 abbrev pub mode_after : Option Mode → Mode → Mode
 mode_after asked old = unwrap_or asked old
 
--- in packets of 20 ms
+-- in frames of 20 ms: 2 to 16
 abbrev pub depth_after : Option ℕ → ℕ → ℕ
 depth_after None old = old
-depth_after (Some depth) old = min (max depth MIN_DEPTH) MAX_DEPTH
+depth_after (Some depth) old = min (max depth 2) 16
 
 -- what was chosen is set, and where nothing could be the command is refused
 abbrev pub set_or_refused : Option Chosen → Result (Option Chosen) Refusal

@@ -4,9 +4,7 @@ use Rattle.std.specs.List.{AllByRecursion, count_by}
 use Rattle.mg_rooms.specs.declared.record.Record.{Record}
 use Rattle.mg_rooms.specs.declared.context.Context.{Context}
 use Rattle.mg_rooms.specs.declared.limits.Limits.{Limits}
-use Rattle.mg_rooms.specs.declared.limits.TheConstants.{CONTEXTS, MEMBERS, LAST_TERMINATION, LAST_CONTEXT}
-use Rattle.mg_rooms.specs.declared.settings.TheConstants.{MIN_DEPTH, MAX_DEPTH}
-use Rattle.mg_rooms.specs.Limits.{IsValid}
+use Rattle.mg_rooms.specs.Limits.{IsValid, most_contexts, most_members, greatest_termination, greatest_context}
 use Rattle.mg_rooms.specs.World.{World, members_at}
 
 -- what a termination has is within the limits, where the next one has the number next
@@ -14,9 +12,9 @@ pub record IsTermination (limits : Limits) (next : ℕ) (r : Record) : Type 0 wh
   pub from : limits.first_termination ≤ r.number
   pub below : r.number < next
   pub slot : r.slot < limits.slots
-  pub seat : r.seat < MEMBERS
-  pub min_depth : MIN_DEPTH ≤ r.depth
-  pub max_depth : r.depth ≤ MAX_DEPTH
+  pub seat : r.seat < most_members
+  pub min_depth : 2 ≤ r.depth
+  pub max_depth : r.depth ≤ 16
 
 -- each is within the limits; a number, a slot, and a seat of a context is that of one termination at most
 pub record AreTerminations (limits : Limits) (next : ℕ) (rs : List Record) : Type 0 where
@@ -29,9 +27,9 @@ pub record AreTerminations (limits : Limits) (next : ℕ) (rs : List Record) : T
 pub record IsContext (limits : Limits) (next : ℕ) (x : Context) : Type 0 where
   pub from : limits.first_context ≤ x.number
   pub below : x.number < next
-  pub room : x.room < CONTEXTS
+  pub room : x.room < most_contexts
   pub some : 0 < length x.members
-  pub few : length x.members ≤ MEMBERS
+  pub few : length x.members ≤ most_members
 
 -- each is within the limits; a number and a room is that of one context at most
 pub record AreContexts (limits : Limits) (next : ℕ) (xs : List Context) : Type 0 where
@@ -50,6 +48,6 @@ pub record IsSound (w : World) : Type 0 where
   pub contexts : AreContexts w.limits w.next_context w.contexts
   pub agree : Agree (members_at w) w.terminations
   pub next_termination : w.limits.first_termination ≤ w.next_termination
-  pub last_termination : w.next_termination ≤ LAST_TERMINATION + 1
+  pub last_termination : w.next_termination ≤ greatest_termination + 1
   pub next_context : w.limits.first_context ≤ w.next_context
-  pub last_context : w.next_context ≤ LAST_CONTEXT + 1
+  pub last_context : w.next_context ≤ greatest_context + 1

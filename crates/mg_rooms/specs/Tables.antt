@@ -1,8 +1,7 @@
 -- What tables by slot and by room stand for: the lists of what they hold, in the order of numbers.
 use Rattle.std.specs.Prelude.{◌≡◌, ℕ, ◌<◌, List, length, Option, Some, slice_get}
 use Rattle.mg_rooms.specs.declared.tables.Tables.TheInside.{Inside}
-use Rattle.mg_rooms.specs.declared.limits.TheConstants.{CONTEXTS}
-use Rattle.mg_rooms.specs.Limits.{IsValid}
+use Rattle.mg_rooms.specs.Limits.{IsValid, most_contexts}
 use Rattle.mg_rooms.specs.World.{World}
 use Rattle.mg_rooms.specs.Order.{in_order}
 
@@ -18,4 +17,4 @@ pub record IsTable {A : Type 0} (key spot : A → ℕ) (next size : ℕ) (t : Li
 pub record IsKept (a : Inside) : Type 0 where
   pub limits : IsValid a.limits
   pub slots : IsTable (λ r. r.number) (λ r. r.slot) a.next_termination a.limits.slots a.slots.items
-  pub rooms : IsTable (λ x. x.number) (λ x. x.room) a.next_context CONTEXTS a.rooms.items
+  pub rooms : IsTable (λ x. x.number) (λ x. x.room) a.next_context most_contexts a.rooms.items

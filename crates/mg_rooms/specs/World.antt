@@ -4,7 +4,7 @@ use Rattle.std.specs.List.{list_any, range_with_len}
 use Rattle.mg_rooms.specs.declared.record.Record.{Record}
 use Rattle.mg_rooms.specs.declared.context.Context.{Context}
 use Rattle.mg_rooms.specs.declared.limits.Limits.{Limits}
-use Rattle.mg_rooms.specs.declared.limits.TheConstants.{CONTEXTS, MEMBERS, LAST_TERMINATION, LAST_CONTEXT}
+use Rattle.mg_rooms.specs.Limits.{most_contexts, most_members, greatest_termination, greatest_context}
 
 -- terminations and contexts stand in the order of their numbers, which is that of their making
 pub record World : Type 0 where
@@ -50,18 +50,18 @@ free_slot w = least_below w.limits.slots (λ slot. not (list_any (λ r. r.slot =
 
 -- the least room that no context holds
 abbrev pub free_room : World → Option ℕ
-free_room w = least_below CONTEXTS (λ room. not (list_any (λ x. x.room == room) w.contexts))
+free_room w = least_below most_contexts (λ room. not (list_any (λ x. x.room == room) w.contexts))
 
 -- the least seat of the context that no termination in it holds
 abbrev pub free_seat : World → ℕ → Option ℕ
-free_seat w c = least_below MEMBERS (λ seat. not (list_any (λ r. (r.context == c) && (r.seat == seat)) w.terminations))
+free_seat w c = least_below most_members (λ seat. not (list_any (λ r. (r.context == c) && (r.seat == seat)) w.terminations))
 
 -- numbers rise and are not used again
 abbrev pub has_termination_left : World → Bool
-has_termination_left w = nat_le w.next_termination LAST_TERMINATION
+has_termination_left w = nat_le w.next_termination greatest_termination
 
 abbrev pub has_context_left : World → Bool
-has_context_left w = nat_le w.next_context LAST_CONTEXT
+has_context_left w = nat_le w.next_context greatest_context
 
 -- the termination n is in the context c
 abbrev pub IsMember : World → ℕ → ℕ → Type 0

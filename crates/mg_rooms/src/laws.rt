@@ -3,7 +3,7 @@
 //! The functions here do nothing: their contracts are the laws. A crate above calls one where a proof
 //! needs what it says.
 
-ghost use Rattle.std.specs.Prelude.{◌≡◌, ◌≢◌, ℕ, ◌<◌, ◌≤◌, ◌==◌, ◌↔◌, ◌⊎◌, Some, None, Ok, Err, IsSome, IsTrue, length, count_by};
+ghost use Rattle.std.specs.Prelude.{◌≡◌, ◌≢◌, ℕ, ◌<◌, ◌≤◌, ◌==◌, ◌↔◌, ◌⊎◌, Some, None, Ok, Err, IsSome, IsTrue, length, slice_index_or, count_by};
 ghost use Rattle.std.specs.List.{list_any};
 ghost use Rattle.mg_rooms.specs.declared.record.Record.{Record};
 ghost use Rattle.mg_rooms.specs.declared.context.Context.{Context};
@@ -12,16 +12,17 @@ ghost use Rattle.mg_rooms.specs.declared.settings.Settings.{Settings};
 ghost use Rattle.mg_rooms.specs.declared.done.Done.{Done};
 ghost use Rattle.mg_rooms.specs.declared.limits.TheConstants.{CONTEXTS, MEMBERS, LAST_TERMINATION, LAST_CONTEXT};
 ghost use Rattle.mg_rooms.specs.declared.refusal.Refusal.TheVariants.{ContextFull, NoContextLeft, NoTerminationLeft};
-ghost use Rattle.mg_rooms.specs.World.{World, record_at, context_at, members_at, free_slot, free_seat, free_room, IsMember};
+ghost use Rattle.mg_rooms.specs.World.{World, record_at, holder_of, context_at, members_at, free_slot, free_seat, free_room, IsMember};
 ghost use Rattle.mg_rooms.specs.Outcome.{new_slot, new_seat, new_context, add, modify, move_to, subtract};
 ghost use Rattle.mg_rooms.specs.Sound.{IsSound, IsTermination, IsContext};
 ghost use Rattle.mg_rooms.specs.Lasting.{LeavesOthers};
 
 use crate::rooms::Rooms;
 
-/// Each gateway is sound, after any commands.
+/// Each gateway is sound, after any commands, and there are not more terminations than slots.
 pub fn gateways_are_sound(rooms: &Rooms)
     ensures sound { IsSound rooms.now }
+    ensures few { length rooms.now.terminations ≤ rooms.now.limits.slots }
 {
     rooms.know();
 }
@@ -36,6 +37,19 @@ pub fn nothing_is_held_twice()
         r.context ≡ s.context → r.seat ≡ s.seat → a ≡ b }
     ensures room { (w : World) (c d : ℕ) (x y : Context) → IsSound w →
         context_at w c ≡ Some x → context_at w d ≡ Some y → x.room ≡ y.room → c ≡ d }
+{}
+
+/// Each termination is found by its number and by its slot.
+pub fn each_is_found()
+    ensures number { (w : World) (i : ℕ) (d : Record) → IsSound w → i < length w.terminations →
+        record_at w (slice_index_or w.terminations i d).number ≡ Some (slice_index_or w.terminations i d) }
+    ensures slot { (w : World) (i : ℕ) (d : Record) → IsSound w → i < length w.terminations →
+        holder_of w (slice_index_or w.terminations i d).slot ≡ Some (slice_index_or w.terminations i d) }
+    // What is found by the one is found by the other.
+    ensures by_slot { (w : World) (n : ℕ) (r : Record) → IsSound w → record_at w n ≡ Some r →
+        holder_of w r.slot ≡ Some r }
+    ensures by_number { (w : World) (slot : ℕ) (r : Record) → IsSound w → holder_of w slot ≡ Some r →
+        (record_at w r.number ≡ Some r) × (r.slot ≡ slot) }
 {}
 
 /// What is found has the number that was asked for, and all that it has is within the limits.

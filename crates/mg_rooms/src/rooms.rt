@@ -1,4 +1,4 @@
-ghost use Rattle.std.specs.Prelude.{◌≡◌, ◌≤◌, IfOk, OnErr, length, option_map};
+ghost use Rattle.std.specs.Prelude.{◌≡◌, ◌<◌, ◌≤◌, IfOk, IfSome, OnErr, length, option_map};
 ghost use Rattle.mg_rooms.specs.Limits.{IsValid};
 ghost use Rattle.mg_rooms.specs.World.{start_of, record_at, context_at, members_at, holder_of};
 ghost use Rattle.mg_rooms.specs.Lasting.{Lasts};
@@ -51,6 +51,7 @@ impl Rooms {
     /// The termination with this number.
     pub fn record(&self, number: u32) -> Option<Record>
         ensures value { result ≡ record_at self.now number }
+        ensures slot { IfSome result (λ r. r.slot < self.now.limits.slots) }
     {
         self.tables.record(number)
     }
@@ -72,11 +73,20 @@ impl Rooms {
         self.tables.room(context)
     }
 
+    /// The termination that holds a slot.
+    pub fn held(&self, slot: u8) -> Option<Record>
+        ensures value { result ≡ holder_of self.now slot }
+        ensures slot { IfSome result (λ r. r.slot < self.now.limits.slots) }
+    {
+        self.tables.held(slot)
+    }
+
     /// The number of the termination that holds a slot.
     pub fn at_slot(&self, slot: u8) -> Option<u32>
         ensures value { result ≡ option_map (λ r. r.number) (holder_of self.now slot) }
     {
-        self.tables.at_slot(slot)
+        let record = self.tables.held(slot)?;
+        Some(record.number)
     }
 
     /// A member of the action's context, as a command that names it finds it.
@@ -142,7 +152,8 @@ impl Rooms {
     /// What holds of each gateway.
     pub(crate) fn know(&self)
         ensures sound { IsSound self.now }
+        ensures few { length self.now.terminations ≤ self.now.limits.slots }
     {
-        let _ = &self.tables;
+        self.tables.know_few();
     }
 }

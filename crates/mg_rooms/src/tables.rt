@@ -83,17 +83,24 @@ impl Tables {
         Some(room as u8)
     }
 
-    /// The termination that holds a slot.
-    pub(crate) fn at_slot(&self, slot: u8) -> Option<u32>
-        ensures value { result ≡ option_map (λ r. r.number) (holder_of self.now slot) }
+    /// The record of the termination that holds a slot.
+    pub(crate) fn held(&self, slot: u8) -> Option<Record>
+        ensures value { result ≡ holder_of self.now slot }
+        ensures slot { IfSome result (λ r. r.slot < self.now.limits.slots) }
     {
         let slot = usize::from(slot);
         if slot < self.slots.len() {
-            let record = self.slots[slot]?;
-            Some(record.number)
+            self.slots[slot]
         } else {
             None
         }
+    }
+
+    /// Shows that there are not more terminations than slots, and does nothing.
+    pub(crate) fn know_few(&self)
+        ensures few { length self.now.terminations ≤ self.now.limits.slots }
+    {
+        let _slots = &self.slots;
     }
 
     /// The least slot that no termination holds.

@@ -1,3 +1,4 @@
 pub mod Header
 pub mod Packet
 pub mod RtpFault
+pub mod Reading

@@ -12,13 +12,14 @@
 #![tactic(auto)]
 
 mod header;
+pub mod laws;
 mod packet;
 mod reading;
 mod rtp_fault;
 mod writing;
 
 pub use header::Header;
-pub use packet::{Packet, one_packet};
+pub use packet::Packet;
 pub use reading::read;
 pub use rtp_fault::RtpFault;
 pub use writing::{PACKET_LEN, PAYLOAD_LEN, write};

@@ -13,4 +13,5 @@ pub mod CompleteCommands
 pub mod CompleteItems
 pub mod CountSteps
 pub mod ReadLaws
+pub mod OneReading
 pub mod ProperLaws

@@ -21,13 +21,13 @@ use Rattle.mg_text.proofs.Sound.{ok_is, worded_found}
 use Rattle.mg_text.proofs.SoundItems.{text_found}
 use Rattle.mg_text.proofs.CompleteItems.{head_read, text_read}
 
-abbrev headed : ℕ → List Token → Result (ℕ × List Token) ℕ
+abbrev pub headed : ℕ → List Token → Result (ℕ × List Token) ℕ
 headed n ts = Ok (n, ts)
 
 same_rest : (n : ℕ) (a b : List Token) → headed n a ≡ headed n b → a ≡ b
 same_rest n a b e = ap (λ (p : ℕ × List Token). p.1) (ok_is (n, a) (n, b) e)
 
-abbrev told : Message → Result Message ℕ
+abbrev pub told : Message → Result Message ℕ
 told m = Ok m
 
 same_message : (m n : Message) → told m ≡ told n → m ≡ n
@@ -118,13 +118,13 @@ is_version_only source ts f len TooMany short are g n h = absurd cc
 abbrev is_served : Message → Bool
 is_served m = is_within 4 64 (items_of m.body)
 
-served_counts : (xs : List MessageItem) → is_within 4 64 xs ≡ true → (requests_in xs ≤ 4) × (commands_in xs ≤ 64)
+pub served_counts : (xs : List MessageItem) → is_within 4 64 xs ≡ true → (requests_in xs ≤ 4) × (commands_in xs ≤ 64)
 served_counts xs e = let p = and_parts (nat_le (requests_in xs) 4) (nat_le (commands_in xs) 64) e in (leb-true _ _ p.0, leb-true _ _ p.1)
 
 counts_served : (xs : List MessageItem) → requests_in xs ≤ 4 → commands_in xs ≤ 64 → is_within 4 64 xs ≡ true
 counts_served xs r c = rw (le-leb _ _ r, le-leb _ _ c) refl
 
-refused_counts : (xs : List MessageItem) → is_within 4 64 xs ≡ false → (4 < requests_in xs) ⊎ (64 < commands_in xs)
+pub refused_counts : (xs : List MessageItem) → is_within 4 64 xs ≡ false → (4 < requests_in xs) ⊎ (64 < commands_in xs)
 refused_counts xs e =
     elim (leb_tells (requests_in xs) 4) [
       | inr t ↦ inl t.1

@@ -8,5 +8,6 @@ pub mod Media
 pub mod Commands
 pub mod Requests
 pub mod Message
+pub mod MessageReading
 pub mod Text
 pub mod Proper

@@ -26,6 +26,7 @@ mod group;
 mod head;
 mod items;
 mod keyword;
+pub mod laws;
 mod lists;
 mod marks;
 mod media;
@@ -50,7 +51,7 @@ pub use crate::items::Items;
 pub use crate::media::{ControlPart, MediaPart, PropertyValue, StreamPart};
 pub use crate::message::Message;
 pub use crate::property::{ContextWord, Property, Triple};
-pub use crate::reading::{COMMAND_LIMIT, MESSAGE_LIMIT, REQUEST_LIMIT, one_tree, read};
+pub use crate::reading::{COMMAND_LIMIT, MESSAGE_LIMIT, REQUEST_LIMIT, read};
 pub use crate::request::{Action, Request};
 pub use mg_reply::{
     Association, Bytes, CommandWord, ContextId, Control, ERROR_LIMIT, ErrorNumber, HEAD_LIMIT,

@@ -187,8 +187,3 @@ pub fn read(alloc: Global, source: &[u8]) -> Result<Message, ReadFault>
     let message = versioned(alloc, source, tokens.as_slice(), fault.is_some());
     answered(message, source.len())
 }
-
-/// Bytes have at most one tree.
-pub fn one_tree()
-    ensures law { (source : List ℕ) (m n : Message) → IsTree source m → IsTree source n → m ≡ n }
-{}

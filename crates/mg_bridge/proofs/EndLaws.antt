@@ -1,12 +1,14 @@
 -- How the program ends where its words led to no run.
-use Rattle.std.proofs.Common.{◌≡◌, ℕ, List, [], Option, Some, None, Err, refl, sym, ap, subst, arith, append-nil}
+use Rattle.std.proofs.Common.{◌≡◌, ℕ, List, [], Option, Some, None, Result, Err, refl, sym, ap, subst, arith, append-nil, inr}
 use Rattle.std.specs.Io.KnownBytes.{Appends}
 use Rattle.clap.specs.declared.error.kind.ErrorKind.{ErrorKind}
 use Rattle.mg_engine.specs.declared.config.Config.{Config}
 use Rattle.mg_core.specs.World.{start_of}
 use Rattle.mg_core.specs.declared.fault.RunFault.{RunFault}
 use Rattle.mg_core.specs.declared.fault.RunFault.TheVariants as faults
-use Rattle.mg_core.specs.Script.{lines_of}
+use Rattle.mg_core.specs.Script.{events_of, lines_of}
+use Rattle.mg_core.specs.declared.counts.Counts.{Counts}
+use Rattle.mg_engine.specs.Config.{IsSound}
 use Rattle.mg_bridge.specs.declared.status.Status.{Status}
 use Rattle.mg_bridge.specs.declared.status.Status.TheVariants.{Done, BadLine, Usage, Failed, NoMemory}
 use Rattle.mg_bridge.specs.Status.{code_of, status_of}
@@ -17,13 +19,27 @@ appends_nothing : (old : Option (List ℕ)) → Appends old old []
 appends_nothing None = tt
 appends_nothing (Some held) = sym (append-nil held)
 
+abbrev no_memory : Result Counts RunFault
+no_memory = Err faults.NoMemory
+
+not_bad : (config : Config) → no_memory ≡ Err faults.BadConfig → IsSound config → ⊥
+not_bad config e h = cc e
+
 not_begun : (config : Config) (input old : Option (List ℕ)) → Replays config input old old NoMemory
-unfolding status_of
-not_begun config None old = record { outcome = Err faults.NoMemory; is = refl; ran = tt }
+unfolding status_of events_of
+not_begun config None old = record { outcome = no_memory; is = refl; ran = tt; bad = not_bad config; unsound = λ h. inr refl }
 not_begun config (Some script) old = record {
-  outcome = Err faults.NoMemory;
+  outcome = no_memory;
   is = refl;
-  ran = ([], lines_of script, refl, (start_of config, record { out = []; runs = (refl, refl); written = appends_nothing old }));
+  ran = record {
+    lines = [];
+    others = lines_of script;
+    script_is = refl;
+    last = start_of config;
+    ran = record { events = []; sent = []; are = refl; run = (refl, refl); written = appends_nothing old };
+  };
+  bad = not_bad config;
+  unsound = λ h. inr refl;
 }
 
 -- a fault of the words was told, and their input was left alone
@@ -31,8 +47,8 @@ pub ends_told : {R W : Type 0} (remaining : R → Option (List ℕ)) (contents :
     (input rest : R) (old new : W) (status : Status) → IsRefused asked kind → Tells kind old new status → rest ≡ input
     → Ends remaining contents asked input rest old new status
 ends_told remaining contents (replay config) kind input rest old new status memory told left =
-    let no_memory = subst (λ k. Tells k old new status) memory told in
-    rw (no_memory.0, no_memory.1) (not_begun config (remaining input) (contents old))
+    let ended = subst (λ k. Tells k old new status) memory told in
+    rw (ended.0, ended.1) (not_begun config (remaining input) (contents old))
 ends_told remaining contents (refused kinds) kind input rest old new status why told left = (left, record { kind = kind; among = why; told = told })
 
 -- a run that ended by a fault isn't done

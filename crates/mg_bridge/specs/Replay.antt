@@ -1,8 +1,10 @@
 -- What the program does with a script, and how it ends on its words.
-use Rattle.std.specs.Prelude.{◌≡◌, ◌⊎◌, ℕ, List, ◌∷◌, Option, Result, IfSome}
+use Rattle.std.specs.Prelude.{◌≡◌, ◌⊎◌, ℕ, List, ◌∷◌, Option, Result, Err, IfSome}
 use Rattle.mg_engine.specs.declared.config.Config.{Config}
 use Rattle.mg_core.specs.declared.counts.Counts.{Counts}
 use Rattle.mg_core.specs.declared.fault.RunFault.{RunFault}
+use Rattle.mg_core.specs.declared.fault.RunFault.TheVariants as faults
+use Rattle.mg_engine.specs.Config.{IsSound}
 use Rattle.mg_core.specs.Run.{ScriptRan}
 use Rattle.clap.specs.Kinds.{Kinds, IsAmong}
 use Rattle.clap.specs.declared.error.kind.ErrorKind.{ErrorKind}
@@ -17,6 +19,8 @@ pub record Replays (config : Config) (input old new : Option (List ℕ)) (status
   pub outcome : Result Counts RunFault
   pub is : status ≡ status_of outcome
   pub ran : IfSome input (λ script. ScriptRan config script old new outcome)
+  pub bad : outcome ≡ Err faults.BadConfig → IsSound config → ⊥
+  pub unsound : (IsSound config → ⊥) → (outcome ≡ Err faults.BadConfig) ⊎ (outcome ≡ Err faults.NoMemory)
 
 -- What becomes of an output where a fault of this kind is told: the text that was called for is printed on it, and any
 -- other goes elsewhere.

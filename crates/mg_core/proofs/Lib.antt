@@ -5,3 +5,4 @@ pub mod OutputLaws
 pub mod WriterLaws
 pub mod LineLaws
 pub mod RunLaws
+pub mod ScriptLaws

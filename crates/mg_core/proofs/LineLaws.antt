@@ -1,78 +1,100 @@
 -- What is written for one line.
-use Rattle.std.proofs.Common.{◌≡◌, ℕ, List, [], ◌∷◌, ◌++◌, Option, Some, None, Result, Ok, Err, refl, sym, ap, ◌∙◌}
+use Rattle.std.proofs.Common.{◌≡◌, ℕ, List, [], ◌∷◌, ◌++◌, map, Option, Some, None, Result, Ok, Err, refl, sym, ap, subst, ◌∙◌}
 use Rattle.std.proofs.lemmas.List.{append-nil}
 use Rattle.std.specs.Io.KnownBytes.{Appends}
-use Rattle.mg_engine.specs.declared.config.Config.{Config}
-use Rattle.mg_engine.specs.Stands.{Kept}
-use Rattle.mg_core.specs.World.{World}
-use Rattle.mg_core.specs.declared.peer.Peer.{Peer}
+use Rattle.mg_engine.specs.declared.datagram.Datagram.{Datagram}
+use Rattle.mg_engine.specs.declared.peer.Peer.{Peer}
 use Rattle.mg_core.specs.declared.event.Event.{Event}
-use Rattle.mg_core.specs.declared.event.Event.TheVariants.{Control, Tick}
-use Rattle.mg_core.specs.declared.answer.Answer.TheVariants.{Send, Silent}
-use Rattle.mg_core.specs.declared.fault.RunFault.{RunFault}
-use Rattle.mg_core.specs.declared.fault.RunFault.TheVariants as faults
-use Rattle.mg_core.specs.Answer.{Answers}
-use Rattle.mg_core.specs.Script.{event_of}
-use Rattle.mg_core.specs.Run.{answer_line, Outputs, Runs}
-use Rattle.mg_core.specs.Steps.{Writes, ControlRan, LineRan, Steps}
+use Rattle.mg_core.specs.declared.event.Event.TheVariants.{Control, Media, Tick}
+use Rattle.mg_core.specs.declared.fault.EventFault.{EventFault}
+use Rattle.mg_core.specs.declared.fault.EventFault.TheVariants as events
+use Rattle.mg_core.specs.declared.fault.ScriptFault.{ScriptFault}
+use Rattle.mg_core.specs.declared.fault.WriteFailed.{WriteFailed}
+use Rattle.mg_core.specs.declared.state.State.{State}
+use Rattle.mg_core.specs.Run.{Ran, answer_line, lines_for}
+use Rattle.mg_core.specs.Script.{event_of, events_of, then_all}
+use Rattle.mg_core.specs.Step.{Sent, Reply, Packet, Step, answer_to}
+use Rattle.mg_core.specs.Steps.{EventRan, LineRan, Steps, Writes, WritesFront, script_fault_of}
+use Rattle.mg_core.specs.World.{World, StandsFor, packets_of, ticked}
 
 pub same_appends : (a : Option (List ℕ)) → Appends a a []
 same_appends None = tt
 same_appends (Some a) = sym (append-nil a)
 
--- a silent answer
-pub silent_ran : (config : Config) (source : Peer) (bytes text : List ℕ) (w after : World) (a : Option (List ℕ)) → Answers config bytes w after Silent text → ControlRan config source bytes w after a a (Ok tt)
-silent_ran config source bytes text w after a h = ([], (Silent, text, h, refl), same_appends a)
+-- ## Events
 
--- the line of an answer, whole or cut short
-pub sent_ran : (config : Config) (source : Peer) (bytes text line : List ℕ) (w after : World) (a b : Option (List ℕ)) (r : Result (Unit {0}) RunFault) → Answers config bytes w after Send text → line ≡ answer_line source text → Writes line a b r → ControlRan config source bytes w after a b r
-sent_ran config source bytes text line w after a b (Ok done) h is put = (line, (Send, text, h, is), put)
-sent_ran config source bytes text line w after a b (Err faults.Write) h is put = (put.0, put.1, (Send, text, h, sym put.2 ∙ is), put.3)
-sent_ran config source bytes text line w after a b (Err faults.Read) h is put = put
-sent_ran config source bytes text line w after a b (Err faults.NoMemory) h is put = absurd put
-sent_ran config source bytes text line w after a b (Err faults.BadConfig) h is put = put
-sent_ran config source bytes text line w after a b (Err (faults.Script n)) h is put = put
+abbrev pub event_result : Result (Unit {0}) WriteFailed → Result (Unit {0}) EventFault
+event_result (Ok done) = Ok tt
+event_result (Err failed) = Err events.Write
 
-one_line : (config : Config) (w after : World) (line out : List ℕ) (event : Option Event) → event_of line ≡ Some event → Outputs config w event out after → Runs config w (line ∷ []) out after
-one_line config w after line out event is h = (event, out, [], after, is, h, (refl, refl), sym (append-nil out))
+-- the lines for what an event sends, whole or cut short
+pub written_ran : (event : Event) (sent : List Sent) (text : List ℕ) (w next : World) (a b : Option (List ℕ)) (r : Result (Unit {0}) WriteFailed) → Step w event sent next → text ≡ lines_for sent → Writes text a b r → EventRan event w next a b (event_result r)
+written_ran event sent text w next a b (Ok done) step is put = record { sent = sent; step = step; written = subst (Appends a b) is put }
+written_ran event sent text w next a b (Err failed) step is put = record { sent = sent; step = step; written = subst (λ (t : List ℕ). WritesFront t a b) is put }
 
--- a line that stands for a tick
-pub tick_ran : (config : Config) (number : ℕ) (line : List ℕ) (w : World) (a : Option (List ℕ)) → event_of line ≡ Some (Some Tick) → LineRan config number line w w a a (Ok tt)
-tick_ran config number line w a is = record { out = []; runs = one_line config w w line [] (Some Tick) is (refl, refl); written = same_appends a }
+-- an event that sends nothing
+pub silent_ran : (event : Event) (w next : World) (a : Option (List ℕ)) → Step w event [] next → EventRan event w next a a (Ok tt)
+silent_ran event w next a step = record { sent = []; step = step; written = same_appends a }
+
+pub silent_steps : (event : Event) (old new : State) (a : Option (List ℕ)) → Steps old new (λ w next. Step w event [] next) → Steps old new (λ w next. EventRan event w next a a (Ok tt))
+silent_steps event old new a h w stands =
+    let (next, step, left) = h w stands in
+    (next, silent_ran event w next a step, left)
+
+-- an answer
+pub answer_steps : (source : Peer) (bytes text line : List ℕ) (old new : State) (a b : Option (List ℕ)) (r : Result (Unit {0}) WriteFailed) → Steps old new (λ w next. Step w (Control source bytes) (answer_to source (Some text)) next) → line ≡ answer_line source text → Writes line a b r → Steps old new (λ w next. EventRan (Control source bytes) w next a b (event_result r))
+answer_steps source bytes text line old new a b r h is put w stands =
+    let (next, step, left) = h w stands in
+    (next, written_ran (Control source bytes) (Reply source text ∷ []) line w next a b r step (is ∙ sym (append-nil (answer_line source text))) put, left)
+
+-- a tick
+pub tick_steps : (old new : State) (outbox : List Datagram) (text : List ℕ) (a b : Option (List ℕ)) (r : Result (Unit {0}) WriteFailed) → ((w : World) → StandsFor old w → outbox ≡ packets_of w) → ((w : World) → StandsFor old w → StandsFor new (ticked w)) → text ≡ lines_for (map Packet outbox) → Writes text a b r → Steps old new (λ w next. EventRan Tick w next a b (event_result r))
+tick_steps old new outbox text a b r sent after is put w stands =
+    (ticked w, written_ran Tick (map Packet outbox) text w (ticked w) a b r (ap (map Packet) (sent w stands), refl) is put, after w stands)
+
+-- ## Lines
+
+abbrev pub line_result : Result (Unit {0}) EventFault → Result (Unit {0}) ScriptFault
+line_result (Ok done) = Ok tt
+line_result (Err fault) = Err (script_fault_of fault)
+
+abbrev pub an_event_or_none : Option Event → Option (Option Event)
+an_event_or_none e = Some e
+
+one_line : (line : List ℕ) (e : Option Event) → event_of line ≡ Some e → events_of (line ∷ []) ≡ Some (then_all e [])
+unfolding events_of
+one_line line e is = rw is refl
 
 -- a line that stands for no event
-pub comment_ran : (config : Config) (number : ℕ) (line : List ℕ) (w : World) (a : Option (List ℕ)) → event_of line ≡ Some None → LineRan config number line w w a a (Ok tt)
-comment_ran config number line w a is = record { out = []; runs = one_line config w w line [] None is (refl, refl); written = same_appends a }
+pub comment_ran : (number : ℕ) (line : List ℕ) (w : World) (a : Option (List ℕ)) → event_of line ≡ Some None → LineRan number line w w a a (Ok tt)
+comment_ran number line w a is = record { events = []; sent = []; are = one_line line None is; run = (refl, refl); written = same_appends a }
 
--- a line that stands for a control datagram
-control_runs : (config : Config) (number : ℕ) (line : List ℕ) (source : Peer) (bytes : List ℕ) (w after : World) (a b : Option (List ℕ)) (r : Result (Unit {0}) RunFault) → event_of line ≡ Some (Some (Control source bytes)) → ControlRan config source bytes w after a b r → LineRan config number line w after a b r
-control_runs config number line source bytes w after a b (Ok done) is h = record { out = h.0; runs = one_line config w after line h.0 (Some (Control source bytes)) is h.1; written = h.2 }
-control_runs config number line source bytes w after a b (Err faults.Write) is h = record { front = h.0; rest = h.1; runs = one_line config w after line (h.0 ++ h.1) (Some (Control source bytes)) is h.2; written = h.3 }
-control_runs config number line source bytes w after a b (Err faults.Read) is h = h
-control_runs config number line source bytes w after a b (Err faults.NoMemory) is h = h
-control_runs config number line source bytes w after a b (Err faults.BadConfig) is h = h
-control_runs config number line source bytes w after a b (Err (faults.Script n)) is h = absurd h
+-- a line that stands for an event
+event_line : (number : ℕ) (line : List ℕ) (event : Event) (w next : World) (a b : Option (List ℕ)) (r : Result (Unit {0}) EventFault) → event_of line ≡ Some (Some event) → EventRan event w next a b r → LineRan number line w next a b (line_result r)
+event_line number line event w next a b (Ok done) is h = record {
+  events = event ∷ [];
+  sent = h.sent;
+  are = one_line line (Some event) is;
+  run = (h.sent, [], next, h.step, (refl, refl), sym (append-nil h.sent));
+  written = h.written;
+}
+event_line number line event w next a b (Err events.Write) is h = record {
+  events = event ∷ [];
+  sent = h.sent;
+  front = h.written.front;
+  rest = h.written.rest;
+  are = one_line line (Some event) is;
+  run = (h.sent, [], next, h.step, (refl, refl), sym (append-nil h.sent));
+  parts = h.written.parts;
+  written = h.written.written;
+}
+event_line number line event w next a b (Err events.NoMemory) is h = h
 
--- a step that left the engine alone
-pub same_steps : (kept : Kept) (R : World → World → Type 0) → ((w : World) → R w w) → Steps kept kept R
+-- a step that left the state alone
+pub same_steps : (kept : State) (R : World → World → Type 0) → ((w : World) → R w w) → Steps kept kept R
 same_steps kept R f w stands = (w, f w, stands)
 
-pub control_ran : (config : Config) (number : ℕ) (line : List ℕ) (source : Peer) (bytes : List ℕ) (old new : Kept) (a b : Option (List ℕ)) (r : Result (Unit {0}) RunFault) → event_of line ≡ Some (Some (Control source bytes)) → Steps old new (λ w after. ControlRan config source bytes w after a b r) → Steps old new (λ w after. LineRan config number line w after a b r)
-control_ran config number line source bytes old new a b r is h w stands =
-    let (after, came, left) = h w stands in
-    (after, control_runs config number line source bytes w after a b r is came, left)
-
--- the same of an answer that a core gave in each world that its engine stood for
-pub silent_steps : (config : Config) (source : Peer) (bytes text : List ℕ) (old new : Kept) (a : Option (List ℕ)) → Steps old new (λ w after. Answers config bytes w after Silent text) → Steps old new (λ w after. ControlRan config source bytes w after a a (Ok tt))
-silent_steps config source bytes text old new a h w stands =
-    let (after, came, left) = h w stands in
-    (after, silent_ran config source bytes text w after a came, left)
-
-pub sent_steps : (config : Config) (source : Peer) (bytes text line : List ℕ) (old new : Kept) (a b : Option (List ℕ)) (r : Result (Unit {0}) RunFault) → Steps old new (λ w after. Answers config bytes w after Send text) → line ≡ answer_line source text → Writes line a b r → Steps old new (λ w after. ControlRan config source bytes w after a b r)
-sent_steps config source bytes text line old new a b r h is put w stands =
-    let (after, came, left) = h w stands in
-    (after, sent_ran config source bytes text line w after a b r came is put, left)
-
--- an event in an answer, step by step
-pub some_some : (o : Option (Option Event)) (p : Option Event) (e f : Event) → o ≡ Some p → p ≡ Some e → e ≡ f → o ≡ Some (Some f)
-some_some o p e f h k l = h ∙ ap (λ (x : Option Event). Some x) (k ∙ ap (λ (x : Event). Some x) l)
+pub line_steps : (number : ℕ) (line : List ℕ) (event : Event) (old new : State) (a b : Option (List ℕ)) (r : Result (Unit {0}) EventFault) → event_of line ≡ Some (Some event) → Steps old new (λ w next. EventRan event w next a b r) → Steps old new (λ w next. LineRan number line w next a b (line_result r))
+line_steps number line event old new a b r is h w stands =
+    let (next, came, left) = h w stands in
+    (next, event_line number line event w next a b r is came, left)

@@ -1,46 +1,87 @@
 -- Lines one after another, and the bytes that they come in.
 use Rattle.std.proofs.Common.{◌≡◌, ◌≢◌, ℕ, ◌+◌, ◌-◌, ◌<◌, ◌≤◌, Bool, true, false, cond, eqb, List, [], ◌∷◌, ◌++◌, length, get_or, take, drop, Option, Some, None, Result, Ok, Err, refl, sym, ap, subst, ◌∙◌, append_assoc, length-append, length-take, arith}
+use Rattle.std.proofs.lemmas.Grind.{flat_map-append}
 use Rattle.std.proofs.lemmas.List.{append-nil, take-append-drop, take_more, drop_more}
 use Rattle.std.proofs.lemmas.Bool.{ne_eqb, lt-ltb}
 use Rattle.std.specs.Prelude.{slice_index}
-use Rattle.std.specs.Io.KnownBytes.{Keeps, Consumes, IsAtEnd}
+use Rattle.mg_numbers.specs.Address.{◌>>=◌}
+use Rattle.std.specs.Io.KnownBytes.{Appends, Keeps, Consumes, IsAtEnd}
 use Rattle.mg_engine.specs.declared.config.Config.{Config}
-use Rattle.mg_engine.specs.Stands.{Kept}
-use Rattle.mg_core.specs.World.{World, Holds, start_of}
-use Rattle.mg_core.specs.declared.fault.RunFault.{RunFault}
-use Rattle.mg_core.specs.declared.fault.RunFault.TheVariants as faults
-use Rattle.mg_core.specs.Script.{without_return, lines_behind, lines_of, event_of}
-use Rattle.mg_core.specs.Run.{Runs, Ran, RanInPart, ScriptRan}
-use Rattle.mg_core.specs.Steps.{LineRan, BytesRan, Finishes, ReadsSome, Steps}
+use Rattle.mg_core.specs.declared.state.State.{State}
+use Rattle.mg_core.specs.World.{World, StandsFor, start_of}
+use Rattle.mg_core.specs.declared.event.Event.{Event}
+use Rattle.mg_core.specs.declared.fault.ReadFailed.{ReadFailed}
+use Rattle.mg_core.specs.declared.fault.ScriptFault.{ScriptFault}
+use Rattle.mg_core.specs.declared.fault.ScriptFault.TheVariants as faults
+use Rattle.mg_core.specs.Script.{without_return, lines_behind, lines_of, event_of, events_of, then_all}
+use Rattle.mg_core.specs.Step.{Sent, Run}
+use Rattle.mg_core.specs.Run.{Ran, RanInPart, RanFirst, lines_for, line_of}
+use Rattle.mg_core.specs.Steps.{AllRan, LineRan, BytesRan, Finishes, ReadsSome, Steps}
 use Rattle.mg_core.proofs.WriterLaws.{appends_then, appends_keeps}
 use Rattle.mg_core.proofs.LineLaws.{same_appends}
 
-runs_both : (config : Config) (w v u : World) (xs ys : List (List ℕ)) (a b : List ℕ) → Runs config w xs a v → Runs config v ys b u → Runs config w (xs ++ ys) (a ++ b) u
-runs_both config w v u [] ys a b h k = subst (λ (x : World). Runs config x ys (a ++ b) u) h.1 (subst (λ (l : List ℕ). Runs config v ys l u) (ap (λ (l : List ℕ). l ++ b) (sym h.0)) k)
-runs_both config w v u (x ∷ xs) ys a b h k =
-    (h.0, h.1, h.2 ++ b, h.3, h.4, h.5, runs_both config h.3 v u xs ys h.2 b h.6 k, ap (λ (l : List ℕ). l ++ b) h.7 ∙ append_assoc h.1 h.2 b)
+-- ## Lines and events one after another
 
-ran_both : (config : Config) (w v u : World) (xs ys : List (List ℕ)) (a b c : Option (List ℕ)) → Ran config w xs v a b → Ran config v ys u b c → Ran config w (xs ++ ys) u a c
-ran_both config w v u xs ys a b c h k = record { out = h.out ++ k.out; runs = runs_both config w v u xs ys h.out k.out h.runs k.runs; written = appends_then a b c h.out k.out h.written k.written }
+before_both : (e : Option Event) (l fs : List Event) → then_all e (l ++ fs) ≡ then_all e l ++ fs
+before_both None l fs = refl
+before_both (Some e) l fs = refl
 
-ran_part : (config : Config) (w v u : World) (xs ys : List (List ℕ)) (a b c : Option (List ℕ)) → Ran config w xs v a b → RanInPart config v ys u b c → RanInPart config w (xs ++ ys) u a c
-ran_part config w v u xs ys a b c h k = record {
-  front = h.out ++ k.front;
+abbrev events_are : List Event → Option (List Event)
+events_are es = Some es
+
+are_same : (a b : List Event) → events_are a ≡ events_are b → a ≡ b
+are_same a b h = cc h
+
+events_step : (o : Option (Option Event)) (p all : Option (List Event)) (es fs : List Event) → (o >>= λ e. p >>= λ l. Some (then_all e l)) ≡ Some es → ((l : List Event) → p ≡ Some l → all ≡ Some (l ++ fs)) → (o >>= λ e. all >>= λ l. Some (then_all e l)) ≡ Some (es ++ fs)
+events_step None p all es fs h k = absurd (cc h)
+events_step (Some e) None all es fs h k = absurd (cc h)
+events_step (Some e) (Some l) all es fs h k = rw (k l refl) (ap events_are (before_both e l fs ∙ ap (λ (x : List Event). x ++ fs) (are_same (then_all e l) es h)))
+
+pub events_both : (xs ys : List (List ℕ)) (es fs : List Event) → events_of xs ≡ Some es → events_of ys ≡ Some fs → events_of (xs ++ ys) ≡ Some (es ++ fs)
+unfolding events_of
+events_both [] ys es fs h k = k ∙ ap (λ (x : List Event). events_are (x ++ fs)) (are_same [] es h)
+events_both (x ∷ xs) ys es fs h k = events_step (event_of x) (events_of xs) (events_of (xs ++ ys)) es fs h (λ l is. events_both xs ys l fs is k)
+
+pub run_both : (w v u : World) (es fs : List Event) (a b : List Sent) → Run w es a v → Run v fs b u → Run w (es ++ fs) (a ++ b) u
+run_both w v u [] fs a b h k = subst (λ (x : World). Run x fs (a ++ b) u) h.1 (subst (λ (l : List Sent). Run v fs l u) (ap (λ (l : List Sent). l ++ b) (sym h.0)) k)
+run_both w v u (e ∷ es) fs a b h k =
+    (h.0, h.1 ++ b, h.2, h.3, run_both h.2 v u es fs h.1 b h.4 k, ap (λ (l : List Sent). l ++ b) h.5 ∙ append_assoc h.0 h.1 b)
+
+lines_both : (a b : List Sent) → lines_for (a ++ b) ≡ lines_for a ++ lines_for b
+lines_both a b = flat_map-append line_of a b
+
+ran_both : (w v u : World) (xs ys : List (List ℕ)) (a b c : Option (List ℕ)) → Ran w xs v a b → Ran v ys u b c → Ran w (xs ++ ys) u a c
+ran_both w v u xs ys a b c h k = record {
+  events = h.events ++ k.events;
+  sent = h.sent ++ k.sent;
+  are = events_both xs ys h.events k.events h.are k.are;
+  run = run_both w v u h.events k.events h.sent k.sent h.run k.run;
+  written = subst (Appends a c) (sym (lines_both h.sent k.sent)) (appends_then a b c (lines_for h.sent) (lines_for k.sent) h.written k.written);
+}
+
+ran_part : (w v u : World) (xs ys : List (List ℕ)) (a b c : Option (List ℕ)) → Ran w xs v a b → RanInPart v ys u b c → RanInPart w (xs ++ ys) u a c
+ran_part w v u xs ys a b c h k = record {
+  events = h.events ++ k.events;
+  sent = h.sent ++ k.sent;
+  front = lines_for h.sent ++ k.front;
   rest = k.rest;
-  runs = subst (λ (l : List ℕ). Runs config w (xs ++ ys) l u) (sym (append_assoc h.out k.front k.rest)) (runs_both config w v u xs ys h.out (k.front ++ k.rest) h.runs k.runs);
-  written = appends_then a b c h.out k.front h.written k.written;
+  are = events_both xs ys h.events k.events h.are k.are;
+  run = run_both w v u h.events k.events h.sent k.sent h.run k.run;
+  parts = lines_both h.sent k.sent ∙ ap (λ (l : List ℕ). lines_for h.sent ++ l) k.parts ∙ sym (append_assoc (lines_for h.sent) k.front k.rest);
+  written = appends_then a b c (lines_for h.sent) k.front h.written k.written;
 }
 
 -- nothing more was written, and the world is as it was
-ran_kept : (config : Config) (w v u : World) (xs : List (List ℕ)) (a b c : Option (List ℕ)) → Ran config w xs v a b → Keeps b c → u ≡ v → Ran config w xs u a c
-ran_kept config w v u xs a b c h k same = subst (λ (x : World). Ran config w xs x a c) (sym same) (record { out = h.out; runs = h.runs; written = appends_keeps a b c h.out h.written k })
+ran_kept : (w v u : World) (xs : List (List ℕ)) (a b c : Option (List ℕ)) → Ran w xs v a b → Keeps b c → u ≡ v → Ran w xs u a c
+ran_kept w v u xs a b c h k same = subst (λ (x : World). Ran w xs x a c) (sym same) (record { events = h.events; sent = h.sent; are = h.are; run = h.run; written = appends_keeps a b c (lines_for h.sent) h.written k })
 
-pub ran_nothing : (config : Config) (w : World) (a : Option (List ℕ)) → Ran config w [] w a a
-ran_nothing config w a = record { out = []; runs = (refl, refl); written = same_appends a }
+pub ran_nothing : (w : World) (a : Option (List ℕ)) → Ran w [] w a a
+unfolding events_of
+ran_nothing w a = record { events = []; sent = []; are = refl; run = (refl, refl); written = same_appends a }
 
 -- no bytes yet
-pub bytes_start : (config : Config) (n : ℕ) (begun : List ℕ) (w : World) (a : Option (List ℕ)) → BytesRan config n n begun [] begun w w a a (Ok tt)
-bytes_start config n begun w a = ([], λ rest. refl, omega arith, ran_nothing config w a)
+pub bytes_start : (n : ℕ) (begun : List ℕ) (w : World) (a : Option (List ℕ)) → BytesRan n n begun [] begun w w a a (Ok tt)
+bytes_start n begun w a = ([], λ rest. refl, omega arith, ran_nothing w a)
 
 one_byte : (x : ℕ) (begun bytes : List ℕ) → x ≢ 10 → lines_behind begun (x ∷ bytes) ≡ lines_behind (begun ++ x ∷ []) bytes
 unfolding lines_behind
@@ -54,17 +95,17 @@ regroup : (front : List ℕ) (x : ℕ) (rest : List ℕ) → (front ++ x ∷ [])
 regroup front x rest = append_assoc front (x ∷ []) rest
 
 -- a byte that ends no line
-pub bytes_plain : (config : Config) (n m : ℕ) (begun front left : List ℕ) (w v : World) (a b : Option (List ℕ)) (x : ℕ) → x ≢ 10 → BytesRan config n m begun front left w v a b (Ok tt) → BytesRan config n m begun (front ++ x ∷ []) (left ++ x ∷ []) w v a b (Ok tt)
-bytes_plain config n m begun front left w v a b x ne h =
+pub bytes_plain : (n m : ℕ) (begun front left : List ℕ) (w v : World) (a b : Option (List ℕ)) (x : ℕ) → x ≢ 10 → BytesRan n m begun front left w v a b (Ok tt) → BytesRan n m begun (front ++ x ∷ []) (left ++ x ∷ []) w v a b (Ok tt)
+bytes_plain n m begun front left w v a b x ne h =
     (h.0, λ rest. ap (lines_behind begun) (regroup front x rest) ∙ h.1 (x ∷ rest) ∙ ap (λ (l : List (List ℕ)). h.0 ++ l) (one_byte x left rest ne), h.2, h.3)
 
 -- a byte that ends a line, which was run
-pub bytes_line : (config : Config) (n m : ℕ) (begun front left : List ℕ) (w v u : World) (a b c : Option (List ℕ)) (number : ℕ) → BytesRan config n m begun front left w v a b (Ok tt) → LineRan config number (without_return left) v u b c (Ok tt) → BytesRan config n (m + 1) begun (front ++ 10 ∷ []) [] w u a c (Ok tt)
-bytes_line config n m begun front left w v u a b c number h k =
+pub bytes_line : (n m : ℕ) (begun front left : List ℕ) (w v u : World) (a b c : Option (List ℕ)) (number : ℕ) → BytesRan n m begun front left w v a b (Ok tt) → LineRan number (without_return left) v u b c (Ok tt) → BytesRan n (m + 1) begun (front ++ 10 ∷ []) [] w u a c (Ok tt)
+bytes_line n m begun front left w v u a b c number h k =
     let line = without_return left in
     let next : (rest : List ℕ) → lines_behind begun ((front ++ 10 ∷ []) ++ rest) ≡ (h.0 ++ line ∷ []) ++ lines_behind [] rest =
     λ rest. ap (lines_behind begun) (regroup front 10 rest) ∙ h.1 (10 ∷ rest) ∙ ap (λ (l : List (List ℕ)). h.0 ++ l) (line_feed left rest) ∙ sym (append_assoc h.0 (line ∷ []) (lines_behind [] rest)) in
-    (h.0 ++ line ∷ [], next, omega (arith, length-append h.0 (line ∷ []), h.2), ran_both config w v u h.0 (line ∷ []) a b c h.3 k)
+    (h.0 ++ line ∷ [], next, omega (arith, length-append h.0 (line ∷ []), h.2), ran_both w v u h.0 (line ∷ []) a b c h.3 k)
 
 -- the lines behind some bytes, where a line feed stands behind the first of them
 at_feed : (begun front left back rest : List ℕ) (lines : List (List ℕ)) → ((rest : List ℕ) → lines_behind begun (front ++ rest) ≡ lines ++ lines_behind left rest) → lines_behind begun ((front ++ (10 ∷ back)) ++ rest) ≡ lines ++ without_return left ∷ lines_behind [] (back ++ rest)
@@ -72,16 +113,15 @@ at_feed begun front left back rest lines h =
     ap (lines_behind begun) (append_assoc front (10 ∷ back) rest) ∙ h (10 ∷ (back ++ rest)) ∙ ap (λ (l : List (List ℕ)). lines ++ l) (line_feed left (back ++ rest))
 
 -- a line that was not run
-pub bytes_stop : (config : Config) (n m p : ℕ) (begun front left back other : List ℕ) (w v u : World) (a b c : Option (List ℕ)) (e : RunFault) → BytesRan config n m begun front left w v a b (Ok tt) → LineRan config (m + 1) (without_return left) v u b c (Err e) → BytesRan config n p begun (front ++ (10 ∷ back)) other w u a c (Err e)
-bytes_stop config n m p begun front left back other w v u a b c (faults.Script k) h l =
-    (h.0, λ rest. (without_return left, lines_behind [] (back ++ rest), at_feed begun front left back rest h.0 h.1, l.1), omega (arith, l.0, h.2), ran_kept config w v u h.0 a b c h.3 l.2 l.3)
-bytes_stop config n m p begun front left back other w v u a b c faults.Write h l =
+pub bytes_stop : (n m p : ℕ) (begun front left back other : List ℕ) (w v u : World) (a b c : Option (List ℕ)) (e : ScriptFault) → BytesRan n m begun front left w v a b (Ok tt) → LineRan (m + 1) (without_return left) v u b c (Err e) → BytesRan n p begun (front ++ (10 ∷ back)) other w u a c (Err e)
+bytes_stop n m p begun front left back other w v u a b c (faults.Bad k) h l =
+    (h.0, λ rest. (without_return left, lines_behind [] (back ++ rest), at_feed begun front left back rest h.0 h.1, l.1), omega (arith, l.0, h.2), ran_kept w v u h.0 a b c h.3 l.2 l.3)
+bytes_stop n m p begun front left back other w v u a b c faults.Write h l =
     let line = without_return left in
-    (h.0 ++ line ∷ [], λ rest. (lines_behind [] (back ++ rest), at_feed begun front left back rest h.0 h.1 ∙ sym (append_assoc h.0 (line ∷ []) (lines_behind [] (back ++ rest)))), ran_part config w v u h.0 (line ∷ []) a b c h.3 l)
-bytes_stop config n m p begun front left back other w v u a b c faults.NoMemory h l =
-    (h.0, λ rest. (without_return left ∷ lines_behind [] (back ++ rest), at_feed begun front left back rest h.0 h.1), ran_kept config w v u h.0 a b c h.3 l.0 l.1)
-bytes_stop config n m p begun front left back other w v u a b c faults.Read h l = l
-bytes_stop config n m p begun front left back other w v u a b c faults.BadConfig h l = l
+    (h.0 ++ line ∷ [], λ rest. (lines_behind [] (back ++ rest), at_feed begun front left back rest h.0 h.1 ∙ sym (append_assoc h.0 (line ∷ []) (lines_behind [] (back ++ rest)))), ran_part w v u h.0 (line ∷ []) a b c h.3 l)
+bytes_stop n m p begun front left back other w v u a b c faults.NoMemory h l =
+    (h.0, λ rest. (without_return left ∷ lines_behind [] (back ++ rest), at_feed begun front left back rest h.0 h.1), ran_kept w v u h.0 a b c h.3 l.0 l.1)
+bytes_stop n m p begun front left back other w v u a b c faults.Read h l = l
 
 -- a line that is too long is bad, wherever it ends
 long_bad : (line : List ℕ) → 140001 ≤ length line → event_of line ≡ None
@@ -110,8 +150,8 @@ long_line begun [] le = rw (ne_eqb (length begun) 0 (λ e. absurd (omega arith))
 long_line begun (x ∷ bytes) le = long_step (eqb x 10) begun x bytes refl le (long_line (begun ++ x ∷ []) bytes (omega (arith, length-append begun (x ∷ []))))
 
 -- a byte that makes a line too long
-pub bytes_long : (config : Config) (n m p : ℕ) (begun front left back other : List ℕ) (w v : World) (a b : Option (List ℕ)) (x : ℕ) → x ≢ 10 → 140001 ≤ length left → BytesRan config n m begun front left w v a b (Ok tt) → BytesRan config n p begun (front ++ (x ∷ back)) other w v a b (Err (faults.Script (m + 1)))
-bytes_long config n m p begun front left back other w v a b x ne le h =
+pub bytes_long : (n m p : ℕ) (begun front left back other : List ℕ) (w v : World) (a b : Option (List ℕ)) (x : ℕ) → x ≢ 10 → 140001 ≤ length left → BytesRan n m begun front left w v a b (Ok tt) → BytesRan n p begun (front ++ (x ∷ back)) other w v a b (Err (faults.Bad (m + 1)))
+bytes_long n m p begun front left back other w v a b x ne le h =
     let long : (rest : List ℕ) → HasLongLine (lines_behind (left ++ x ∷ []) (back ++ rest)) = λ rest. long_line (left ++ x ∷ []) (back ++ rest) (omega (arith, length-append left (x ∷ []))) in (
       h.0,
       λ rest. (
@@ -131,17 +171,17 @@ pub record Progress (config : Config) (script : List ℕ) (remaining : Option (L
   pub lines : List (List ℕ)
   pub split : lines_of script ≡ lines ++ lines_behind begun rest
   pub counted : count ≡ length lines
-  pub ran : Ran config (start_of config) lines now old new
+  pub ran : Ran (start_of config) lines now old new
 
 pub progress_start : (config : Config) (script : List ℕ) (remaining : Option (List ℕ)) (begun : List ℕ) (count : ℕ) (a : Option (List ℕ)) → remaining ≡ Some script → begun ≡ [] → count ≡ 0 → Progress config script remaining begun count (start_of config) a a
-progress_start config script remaining begun count a is none zero_is = record { rest = script; left = is; lines = []; split = ap (λ (l : List ℕ). lines_behind l script) (sym none); counted = zero_is; ran = ran_nothing config (start_of config) a }
+progress_start config script remaining begun count a is none zero_is = record { rest = script; left = is; lines = []; split = ap (λ (l : List ℕ). lines_behind l script) (sym none); counted = zero_is; ran = ran_nothing (start_of config) a }
 
 consumed : (x y : Option (List ℕ)) (rest bytes : List ℕ) → x ≡ Some rest → Consumes x y bytes → (more : List ℕ) × (y ≡ Some more) × (rest ≡ bytes ++ more)
 consumed None y rest bytes e h = absurd cc
 consumed (Some xs) None rest bytes e h = absurd h
 consumed (Some xs) (Some ys) rest bytes e h = let same : xs ≡ rest = cc in (ys, refl, sym same ∙ h)
 
-pub progress_bytes : (config : Config) (script : List ℕ) (x y : Option (List ℕ)) (begun bytes left : List ℕ) (n m : ℕ) (v u : World) (a b c : Option (List ℕ)) → Progress config script x begun n v a b → Consumes x y bytes → BytesRan config n m begun bytes left v u b c (Ok tt) → Progress config script y left m u a c
+pub progress_bytes : (config : Config) (script : List ℕ) (x y : Option (List ℕ)) (begun bytes left : List ℕ) (n m : ℕ) (v u : World) (a b c : Option (List ℕ)) → Progress config script x begun n v a b → Consumes x y bytes → BytesRan n m begun bytes left v u b c (Ok tt) → Progress config script y left m u a c
 progress_bytes config script x y begun bytes left n m v u a b c p eaten h =
     let more = consumed x y p.rest bytes p.left eaten in
     record {
@@ -150,42 +190,45 @@ progress_bytes config script x y begun bytes left n m v u a b c p eaten h =
       lines = p.lines ++ h.0;
       split = p.split ∙ ap (λ (l : List ℕ). p.lines ++ lines_behind begun l) more.2 ∙ ap (λ (l : List (List ℕ)). p.lines ++ l) (h.1 more.0) ∙ sym (append_assoc p.lines h.0 (lines_behind left more.0));
       counted = omega (arith, h.2, p.counted, length-append p.lines h.0);
-      ran = ran_both config (start_of config) v u p.lines h.0 a b c p.ran h.3;
+      ran = ran_both (start_of config) v u p.lines h.0 a b c p.ran h.3;
     }
 
-pub progress_fault : (config : Config) (script : List ℕ) (x y : Option (List ℕ)) (begun bytes left : List ℕ) (n m : ℕ) (v u : World) (a b c : Option (List ℕ)) (e : RunFault) → Progress config script x begun n v a b → Consumes x y bytes → BytesRan config n m begun bytes left v u b c (Err e) → ScriptRan {T = Unit {0}} config script a c (Err e)
-progress_fault config script x y begun bytes left n m v u a b c (faults.Script k) p eaten h =
+pub progress_fault : (config : Config) (script : List ℕ) (x y : Option (List ℕ)) (begun bytes left : List ℕ) (n m : ℕ) (state : State) (v u : World) (a b c : Option (List ℕ)) (e : ScriptFault) → Progress config script x begun n v a b → Consumes x y bytes → BytesRan n m begun bytes left v u b c (Err e) → AllRan config script state a c (Err e)
+progress_fault config script x y begun bytes left n m state v u a b c (faults.Bad k) p eaten h =
     let more = consumed x y p.rest bytes p.left eaten in
-    let bad = h.1 more.0 in (
-      p.lines ++ h.0,
-      bad.0,
-      bad.1,
-      p.split ∙ ap (λ (l : List ℕ). p.lines ++ lines_behind begun l) more.2 ∙ ap (λ (l : List (List ℕ)). p.lines ++ l) bad.2 ∙ sym (append_assoc p.lines h.0 (bad.0 ∷ bad.1)),
-      bad.3,
-      omega (arith, h.2, p.counted, length-append p.lines h.0),
-      (u, ran_both config (start_of config) v u p.lines h.0 a b c p.ran h.3),
-    )
-progress_fault config script x y begun bytes left n m v u a b c faults.Write p eaten h =
+    let bad = h.1 more.0 in record {
+      lines = p.lines ++ h.0;
+      bad = bad.0;
+      others = bad.1;
+      script_is = p.split ∙ ap (λ (l : List ℕ). p.lines ++ lines_behind begun l) more.2 ∙ ap (λ (l : List (List ℕ)). p.lines ++ l) bad.2 ∙ sym (append_assoc p.lines h.0 (bad.0 ∷ bad.1));
+      is_bad = bad.3;
+      number_is = omega (arith, h.2, p.counted, length-append p.lines h.0);
+      last = u;
+      ran = ran_both (start_of config) v u p.lines h.0 a b c p.ran h.3;
+    }
+progress_fault config script x y begun bytes left n m state v u a b c faults.Write p eaten h =
     let more = consumed x y p.rest bytes p.left eaten in
-    let others = h.1 more.0 in (
-      p.lines ++ h.0,
-      others.0,
-      p.split ∙ ap (λ (l : List ℕ). p.lines ++ lines_behind begun l) more.2 ∙ ap (λ (l : List (List ℕ)). p.lines ++ l) others.1 ∙ sym (append_assoc p.lines h.0 others.0),
-      (u, ran_part config (start_of config) v u p.lines h.0 a b c p.ran h.2),
-    )
-progress_fault config script x y begun bytes left n m v u a b c faults.NoMemory p eaten h =
+    let others = h.1 more.0 in record {
+      lines = p.lines ++ h.0;
+      others = others.0;
+      script_is = p.split ∙ ap (λ (l : List ℕ). p.lines ++ lines_behind begun l) more.2 ∙ ap (λ (l : List (List ℕ)). p.lines ++ l) others.1 ∙ sym (append_assoc p.lines h.0 others.0);
+      last = u;
+      ran = ran_part (start_of config) v u p.lines h.0 a b c p.ran h.2;
+    }
+progress_fault config script x y begun bytes left n m state v u a b c faults.NoMemory p eaten h =
     let more = consumed x y p.rest bytes p.left eaten in
-    let others = h.1 more.0 in (
-      p.lines ++ h.0,
-      others.0,
-      p.split ∙ ap (λ (l : List ℕ). p.lines ++ lines_behind begun l) more.2 ∙ ap (λ (l : List (List ℕ)). p.lines ++ l) others.1 ∙ sym (append_assoc p.lines h.0 others.0),
-      (u, ran_both config (start_of config) v u p.lines h.0 a b c p.ran h.2),
-    )
-progress_fault config script x y begun bytes left n m v u a b c faults.Read p eaten h = absurd h
-progress_fault config script x y begun bytes left n m v u a b c faults.BadConfig p eaten h = absurd h
+    let others = h.1 more.0 in record {
+      lines = p.lines ++ h.0;
+      others = others.0;
+      script_is = p.split ∙ ap (λ (l : List ℕ). p.lines ++ lines_behind begun l) more.2 ∙ ap (λ (l : List (List ℕ)). p.lines ++ l) others.1 ∙ sym (append_assoc p.lines h.0 others.0);
+      last = u;
+      ran = ran_both (start_of config) v u p.lines h.0 a b c p.ran h.2;
+    }
+progress_fault config script x y begun bytes left n m state v u a b c faults.Read p eaten h = absurd h
 
-pub progress_read : (config : Config) (script : List ℕ) (x : Option (List ℕ)) (begun : List ℕ) (n : ℕ) (v : World) (a b : Option (List ℕ)) → Progress config script x begun n v a b → ScriptRan {T = Unit {0}} config script a b (Err faults.Read)
-progress_read config script x begun n v a b p = (p.lines, lines_behind begun p.rest, p.split, (v, p.ran))
+-- reading failed
+pub progress_unread : (config : Config) (script : List ℕ) (x : Option (List ℕ)) (begun : List ℕ) (n : ℕ) (v : World) (a b : Option (List ℕ)) → Progress config script x begun n v a b → RanFirst config script a b
+progress_unread config script x begun n v a b p = record { lines = p.lines; others = lines_behind begun p.rest; script_is = p.split; last = v; ran = p.ran }
 
 -- the end of the script
 at_end : (x y : Option (List ℕ)) (rest : List ℕ) → x ≡ Some rest → Keeps x y → IsAtEnd y → rest ≡ []
@@ -201,95 +244,100 @@ no_line : lines_behind [] [] ≡ []
 unfolding lines_behind
 no_line = refl
 
-line_end : (config : Config) (script : List ℕ) (lines : List (List ℕ)) (line : List ℕ) (n : ℕ) (v u : World) (a b c : Option (List ℕ)) (r : Result (Unit {0}) RunFault) → lines_of script ≡ lines ++ line ∷ [] → n ≡ length lines → Ran config (start_of config) lines v a b → LineRan config (n + 1) line v u b c r → ScriptRan config script a c r
-line_end config script lines line n v u a b c (Ok done) split counted ran h = (u, subst (λ (l : List (List ℕ)). Ran config (start_of config) l u a c) (sym split) (ran_both config (start_of config) v u lines (line ∷ []) a b c ran h))
-line_end config script lines line n v u a b c (Err (faults.Script k)) split counted ran h = (lines, line, [], split, h.1, omega (arith, h.0, counted), (u, ran_kept config (start_of config) v u lines a b c ran h.2 h.3))
-line_end config script lines line n v u a b c (Err faults.Write) split counted ran h = (lines ++ line ∷ [], [], split ∙ sym (append-nil (lines ++ line ∷ [])), (u, ran_part config (start_of config) v u lines (line ∷ []) a b c ran h))
-line_end config script lines line n v u a b c (Err faults.NoMemory) split counted ran h = (lines, line ∷ [], split, (u, ran_kept config (start_of config) v u lines a b c ran h.0 h.1))
-line_end config script lines line n v u a b c (Err faults.Read) split counted ran h = absurd h
-line_end config script lines line n v u a b c (Err faults.BadConfig) split counted ran h = absurd h
+line_end : (config : Config) (script : List ℕ) (lines : List (List ℕ)) (line : List ℕ) (n : ℕ) (state : State) (v u : World) (a b c : Option (List ℕ)) (r : Result (Unit {0}) ScriptFault) → lines_of script ≡ lines ++ line ∷ [] → n ≡ length lines → StandsFor state u → Ran (start_of config) lines v a b → LineRan (n + 1) line v u b c r → AllRan config script state a c r
+line_end config script lines line n state v u a b c (Ok done) split counted stands ran h = (u, subst (λ (l : List (List ℕ)). Ran (start_of config) l u a c) (sym split) (ran_both (start_of config) v u lines (line ∷ []) a b c ran h), stands)
+line_end config script lines line n state v u a b c (Err (faults.Bad k)) split counted stands ran h = record {
+  lines = lines;
+  bad = line;
+  others = [];
+  script_is = split;
+  is_bad = h.1;
+  number_is = omega (arith, h.0, counted);
+  last = u;
+  ran = ran_kept (start_of config) v u lines a b c ran h.2 h.3;
+}
+line_end config script lines line n state v u a b c (Err faults.Write) split counted stands ran h = record {
+  lines = lines ++ line ∷ [];
+  others = [];
+  script_is = split ∙ sym (append-nil (lines ++ line ∷ []));
+  last = u;
+  ran = ran_part (start_of config) v u lines (line ∷ []) a b c ran h;
+}
+line_end config script lines line n state v u a b c (Err faults.NoMemory) split counted stands ran h = record {
+  lines = lines;
+  others = line ∷ [];
+  script_is = split;
+  last = u;
+  ran = ran_kept (start_of config) v u lines a b c ran h.0 h.1;
+}
+line_end config script lines line n state v u a b c (Err faults.Read) split counted stands ran h = absurd h
 
-pub progress_end : (config : Config) (script : List ℕ) (x y : Option (List ℕ)) (begun : List ℕ) (n : ℕ) (v u : World) (a b c : Option (List ℕ)) (r : Result (Unit {0}) RunFault) → Progress config script x begun n v a b → Keeps x y × IsAtEnd y → Finishes config n begun v u b c r → ScriptRan config script a c r
-progress_end config script x y [] n v u a b c r p ended h =
+pub progress_end : (config : Config) (script : List ℕ) (x y : Option (List ℕ)) (begun : List ℕ) (n : ℕ) (state : State) (v u : World) (a b c : Option (List ℕ)) (r : Result (Unit {0}) ScriptFault) → Progress config script x begun n v a b → Keeps x y × IsAtEnd y → StandsFor state u → Finishes n begun v u b c r → AllRan config script state a c r
+progress_end config script x y [] n state v u a b c r p ended stands h =
     let empty = at_end x y p.rest p.left ended.0 ended.1 in
     let all = p.split ∙ ap (λ (l : List ℕ). p.lines ++ lines_behind [] l) empty ∙ ap (λ (l : List (List ℕ)). p.lines ++ l) no_line ∙ append-nil p.lines in
-    rw h.0 (u, subst (λ (l : List (List ℕ)). Ran config (start_of config) l u a c) (sym all) (ran_kept config (start_of config) v u p.lines a b c p.ran h.1 h.2))
-progress_end config script x y (k ∷ ks) n v u a b c r p ended h =
+    rw h.0 (u, subst (λ (l : List (List ℕ)). Ran (start_of config) l u a c) (sym all) (ran_kept (start_of config) v u p.lines a b c p.ran h.1 h.2), stands)
+progress_end config script x y (k ∷ ks) n state v u a b c r p ended stands h =
     let empty = at_end x y p.rest p.left ended.0 ended.1 in
     let all = p.split ∙ ap (λ (l : List ℕ). p.lines ++ lines_behind (k ∷ ks) l) empty ∙ ap (λ (l : List (List ℕ)). p.lines ++ l) (last_line k ks) in
-    line_end config script p.lines (k ∷ ks) n v u a b c r all p.counted p.ran h
-
--- reading failed
-pub progress_unread : (config : Config) (script : List ℕ) (x y : Option (List ℕ)) (begun buffer : List ℕ) (n : ℕ) (v : World) (a b : Option (List ℕ)) (e : RunFault) → Progress config script x begun n v a b → ReadsSome buffer x y (Err e) → ScriptRan {T = Unit {0}} config script a b (Err e)
-progress_unread config script x y begun buffer n v a b faults.Read p h = progress_read config script x begun n v a b p
-progress_unread config script x y begun buffer n v a b faults.Write p h = absurd h
-progress_unread config script x y begun buffer n v a b faults.NoMemory p h = absurd h
-progress_unread config script x y begun buffer n v a b faults.BadConfig p h = absurd h
-progress_unread config script x y begun buffer n v a b (faults.Script k) p h = absurd h
+    line_end config script p.lines (k ∷ ks) n state v u a b c r all p.counted stands p.ran h
 
 -- the same steps by the index of a byte
 around : (bytes : List ℕ) (i : ℕ) → i < length bytes → take i bytes ++ (get_or bytes i 0 ∷ drop (i + 1) bytes) ≡ bytes
 around bytes i lt = ap (λ (l : List ℕ). take i bytes ++ l) (sym (drop_more bytes i 0 lt)) ∙ take-append-drop i bytes
 
 -- So far, the lines that end in the first bytes were run, by an engine that was entered for each world w.
-abbrev pub HasRun : Config → ℕ → ℕ → List ℕ → List ℕ → List ℕ → Kept → Kept → Option (List ℕ) → Option (List ℕ) → Result (Unit {0}) RunFault → Type 0
-HasRun config n m begun bytes left entered kept a b r = Steps entered kept (λ w now. BytesRan config n m begun bytes left w now a b r)
+abbrev pub HasRun : ℕ → ℕ → List ℕ → List ℕ → List ℕ → State → State → Option (List ℕ) → Option (List ℕ) → Result (Unit {0}) ScriptFault → Type 0
+HasRun n m begun bytes left entered kept a b r = Steps entered kept (λ w now. BytesRan n m begun bytes left w now a b r)
 
-pub index_start : (config : Config) (n : ℕ) (begun : List ℕ) (kept : Kept) (a : Option (List ℕ)) → HasRun config n n begun [] begun kept kept a a (Ok tt)
-index_start config n begun kept a w h = (w, bytes_start config n begun w a, h)
+pub index_start : (n : ℕ) (begun : List ℕ) (kept : State) (a : Option (List ℕ)) → HasRun n n begun [] begun kept kept a a (Ok tt)
+index_start n begun kept a w h = (w, bytes_start n begun w a, h)
 
-pub index_plain : (config : Config) (n m : ℕ) (begun bytes left : List ℕ) (entered kept : Kept) (a b : Option (List ℕ)) (i : ℕ) → i < length bytes → get_or bytes i 0 ≢ 10 → HasRun config n m begun (take i bytes) left entered kept a b (Ok tt) → HasRun config n m begun (take (i + 1) bytes) (left ++ get_or bytes i 0 ∷ []) entered kept a b (Ok tt)
-index_plain config n m begun bytes left entered kept a b i lt ne inside w h =
+pub index_plain : (n m : ℕ) (begun bytes left : List ℕ) (entered kept : State) (a b : Option (List ℕ)) (i : ℕ) → i < length bytes → get_or bytes i 0 ≢ 10 → HasRun n m begun (take i bytes) left entered kept a b (Ok tt) → HasRun n m begun (take (i + 1) bytes) (left ++ get_or bytes i 0 ∷ []) entered kept a b (Ok tt)
+index_plain n m begun bytes left entered kept a b i lt ne inside w h =
     let (now, ran, stands) = inside w h in
-    (now, subst (λ (l : List ℕ). BytesRan config n m begun l (left ++ get_or bytes i 0 ∷ []) w now a b (Ok tt)) (sym (take_more bytes i 0 lt)) (bytes_plain config n m begun (take i bytes) left w now a b (get_or bytes i 0) ne ran), stands)
+    (now, subst (λ (l : List ℕ). BytesRan n m begun l (left ++ get_or bytes i 0 ∷ []) w now a b (Ok tt)) (sym (take_more bytes i 0 lt)) (bytes_plain n m begun (take i bytes) left w now a b (get_or bytes i 0) ne ran), stands)
 
-pub index_line : (config : Config) (n m : ℕ) (begun bytes left : List ℕ) (entered kept new : Kept) (a b c : Option (List ℕ)) (i number : ℕ) → i < length bytes → get_or bytes i 0 ≡ 10 → HasRun config n m begun (take i bytes) left entered kept a b (Ok tt) → Steps kept new (λ w after. LineRan config number (without_return left) w after b c (Ok tt)) → HasRun config n (m + 1) begun (take (i + 1) bytes) [] entered new a c (Ok tt)
-index_line config n m begun bytes left entered kept new a b c i number lt feed inside step w h =
-    let (now, ran, stands) = inside w h in
-    let (after, line, last) = step now stands in
-    (after, subst (λ (l : List ℕ). BytesRan config n (m + 1) begun l [] w after a c (Ok tt)) (sym (take_more bytes i 0 lt ∙ ap (λ (x : ℕ). take i bytes ++ x ∷ []) feed)) (bytes_line config n m begun (take i bytes) left w now after a b c number ran line), last)
-
-pub index_stop : (config : Config) (n m p : ℕ) (begun bytes left other : List ℕ) (entered kept new : Kept) (a b c : Option (List ℕ)) (i : ℕ) (e : RunFault) → i < length bytes → get_or bytes i 0 ≡ 10 → HasRun config n m begun (take i bytes) left entered kept a b (Ok tt) → Steps kept new (λ w after. LineRan config (m + 1) (without_return left) w after b c (Err e)) → HasRun config n p begun bytes other entered new a c (Err e)
-index_stop config n m p begun bytes left other entered kept new a b c i e lt feed inside step w h =
+pub index_line : (n m : ℕ) (begun bytes left : List ℕ) (entered kept new : State) (a b c : Option (List ℕ)) (i number : ℕ) → i < length bytes → get_or bytes i 0 ≡ 10 → HasRun n m begun (take i bytes) left entered kept a b (Ok tt) → Steps kept new (λ w after. LineRan number (without_return left) w after b c (Ok tt)) → HasRun n (m + 1) begun (take (i + 1) bytes) [] entered new a c (Ok tt)
+index_line n m begun bytes left entered kept new a b c i number lt feed inside step w h =
     let (now, ran, stands) = inside w h in
     let (after, line, last) = step now stands in
-    (after, subst (λ (l : List ℕ). BytesRan config n p begun l other w after a c (Err e)) (ap (λ (x : ℕ). take i bytes ++ (x ∷ drop (i + 1) bytes)) (sym feed) ∙ around bytes i lt) (bytes_stop config n m p begun (take i bytes) left (drop (i + 1) bytes) other w now after a b c e ran line), last)
+    (after, subst (λ (l : List ℕ). BytesRan n (m + 1) begun l [] w after a c (Ok tt)) (sym (take_more bytes i 0 lt ∙ ap (λ (x : ℕ). take i bytes ++ x ∷ []) feed)) (bytes_line n m begun (take i bytes) left w now after a b c number ran line), last)
 
-pub index_long : (config : Config) (n m p : ℕ) (begun bytes left other : List ℕ) (entered kept : Kept) (a b : Option (List ℕ)) (i : ℕ) → i < length bytes → get_or bytes i 0 ≢ 10 → 140001 ≤ length left → HasRun config n m begun (take i bytes) left entered kept a b (Ok tt) → HasRun config n p begun bytes other entered kept a b (Err (faults.Script (m + 1)))
-index_long config n m p begun bytes left other entered kept a b i lt ne long inside w h =
+pub index_stop : (n m p : ℕ) (begun bytes left other : List ℕ) (entered kept new : State) (a b c : Option (List ℕ)) (i : ℕ) (e : ScriptFault) → i < length bytes → get_or bytes i 0 ≡ 10 → HasRun n m begun (take i bytes) left entered kept a b (Ok tt) → Steps kept new (λ w after. LineRan (m + 1) (without_return left) w after b c (Err e)) → HasRun n p begun bytes other entered new a c (Err e)
+index_stop n m p begun bytes left other entered kept new a b c i e lt feed inside step w h =
     let (now, ran, stands) = inside w h in
-    (now, subst (λ (l : List ℕ). BytesRan config n p begun l other w now a b (Err (faults.Script (m + 1)))) (around bytes i lt) (bytes_long config n m p begun (take i bytes) left (drop (i + 1) bytes) other w now a b (get_or bytes i 0) ne long ran), stands)
+    let (after, line, last) = step now stands in
+    (after, subst (λ (l : List ℕ). BytesRan n p begun l other w after a c (Err e)) (ap (λ (x : ℕ). take i bytes ++ (x ∷ drop (i + 1) bytes)) (sym feed) ∙ around bytes i lt) (bytes_stop n m p begun (take i bytes) left (drop (i + 1) bytes) other w now after a b c e ran line), last)
 
--- the same of equal configurations
-pub line_config : (x y : Config) (number : ℕ) (line : List ℕ) (old new : Kept) (a b : Option (List ℕ)) (r : Result (Unit {0}) RunFault) → x ≡ y → Steps old new (λ w after. LineRan x number line w after a b r) → Steps old new (λ w after. LineRan y number line w after a b r)
-line_config x y number line old new a b r same h = subst (λ (k : Config). Steps old new (λ w after. LineRan k number line w after a b r)) same h
-
-pub bytes_config : (x y : Config) (n m : ℕ) (begun bytes left : List ℕ) (old new : Kept) (a b : Option (List ℕ)) (r : Result (Unit {0}) RunFault) → x ≡ y → HasRun x n m begun bytes left old new a b r → HasRun y n m begun bytes left old new a b r
-bytes_config x y n m begun bytes left old new a b r same h = subst (λ (k : Config). HasRun k n m begun bytes left old new a b r) same h
+pub index_long : (n m p : ℕ) (begun bytes left other : List ℕ) (entered kept : State) (a b : Option (List ℕ)) (i : ℕ) → i < length bytes → get_or bytes i 0 ≢ 10 → 140001 ≤ length left → HasRun n m begun (take i bytes) left entered kept a b (Ok tt) → HasRun n p begun bytes other entered kept a b (Err (faults.Bad (m + 1)))
+index_long n m p begun bytes left other entered kept a b i lt ne long inside w h =
+    let (now, ran, stands) = inside w h in
+    (now, subst (λ (l : List ℕ). BytesRan n p begun l other w now a b (Err (faults.Bad (m + 1)))) (around bytes i lt) (bytes_long n m p begun (take i bytes) left (drop (i + 1) bytes) other w now a b (get_or bytes i 0) ne long ran), stands)
 
 -- ## How far a run has come, by an engine
 
 -- a run of the script came this far, and the engine stands for the world that it came to
-abbrev pub Comes : Config → List ℕ → Option (List ℕ) → List ℕ → ℕ → Kept → Option (List ℕ) → Option (List ℕ) → Type 0
-Comes config script remaining begun count kept old new = (now : World) × Progress config script remaining begun count now old new × Holds kept now
+abbrev pub Comes : Config → List ℕ → Option (List ℕ) → List ℕ → ℕ → State → Option (List ℕ) → Option (List ℕ) → Type 0
+Comes config script remaining begun count kept old new = (now : World) × Progress config script remaining begun count now old new × StandsFor kept now
 
-pub comes_start : (config : Config) (script : List ℕ) (remaining : Option (List ℕ)) (begun : List ℕ) (count : ℕ) (kept : Kept) (a : Option (List ℕ)) → remaining ≡ Some script → begun ≡ [] → count ≡ 0 → Holds kept (start_of config) → Comes config script remaining begun count kept a a
+pub comes_start : (config : Config) (script : List ℕ) (remaining : Option (List ℕ)) (begun : List ℕ) (count : ℕ) (kept : State) (a : Option (List ℕ)) → remaining ≡ Some script → begun ≡ [] → count ≡ 0 → StandsFor kept (start_of config) → Comes config script remaining begun count kept a a
 comes_start config script remaining begun count kept a is none zero_is stands = (start_of config, progress_start config script remaining begun count a is none zero_is, stands)
 
-pub comes_bytes : (config : Config) (script : List ℕ) (x y : Option (List ℕ)) (begun bytes left : List ℕ) (n m : ℕ) (kept new : Kept) (a b c : Option (List ℕ)) → Comes config script x begun n kept a b → Consumes x y bytes → HasRun config n m begun bytes left kept new b c (Ok tt) → Comes config script y left m new a c
+pub comes_bytes : (config : Config) (script : List ℕ) (x y : Option (List ℕ)) (begun bytes left : List ℕ) (n m : ℕ) (kept new : State) (a b c : Option (List ℕ)) → Comes config script x begun n kept a b → Consumes x y bytes → HasRun n m begun bytes left kept new b c (Ok tt) → Comes config script y left m new a c
 comes_bytes config script x y begun bytes left n m kept new a b c come eaten step =
     let (now, p, stands) = come in
     let (after, h, last) = step now stands in
     (after, progress_bytes config script x y begun bytes left n m now after a b c p eaten h, last)
 
-pub comes_fault : (config : Config) (script : List ℕ) (x y : Option (List ℕ)) (begun bytes left : List ℕ) (n m : ℕ) (kept new : Kept) (a b c : Option (List ℕ)) (e : RunFault) → Comes config script x begun n kept a b → Consumes x y bytes → HasRun config n m begun bytes left kept new b c (Err e) → ScriptRan {T = Unit {0}} config script a c (Err e)
+pub comes_fault : (config : Config) (script : List ℕ) (x y : Option (List ℕ)) (begun bytes left : List ℕ) (n m : ℕ) (kept new : State) (a b c : Option (List ℕ)) (e : ScriptFault) → Comes config script x begun n kept a b → Consumes x y bytes → HasRun n m begun bytes left kept new b c (Err e) → AllRan config script new a c (Err e)
 comes_fault config script x y begun bytes left n m kept new a b c e come eaten step =
     let (now, p, stands) = come in
-    let (after, h, last) = step now stands in
-    progress_fault config script x y begun bytes left n m now after a b c e p eaten h
+    let (next, h, last) = step now stands in
+    progress_fault config script x y begun bytes left n m new now next a b c e p eaten h
 
-pub comes_end : (config : Config) (script : List ℕ) (x y : Option (List ℕ)) (begun : List ℕ) (n : ℕ) (kept new : Kept) (a b c : Option (List ℕ)) (r : Result (Unit {0}) RunFault) → Comes config script x begun n kept a b → Keeps x y × IsAtEnd y → Steps kept new (λ w after. Finishes config n begun w after b c r) → ScriptRan config script a c r
+pub comes_end : (config : Config) (script : List ℕ) (x y : Option (List ℕ)) (begun : List ℕ) (n : ℕ) (kept new : State) (a b c : Option (List ℕ)) (r : Result (Unit {0}) ScriptFault) → Comes config script x begun n kept a b → Keeps x y × IsAtEnd y → Steps kept new (λ w next. Finishes n begun w next b c r) → AllRan config script new a c r
 comes_end config script x y begun n kept new a b c r come ended step =
     let (now, p, stands) = come in
-    let (after, h, last) = step now stands in
-    progress_end config script x y begun n now after a b c r p ended h
+    let (next, h, last) = step now stands in
+    progress_end config script x y begun n new now next a b c r p ended last h

@@ -3,9 +3,7 @@ use Rattle.std.proofs.Common.{◌≡◌, ℕ, ◌+◌, ◌≤◌, List, [], ◌+
 use Rattle.std.proofs.lemmas.List.{append-nil, take-append-drop}
 use Rattle.std.proofs.Math.Seq.{take-add}
 use Rattle.std.specs.Io.KnownBytes.{Keeps, Appends}
-use Rattle.mg_core.specs.declared.fault.RunFault.{RunFault}
-use Rattle.mg_core.specs.declared.fault.RunFault.TheVariants as faults
-use Rattle.mg_core.specs.Steps.{Writes, WritesSome}
+use Rattle.mg_core.specs.Steps.{WritesFront}
 
 pub appends_then : (a b c : Option (List ℕ)) (x y : List ℕ) → Appends a b x → Appends b c y → Appends a c (x ++ y)
 appends_then None b c x y h k = tt
@@ -34,9 +32,5 @@ pub front_more : (a b c : Option (List ℕ)) (t part : List ℕ) (i n : ℕ) →
 front_more a b c t part i n le is h k = rw (take-add i n t) (appends_then a b c (take i t) (take n (drop i t)) h (rw is at k))
 
 -- where a write failed, the front is there
-pub stops : (a b c : Option (List ℕ)) (t part : List ℕ) (i : ℕ) (e : RunFault) → Appends a b (take i t) → WritesSome part b c (Err e) → Writes t a c (Err e)
-stops a b c t part i faults.Write h k = (take i t, drop i t, sym (take-append-drop i t), appends_keeps a b c (take i t) h k)
-stops a b c t part i faults.Read h k = k
-stops a b c t part i faults.NoMemory h k = k
-stops a b c t part i faults.BadConfig h k = k
-stops a b c t part i (faults.Script n) h k = k
+pub stops : (a b c : Option (List ℕ)) (t : List ℕ) (i : ℕ) → Appends a b (take i t) → Keeps b c → WritesFront t a c
+stops a b c t i h k = record { front = take i t; rest = drop i t; parts = sym (take-append-drop i t); written = appends_keeps a b c (take i t) h k }

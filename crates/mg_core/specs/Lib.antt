@@ -1,7 +1,8 @@
 pub mod Peer
-pub mod Core
+pub mod CoreView
 pub mod World
 pub mod Answer
+pub mod Step
 pub mod Script
 pub mod Run
 pub mod Steps

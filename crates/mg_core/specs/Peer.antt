@@ -4,7 +4,7 @@ use Rattle.mg_numbers.specs.Numbers.{port_of}
 use Rattle.mg_numbers.specs.Address.{◌>>=◌, address_of}
 use Rattle.mg_numbers.specs.Cut.{cut}
 use Rattle.mg_sdp.specs.Written.{address_text}
-use Rattle.mg_core.specs.declared.peer.Peer.{Peer}
+use Rattle.mg_engine.specs.declared.peer.Peer.{Peer}
 
 abbrev pub peer : List ℕ → ℕ → Peer
 peer address port = record { address = address; port = port }

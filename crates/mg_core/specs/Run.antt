@@ -1,68 +1,98 @@
 -- What a run of a script writes.
-use Rattle.std.specs.Prelude.{◌≡◌, ℕ, ◌+◌, List, [], ◌∷◌, ◌++◌, length, Option, Some, None, Result, Ok, Err, codes}
+use Rattle.std.specs.Prelude.{◌≡◌, ℕ, ◌+◌, List, ◌∷◌, ◌++◌, length, flat_map, Option, Some, None, Result, Ok, Err, codes, decimal}
 use Rattle.std.specs.Io.KnownBytes.{Keeps, Appends}
+use Rattle.hex.specs.Hex.{encode_lower}
 use Rattle.mg_engine.specs.declared.config.Config.{Config}
-use Rattle.mg_core.specs.declared.peer.Peer.{Peer}
+use Rattle.mg_engine.specs.declared.datagram.Datagram.{Datagram}
+use Rattle.mg_engine.specs.declared.peer.Peer.{Peer}
+use Rattle.mg_core.specs.declared.counts.Counts.{Counts}
 use Rattle.mg_core.specs.declared.event.Event.{Event}
-use Rattle.mg_core.specs.declared.event.Event.TheVariants.{Control, Tick}
-use Rattle.mg_core.specs.declared.answer.Answer.{Answer}
-use Rattle.mg_core.specs.declared.answer.Answer.TheVariants.{Send, Silent}
 use Rattle.mg_core.specs.declared.fault.RunFault.{RunFault}
 use Rattle.mg_core.specs.declared.fault.RunFault.TheVariants as faults
-use Rattle.mg_engine.specs.Config.{IsSound}
-use Rattle.mg_core.specs.World.{World, start_of}
+use Rattle.mg_core.specs.World.{World, start_of, counts_of}
 use Rattle.mg_core.specs.Peer.{peer_text}
-use Rattle.mg_core.specs.Answer.{Answers}
-use Rattle.mg_core.specs.Script.{lines_of, event_of, escaped}
+use Rattle.mg_core.specs.Step.{Sent, Reply, Packet, Run}
+use Rattle.mg_core.specs.Script.{lines_of, event_of, events_of, escaped}
+
+-- ## Lines out
 
 -- the line for an answer to a peer
 abbrev pub answer_line : Peer → List ℕ → List ℕ
 answer_line peer text = codes "say " ++ (peer_text peer ++ (codes " " ++ (escaped text ++ codes "\n")))
 
--- the line, if there is an answer
-abbrev pub line_for : Peer → Answer → List ℕ → List ℕ
-line_for peer Silent text = []
-line_for peer Send text = answer_line peer text
+-- the line for a packet, its bytes as hexadecimal digits in lower case
+abbrev pub packet_line : Datagram → List ℕ
+packet_line d =
+    codes "rtp " ++ (decimal d.from ++ (codes " " ++ (peer_text d.to ++ (codes " " ++ (encode_lower d.bytes ++ codes "\n")))))
 
--- What is written for an event in the world w, and the world after it: the line of a control datagram's answer. A tick
--- and a comment write nothing and leave the world as it was.
-abbrev pub Outputs : Config → World → Option Event → List ℕ → World → Type 0
-Outputs config w None out after = (out ≡ []) × (after ≡ w)
-Outputs config w (Some Tick) out after = (out ≡ []) × (after ≡ w)
-Outputs config w (Some (Control source bytes)) out after = (answer : Answer) × (text : List ℕ) × Answers config bytes w after answer text × (out ≡ line_for source answer text)
+abbrev pub line_of : Sent → List ℕ
+line_of (Reply to text) = answer_line to text
+line_of (Packet d) = packet_line d
 
--- what is written for lines, one after another, each of which stands for an event or for none, in the world that the
--- line before it left
-abbrev pub Runs : Config → World → List (List ℕ) → List ℕ → World → Type 0
-Runs config w [] out after = (out ≡ []) × (after ≡ w)
-Runs config w (line ∷ lines) out after = (event : Option Event) × (first : List ℕ) × (others : List ℕ) × (next : World) × (event_of line ≡ Some event) × Outputs config w event first next × Runs config next lines others after × (out ≡ first ++ others)
+abbrev pub lines_for : List Sent → List ℕ
+lines_for sent = flat_map line_of sent
 
--- a writer holds all that is written for these lines
-pub record Ran (config : Config) (w : World) (lines : List (List ℕ)) (after : World) (old new : Option (List ℕ)) : Type 0 where
-  pub out : List ℕ
-  pub runs : Runs config w lines out after
-  pub written : Appends old new out
+-- ## Lines in
 
--- a writer holds the front of what is written for these lines
-pub record RanInPart (config : Config) (w : World) (lines : List (List ℕ)) (after : World) (old new : Option (List ℕ)) : Type 0 where
+-- Lines were run from the world w: they are these events, one after another these have these datagrams sent and lead to
+-- the last world, and a writer holds the lines of the datagrams.
+pub record Ran (w : World) (lines : List (List ℕ)) (last : World) (old new : Option (List ℕ)) : Type 0 where
+  pub events : List Event
+  pub sent : List Sent
+  pub are : events_of lines ≡ Some events
+  pub run : Run w events sent last
+  pub written : Appends old new (lines_for sent)
+
+-- the same, but that a writer holds the front of those lines alone
+pub record RanInPart (w : World) (lines : List (List ℕ)) (last : World) (old new : Option (List ℕ)) : Type 0 where
+  pub events : List Event
+  pub sent : List Sent
   pub front : List ℕ
   pub rest : List ℕ
-  pub runs : Runs config w lines (front ++ rest) after
+  pub are : events_of lines ≡ Some events
+  pub run : Run w events sent last
+  pub parts : lines_for sent ≡ front ++ rest
   pub written : Appends old new front
 
--- the same on a new gateway
-abbrev pub RanAll : Config → List (List ℕ) → Option (List ℕ) → Option (List ℕ) → Type 0
-RanAll config lines old new = (after : World) × Ran config (start_of config) lines after old new
+-- ## The outcome of a run over a script on a new gateway
 
-abbrev pub RanCut : Config → List (List ℕ) → Option (List ℕ) → Option (List ℕ) → Type 0
-RanCut config lines old new = (after : World) × RanInPart config (start_of config) lines after old new
+-- all of the script was run, and its events were counted
+pub record RanToEnd (config : Config) (script : List ℕ) (counts : Counts) (old new : Option (List ℕ)) : Type 0 where
+  pub last : World
+  pub ran : Ran (start_of config) (lines_of script) last old new
+  pub counted : record counts { lines = 0; sent = 0; failed = 0 } ≡ counts_of last.tally
 
--- The outcome of a run over a script on a new gateway. Where it ends early, these are the script's first lines, and
--- their text was written.
-abbrev pub ScriptRan : {T : Type 0} → Config → List ℕ → Option (List ℕ) → Option (List ℕ) → Result T RunFault → Type 0
-ScriptRan config script old new (Ok value) = RanAll config (lines_of script) old new
-ScriptRan config script old new (Err (faults.Script n)) = (lines : List (List ℕ)) × (bad : List ℕ) × (others : List (List ℕ)) × (lines_of script ≡ lines ++ bad ∷ others) × (event_of bad ≡ None) × (n ≡ length lines + 1) × RanAll config lines old new
-ScriptRan config script old new (Err faults.Read) = (lines : List (List ℕ)) × (others : List (List ℕ)) × (lines_of script ≡ lines ++ others) × RanAll config lines old new
-ScriptRan config script old new (Err faults.Write) = (lines : List (List ℕ)) × (others : List (List ℕ)) × (lines_of script ≡ lines ++ others) × RanCut config lines old new
-ScriptRan config script old new (Err faults.NoMemory) = (lines : List (List ℕ)) × (others : List (List ℕ)) × (lines_of script ≡ lines ++ others) × RanAll config lines old new
-ScriptRan config script old new (Err faults.BadConfig) = (IsSound config → ⊥) × Keeps old new
+-- the lines before the first bad one were run, which has this number
+pub record RanToBadLine (config : Config) (script : List ℕ) (number : ℕ) (old new : Option (List ℕ)) : Type 0 where
+  pub lines : List (List ℕ)
+  pub bad : List ℕ
+  pub others : List (List ℕ)
+  pub script_is : lines_of script ≡ lines ++ bad ∷ others
+  pub is_bad : event_of bad ≡ None
+  pub number_is : number ≡ length lines + 1
+  pub last : World
+  pub ran : Ran (start_of config) lines last old new
+
+-- the first lines of the script were run
+pub record RanFirst (config : Config) (script : List ℕ) (old new : Option (List ℕ)) : Type 0 where
+  pub lines : List (List ℕ)
+  pub others : List (List ℕ)
+  pub script_is : lines_of script ≡ lines ++ others
+  pub last : World
+  pub ran : Ran (start_of config) lines last old new
+
+-- they were, but for what was not written
+pub record RanFirstInPart (config : Config) (script : List ℕ) (old new : Option (List ℕ)) : Type 0 where
+  pub lines : List (List ℕ)
+  pub others : List (List ℕ)
+  pub script_is : lines_of script ≡ lines ++ others
+  pub last : World
+  pub ran : RanInPart (start_of config) lines last old new
+
+abbrev pub ScriptRan : Config → List ℕ → Option (List ℕ) → Option (List ℕ) → Result Counts RunFault → Type 0
+ScriptRan config script old new (Ok counts) = RanToEnd config script counts old new
+ScriptRan config script old new (Err (faults.Script n)) = RanToBadLine config script n old new
+ScriptRan config script old new (Err faults.Read) = RanFirst config script old new
+ScriptRan config script old new (Err faults.Write) = RanFirstInPart config script old new
+ScriptRan config script old new (Err faults.NoMemory) = RanFirst config script old new
+ScriptRan config script old new (Err faults.BadConfig) = Keeps old new

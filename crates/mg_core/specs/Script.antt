@@ -6,9 +6,10 @@ use Rattle.std.specs.Option.{option_map}
 use Rattle.hex.specs.Hex.{decode_of}
 use Rattle.hex.specs.declared.error.FromHexError.{FromHexError}
 use Rattle.mg_numbers.specs.Cut.{cut}
+use Rattle.mg_numbers.specs.Numbers.{port_of}
 use Rattle.mg_numbers.specs.Address.{◌>>=◌}
 use Rattle.mg_core.specs.declared.event.Event.{Event}
-use Rattle.mg_core.specs.declared.event.Event.TheVariants.{Control, Tick}
+use Rattle.mg_core.specs.declared.event.Event.TheVariants.{Control, Media, Tick}
 use Rattle.mg_core.specs.declared.script.Spelling.{Spelling}
 use Rattle.mg_core.specs.declared.script.Spelling.TheVariants.{Text, Digits}
 use Rattle.mg_core.specs.declared.script.LineFault.{LineFault}
@@ -77,15 +78,34 @@ bytes_of key spelled = spelled_bytes (spelling_of key) spelled
 abbrev pub an_event : Event → Option (Option Event)
 an_event e = Some (Some e)
 
--- a line of three parts with one space between each two: a key word, a peer, and the bytes of a datagram
-unfoldable pub control_of : List ℕ → Option (Option Event)
-control_of line = do
-  first ← cut 32 line
+-- three parts with one space between each two: a media port, a peer, and hexadecimal digits
+unfoldable pub media_of : List ℕ → Option (Option Event)
+media_of parts = do
+  first ← cut 32 parts
+  port ← port_of first.0
   second ← cut 32 first.1
   source ← peer_of second.0
-  bytes ← bytes_of first.0 second.1
+  bytes ← ok_of (decode_of second.1)
+  bytes ← datagram bytes
+  an_event (Media port source bytes)
+
+-- two parts behind a key word, with one space between: a peer, and the bytes of a datagram
+unfoldable pub control_of : List ℕ → List ℕ → Option (Option Event)
+control_of key rest = do
+  parts ← cut 32 rest
+  source ← peer_of parts.0
+  bytes ← bytes_of key parts.1
   bytes ← datagram bytes
   an_event (Control source bytes)
+
+abbrev pub datagram_by : List ℕ → List ℕ → Option (Option Event)
+datagram_by key rest = if bytes_eq key (codes "rtp") then media_of rest else control_of key rest
+
+-- a key word, a space, and what the key word asks for
+unfoldable pub datagram_of : List ℕ → Option (Option Event)
+datagram_of line = do
+  parts ← cut 32 line
+  datagram_by parts.0 parts.1
 
 -- an empty line, or one that begins with #
 abbrev pub is_comment : List ℕ → Bool
@@ -99,7 +119,20 @@ event_of line =
     if nat_lt 140000 (length line) then None
     else (if is_comment line then Some None
     else (if bytes_eq line (codes "tick") then an_event Tick
-    else control_of line))
+    else datagram_of line))
+
+-- a value before others
+abbrev pub then_all : Option Event → List Event → List Event
+then_all None events = events
+then_all (Some event) events = event ∷ events
+
+-- the events that lines stand for, in their order, unless one of them is bad
+unfoldable pub events_of : List (List ℕ) → Option (List Event)
+events_of [] = Some []
+events_of (line ∷ lines) = do
+  event ← event_of line
+  events ← events_of lines
+  Some (then_all event events)
 
 -- what a reader of a line answered, seen by view, is the value that the line stands for, unless memory ran out
 abbrev pub Reads : {X Y : Type 0} → (X → Y) → Result X LineFault → Option Y → Type 0

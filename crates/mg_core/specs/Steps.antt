@@ -1,85 +1,138 @@
--- The steps of a run: one line, and the bytes of one read.
+-- The steps of a run: one event, one line, and the bytes of one read.
 use Rattle.std.specs.Prelude.{◌≡◌, ℕ, ◌+◌, ◌≤◌, take, List, [], ◌∷◌, ◌++◌, length, Option, Some, None, Result, Ok, Err}
 use Rattle.std.specs.Io.KnownBytes.{Keeps, Appends, Consumes, IsAtEnd}
 use Rattle.mg_engine.specs.declared.config.Config.{Config}
-use Rattle.mg_engine.specs.Stands.{Kept}
-use Rattle.mg_core.specs.World.{World, Holds}
-use Rattle.mg_core.specs.declared.fault.RunFault.{RunFault}
-use Rattle.mg_core.specs.declared.fault.RunFault.TheVariants as faults
 use Rattle.mg_engine.specs.declared.fault.StartFault.{StartFault}
 use Rattle.mg_engine.specs.declared.fault.StartFault.TheVariants as starts
-use Rattle.mg_core.specs.declared.peer.Peer.{Peer}
-use Rattle.mg_core.specs.declared.event.Event.TheVariants.{Control}
-use Rattle.mg_core.specs.Script.{event_of, lines_behind}
-use Rattle.mg_core.specs.Run.{Outputs, Ran, RanInPart}
+use Rattle.mg_reply.specs.declared.error_number.ErrorNumber.{ErrorNumber}
+use Rattle.mg_reply.specs.declared.error_number.ErrorNumber.TheVariants as numbers
+use Rattle.mg_text.specs.declared.fault.ReadFault.{ReadFault}
+use Rattle.mg_text.specs.declared.fault.ReadFault.TheVariants as readings
+use Rattle.mg_core.specs.declared.event.Event.{Event}
+use Rattle.mg_core.specs.declared.fault.EventFault.{EventFault}
+use Rattle.mg_core.specs.declared.fault.EventFault.TheVariants as events
+use Rattle.mg_core.specs.declared.fault.ReadFailed.{ReadFailed}
+use Rattle.mg_core.specs.declared.fault.RunFault.{RunFault}
+use Rattle.mg_core.specs.declared.fault.RunFault.TheVariants as runs
+use Rattle.mg_core.specs.declared.fault.ScriptFault.{ScriptFault}
+use Rattle.mg_core.specs.declared.fault.ScriptFault.TheVariants as scripts
+use Rattle.mg_core.specs.declared.fault.WriteFailed.{WriteFailed}
+use Rattle.mg_core.specs.declared.state.State.{State}
+use Rattle.mg_core.specs.World.{World, StandsFor, start_of}
+use Rattle.mg_core.specs.Script.{event_of, lines_behind, lines_of}
+use Rattle.mg_core.specs.Step.{Sent, Step}
+use Rattle.mg_core.specs.Run.{Ran, RanInPart, RanToBadLine, RanFirst, RanFirstInPart, lines_for}
+
+-- a step's relation of the world before it and the world after it: a state that stood for each world w stands for the
+-- world after it
+abbrev pub Steps : State → State → (World → World → Type 0) → Type 0
+Steps old new R = (w : World) → StandsFor old w → (next : World) × R w next × StandsFor new next
+
+-- a text grew by what was written
+abbrev pub Puts : State → State → List ℕ → List ℕ → (World → List ℕ × World) → Type 0
+Puts old new before text f =
+    (w : World) → StandsFor old w → (next : World) × (out : List ℕ)
+    × (f w ≡ (out, next)) × (text ≡ before ++ out) × StandsFor new next
+
+-- the error that a message is refused with, unless memory ran out
+abbrev pub refusal_of : ReadFault → Option ErrorNumber
+refusal_of (readings.Syntax place) = Some numbers.Syntax
+refusal_of (readings.Version n) = Some numbers.Version
+refusal_of readings.TooMany = Some numbers.NotServed
+refusal_of readings.NoMemory = None
 
 -- a writer took so many bytes of a text, or failed
-abbrev pub WritesSome : List ℕ → Option (List ℕ) → Option (List ℕ) → Result ℕ RunFault → Type 0
+abbrev pub WritesSome : List ℕ → Option (List ℕ) → Option (List ℕ) → Result ℕ WriteFailed → Type 0
 WritesSome text old new (Ok n) = (n ≤ length text) × Appends old new (take n text)
-WritesSome text old new (Err faults.Write) = Keeps old new
-WritesSome text old new (Err faults.Read) = ⊥
-WritesSome text old new (Err faults.NoMemory) = ⊥
-WritesSome text old new (Err faults.BadConfig) = ⊥
-WritesSome text old new (Err (faults.Script n)) = ⊥
+WritesSome text old new (Err failed) = Keeps old new
+
+-- the front of a text was written
+pub record WritesFront (text : List ℕ) (old new : Option (List ℕ)) : Type 0 where
+  pub front : List ℕ
+  pub rest : List ℕ
+  pub parts : text ≡ front ++ rest
+  pub written : Appends old new front
 
 -- a text was written whole, or its front was
-abbrev pub Writes : List ℕ → Option (List ℕ) → Option (List ℕ) → Result (Unit {0}) RunFault → Type 0
+abbrev pub Writes : List ℕ → Option (List ℕ) → Option (List ℕ) → Result (Unit {0}) WriteFailed → Type 0
 Writes text old new (Ok done) = Appends old new text
-Writes text old new (Err faults.Write) = (front : List ℕ) × (rest : List ℕ) × (text ≡ front ++ rest) × Appends old new front
-Writes text old new (Err faults.Read) = ⊥
-Writes text old new (Err faults.NoMemory) = ⊥
-Writes text old new (Err faults.BadConfig) = ⊥
-Writes text old new (Err (faults.Script n)) = ⊥
+Writes text old new (Err failed) = WritesFront text old new
 
--- A control datagram was run in the world w, or why it was not, and the world after it.
-abbrev pub ControlRan : Config → Peer → List ℕ → World → World → Option (List ℕ) → Option (List ℕ) → Result (Unit {0}) RunFault → Type 0
-ControlRan config source bytes w after old new (Ok done) = (out : List ℕ) × Outputs config w (Some (Control source bytes)) out after × Appends old new out
-ControlRan config source bytes w after old new (Err faults.Write) = (front : List ℕ) × (rest : List ℕ) × Outputs config w (Some (Control source bytes)) (front ++ rest) after × Appends old new front
-ControlRan config source bytes w after old new (Err faults.NoMemory) = Keeps old new × (after ≡ w)
-ControlRan config source bytes w after old new (Err faults.Read) = ⊥
-ControlRan config source bytes w after old new (Err faults.BadConfig) = ⊥
-ControlRan config source bytes w after old new (Err (faults.Script n)) = ⊥
+-- an event was run, and the lines for what it sends were written
+pub record EventDone (event : Event) (w next : World) (old new : Option (List ℕ)) : Type 0 where
+  pub sent : List Sent
+  pub step : Step w event sent next
+  pub written : Appends old new (lines_for sent)
+
+-- an event was run, and the front of those lines was written
+pub record EventCut (event : Event) (w next : World) (old new : Option (List ℕ)) : Type 0 where
+  pub sent : List Sent
+  pub step : Step w event sent next
+  pub written : WritesFront (lines_for sent) old new
+
+abbrev pub EventRan : Event → World → World → Option (List ℕ) → Option (List ℕ) → Result (Unit {0}) EventFault → Type 0
+EventRan event w next old new (Ok done) = EventDone event w next old new
+EventRan event w next old new (Err events.Write) = EventCut event w next old new
+EventRan event w next old new (Err events.NoMemory) = Keeps old new × (next ≡ w)
 
 -- a line was run, or why it was not
-abbrev pub LineRan : Config → ℕ → List ℕ → World → World → Option (List ℕ) → Option (List ℕ) → Result (Unit {0}) RunFault → Type 0
-LineRan config number line w after old new (Ok done) = Ran config w (line ∷ []) after old new
-LineRan config number line w after old new (Err (faults.Script n)) = (n ≡ number) × (event_of line ≡ None) × Keeps old new × (after ≡ w)
-LineRan config number line w after old new (Err faults.Write) = RanInPart config w (line ∷ []) after old new
-LineRan config number line w after old new (Err faults.NoMemory) = Keeps old new × (after ≡ w)
-LineRan config number line w after old new (Err faults.Read) = ⊥
-LineRan config number line w after old new (Err faults.BadConfig) = ⊥
+abbrev pub LineRan : ℕ → List ℕ → World → World → Option (List ℕ) → Option (List ℕ) → Result (Unit {0}) ScriptFault → Type 0
+LineRan number line w next old new (Ok done) = Ran w (line ∷ []) next old new
+LineRan number line w next old new (Err (scripts.Bad n)) = (n ≡ number) × (event_of line ≡ None) × Keeps old new × (next ≡ w)
+LineRan number line w next old new (Err scripts.Write) = RanInPart w (line ∷ []) next old new
+LineRan number line w next old new (Err scripts.NoMemory) = Keeps old new × (next ≡ w)
+LineRan number line w next old new (Err scripts.Read) = ⊥
 
--- The lines that end in some bytes were run, and the line behind them is begun; or why they were not, whatever stands
--- behind the bytes.
-abbrev pub BytesRan : Config → ℕ → ℕ → List ℕ → List ℕ → List ℕ → World → World → Option (List ℕ) → Option (List ℕ) → Result (Unit {0}) RunFault → Type 0
-BytesRan config count counted begun bytes left w after old new (Ok done) = (lines : List (List ℕ)) × ((rest : List ℕ) → lines_behind begun (bytes ++ rest) ≡ lines ++ lines_behind left rest) × (counted ≡ count + length lines) × Ran config w lines after old new
-BytesRan config count counted begun bytes left w after old new (Err (faults.Script n)) = (lines : List (List ℕ)) × ((rest : List ℕ) → (bad : List ℕ) × (others : List (List ℕ)) × (lines_behind begun (bytes ++ rest) ≡ lines ++ bad ∷ others) × (event_of bad ≡ None)) × (n ≡ count + length lines + 1) × Ran config w lines after old new
-BytesRan config count counted begun bytes left w after old new (Err faults.Write) = (lines : List (List ℕ)) × ((rest : List ℕ) → (others : List (List ℕ)) × (lines_behind begun (bytes ++ rest) ≡ lines ++ others)) × RanInPart config w lines after old new
-BytesRan config count counted begun bytes left w after old new (Err faults.NoMemory) = (lines : List (List ℕ)) × ((rest : List ℕ) → (others : List (List ℕ)) × (lines_behind begun (bytes ++ rest) ≡ lines ++ others)) × Ran config w lines after old new
-BytesRan config count counted begun bytes left w after old new (Err faults.Read) = ⊥
-BytesRan config count counted begun bytes left w after old new (Err faults.BadConfig) = ⊥
+-- The lines that end in some bytes were run, and the line after them is begun; or why they were not, whatever stands
+-- after the bytes.
+abbrev pub BytesRan : ℕ → ℕ → List ℕ → List ℕ → List ℕ → World → World → Option (List ℕ) → Option (List ℕ) → Result (Unit {0}) ScriptFault → Type 0
+BytesRan count counted begun bytes left w next old new (Ok done) =
+    (lines : List (List ℕ)) × ((rest : List ℕ) → lines_behind begun (bytes ++ rest) ≡ lines ++ lines_behind left rest)
+    × (counted ≡ count + length lines) × Ran w lines next old new
+BytesRan count counted begun bytes left w next old new (Err (scripts.Bad n)) =
+    (lines : List (List ℕ)) × ((rest : List ℕ) → (bad : List ℕ) × (others : List (List ℕ))
+    × (lines_behind begun (bytes ++ rest) ≡ lines ++ bad ∷ others) × (event_of bad ≡ None))
+    × (n ≡ count + length lines + 1) × Ran w lines next old new
+BytesRan count counted begun bytes left w next old new (Err scripts.Write) =
+    (lines : List (List ℕ)) × ((rest : List ℕ) → (others : List (List ℕ)) × (lines_behind begun (bytes ++ rest) ≡ lines ++ others))
+    × RanInPart w lines next old new
+BytesRan count counted begun bytes left w next old new (Err scripts.NoMemory) =
+    (lines : List (List ℕ)) × ((rest : List ℕ) → (others : List (List ℕ)) × (lines_behind begun (bytes ++ rest) ≡ lines ++ others))
+    × Ran w lines next old new
+BytesRan count counted begun bytes left w next old new (Err scripts.Read) = ⊥
 
 -- the line that was begun is the last, if there is one
-abbrev pub Finishes : Config → ℕ → List ℕ → World → World → Option (List ℕ) → Option (List ℕ) → Result (Unit {0}) RunFault → Type 0
-Finishes config count [] w after old new result = (result ≡ Ok tt) × Keeps old new × (after ≡ w)
-Finishes config count (b ∷ bs) w after old new result = LineRan config (count + 1) (b ∷ bs) w after old new result
+abbrev pub Finishes : ℕ → List ℕ → World → World → Option (List ℕ) → Option (List ℕ) → Result (Unit {0}) ScriptFault → Type 0
+Finishes count [] w next old new result = (result ≡ Ok tt) × Keeps old new × (next ≡ w)
+Finishes count (b ∷ bs) w next old new result = LineRan (count + 1) (b ∷ bs) w next old new result
 
--- a step's relation of the world before it and the world after it: an engine that stood for each world w stands for
--- the world after it
-abbrev pub Steps : Kept → Kept → (World → World → Type 0) → Type 0
-Steps old new R = (w : World) → Holds old w → (after : World) × R w after × Holds new after
+-- the whole of a script was run, and the state stands for the world that it came to; or how far it was run
+abbrev pub AllRan : Config → List ℕ → State → Option (List ℕ) → Option (List ℕ) → Result (Unit {0}) ScriptFault → Type 0
+AllRan config script state old new (Ok done) =
+    (last : World) × Ran (start_of config) (lines_of script) last old new × StandsFor state last
+AllRan config script state old new (Err (scripts.Bad n)) = RanToBadLine config script n old new
+AllRan config script state old new (Err scripts.Read) = RanFirst config script old new
+AllRan config script state old new (Err scripts.Write) = RanFirstInPart config script old new
+AllRan config script state old new (Err scripts.NoMemory) = RanFirst config script old new
 
 -- so many bytes were read, or the end was there, or reading failed
-abbrev pub ReadsSome : List ℕ → Option (List ℕ) → Option (List ℕ) → Result (Option ℕ) RunFault → Type 0
+abbrev pub ReadsSome : List ℕ → Option (List ℕ) → Option (List ℕ) → Result (Option ℕ) ReadFailed → Type 0
 ReadsSome buffer old new (Ok None) = Keeps old new × IsAtEnd new
 ReadsSome buffer old new (Ok (Some n)) = (n ≤ length buffer) × Consumes old new (take n buffer)
-ReadsSome buffer old new (Err faults.Read) = Unit {0}
-ReadsSome buffer old new (Err faults.Write) = ⊥
-ReadsSome buffer old new (Err faults.NoMemory) = ⊥
-ReadsSome buffer old new (Err faults.BadConfig) = ⊥
-ReadsSome buffer old new (Err (faults.Script n)) = ⊥
+ReadsSome buffer old new (Err failed) = Unit {0}
 
--- the fault of a start as that of a run
-abbrev pub BecomesRunFault : StartFault → RunFault → Type 0
-BecomesRunFault starts.BadConfig fault = fault ≡ faults.BadConfig
-BecomesRunFault starts.NoMemory fault = fault ≡ faults.NoMemory
+-- ## Faults as others
+
+abbrev pub run_fault_at_start : StartFault → RunFault
+run_fault_at_start starts.BadConfig = runs.BadConfig
+run_fault_at_start starts.NoMemory = runs.NoMemory
+
+abbrev pub run_fault_of : ScriptFault → RunFault
+run_fault_of (scripts.Bad n) = runs.Script n
+run_fault_of scripts.Read = runs.Read
+run_fault_of scripts.Write = runs.Write
+run_fault_of scripts.NoMemory = runs.NoMemory
+
+abbrev pub script_fault_of : EventFault → ScriptFault
+script_fault_of events.Write = scripts.Write
+script_fault_of events.NoMemory = scripts.NoMemory

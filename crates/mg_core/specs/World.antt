@@ -1,9 +1,20 @@
 -- What a bridge is, seen from outside, and which worlds the state of a core stands for.
-use Rattle.std.specs.Prelude.{◌≡◌, ℕ, List, []}
+use Rattle.std.specs.Prelude.{◌≡◌, ℕ, ◌+◌, ◌-◌, ◌^◌, min, List, [], map, replicate, slice_index, slice_set}
+use Rattle.mg_playout.specs.declared.placed.Placed.{Placed}
+use Rattle.mg_playout.specs.declared.placed.Placed.TheVariants as placed
 use Rattle.mg_engine.specs.declared.config.Config.{Config}
+use Rattle.mg_engine.specs.declared.datagram.Datagram.{Datagram}
+use Rattle.mg_engine.specs.declared.peer.Peer.{Peer}
+use Rattle.mg_engine.specs.declared.taken.DropCause.{DropCause}
+use Rattle.mg_engine.specs.declared.taken.DropCause.TheVariants as causes
+use Rattle.mg_engine.specs.declared.taken.Taken.{Taken}
+use Rattle.mg_engine.specs.declared.taken.Taken.TheVariants as takens
+use Rattle.mg_engine.specs.Arrival.{Takes}
+use Rattle.mg_engine.specs.Tick.{after_tick, sent_in_tick}
 use Rattle.mg_engine.specs.World as engine
 use Rattle.mg_engine.specs.Stands as engine_stands
-use Rattle.mg_core.specs.Core.{Standing}
+use Rattle.mg_core.specs.declared.counts.Counts.{Counts}
+use Rattle.mg_core.specs.declared.state.State.{State}
 
 -- A reply that is kept for a request that comes again: the sender's name in small letters, the request's number, and
 -- the reply's text (RFC 3525, section 8.2 and annex D.1).
@@ -12,19 +23,93 @@ pub record KeptReply : Type 0 where
   pub number : ℕ
   pub text : List ℕ
 
--- the gateway with its terminations and contexts, and the replies that are kept, oldest first
+-- How many control datagrams, RTP datagrams and ticks came. Of the RTP datagrams, how many a play list answered Started,
+-- Placed, Pushed, Again and Late; and how many were dropped for NoTermination, Stray, NoLocal, Rtp, PayloadType and
+-- Length.
+pub record Tally : Type 0 where
+  pub control : ℕ
+  pub media : ℕ
+  pub ticks : ℕ
+  pub placed : List ℕ
+  pub dropped : List ℕ
+
+-- the gateway with its terminations and contexts; the replies that are kept, oldest first; and how many events came
 pub record World : Type 0 where
   pub gateway : engine.World
   pub replies : List KeptReply
+  pub tally : Tally
+
+abbrev pub no_events : Tally
+no_events = record { control = 0; media = 0; ticks = 0; placed = replicate 5 0; dropped = replicate 6 0 }
 
 -- the world that no event came to
 abbrev pub start_of : Config → World
-start_of config = record { gateway = engine.start_of config; replies = [] }
+start_of config = record { gateway = engine.start_of config; replies = []; tally = no_events }
 
--- What an engine stands for beside the replies that are kept. For now none is: each request is run.
-pub record Holds (kept : engine_stands.Kept) (w : World) : Type 0 where
-  pub gateway : engine_stands.StandsFor kept w.gateway
+-- ## Counting
+
+abbrev pub place_of : Placed → ℕ
+place_of placed.Started = 0
+place_of placed.Placed = 1
+place_of placed.Pushed = 2
+place_of placed.Again = 3
+place_of placed.Late = 4
+
+abbrev pub cause_of : DropCause → ℕ
+cause_of causes.NoTermination = 0
+cause_of causes.Stray = 1
+cause_of causes.NoLocal = 2
+cause_of (causes.Rtp fault) = 3
+cause_of causes.PayloadType = 4
+cause_of causes.Length = 5
+
+abbrev pub one_more_at : ℕ → List ℕ → List ℕ
+one_more_at k counts = slice_set counts k (slice_index counts k + 1)
+
+abbrev pub with_taken : Taken → Tally → Tally
+with_taken (takens.Placed p) t = record t { media = t.media + 1; placed = one_more_at (place_of p) t.placed }
+with_taken (takens.Dropped cause) t = record t { media = t.media + 1; dropped = one_more_at (cause_of cause) t.dropped }
+
+-- a count stays at the greatest value of 64 bits
+abbrev pub capped : ℕ → ℕ
+capped n = min n (2 ^ 64 - 1)
+
+-- the counts of events, with nothing of what a run counts
+abbrev pub counts_of : Tally → Counts
+counts_of t = record {
+  lines = 0;
+  control = capped t.control;
+  media = capped t.media;
+  ticks = capped t.ticks;
+  sent = 0;
+  failed = 0;
+  placed = map capped t.placed;
+  dropped = map capped t.dropped;
+}
+
+-- ## Events
+
+-- the world to which one more control datagram came
+abbrev pub with_control : World → World
+with_control w = record w { tally = record w.tally { control = w.tally.control + 1 } }
+
+-- what became of an RTP datagram at a port, and the world after it
+abbrev pub Took : World → ℕ → Peer → List ℕ → World → Taken → Type 0
+Took w port source bytes after result =
+    (g : engine.World) × Takes w.gateway port source.address bytes g result
+    × (after ≡ record w { gateway = g; tally = with_taken result w.tally })
+
+-- the world after a tick, and the packets that are sent in it
+abbrev pub ticked : World → World
+ticked w = record w { gateway = after_tick w.gateway; tally = record w.tally { ticks = w.tally.ticks + 1 } }
+
+abbrev pub packets_of : World → List Datagram
+packets_of w = sent_in_tick w.gateway
+
+-- ## Which worlds a state stands for
+
+-- For now no reply is kept: each request is run.
+pub record StandsFor (state : State) (w : World) : Type 0 where
+  pub gateway : engine_stands.StandsFor state.engine w.gateway
   pub replies : w.replies ≡ []
-
-abbrev pub StandsFor : Standing → World → Type 0
-StandsFor core w = Holds core.engine w
+  pub counts : state.counts ≡ counts_of w.tally

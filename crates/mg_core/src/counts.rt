@@ -1,5 +1,11 @@
-/// What a run has counted. Each number stays at its greatest value.
-#[derive(Clone, Copy, Debug, PartialEq, Eq, Default)]
+ghost use Rattle.std.specs.Prelude.{◌≡◌, ◌<◌};
+ghost use Rattle.mg_core.specs.World.{place_of, cause_of};
+
+use mg_engine::{DropCause, Taken};
+use mg_playout::Placed;
+
+/// What was counted. Each number stays at its greatest value.
+#[derive(Clone, Copy, Debug, PartialEq, Eq)]
 pub struct Counts {
     /// Script lines that were read.
     pub lines: u64,
@@ -18,4 +24,93 @@ pub struct Counts {
     /// RTP datagrams that were dropped, by their cause: no termination, stray, no Local, no RTP, payload
     /// type, length.
     pub dropped: [u64; 6],
+}
+
+impl Default for Counts {
+    fn default() -> Self {
+        Counts::new()
+    }
+}
+
+impl Counts {
+    ghost use Rattle.std.specs.Prelude.{◌≡◌, ◌+◌};
+    ghost use Rattle.mg_core.specs.World.{Tally, counts_of, no_events, with_taken};
+
+    /// Nothing was counted yet.
+    pub fn new() -> Counts
+        ensures value { result ≡ counts_of no_events }
+    {
+        Counts {
+            lines: 0,
+            control: 0,
+            media: 0,
+            ticks: 0,
+            sent: 0,
+            failed: 0,
+            placed: [0; 5],
+            dropped: [0; 6],
+        }
+    }
+
+    /// Counts a control datagram.
+    pub fn count_control(&mut self)
+        ensures counted { (t : Tally) → self.old ≡ counts_of t →
+            self.new ≡ counts_of (record t { control = t.control + 1 }) }
+    {
+        self.control = self.control.saturating_add(1);
+    }
+
+    /// Counts what became of an RTP datagram.
+    pub fn count_media(&mut self, taken: Taken)
+        ensures counted { (t : Tally) → self.old ≡ counts_of t → self.new ≡ counts_of (with_taken taken t) }
+    {
+        self.media = self.media.saturating_add(1);
+        match taken {
+            Taken::Placed(placed) => {
+                let place = place_of(placed);
+                self.placed[place] = self.placed[place].saturating_add(1);
+            }
+            Taken::Dropped(cause) => {
+                let place = cause_of(cause);
+                self.dropped[place] = self.dropped[place].saturating_add(1);
+            }
+        }
+    }
+
+    /// Counts a tick.
+    pub fn count_tick(&mut self)
+        ensures counted { (t : Tally) → self.old ≡ counts_of t →
+            self.new ≡ counts_of (record t { ticks = t.ticks + 1 }) }
+    {
+        self.ticks = self.ticks.saturating_add(1);
+    }
+}
+
+/// The place of a play list's answer among the counts.
+fn place_of(placed: Placed) -> usize
+    ensures value { result ≡ place_of placed }
+    ensures below { result < 5 }
+{
+    match placed {
+        Placed::Started => 0,
+        Placed::Placed => 1,
+        Placed::Pushed => 2,
+        Placed::Again => 3,
+        Placed::Late => 4,
+    }
+}
+
+/// The place of a cause among the counts.
+fn cause_of(cause: DropCause) -> usize
+    ensures value { result ≡ cause_of cause }
+    ensures below { result < 6 }
+{
+    match cause {
+        DropCause::NoTermination => 0,
+        DropCause::Stray => 1,
+        DropCause::NoLocal => 2,
+        DropCause::Rtp(_) => 3,
+        DropCause::PayloadType => 4,
+        DropCause::Length => 5,
+    }
 }

@@ -1,4 +1,4 @@
-use crate::peer::Peer;
+use mg_engine::Peer;
 use mg_text::Items;
 
 /// What a line of a script stands for.
@@ -6,6 +6,8 @@ use mg_text::Items;
 pub enum Event {
     /// A control datagram, with where it came from.
     Control(Peer, Items<u8>),
+    /// An RTP datagram at a media port, with where it came from.
+    Media(u16, Peer, Items<u8>),
     /// A tick of 20 ms.
     Tick,
 }

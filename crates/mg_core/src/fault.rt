@@ -1,9 +1,36 @@
+use mg_engine::StartFault;
 use thiserror::Error;
 
 /// Memory ran out in reading a control datagram. Nothing has changed but the last answer, which is empty.
 #[derive(Clone, Copy, Debug, PartialEq, Eq, Error)]
 #[error("no memory")]
 pub struct NoMemory;
+
+/// A reader failed.
+#[derive(Clone, Copy, Debug, PartialEq, Eq)]
+pub struct ReadFailed;
+
+/// A writer failed, or took nothing.
+#[derive(Clone, Copy, Debug, PartialEq, Eq)]
+pub struct WriteFailed;
+
+/// Why the lines for an event were not written whole.
+#[derive(Clone, Copy, Debug, PartialEq, Eq)]
+pub enum EventFault {
+    Write,
+    /// A control datagram found no memory, and the event didn't happen.
+    NoMemory,
+}
+
+/// Why a script was not run to its end, on a gateway that was started.
+#[derive(Clone, Copy, Debug, PartialEq, Eq)]
+pub enum ScriptFault {
+    /// The line with this number, counted from 1, is no script line.
+    Bad(u64),
+    Read,
+    Write,
+    NoMemory,
+}
 
 /// Why a script was not run to its end.
 #[derive(Clone, Copy, Debug, PartialEq, Eq, Error)]
@@ -19,4 +46,70 @@ pub enum RunFault {
     NoMemory,
     #[error("bad configuration")]
     BadConfig,
+}
+
+impl From<WriteFailed> for EventFault {
+    ghost use Rattle.std.specs.Prelude.{◌≡◌};
+    ghost use Rattle.mg_core.specs.declared.fault.EventFault.TheVariants as faults;
+
+    ghost from_gives = { λ _ e. e ≡ faults.Write };
+
+    fn from(_failed: WriteFailed) -> Self {
+        EventFault::Write
+    }
+}
+
+impl From<ReadFailed> for ScriptFault {
+    ghost use Rattle.std.specs.Prelude.{◌≡◌};
+    ghost use Rattle.mg_core.specs.declared.fault.ScriptFault.TheVariants as faults;
+
+    ghost from_gives = { λ _ e. e ≡ faults.Read };
+
+    fn from(_failed: ReadFailed) -> Self {
+        ScriptFault::Read
+    }
+}
+
+impl From<EventFault> for ScriptFault {
+    ghost use Rattle.std.specs.Prelude.{◌≡◌};
+    ghost use Rattle.mg_core.specs.Steps.{script_fault_of};
+
+    ghost from_gives = { λ fault e. e ≡ script_fault_of fault };
+
+    fn from(fault: EventFault) -> Self {
+        match fault {
+            EventFault::Write => ScriptFault::Write,
+            EventFault::NoMemory => ScriptFault::NoMemory,
+        }
+    }
+}
+
+impl From<ScriptFault> for RunFault {
+    ghost use Rattle.std.specs.Prelude.{◌≡◌};
+    ghost use Rattle.mg_core.specs.Steps.{run_fault_of};
+
+    ghost from_gives = { λ fault e. e ≡ run_fault_of fault };
+
+    fn from(fault: ScriptFault) -> Self {
+        match fault {
+            ScriptFault::Bad(number) => RunFault::Script(number),
+            ScriptFault::Read => RunFault::Read,
+            ScriptFault::Write => RunFault::Write,
+            ScriptFault::NoMemory => RunFault::NoMemory,
+        }
+    }
+}
+
+impl From<StartFault> for RunFault {
+    ghost use Rattle.std.specs.Prelude.{◌≡◌};
+    ghost use Rattle.mg_core.specs.Steps.{run_fault_at_start};
+
+    ghost from_gives = { λ fault e. e ≡ run_fault_at_start fault };
+
+    fn from(fault: StartFault) -> Self {
+        match fault {
+            StartFault::BadConfig => RunFault::BadConfig,
+            StartFault::NoMemory => RunFault::NoMemory,
+        }
+    }
 }

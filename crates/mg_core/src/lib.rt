@@ -1,5 +1,5 @@
-//! The core of a conference media gateway: control datagrams in, answers out. What a controller asks for is done on
-//! the terminations and contexts of an [`Engine`](mg_engine::Engine).
+//! The core of a conference media gateway: control datagrams, RTP datagrams and ticks in, answers and packets out. What a
+//! controller asks for is done on the terminations and contexts of an [`Engine`](mg_engine::Engine).
 //!
 //! ```rust
 //! let mut core = Core::new(alloc, Config::default())?;
@@ -8,29 +8,36 @@
 //! }
 //! ```
 //!
-//! [`run`] does so for each line of a script. Contracts speak of the worlds that a core stands for (`StandsFor` in
-//! `specs/World.antt`) and say what is answered in each (`Answers` in `specs/Answer.antt`).
+//! [`run`] does so for each line of a script. Contracts speak of the worlds that a core's state stands for (`StandsFor` in
+//! `specs/World.antt`): each call is a step from each of them to the next (`Step` in `specs/Step.antt`).
 #![tactic(auto)]
 
 mod answer;
+mod answering;
 mod counts;
 mod event;
 mod fault;
-mod gateway;
+pub mod laws;
 mod line_runner;
+mod machine;
 mod output;
 mod peer;
 mod running;
 mod script;
 mod script_runner;
+mod state;
 #[cfg(test)]
 mod tests;
 
 pub use crate::answer::Answer;
 pub use crate::counts::Counts;
+pub use crate::event::Event;
 pub use crate::fault::{NoMemory, RunFault};
-pub use crate::gateway::{ANSWER_LIMIT, Core};
-pub use crate::peer::{Peer, peer_of};
+pub use crate::machine::{ANSWER_LIMIT, Core};
+pub use crate::peer::peer_of;
 pub use crate::running::run;
-pub use mg_engine::{Config, Record, Rooms, StartFault, Stats};
+// A crate can name a core in a contract only if the type of its state is exported.
+#[doc(hidden)]
+pub use crate::state::State;
+pub use mg_engine::{Config, Datagram, DropCause, Peer, Record, Rooms, StartFault, Stats, Taken};
 pub use mg_rooms::{LAST_CONTEXT, TERMINATIONS};

@@ -1,17 +1,16 @@
-ghost use Rattle.std.specs.Prelude.{◌≡◌, ◌+◌, length, IfOk, OnOk};
-ghost use Rattle.mg_core.specs.Steps.{ControlRan, LineRan, Steps};
+ghost use Rattle.std.specs.Prelude.{◌≡◌, ◌+◌, ◌↔◌, [], Some, length, IfOk, OnOk};
 ghost use Rattle.mg_engine.specs.Config.{IsSound};
+ghost use Rattle.mg_core.specs.Step.{Step};
+ghost use Rattle.mg_core.specs.Steps.{EventRan, LineRan, Steps};
 ghost use Rattle.mg_core.specs.World.{StandsFor, start_of};
 
 use crate::answer::Answer;
-use crate::counts::Counts;
 use crate::event::Event;
-use crate::fault::RunFault;
-use crate::gateway::{ANSWER_LIMIT, Core};
-use crate::output::{push_answer, write_whole};
-use crate::peer::Peer;
+use crate::fault::{EventFault, ScriptFault};
+use crate::machine::{ANSWER_LIMIT, Core};
+use crate::output::{push_answer, push_packets, write_whole};
 use crate::script::{LineFault, event_of};
-use mg_engine::{Config, StartFault};
+use mg_engine::{Config, Peer, StartFault};
 use mg_text::Bytes;
 use std::alloc::Global;
 use std::io::Write;
@@ -25,23 +24,23 @@ const OUTPUT_LIMIT: usize = 27 + 2 * ANSWER_LIMIT;
 pub struct LineRunner {
     pub core: Core,
     pub output: Bytes,
-    pub counts: Counts,
+    /// Answers and packets whose lines were written.
+    pub sent: u64,
     ghost output_size: { output.room + length output.text ≡ 128099 },
 }
 
 impl LineRunner {
     /// A runner on a new gateway.
     pub fn new(alloc: Global, config: Config) -> Result<Self, StartFault>
-        ensures bad { result ≡ Err StartFault.BadConfig → ¬ IsSound config }
+        ensures bad { (result ≡ Err StartFault.BadConfig) ↔ ¬ IsSound config }
         ensures sound { OnOk result (IsSound config) }
-        ensures config { IfOk result (λ runner. runner.core.config ≡ config) }
-        ensures start { IfOk result (λ runner. StandsFor runner.core (start_of config)) }
-        ensures lines { IfOk result (λ runner. runner.counts.lines ≡ 0) }
+        ensures start { IfOk result (λ runner. StandsFor runner.core.state (start_of config)) }
     {
+        let core = Core::new(alloc, config)?;
         Ok(LineRunner {
-            core: Core::new(alloc, config)?,
+            core,
             output: Bytes::new(alloc, OUTPUT_LIMIT)?,
-            counts: Counts::default(),
+            sent: 0,
         })
     }
 
@@ -53,24 +52,66 @@ impl LineRunner {
         source: Peer,
         bytes: &[u8],
         writer: &mut W,
-    ) -> Result<(), RunFault>
-        ensures config { self.new.core.config ≡ self.old.core.config }
-        ensures lines { self.new.counts.lines ≡ self.old.counts.lines }
-        ensures value { Steps self.old.core.engine self.new.core.engine (λ w after.
-            ControlRan self.old.core.config source bytes.now w after (W.contents writer.old) (W.contents writer.new) result) }
+    ) -> Result<(), EventFault>
+        ensures value { Steps self.old.core.state self.new.core.state (λ w next.
+            EventRan (Event.Control source bytes.now) w next (W.contents writer.old) (W.contents writer.new) result) }
     {
         let Ok(answer) = self.core.control(alloc, source, bytes) else {
-            return Err(RunFault::NoMemory);
+            return Err(EventFault::NoMemory);
         };
-        self.counts.control = self.counts.control.saturating_add(1);
         match answer {
             Answer::Silent => Ok(()),
             Answer::Send => {
                 self.output.clear();
                 push_answer(source, self.core.answer(), &mut self.output);
                 write_whole(self.output.as_slice(), writer)?;
-                self.counts.sent = self.counts.sent.saturating_add(1);
+                self.sent = self.sent.saturating_add(1);
                 Ok(())
+            }
+        }
+    }
+
+    /// Takes an RTP datagram at a media port.
+    fn take_media(&mut self, port: u16, source: Peer, bytes: &[u8])
+        ensures value { Steps self.old.core.state self.new.core.state (λ w next.
+            Step w (Event.Media port source bytes.now) [] next) }
+    {
+        let _ = self.core.media(port, source, bytes);
+    }
+
+    /// Passes on by 20 ms, and writes the lines of the packets that are sent.
+    #[tactic(auto, using(crate::proofs::AnswerLaws::totals))]
+    fn take_tick<W: Write>(&mut self, writer: &mut W) -> Result<(), EventFault>
+        ensures value { Steps self.old.core.state self.new.core.state (λ w next.
+            EventRan Event.Tick w next (W.contents writer.old) (W.contents writer.new) result) }
+    {
+        self.core.tick();
+        self.output.clear();
+        push_packets(self.core.outbox(), &mut self.output);
+        write_whole(self.output.as_slice(), writer)?;
+        let sent = self.core.outbox().len() as u64;
+        self.sent = self.sent.saturating_add(sent);
+        Ok(())
+    }
+
+    /// Runs an event.
+    fn take_event<W: Write>(
+        &mut self,
+        alloc: Global,
+        event: &Event,
+        writer: &mut W,
+    ) -> Result<(), EventFault>
+        ensures value { Steps self.old.core.state self.new.core.state (λ w next.
+            EventRan event.now w next (W.contents writer.old) (W.contents writer.new) result) }
+    {
+        match event {
+            Event::Tick => self.take_tick(writer),
+            Event::Media(port, source, bytes) => {
+                self.take_media(*port, *source, bytes.as_slice());
+                Ok(())
+            }
+            Event::Control(source, bytes) => {
+                self.take_control(alloc, *source, bytes.as_slice(), writer)
             }
         }
     }
@@ -82,22 +123,17 @@ impl LineRunner {
         number: u64,
         line: &[u8],
         writer: &mut W,
-    ) -> Result<(), RunFault>
-        ensures config { self.new.core.config ≡ self.old.core.config }
-        ensures lines { self.new.counts.lines ≡ self.old.counts.lines }
-        ensures value { Steps self.old.core.engine self.new.core.engine (λ w after.
-            LineRan self.old.core.config number line.now w after (W.contents writer.old) (W.contents writer.new) result) }
+    ) -> Result<(), ScriptFault>
+        ensures value { Steps self.old.core.state self.new.core.state (λ w next.
+            LineRan number line.now w next (W.contents writer.old) (W.contents writer.new) result) }
     {
         match event_of(alloc, line) {
-            Err(LineFault::Bad) => Err(RunFault::Script(number)),
-            Err(LineFault::NoMemory) => Err(RunFault::NoMemory),
+            Err(LineFault::Bad) => Err(ScriptFault::Bad(number)),
+            Err(LineFault::NoMemory) => Err(ScriptFault::NoMemory),
             Ok(None) => Ok(()),
-            Ok(Some(Event::Tick)) => {
-                self.counts.ticks = self.counts.ticks.saturating_add(1);
+            Ok(Some(event)) => {
+                self.take_event(alloc, &event, writer)?;
                 Ok(())
-            }
-            Ok(Some(Event::Control(source, bytes))) => {
-                self.take_control(alloc, source, bytes.as_slice(), writer)
             }
         }
     }

@@ -1,11 +1,14 @@
-ghost use Rattle.std.specs.Prelude.{◌≡◌, ◌+◌, ◌*◌, ◌≤◌, length};
+ghost use Rattle.std.specs.Prelude.{◌≡◌, ◌+◌, ◌*◌, ◌≤◌, length, map};
 ghost use Rattle.mg_reply.specs.Bytes.{appended};
 ghost use Rattle.mg_core.specs.Script.{escaped, escape_of};
-ghost use Rattle.mg_core.specs.Run.{answer_line};
+ghost use Rattle.hex.specs.Hex.{encode_lower};
+ghost use Rattle.mg_core.specs.Peer.{peer_text};
+ghost use Rattle.mg_core.specs.Run.{answer_line, packet_line, lines_for};
+ghost use Rattle.mg_core.specs.Step.{Packet};
 ghost use Rattle.mg_core.specs.Steps.{Writes, WritesSome};
 
-use crate::fault::RunFault;
-use crate::peer::Peer;
+use crate::fault::WriteFailed;
+use mg_engine::{Datagram, Peer};
 use mg_text::{Bytes, write_address, write_port};
 use std::io::{ErrorKind, Write};
 
@@ -34,6 +37,18 @@ fn push_escaped(text: &[u8], out: &mut Bytes)
     }
 }
 
+/// Writes a peer: an address, a colon and a port.
+#[tactic(auto, using(crate::proofs::OutputLaws::steps))]
+fn push_peer(peer: Peer, out: &mut Bytes)
+    requires room { 21 ≤ out.old.room }
+    ensures value { out.new ≡ appended out.old (peer_text peer) }
+    ensures short { length (peer_text peer) ≤ 21 }
+{
+    write_address(peer.address, out);
+    out.push(b":");
+    write_port(peer.port, out);
+}
+
 /// Writes the line for an answer to a peer.
 #[tactic(auto, using(crate::proofs::OutputLaws::steps))]
 pub fn push_answer(peer: Peer, text: &[u8], out: &mut Bytes)
@@ -42,29 +57,66 @@ pub fn push_answer(peer: Peer, text: &[u8], out: &mut Bytes)
     ensures short { length (answer_line peer text.now) ≤ 27 + 2 * length text.now }
 {
     out.push(b"say ");
-    write_address(peer.address, out);
-    out.push(b":");
-    write_port(peer.port, out);
+    push_peer(peer, out);
     out.push(b" ");
     push_escaped(text, out);
     out.push(b"\n");
 }
 
+/// Writes bytes as hexadecimal digits in lower case.
+fn push_digits(bytes: &[u8; 172], out: &mut Bytes)
+    requires room { 344 ≤ out.old.room }
+    ensures value { out.new ≡ appended out.old (encode_lower bytes.now) }
+    ensures short { length (encode_lower bytes.now) ≡ 344 }
+{
+    let mut digits = [0; 344];
+    hex::encode_to_slice(bytes.as_slice(), &mut digits).unwrap();
+    out.push(&digits);
+}
+
+/// Writes the line for a packet that is sent.
+#[tactic(auto, using(crate::proofs::OutputLaws::steps))]
+fn push_packet(packet: &Datagram, out: &mut Bytes)
+    requires room { 377 ≤ out.old.room }
+    ensures value { out.new ≡ appended out.old (packet_line packet.now) }
+    ensures short { length (packet_line packet.now) ≤ 377 }
+{
+    out.push(b"rtp ");
+    write_port(packet.from, out);
+    out.push(b" ");
+    push_peer(packet.to, out);
+    out.push(b" ");
+    push_digits(&packet.bytes, out);
+    out.push(b"\n");
+}
+
+/// Writes the lines for the packets of a tick.
+#[tactic(auto, using(crate::proofs::OutputLaws::steps))]
+pub fn push_packets(packets: &[Datagram], out: &mut Bytes)
+    requires room { 377 * length packets.now ≤ out.old.room }
+    ensures value { out.new ≡ appended out.old (lines_for (map Packet packets.now)) }
+    ensures short { length (lines_for (map Packet packets.now)) ≤ 377 * length packets.now }
+{
+    for packet in packets {
+        push_packet(packet, out);
+    }
+}
+
 /// Hands the front of a text to a writer, and answers how many bytes it took: none where it was interrupted.
 /// A writer that takes nothing has failed.
-fn write_some<W: Write>(text: &[u8], writer: &mut W) -> Result<usize, RunFault>
+fn write_some<W: Write>(text: &[u8], writer: &mut W) -> Result<usize, WriteFailed>
     ensures value { WritesSome text.now (W.contents writer.old) (W.contents writer.new) result }
 {
     match writer.write(text) {
-        Ok(0) => Err(RunFault::Write),
+        Ok(0) => Err(WriteFailed),
         Ok(n) => Ok(n),
         Err(e) if e.kind() == ErrorKind::Interrupted => Ok(0),
-        Err(_) => Err(RunFault::Write),
+        Err(_) => Err(WriteFailed),
     }
 }
 
 /// Hands a whole text to a writer. Where a write fails, the writer holds the front of the text.
-pub fn write_whole<W: Write>(text: &[u8], writer: &mut W) -> Result<(), RunFault>
+pub fn write_whole<W: Write>(text: &[u8], writer: &mut W) -> Result<(), WriteFailed>
     ensures value { Writes text.now (W.contents writer.old) (W.contents writer.new) result }
 {
     let mut at = 0;
@@ -74,5 +126,5 @@ pub fn write_whole<W: Write>(text: &[u8], writer: &mut W) -> Result<(), RunFault
         }
         at += write_some(&text[at..], writer)?;
     }
-    Err(RunFault::Write)
+    Err(WriteFailed)
 }

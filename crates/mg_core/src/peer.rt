@@ -1,14 +1,8 @@
 ghost use Rattle.std.specs.Prelude.{◌≡◌};
 ghost use Rattle.mg_core.specs.Peer.{peer_of};
 
+use mg_engine::Peer;
 use mg_numbers::{address_of, cut, port_of};
-
-/// An IPv4 address and a UDP port: where a datagram came from, or where one goes.
-#[derive(Clone, Copy, Debug, PartialEq, Eq)]
-pub struct Peer {
-    pub address: [u8; 4],
-    pub port: u16,
-}
 
 /// The peer that a text names: an address, a colon and a port.
 #[tactic(auto, unfolding(crate::specs::Peer::peer_of))]

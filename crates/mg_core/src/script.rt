@@ -1,11 +1,11 @@
 ghost use Rattle.std.specs.Prelude.{◌≡◌, false};
-ghost use Rattle.mg_core.specs.Script.{Reads, is_plain, escaped_byte, unescaped, ok_of, spelling_of, bytes_of, datagram, control_of, is_comment, event_of};
+ghost use Rattle.mg_core.specs.Script.{Reads, is_plain, escaped_byte, unescaped, ok_of, spelling_of, bytes_of, datagram, media_of, control_of, datagram_of, is_comment, event_of};
 ghost use Rattle.hex.specs.Hex.{decode_of};
 
 use crate::event::Event;
 use crate::peer::peer_of;
 use hex::FromHexError;
-use mg_numbers::cut;
+use mg_numbers::{cut, port_of};
 use mg_text::Items;
 use std::alloc::{AllocError, AllocFailed, Global};
 
@@ -137,14 +137,35 @@ fn bytes_of(alloc: Global, key: &[u8], spelled: &[u8]) -> Result<Vec<u8>, LineFa
     }
 }
 
-/// A control datagram: a key word, a peer and bytes, with one space between each two.
-#[tactic(auto, unfolding(crate::specs::Script::control_of))]
-fn control_of(alloc: Global, line: &[u8]) -> Result<Option<Event>, LineFault>
-    ensures { Reads (λ event. event) result (control_of line.now) }
+/// An RTP datagram: a port, a peer and hexadecimal digits, with one space between each two.
+#[tactic(auto, unfolding(crate::specs::Script::media_of))]
+fn media_of(alloc: Global, parts: &[u8]) -> Result<Option<Event>, LineFault>
+    ensures { Reads (λ event. event) result (media_of parts.now) }
 {
-    let Some((key, rest)) = cut(b' ', line) else {
+    let Some((port, rest)) = cut(b' ', parts) else {
         return Err(LineFault::Bad);
     };
+    let Some(port) = port_of(port) else {
+        return Err(LineFault::Bad);
+    };
+    let Some((peer, digits)) = cut(b' ', rest) else {
+        return Err(LineFault::Bad);
+    };
+    let Some(source) = peer_of(peer) else {
+        return Err(LineFault::Bad);
+    };
+    let bytes = unhex(alloc, digits)?;
+    if bytes.len() > DATAGRAM_LIMIT {
+        return Err(LineFault::Bad);
+    }
+    Ok(Some(Event::Media(port, source, Items::new(bytes))))
+}
+
+/// A control datagram behind its key word: a peer and bytes, with one space between.
+#[tactic(auto, unfolding(crate::specs::Script::control_of))]
+fn control_of(alloc: Global, key: &[u8], rest: &[u8]) -> Result<Option<Event>, LineFault>
+    ensures { Reads (λ event. event) result (control_of key.now rest.now) }
+{
     let Some((peer, spelled)) = cut(b' ', rest) else {
         return Err(LineFault::Bad);
     };
@@ -156,6 +177,20 @@ fn control_of(alloc: Global, line: &[u8]) -> Result<Option<Event>, LineFault>
         return Err(LineFault::Bad);
     }
     Ok(Some(Event::Control(source, Items::new(bytes))))
+}
+
+/// A datagram: a key word, a space, and what the key word asks for.
+#[tactic(auto, unfolding(crate::specs::Script::datagram_of))]
+fn datagram_of(alloc: Global, line: &[u8]) -> Result<Option<Event>, LineFault>
+    ensures { Reads (λ event. event) result (datagram_of line.now) }
+{
+    let Some((key, rest)) = cut(b' ', line) else {
+        return Err(LineFault::Bad);
+    };
+    if key == b"rtp".as_slice() {
+        return media_of(alloc, rest);
+    }
+    control_of(alloc, key, rest)
 }
 
 /// Whether a line stands for no event: an empty one, or a comment.
@@ -181,6 +216,6 @@ pub fn event_of(alloc: Global, line: &[u8]) -> Result<Option<Event>, LineFault>
     }
     match line {
         b"tick" => Ok(Some(Event::Tick)),
-        _ => control_of(alloc, line),
+        _ => datagram_of(alloc, line),
     }
 }

@@ -1,12 +1,12 @@
-ghost use Rattle.std.specs.Prelude.{◌≡◌, ◌+◌, ◌*◌, ◌^◌, ◌<◌, ◌≤◌, [], ℕ, List, length, Some, OnOk, IfOk, Result};
+ghost use Rattle.std.specs.Prelude.{◌≡◌, ◌+◌, ◌*◌, ◌^◌, ◌<◌, ◌≤◌, ◌↔◌, [], ℕ, List, length, Some, OnOk, IfOk, Result};
+ghost use Rattle.mg_engine.specs.declared.config.Config.{Config};
 ghost use Rattle.mg_engine.specs.Config.{IsSound};
-ghost use Rattle.mg_core.specs.World.{StandsFor, start_of};
+ghost use Rattle.mg_core.specs.World.{World, StandsFor, counts_of, start_of};
 ghost use Rattle.mg_core.specs.Script.{without_return};
-ghost use Rattle.mg_core.specs.Run.{ScriptRan};
-ghost use Rattle.mg_core.specs.Steps.{LineRan, BytesRan, Finishes, ReadsSome, Steps};
+ghost use Rattle.mg_core.specs.Steps.{AllRan, LineRan, BytesRan, Finishes, ReadsSome, Steps};
 
 use crate::counts::Counts;
-use crate::fault::RunFault;
+use crate::fault::{ReadFailed, ScriptFault};
 use crate::line_runner::LineRunner;
 use mg_engine::{Config, StartFault};
 use mg_text::Bytes;
@@ -23,6 +23,8 @@ const BEGUN_LIMIT: usize = 140001;
 #[derive(Drop)]
 pub struct ScriptRunner {
     pub runner: LineRunner,
+    /// Lines that were run.
+    pub lines: u64,
     pub begun: Bytes,
     ghost begun_size: { begun.room + length begun.text ≡ 140001 },
 }
@@ -41,47 +43,47 @@ fn without_return(line: &[u8]) -> &[u8]
 fn read_some<R: Read>(
     reader: &mut R,
     buffer: &mut [u8; READ_SIZE],
-) -> Result<Option<usize>, RunFault>
+) -> Result<Option<usize>, ReadFailed>
     ensures value { ReadsSome buffer.new (R.remaining reader.old) (R.remaining reader.new) result }
 {
     match reader.read(buffer) {
         Ok(0) => Ok(None),
         Ok(n) => Ok(Some(n)),
         Err(e) if e.kind() == ErrorKind::Interrupted => Ok(Some(0)),
-        Err(_) => Err(RunFault::Read),
+        Err(_) => Err(ReadFailed),
     }
 }
 
 impl ScriptRunner {
     /// A runner on a new gateway, at the start of a script.
     pub fn new(alloc: Global, config: Config) -> Result<Self, StartFault>
-        ensures bad { result ≡ Err StartFault.BadConfig → ¬ IsSound config }
+        ensures bad { (result ≡ Err StartFault.BadConfig) ↔ ¬ IsSound config }
         ensures sound { OnOk result (IsSound config) }
-        ensures config { IfOk result (λ s. s.runner.core.config ≡ config) }
-        ensures start { IfOk result (λ s. StandsFor s.runner.core (start_of config)) }
-        ensures lines { IfOk result (λ s. s.runner.counts.lines ≡ 0) }
+        ensures start { IfOk result (λ s. StandsFor s.runner.core.state (start_of config)) }
+        ensures lines { IfOk result (λ s. s.lines ≡ 0) }
         ensures begun { IfOk result (λ s. s.begun.text ≡ []) }
     {
+        let runner = LineRunner::new(alloc, config)?;
         Ok(ScriptRunner {
-            runner: LineRunner::new(alloc, config)?,
+            runner,
+            lines: 0,
             begun: Bytes::new(alloc, BEGUN_LIMIT)?,
         })
     }
 
     /// Takes the line that was begun, which ends here.
-    fn end_line<W: Write>(&mut self, alloc: Global, writer: &mut W) -> Result<(), RunFault>
-        requires few { self.old.runner.counts.lines + 1 < 2 ^ 64 }
-        ensures config { self.new.runner.core.config ≡ self.old.runner.core.config }
+    fn end_line<W: Write>(&mut self, alloc: Global, writer: &mut W) -> Result<(), ScriptFault>
+        requires few { self.old.lines + 1 < 2 ^ 64 }
         ensures begun { OnOk result (self.new.begun.text ≡ []) }
-        ensures lines { OnOk result (self.new.runner.counts.lines ≡ self.old.runner.counts.lines + 1) }
-        ensures value { Steps self.old.runner.core.engine self.new.runner.core.engine (λ w after.
-            LineRan self.old.runner.core.config (self.old.runner.counts.lines + 1) (without_return self.old.begun.text)
-            w after (W.contents writer.old) (W.contents writer.new) result) }
+        ensures lines { OnOk result (self.new.lines ≡ self.old.lines + 1) }
+        ensures value { Steps self.old.runner.core.state self.new.runner.core.state (λ w next.
+            LineRan (self.old.lines + 1) (without_return self.old.begun.text)
+            w next (W.contents writer.old) (W.contents writer.new) result) }
     {
-        let number = self.runner.counts.lines + 1;
+        let number = self.lines + 1;
         let line = without_return(self.begun.as_slice());
         self.runner.take_line(alloc, number, line, writer)?;
-        self.runner.counts.lines = number;
+        self.lines = number;
         self.begun.clear();
         Ok(())
     }
@@ -92,13 +94,12 @@ impl ScriptRunner {
         alloc: Global,
         bytes: &[u8],
         writer: &mut W,
-    ) -> Result<(), RunFault>
-        requires few { self.old.runner.counts.lines + length bytes.now < 2 ^ 64 }
-        ensures config { self.new.runner.core.config ≡ self.old.runner.core.config }
-        ensures lines { OnOk result (self.new.runner.counts.lines ≤ self.old.runner.counts.lines + length bytes.now) }
-        ensures value { Steps self.old.runner.core.engine self.new.runner.core.engine (λ w after.
-            BytesRan self.old.runner.core.config self.old.runner.counts.lines self.new.runner.counts.lines
-            self.old.begun.text bytes.now self.new.begun.text w after (W.contents writer.old) (W.contents writer.new) result) }
+    ) -> Result<(), ScriptFault>
+        requires few { self.old.lines + length bytes.now < 2 ^ 64 }
+        ensures lines { OnOk result (self.new.lines ≤ self.old.lines + length bytes.now) }
+        ensures value { Steps self.old.runner.core.state self.new.runner.core.state (λ w next.
+            BytesRan self.old.lines self.new.lines self.old.begun.text bytes.now self.new.begun.text
+            w next (W.contents writer.old) (W.contents writer.new) result) }
     {
         for b in bytes {
             if *b == b'\n' {
@@ -106,7 +107,7 @@ impl ScriptRunner {
                 continue;
             }
             if self.begun.room() == 0 {
-                return Err(RunFault::Script(self.runner.counts.lines + 1));
+                return Err(ScriptFault::Bad(self.lines + 1));
             }
             self.begun.push(&[*b]);
         }
@@ -114,19 +115,18 @@ impl ScriptRunner {
     }
 
     /// Takes the last line, if one was begun: it has no line feed.
-    fn finish<W: Write>(&mut self, alloc: Global, writer: &mut W) -> Result<(), RunFault>
-        requires few { self.old.runner.counts.lines + 1 < 2 ^ 64 }
-        ensures value { Steps self.old.runner.core.engine self.new.runner.core.engine (λ w after.
-            Finishes self.old.runner.core.config self.old.runner.counts.lines self.old.begun.text w after
-            (W.contents writer.old) (W.contents writer.new) result) }
+    fn finish<W: Write>(&mut self, alloc: Global, writer: &mut W) -> Result<(), ScriptFault>
+        requires few { self.old.lines + 1 < 2 ^ 64 }
+        ensures value { Steps self.old.runner.core.state self.new.runner.core.state (λ w next.
+            Finishes self.old.lines self.old.begun.text w next (W.contents writer.old) (W.contents writer.new) result) }
     {
         let line = self.begun.as_slice();
         if line.is_empty() {
             return Ok(());
         }
-        let number = self.runner.counts.lines + 1;
+        let number = self.lines + 1;
         self.runner.take_line(alloc, number, line, writer)?;
-        self.runner.counts.lines = number;
+        self.lines = number;
         Ok(())
     }
 
@@ -136,12 +136,12 @@ impl ScriptRunner {
         alloc: Global,
         reader: &mut R,
         writer: &mut W,
-    ) -> Result<(), RunFault>
-        requires start { StandsFor self.old.runner.core (start_of self.old.runner.core.config) }
-        requires lines { self.old.runner.counts.lines ≡ 0 }
+    ) -> Result<(), ScriptFault>
+        requires lines { self.old.lines ≡ 0 }
         requires begun { self.old.begun.text ≡ [] }
-        ensures value { (script : List ℕ) → R.remaining reader.old ≡ Some script →
-            ScriptRan self.old.runner.core.config script (W.contents writer.old) (W.contents writer.new) result }
+        ensures value { (config : Config) → StandsFor self.old.runner.core.state (start_of config) → (script : List ℕ) →
+            R.remaining reader.old ≡ Some script → AllRan config script self.new.runner.core.state
+            (W.contents writer.old) (W.contents writer.new) result }
     {
         let mut buffer = [0; READ_SIZE];
         for _ in 0..u32::MAX {
@@ -150,13 +150,18 @@ impl ScriptRunner {
             };
             self.take_bytes(alloc, &buffer[..n], writer)?;
         }
-        Err(RunFault::Read)
+        Err(ScriptFault::Read)
     }
 
     /// What was counted.
     pub fn counts(&self) -> Counts
-        ensures value { result ≡ self.now.runner.counts }
+        ensures events { (w : World) → StandsFor self.now.runner.core.state w →
+            record result { lines = 0; sent = 0; failed = 0 } ≡ counts_of w.tally }
     {
-        self.runner.counts
+        Counts {
+            lines: self.lines,
+            sent: self.runner.sent,
+            ..self.runner.core.counts()
+        }
     }
 }

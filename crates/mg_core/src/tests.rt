@@ -1,4 +1,4 @@
-use crate::{Answer, Config, Core, Peer, RunFault, StartFault, run};
+use crate::{Answer, Config, Core, Counts, Peer, RunFault, StartFault, run};
 use std::alloc::Global;
 use std::io::{self, Cursor, Error, ErrorKind, Read, Write};
 use std::test::Fail;
@@ -418,7 +418,9 @@ fn names_the_first_bad_line(rt: HostRuntime) {
         (b"say 127.0.0.1:2945 \\t\n", 1),
         (b"say 127.0.0.1:2945 \\\n", 1),
         (b"control 127.0.0.1:2945 4d4\n", 1),
-        (b"\n\n\nrtp 30000 127.0.0.1:40000 80\n", 4),
+        (b"\n\n\nrtp 30000 127.0.0.1:40000 8\n", 4),
+        (b"rtp 30000 127.0.0.1 80\n", 1),
+        (b"rtp 127.0.0.1:40000 80\n", 1),
     ] {
         let (written, fault) = played(rt.alloc(), script);
         assert_eq!(rt; fault, Some(RunFault::Script(line)));
@@ -449,6 +451,90 @@ fn limits_a_line_and_its_datagram(rt: HostRuntime) -> Result<(), Fail> {
         played(alloc, control.as_slice()).1,
         Some(RunFault::Script(1))
     );
+    Ok(())
+}
+
+/// Appends a line with the digits of 160 equal bytes at its end.
+fn push_line(line: &mut Vec<u8>, front: &[u8], digits: &[u8]) -> Result<(), Fail> {
+    line.extend_from_slice(front)?;
+    for _ in 0..160 {
+        line.extend_from_slice(digits)?;
+    }
+    line.push(b'\n')?;
+    Ok(())
+}
+
+/// The last line of a text.
+fn last_line(text: &[u8]) -> &[u8] {
+    match text.split_inclusive(|b| *b == b'\n').last() {
+        Some(line) => line,
+        None => text,
+    }
+}
+
+const CALLERS: &[u8] = b"say 127.0.0.1:2945 !/1 [127.0.0.1]:2945 T=1{C=${\
+    A=${M{O{MO=SR},L{v=0\\nc=IN IP4 $\\nm=audio $ RTP/AVP 0\\n},R{v=0\\nc=IN IP4 127.0.0.1\\nm=audio 40000 RTP/AVP 0\\n}}},\
+    A=${M{O{MO=SR},L{v=0\\nc=IN IP4 $\\nm=audio $ RTP/AVP 0\\n},R{v=0\\nc=IN IP4 127.0.0.1\\nm=audio 40002 RTP/AVP 0\\n}}},\
+    A=${M{O{MO=SR},L{v=0\\nc=IN IP4 $\\nm=audio $ RTP/AVP 8\\n},R{v=0\\nc=IN IP4 127.0.0.1\\nm=audio 40004 RTP/AVP 8\\n}}}}}\n";
+
+#[test]
+fn plays_and_mixes(rt: HostRuntime) -> Result<(), Fail> {
+    let alloc = rt.alloc();
+    let mut script = Vec::from_slice(alloc, CALLERS)?;
+    push_line(
+        &mut script,
+        b"rtp 30000 127.0.0.1:5004 800000010000000000000063",
+        b"80",
+    )?;
+    push_line(
+        &mut script,
+        b"rtp 30002 127.0.0.1:5004 800000010000000000000063",
+        b"80",
+    )?;
+    script.extend_from_slice(b"tick\ntick\ntick\n")?;
+    let (written, fault) = played(alloc, script.as_slice());
+    assert_eq!(rt; fault, None);
+    let mut wanted = Vec::new(alloc);
+    push_line(
+        &mut wanted,
+        b"rtp 30004 127.0.0.1:40004 800800020000014000000003",
+        b"aa",
+    )?;
+    assert_eq!(rt; last_line(written.as_slice()), wanted.as_slice());
+    Ok(())
+}
+
+/// What a run of a script counted.
+fn counted(alloc: Global, script: &[u8]) -> Result<Counts, Fail> {
+    let mut reader = Cursor::new(script);
+    let mut written = Vec::new(alloc);
+    run(alloc, Config::default(), &mut reader, &mut written).map_err(|_| "a script".into())
+}
+
+#[test]
+fn counts_events(rt: HostRuntime) -> Result<(), Fail> {
+    let alloc = rt.alloc();
+    let mut script = Vec::from_slice(alloc, CALLERS)?;
+    let front = b"rtp 30000 127.0.0.1:5004 800000010000000000000063";
+    push_line(&mut script, front, b"80")?;
+    push_line(&mut script, front, b"80")?;
+    push_line(
+        &mut script,
+        b"rtp 30000 127.0.0.2:5004 800000010000000000000063",
+        b"80",
+    )?;
+    script.extend_from_slice(
+        b"rtp 30006 127.0.0.1:5004 80\nrtp 30000 127.0.0.1:5004 80\ntick\ntick\n\n# end\n",
+    )?;
+    let counts = counted(alloc, script.as_slice())?;
+    assert_eq!(rt; counts.lines, 10);
+    assert_eq!(rt; counts.control, 1);
+    assert_eq!(rt; counts.media, 5);
+    assert_eq!(rt; counts.ticks, 2);
+    assert_eq!(rt; counts.sent, 7);
+    assert_eq!(rt; counts.failed, 0);
+    assert_eq!(rt; counts.placed, [1, 0, 0, 1, 0]);
+    assert_eq!(rt; counts.dropped, [1, 1, 0, 1, 0, 0]);
     Ok(())
 }
 

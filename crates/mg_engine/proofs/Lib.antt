@@ -1,3 +1,13 @@
+pub mod PoolLaws
+pub mod SumLaws
+pub mod SendingLaws
+pub mod KeyLaws
+pub mod WorldLaws
+pub mod FlowLaws
+pub mod SentLaws
+pub mod TickLaws
+pub mod TotalLaws
+pub mod EditLaws
+pub mod ArrivalLaws
 pub mod PortLaws
 pub mod OutcomeLaws
-pub mod StandsLaws

@@ -1,22 +1,29 @@
 -- What a command on a termination does to the records of terminations.
 use Rattle.std.proofs.Common.{◌≡◌, ℕ, not, [], ◌∷◌, ◌++◌, Option, Some, None, Result, Ok, Err, refl, sym, ap, ◌∙◌}
+use Rattle.std.specs.Prelude.{ok_or}
 use Rattle.mg_rooms.specs.declared.done.Done.{Done}
 use Rattle.mg_rooms.specs.declared.place.Place.{Place}
 use Rattle.mg_rooms.specs.declared.record.Record.{Record}
 use Rattle.mg_rooms.specs.declared.refusal.Refusal.{Refusal}
-use Rattle.mg_rooms.specs.declared.refusal.Refusal.TheVariants.{AlreadyInContext}
+use Rattle.mg_rooms.specs.declared.refusal.Refusal.TheVariants.{AlreadyInContext, NotInContext, UnknownTermination}
 use Rattle.mg_rooms.specs.declared.settings.Settings.{Settings}
 use Rattle.mg_rooms.specs.declared.target.Target.{Target}
 use Rattle.mg_rooms.specs.Results.{◌>>=◌, passes}
-use Rattle.mg_rooms.specs.World.{World}
+use Rattle.mg_rooms.specs.declared.limits.Limits.{Limits}
+use Rattle.mg_rooms.specs.Limits.{port_of}
+use Rattle.mg_rooms.specs.Settings.{local_after, remote_after}
+use Rattle.mg_rooms.specs.World.{World, record_at}
 use Rattle.mg_rooms.specs.Record.{done, fresh, at_place, with_settings}
 use Rattle.mg_rooms.specs.Changes.{change, inserted, replaced, removed, entered, entered_at, left}
-use Rattle.mg_rooms.specs.Outcome.{may_enter, member, named, is_number, new_slot, new_place, add, modify, move_to, subtract}
+use Rattle.mg_rooms.specs.Outcome.{may_enter, may_have_members, member, named, is_number, new_slot, new_place, add, modify, move_to, subtract}
 
 -- each step of an outcome that is done is done
 after_ok : {A B : Type 0} (P : Type 0) (r : Result A Refusal) (f : A → Result B Refusal) (y : B) → (r >>= f) ≡ Ok y → ((x : A) → f x ≡ Ok y → P) → P
 after_ok P (Ok x) f y e k = k x e
 after_ok P (Err refusal) f y e k = absurd (cc e)
+
+abbrev some : Record → Option Record
+some r = Some r
 
 abbrev did : World × Done → Result (World × Done) Refusal
 did p = Ok p
@@ -28,21 +35,35 @@ entered_terminations : (w : World) (place : Place) (n : ℕ) (made : Option ℕ)
 entered_terminations w place n (Some room) = refl
 entered_terminations w place n None = refl
 
+entered_limits : (w : World) (place : Place) (n : ℕ) (made : Option ℕ) → (entered_at w place n made).limits ≡ w.limits
+entered_limits w place n (Some room) = refl
+entered_limits w place n None = refl
+
 -- a termination more
 pub record Adds (old new : World) (d : Done) : Type 0 where
   pub added : Record
   pub terminations : new.terminations ≡ old.terminations ++ added ∷ []
   pub number : added.number ≡ d.termination
+  pub limits : new.limits ≡ old.limits
 
--- the termination that it was done on has another record
-pub record Changes (old new : World) (d : Done) : Type 0 where
+-- the termination that it was done on has another record, with the slot that it had
+pub record Changes (old new : World) (n : ℕ) (d : Done) : Type 0 where
+  pub was : Record
+  pub there : record_at old n ≡ Some was
   pub changed : Record
+  pub slot : changed.slot ≡ was.slot
+  pub same : changed.number ≡ was.number
   pub terminations : new.terminations ≡ change (λ x. x.number) changed.number (λ _. Some changed) old.terminations
   pub number : changed.number ≡ d.termination
+  pub limits : new.limits ≡ old.limits
 
 -- it is there no longer
-pub record Removes (old new : World) (d : Done) : Type 0 where
+pub record Removes (old new : World) (n : ℕ) (d : Done) : Type 0 where
+  pub was : Record
+  pub there : record_at old n ≡ Some was
+  pub number : was.number ≡ d.termination
   pub terminations : new.terminations ≡ change (λ x. x.number) d.termination (λ _. None) old.terminations
+  pub limits : new.limits ≡ old.limits
 
 adds_by : (w new : World) (d : Done) (r : Record) (place : Place) → did (entered (inserted w r) place r.number, done r) ≡ did (new, d) → Adds w new d
 adds_by w new d r place e =
@@ -51,6 +72,7 @@ adds_by w new d r place e =
       added = r;
       terminations = ap (λ (p : World × Done). p.0.terminations) (sym is) ∙ entered_terminations (inserted w r) place r.number place.made;
       number = ap (λ (p : World × Done). p.1.termination) is;
+      limits = ap (λ (p : World × Done). p.0.limits) (sym is) ∙ entered_limits (inserted w r) place r.number place.made;
     }
 
 pub add_adds : (w : World) (target : Target) (settings : Settings) (new : World) (d : Done) → add w target settings ≡ did (new, d) → Adds w new d
@@ -62,50 +84,107 @@ add_adds w target settings new d e =
     after_ok (Adds w new d) (with_settings w.limits settings (fresh w.next_termination slot place)) _ (new, d) three (λ r four.
     adds_by w new d r place four))))
 
-changes_by : (w new : World) (d : Done) (r : Record) → did (replaced w r, done r) ≡ did (new, d) → Changes w new d
-changes_by w new d r e =
+after_ok_is : {A B : Type 0} (P : Type 0) (r : Result A Refusal) (f : A → Result B Refusal) (y : B) → (r >>= f) ≡ Ok y → ((x : A) → r ≡ Ok x → f x ≡ Ok y → P) → P
+after_ok_is P (Ok x) f y e k = k x refl e
+after_ok_is P (Err refusal) f y e k = absurd (cc e)
+
+abbrev fine : Record → Result Record Refusal
+fine r = Ok r
+
+fine_is : (r q : Record) → fine r ≡ fine q → r ≡ q
+fine_is r q e = cc e
+
+named_at : (o : Option Record) (r : Record) → ok_or o UnknownTermination ≡ fine r → o ≡ Some r
+named_at (Some x) r e = ap some (fine_is x r e)
+named_at None r e = absurd (cc e)
+
+member_at : (w : World) (target : Target) (n : ℕ) (r : Record) → member w target n ≡ fine r → record_at w n ≡ Some r
+member_at w target n r e =
+    after_ok_is (record_at w n ≡ Some r) (named w n) _ r e (λ x found one.
+    after_ok (record_at w n ≡ Some r) (may_have_members w target) _ r one (λ _ two.
+    after_ok (record_at w n ≡ Some r) (passes (is_number target x.context) NotInContext) _ r two (λ _ three.
+    named_at (record_at w n) x found ∙ ap some (fine_is x r three))))
+
+-- settings leave a termination its number and its slot
+pub record SameTermination (old r : Record) : Type 0 where
+  pub slot : r.slot ≡ old.slot
+  pub number : r.number ≡ old.number
+
+settings_keep : (limits : Limits) (settings : Settings) (old r : Record) → with_settings limits settings old ≡ fine r → SameTermination old r
+settings_keep limits settings old r e =
+    after_ok (SameTermination old r) (local_after limits.address (port_of limits old.slot) settings.local old.local) _ r e (λ local one.
+    after_ok (SameTermination old r) (remote_after settings.remote old.remote) _ r one (λ remote two.
+    let is = fine_is _ r two in record { slot = ap (λ (x : Record). x.slot) (sym is); number = ap (λ (x : Record). x.number) (sym is) }))
+
+abbrev changes_by : (w new : World) (n : ℕ) (d : Done) (was r : Record) → record_at w n ≡ Some was → SameTermination was r → did (replaced w r, done r) ≡ did (new, d) → Changes w new n d
+changes_by w new n d was r there same e =
     let is = ok_is (replaced w r, done r) (new, d) e in
     record {
+      was = was;
+      there = there;
       changed = r;
+      slot = same.slot;
+      same = same.number;
       terminations = ap (λ (p : World × Done). p.0.terminations) (sym is);
       number = ap (λ (p : World × Done). p.1.termination) is;
+      limits = ap (λ (p : World × Done). p.0.limits) (sym is);
     }
 
-pub modify_changes : (w : World) (target : Target) (n : ℕ) (settings : Settings) (new : World) (d : Done) → modify w target n settings ≡ did (new, d) → Changes w new d
+-- settings leave a termination in its context
+settings_stay : (limits : Limits) (settings : Settings) (old r : Record) → with_settings limits settings old ≡ fine r → r.context ≡ old.context
+settings_stay limits settings old r e =
+    after_ok (r.context ≡ old.context) (local_after limits.address (port_of limits old.slot) settings.local old.local) _ r e (λ local one.
+    after_ok (r.context ≡ old.context) (remote_after settings.remote old.remote) _ r one (λ remote two. ap (λ (x : Record). x.context) (sym (fine_is _ r two))))
+
+-- the same, and it stays in its context
+abbrev pub Stays : World → World → ℕ → Done → Type 0
+Stays w new n d = (a : Changes w new n d) × (a.changed.context ≡ a.was.context)
+
+pub modify_changes : (w : World) (target : Target) (n : ℕ) (settings : Settings) (new : World) (d : Done) → modify w target n settings ≡ did (new, d) → Stays w new n d
 unfolding modify
 modify_changes w target n settings new d e =
-    after_ok (Changes w new d) (member w target n) _ (new, d) e (λ old one.
-    after_ok (Changes w new d) (with_settings w.limits settings old) _ (new, d) one (λ r two.
-    changes_by w new d r two))
+    after_ok_is (Stays w new n d) (member w target n) _ (new, d) e (λ old found one.
+    after_ok_is (Stays w new n d) (with_settings w.limits settings old) _ (new, d) one (λ r set two.
+    (changes_by w new n d old r (member_at w target n old found) (settings_keep w.limits settings old r set) two, settings_stay w.limits settings old r set)))
 
-moves_by : (w new : World) (d : Done) (r : Record) (place : Place) (from : ℕ) → did (left (entered (replaced w r) place r.number) from r.number, done r) ≡ did (new, d) → Changes w new d
-moves_by w new d r place from e =
+moves_by : (w new : World) (n : ℕ) (d : Done) (was r : Record) (place : Place) (from : ℕ) → record_at w n ≡ Some was → SameTermination was r → did (left (entered (replaced w r) place r.number) from r.number, done r) ≡ did (new, d) → Changes w new n d
+moves_by w new n d was r place from there same e =
     let is = ok_is (left (entered (replaced w r) place r.number) from r.number, done r) (new, d) e in
     record {
+      was = was;
+      there = there;
       changed = r;
+      slot = same.slot;
+      same = same.number;
       terminations = ap (λ (p : World × Done). p.0.terminations) (sym is) ∙ entered_terminations (replaced w r) place r.number place.made;
       number = ap (λ (p : World × Done). p.1.termination) is;
+      limits = ap (λ (p : World × Done). p.0.limits) (sym is) ∙ entered_limits (replaced w r) place r.number place.made;
     }
 
-pub move_changes : (w : World) (target : Target) (n : ℕ) (settings : Settings) (new : World) (d : Done) → move_to w target n settings ≡ did (new, d) → Changes w new d
+pub move_changes : (w : World) (target : Target) (n : ℕ) (settings : Settings) (new : World) (d : Done) → move_to w target n settings ≡ did (new, d) → Changes w new n d
 unfolding move_to
 move_changes w target n settings new d e =
-    after_ok (Changes w new d) (named w n) _ (new, d) e (λ old one.
-    after_ok (Changes w new d) (passes (not (is_number target old.context)) AlreadyInContext) _ (new, d) one (λ _ two.
-    after_ok (Changes w new d) (may_enter w target) _ (new, d) two (λ _ three.
-    after_ok (Changes w new d) (new_place w target) _ (new, d) three (λ place four.
-    after_ok (Changes w new d) (with_settings w.limits settings (at_place old place)) _ (new, d) four (λ r five.
-    moves_by w new d r place old.context five)))))
+    after_ok_is (Changes w new n d) (named w n) _ (new, d) e (λ old found one.
+    after_ok (Changes w new n d) (passes (not (is_number target old.context)) AlreadyInContext) _ (new, d) one (λ _ two.
+    after_ok (Changes w new n d) (may_enter w target) _ (new, d) two (λ _ three.
+    after_ok (Changes w new n d) (new_place w target) _ (new, d) three (λ place four.
+    after_ok_is (Changes w new n d) (with_settings w.limits settings (at_place old place)) _ (new, d) four (λ r set five.
+    let same = settings_keep w.limits settings (at_place old place) r set in
+    moves_by w new n d old r place old.context (named_at (record_at w n) old found) (record { slot = same.slot; number = same.number }) five)))))
 
-removes_by : (w new : World) (d : Done) (r : Record) → did (left (removed w r.number) r.context r.number, done r) ≡ did (new, d) → Removes w new d
-removes_by w new d r e =
+removes_by : (w new : World) (n : ℕ) (d : Done) (r : Record) → record_at w n ≡ Some r → did (left (removed w r.number) r.context r.number, done r) ≡ did (new, d) → Removes w new n d
+removes_by w new n d r there e =
     let is = ok_is (left (removed w r.number) r.context r.number, done r) (new, d) e in
     record {
+      was = r;
+      there = there;
+      number = ap (λ (p : World × Done). p.1.termination) is;
       terminations = ap (λ (p : World × Done). p.0.terminations) (sym is) ∙ ap (λ (n : ℕ). change (λ x. x.number) n (λ _. None) w.terminations) (ap (λ (p : World × Done). p.1.termination) is);
+      limits = ap (λ (p : World × Done). p.0.limits) (sym is);
     }
 
-pub subtract_removes : (w : World) (target : Target) (n : ℕ) (new : World) (d : Done) → subtract w target n ≡ did (new, d) → Removes w new d
+pub subtract_removes : (w : World) (target : Target) (n : ℕ) (new : World) (d : Done) → subtract w target n ≡ did (new, d) → Removes w new n d
 unfolding subtract
 subtract_removes w target n new d e =
-    after_ok (Removes w new d) (member w target n) _ (new, d) e (λ r one.
-    removes_by w new d r one)
+    after_ok_is (Removes w new n d) (member w target n) _ (new, d) e (λ r found one.
+    removes_by w new n d r (member_at w target n r found) one)

@@ -1,4 +1,15 @@
 pub mod Config
 pub mod World
+pub mod Flow
+pub mod Mixing
+pub mod Mix
+pub mod Steps
 pub mod Outcome
+pub mod Datagram
+pub mod Tick
+pub mod Arrival
+pub mod Media
+pub mod Ports
 pub mod Stands
+pub mod Sending
+pub mod Whole

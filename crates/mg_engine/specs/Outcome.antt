@@ -1,24 +1,17 @@
 -- What becomes of the world by an edit: its refusal, or the world after it with what it was done on.
-use Rattle.std.specs.Prelude.{ℕ, List, ◌++◌, [], ◌∷◌, Option, Some, None, Result, Ok, Err}
-use Rattle.mg_playout.specs.Playout.{PlayList, with_depth}
+use Rattle.std.specs.Prelude.{ℕ, List, ◌++◌, [], ◌∷◌, Some, None, Result, Ok, Err}
 use Rattle.mg_rooms.specs.declared.done.Done.{Done}
 use Rattle.mg_rooms.specs.declared.refusal.Refusal.{Refusal}
-use Rattle.mg_rooms.specs.declared.record.Record.{Record}
 use Rattle.mg_rooms.specs.declared.settings.Settings.{Settings}
 use Rattle.mg_rooms.specs.Changes.{change}
-use Rattle.mg_rooms.specs.Settings.{depth_after}
 use Rattle.mg_rooms.specs.World as rooms
 use Rattle.mg_rooms.specs.Outcome.{add, modify, move_to, subtract}
 use Rattle.mg_engine.specs.declared.edit.Edit.{Edit}
 use Rattle.mg_engine.specs.declared.edit.Edit.TheVariants.{Add, Modify, Move, Subtract}
-use Rattle.mg_engine.specs.World.{World, Stream, Noted, ContextEdit, Enter, Leave, new_stream}
+use Rattle.mg_engine.specs.Steps.{play_after}
+use Rattle.mg_engine.specs.World.{World, Stream, Enter, Leave, new_stream}
 
 -- ## Media
-
--- a command that names a depth sets that of the play list
-abbrev pub play_after : Option ℕ → PlayList → PlayList
-play_after None play = play
-play_after (Some depth) play = with_depth play (depth_after (Some depth) depth)
 
 abbrev pub tuned : Settings → Stream → Stream
 tuned settings s = record s { play = play_after settings.depth s.play }
@@ -28,19 +21,6 @@ streams_with settings n streams = change (λ s. s.number) n (λ s. Some (tuned s
 
 abbrev pub streams_without : ℕ → List Stream → List Stream
 streams_without n streams = change (λ s. s.number) n (λ _. None) streams
-
--- ## Edits
-
-abbrev pub noted : ℕ → ContextEdit → List Noted → List Noted
-noted c edit edits = record { context = c; edit = edit } ∷ edits
-
-abbrev pub context_of : Option Record → ℕ
-context_of None = 0
-context_of (Some r) = r.context
-
--- the context that a termination is in
-abbrev pub place_of : World → ℕ → ℕ
-place_of w n = context_of (rooms.record_at w.rooms n)
 
 -- ## Outcomes
 
@@ -53,16 +33,31 @@ done_with f (Ok p) = Ok (f p.0 p.1, p.1)
 done_with f (Err e) = Err e
 
 abbrev pub added : World → Settings → rooms.World → Done → World
-added w settings rooms d = record { rooms = rooms; streams = w.streams ++ tuned settings (new_stream d.termination) ∷ []; edits = noted d.context (Enter d.termination) w.edits }
+added w settings rooms d = record w {
+  rooms = rooms;
+  streams = w.streams ++ tuned settings (new_stream d.termination) ∷ [];
+  edits = Enter d.termination ∷ w.edits;
+}
 
 abbrev pub modified : World → Settings → rooms.World → Done → World
-modified w settings rooms d = record w { rooms = rooms; streams = streams_with settings d.termination w.streams }
+modified w settings rooms d = record w {
+  rooms = rooms;
+  streams = streams_with settings d.termination w.streams;
+}
 
 abbrev pub moved : World → Settings → rooms.World → Done → World
-moved w settings rooms d = record { rooms = rooms; streams = streams_with settings d.termination w.streams; edits = noted d.context (Enter d.termination) (noted (place_of w d.termination) (Leave d.termination) w.edits) }
+moved w settings rooms d = record w {
+  rooms = rooms;
+  streams = streams_with settings d.termination w.streams;
+  edits = Enter d.termination ∷ Leave d.termination ∷ w.edits;
+}
 
 abbrev pub subtracted : World → rooms.World → Done → World
-subtracted w rooms d = record { rooms = rooms; streams = streams_without d.termination w.streams; edits = noted d.context (Leave d.termination) w.edits }
+subtracted w rooms d = record w {
+  rooms = rooms;
+  streams = streams_without d.termination w.streams;
+  edits = Leave d.termination ∷ w.edits;
+}
 
 abbrev pub outcome : World → Edit → Outcome
 outcome w (Add target settings) = done_with (added w settings) (add w.rooms target settings)

@@ -1,9 +1,12 @@
--- What a gateway is, seen from outside: its terminations with their media, its contexts with their members, and what
--- happened in them (RFC 3525, section 6; RFC 3550).
-use Rattle.std.specs.Prelude.{ℕ, ℤ, pos, ◌==◌, Bool, false, List, [], Option, find, replicate}
+-- What a gateway is, seen from outside: its configuration, its terminations with their media, its contexts with their
+-- members, and what happened in them (RFC 3525, section 6; RFC 3550).
+use Rattle.std.specs.Prelude.{ℕ, ℤ, pos, ◌==◌, Bool, false, List, [], Option, Some, None, find, map, replicate}
 use Rattle.std.specs.Option.{option_map}
 use Rattle.mg_topology.specs.declared.association.Association.{Association}
 use Rattle.mg_playout.specs.Playout.{PlayList, first_state}
+use Rattle.mg_rooms.specs.declared.mode.Mode.{Mode}
+use Rattle.mg_rooms.specs.declared.mode.Mode.TheVariants.{Inactive}
+use Rattle.mg_rooms.specs.declared.record.Record.{Record}
 use Rattle.mg_rooms.specs.World as rooms
 use Rattle.mg_engine.specs.declared.config.Config.{Config}
 use Rattle.mg_engine.specs.Config.{limits_of}
@@ -20,28 +23,30 @@ pub record Stream : Type 0 where
   pub packets : ℕ
   pub sent_last : Bool
 
--- What happens to the members of a context: one enters or leaves, or a triple of a topology descriptor is applied to
--- the members that its two names matched at that time (RFC 3525, section 7.1.18).
+-- What happens to the members of contexts: one enters a context or leaves it, or a triple of a topology descriptor is
+-- applied to the members that its two names matched at that time (RFC 3525, section 7.1.18).
 pub data ContextEdit : Type 0 where
   Enter : (member : ℕ) → ContextEdit
   Leave : (member : ℕ) → ContextEdit
   Apply : (first second : List ℕ) → (association : Association) → ContextEdit
 
--- an edit of the context with a number
-pub record Noted : Type 0 where
-  pub context : ℕ
-  pub edit : ContextEdit
-
--- The terminations by their records, and the contexts with their members, as rooms has them; the media of each
--- termination, in the order of their numbers; and all edits of all contexts so far, newest first.
+-- What the gateway was started with; the terminations by their records, and the contexts with their members, as rooms
+-- has them; the media of each termination, in the order of their numbers; and all that happened to the members of all
+-- contexts so far, newest first.
 pub record World : Type 0 where
+  pub config : Config
   pub rooms : rooms.World
   pub streams : List Stream
-  pub edits : List Noted
+  pub edits : List ContextEdit
 
 -- the world that nothing was done in
 abbrev pub start_of : Config → World
-start_of config = record { rooms = rooms.start_of (limits_of config); streams = []; edits = [] }
+start_of config = record {
+  config = config;
+  rooms = rooms.start_of (limits_of config);
+  streams = [];
+  edits = [];
+}
 
 abbrev pub no_packets : Stats
 no_packets = record { ps = 0; pr = 0; os = 0; or_ = 0 }
@@ -51,7 +56,17 @@ silence = replicate 160 (pos 0)
 
 -- the media of a termination as it is made
 abbrev pub new_stream : ℕ → Stream
-new_stream n = record { number = n; play = first_state; frame = silence; stats = no_packets; ticks = 0; packets = 0; sent_last = false }
+new_stream n = record {
+  number = n;
+  play = first_state;
+  frame = silence;
+  stats = no_packets;
+  ticks = 0;
+  packets = 0;
+  sent_last = false;
+}
+
+-- ## What is looked up by the number of a termination
 
 abbrev pub stream_at : World → ℕ → Option Stream
 stream_at w n = find (λ s. s.number == n) w.streams
@@ -59,3 +74,30 @@ stream_at w n = find (λ s. s.number == n) w.streams
 -- the counters of a termination, if there is one
 abbrev pub stats_of : World → ℕ → Option Stats
 stats_of w n = option_map (λ s. s.stats) (stream_at w n)
+
+-- ## The same of any number: one that names no termination is Inactive, in context 0, and silent
+
+abbrev pub mode_in : Option Record → Mode
+mode_in None = Inactive
+mode_in (Some r) = r.mode
+
+abbrev pub mode_of : World → ℕ → Mode
+mode_of w n = mode_in (rooms.record_at w.rooms n)
+
+abbrev pub context_in : Option Record → ℕ
+context_in None = 0
+context_in (Some r) = r.context
+
+abbrev pub context_of : World → ℕ → ℕ
+context_of w n = context_in (rooms.record_at w.rooms n)
+
+abbrev pub frame_in : Option Stream → List ℤ
+frame_in None = silence
+frame_in (Some s) = s.frame
+
+-- the frame that this tick plays
+abbrev pub frame_of : World → ℕ → List ℤ
+frame_of w n = frame_in (stream_at w n)
+
+abbrev pub numbers_of : World → List ℕ
+numbers_of w = map (λ r. r.number) w.rooms.terminations

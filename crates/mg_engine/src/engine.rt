@@ -1,29 +1,76 @@
-ghost use Rattle.std.specs.Prelude.{◌≡◌, ◌↔◌, Err, IfOk, OnOk, OnErr};
+ghost use Rattle.std.specs.Prelude.{◌≡◌, ℕ, [], ◌∷◌, ◌<◌, ◌≤◌, ◌+◌, ◌++◌, ◌↔◌, ◌==◌, not, Err, Some, IfOk, IfSome, OnOk, OnErr, EachIndex, length, map, filter, replicate, slice_set, option_map, option_to_list};
+ghost use Rattle.mg_rooms.specs.declared.record.Record.{Record};
+ghost use Rattle.mg_rooms.specs.declared.limits.TheConstants.{TERMINATIONS};
+ghost use Rattle.mg_rooms.specs.World.{holder_of, record_at};
+ghost use Rattle.mg_rooms.specs.Outcome as rooms;
+ghost use Rattle.mg_engine.specs.Outcome.{outcome, done_with, added, modified, moved, subtracted};
+ghost use Rattle.mg_rooms.specs.Sound as Sound;
+ghost use Rattle.mg_engine.specs.Sending.{packet_now, packets_now, slot_sends, PlacedAt};
+ghost use Rattle.mg_engine.specs.Tick.{sent_to, sent_in_tick, after_tick};
+ghost use Rattle.mg_rtp.specs.Reading.{reading_of};
+ghost use Rattle.mg_engine.specs.Arrival.{at_port, arrived, Takes};
+ghost use Rattle.mg_engine.specs.Flow.{flow};
+ghost use Rattle.mg_engine.specs.Mix.{total_at};
+ghost use Rattle.mg_engine.specs.Media.{idle, begun, played, ended, tuned as tuned_media};
 ghost use Rattle.mg_engine.specs.Config.{IsSound};
 ghost use Rattle.mg_engine.specs.World.{World, start_of, stats_of};
-ghost use Rattle.mg_engine.specs.Outcome.{outcome};
-ghost use Rattle.mg_engine.specs.Stands.{StandsFor, Leads};
+ghost use Rattle.mg_engine.specs.Stands.{StandsFor, Leads, media_at};
 
+use crate::arrival::{frame_in, law_for};
 use crate::config::Config;
+use crate::datagram::{Datagram, Outbox};
 use crate::edit::Edit;
 use crate::fault::StartFault;
+use crate::media::{Media, SAMPLES};
+use crate::peer::Peer;
+use crate::ports::Ports;
+use crate::sending::{flows, mix, payload_type, sent_to, sum_talking};
 use crate::stats::Stats;
-use mg_rooms::{Done, Refusal, Rooms};
-use std::alloc::Global;
+use crate::taken::{DropCause, Taken};
+use arrayvec::ArrayVec;
+use mg_g711::encode_frame;
+use mg_rooms::laws::{
+    each_is_found, gateways_are_sound, nothing_is_held_twice, others_are_left_alone,
+    what_is_found_is_within_limits,
+};
+use mg_rooms::{Done, Record, Refusal, Rooms, Settings, TERMINATIONS, Target};
+use mg_rtp::{Packet, RtpFault, read, write};
+use mg_sdp::Chosen;
+use std::alloc::{AllocError, Global};
 use std::marker::Model;
 
 /// The terminations and contexts of a gateway, with their media.
 #[derive(Drop)]
 pub struct Engine {
+    config: Config,
     rooms: Rooms,
+    ports: Ports,
+    /// By slot.
+    media: Vec<Media>,
+    /// The slots that are held, by rising numbers of their terminations.
+    held: ArrayVec<u8, TERMINATIONS>,
 }
 
 impl Model for Engine {
     ghost use Rattle.mg_engine.specs.Stands.{Kept};
+    ghost use Rattle.mg_engine.specs.Whole.{IsWhole};
 
     ghost Value = { Kept };
 
-    ghost view = { λ e. record { rooms = e.rooms } };
+    ghost view = { λ e. record { config = e.config; rooms = e.rooms; media = e.media.items } };
+
+    ghost invariant = { λ e. IsWhole e.config e.rooms e.ports e.media.items e.held.items };
+}
+
+/// Media of nobody for so many slots.
+fn idle_media(alloc: Global, slots: u16) -> Result<Vec<Media>, AllocError>
+    ensures value { IfOk result (λ media. media.items ≡ replicate slots idle) }
+{
+    let mut media = Vec::new(alloc);
+    for _ in 0..slots {
+        media.push(Media::new(alloc)?)?;
+    }
+    Ok(media)
 }
 
 impl Engine {
@@ -38,28 +85,22 @@ impl Engine {
             return Err(StartFault::BadConfig);
         }
         let rooms = Rooms::new(alloc, config.limits())?;
-        Ok(Engine { rooms })
+        let ports = Ports::new(alloc, config.limits())?;
+        let media = idle_media(alloc, config.slots)?;
+        Ok(Engine {
+            config,
+            rooms,
+            ports,
+            media,
+            held: ArrayVec::new(),
+        })
     }
 
-    /// Does what a command asks, or refuses it, which changes nothing.
-    pub fn edit(&mut self, edit: &Edit) -> Result<Done, Refusal>
-        ensures outcome { (w : World) → StandsFor self.old w → Leads self.new result (outcome w edit.now) }
-        ensures refused { OnErr result (self.new ≡ self.old) }
+    /// What the gateway was started with.
+    pub fn config(&self) -> &Config
+        ensures value { (w : World) → StandsFor self.now w → result.now ≡ w.config }
     {
-        match edit {
-            Edit::Add { target, settings } => self.rooms.add(*target, settings),
-            Edit::Modify {
-                target,
-                number,
-                settings,
-            } => self.rooms.modify(*target, *number, settings),
-            Edit::Move {
-                target,
-                number,
-                settings,
-            } => self.rooms.move_to(*target, *number, settings),
-            Edit::Subtract { target, number } => self.rooms.subtract(*target, *number),
-        }
+        &self.config
     }
 
     /// The terminations and contexts.
@@ -69,13 +110,363 @@ impl Engine {
         &self.rooms
     }
 
+    /// Does what a command asks, or refuses it, which changes nothing.
+    pub fn edit(&mut self, edit: &Edit) -> Result<Done, Refusal>
+        ensures outcome { (w : World) → StandsFor self.old w → Leads self.new result (outcome w edit.now) }
+        ensures refused { OnErr result (self.new ≡ self.old) }
+    {
+        match edit {
+            Edit::Add { target, settings } => self.add(*target, settings),
+            Edit::Modify {
+                target,
+                number,
+                settings,
+            } => self.modify(*target, *number, settings),
+            Edit::Move {
+                target,
+                number,
+                settings,
+            } => self.move_to(*target, *number, settings),
+            Edit::Subtract { target, number } => self.subtract(*target, *number),
+        }
+    }
+
+    /// Makes a termination.
+    fn add(&mut self, target: Target, settings: &Settings) -> Result<Done, Refusal>
+        ensures outcome { (w : World) → StandsFor self.old w →
+            Leads self.new result (done_with (added w settings.now) (rooms.add w.rooms target settings.now)) }
+        ensures refused { OnErr result (self.new ≡ self.old) }
+    {
+        gateways_are_sound(&self.rooms);
+        let done = self.rooms.add(target, settings)?;
+        gateways_are_sound(&self.rooms);
+        what_is_found_is_within_limits();
+        nothing_is_held_twice();
+        others_are_left_alone();
+        each_is_found();
+        let number = done.termination;
+        begin(&self.rooms, &mut self.media, number, &self.config);
+        tune(&self.rooms, &mut self.media, number, settings.depth);
+        hold(&self.rooms, &mut self.held, number);
+        Ok(done)
+    }
+
+    /// Changes a member of the action's context.
+    fn modify(&mut self, target: Target, number: u32, settings: &Settings) -> Result<Done, Refusal>
+        ensures outcome { (w : World) → StandsFor self.old w →
+            Leads self.new result (done_with (modified w settings.now) (rooms.modify w.rooms target number settings.now)) }
+        ensures refused { OnErr result (self.new ≡ self.old) }
+    {
+        gateways_are_sound(&self.rooms);
+        let done = self.rooms.modify(target, number, settings)?;
+        gateways_are_sound(&self.rooms);
+        what_is_found_is_within_limits();
+        nothing_is_held_twice();
+        others_are_left_alone();
+        tune(&self.rooms, &mut self.media, number, settings.depth);
+        Ok(done)
+    }
+
+    /// Takes a termination into another context.
+    fn move_to(&mut self, target: Target, number: u32, settings: &Settings) -> Result<Done, Refusal>
+        ensures outcome { (w : World) → StandsFor self.old w →
+            Leads self.new result (done_with (moved w settings.now) (rooms.move_to w.rooms target number settings.now)) }
+        ensures refused { OnErr result (self.new ≡ self.old) }
+    {
+        gateways_are_sound(&self.rooms);
+        let done = self.rooms.move_to(target, number, settings)?;
+        gateways_are_sound(&self.rooms);
+        what_is_found_is_within_limits();
+        nothing_is_held_twice();
+        others_are_left_alone();
+        tune(&self.rooms, &mut self.media, number, settings.depth);
+        Ok(done)
+    }
+
+    /// Ends a member of the action's context.
+    fn subtract(&mut self, target: Target, number: u32) -> Result<Done, Refusal>
+        ensures outcome { (w : World) → StandsFor self.old w →
+            Leads self.new result (done_with (subtracted w) (rooms.subtract w.rooms target number)) }
+        ensures refused { OnErr result (self.new ≡ self.old) }
+    {
+        gateways_are_sound(&self.rooms);
+        others_are_left_alone();
+        let slot = slot_of(&self.rooms, number);
+        let done = self.rooms.subtract(target, number)?;
+        leave(&mut self.held, slot);
+        Ok(done)
+    }
+
+    /// The termination that has a port.
+    fn at_port(&self, port: u16) -> Option<Record>
+        ensures value { result ≡ at_port self.now.rooms port }
+        ensures slot { IfSome result (λ r. r.slot < self.now.rooms.limits.slots) }
+        ensures found { IfSome result (λ r. record_at self.now.rooms r.number ≡ Some r) }
+    {
+        gateways_are_sound(&self.rooms);
+        each_is_found();
+        match self.ports.slot(port) {
+            Some(slot) => self.rooms.held(slot),
+            None => None,
+        }
+    }
+
+    /// Places the frame of a packet that came to a termination, or tells why there is none.
+    fn place(
+        &mut self,
+        termination: &Record,
+        source: Peer,
+        packet: Result<Packet<'_>, RtpFault>,
+    ) -> Taken
+        requires slot { termination.now.slot < length self.old.media }
+        ensures config { self.new.config ≡ self.old.config }
+        ensures rooms { self.new.rooms ≡ self.old.rooms }
+        ensures taken { PlacedAt self.old.media self.new.media termination.now.slot (arrived termination.now source.address (reading_of packet.entry)) result }
+    {
+        let law = match law_for(termination, source) {
+            Ok(law) => law,
+            Err(cause) => return Taken::Dropped(cause),
+        };
+        match frame_in(law, packet) {
+            Ok(arrived) => {
+                let frame = arrived.1;
+                let slot = usize::from(termination.slot);
+                Taken::Placed(self.media[slot].place(arrived.0, frame))
+            }
+            Err(cause) => Taken::Dropped(cause),
+        }
+    }
+
+    /// Takes an RTP datagram that came to one of the media ports.
+    pub fn media(&mut self, port: u16, source: Peer, bytes: &[u8]) -> Taken
+        ensures taken { (w : World) → StandsFor self.old w → (after : World)
+            × Takes w port source.address bytes.now after result × StandsFor self.new after }
+    {
+        gateways_are_sound(&self.rooms);
+        each_is_found();
+        what_is_found_is_within_limits();
+        nothing_is_held_twice();
+        let packet = read(bytes);
+        match self.at_port(port) {
+            Some(termination) => self.place(&termination, source, packet),
+            None => Taken::Dropped(DropCause::NoTermination),
+        }
+    }
+
+    /// Whether a talker's speech goes to a listener. It is false for a number that names no termination.
+    pub fn flow(&self, talker: u32, listener: u32) -> bool
+        ensures value { (w : World) → StandsFor self.now w → result ≡ flow w talker listener }
+    {
+        let Some(first) = self.rooms.record(talker) else {
+            return false;
+        };
+        let Some(second) = self.rooms.record(listener) else {
+            return false;
+        };
+        flows(&first, &second)
+    }
+
+    /// The plain sum of a sample of this tick, the i-th of 160, over the members of a context that talk. There is none
+    /// where the context isn't there, or where a frame has no such sample.
+    pub fn total(&self, context: u32, i: usize) -> Option<i32>
+        ensures value { (w : World) → StandsFor self.now w → result ≡ total_at w context i }
+    {
+        if i >= SAMPLES {
+            return None;
+        }
+        match self.rooms.room(context) {
+            Some(_) => {
+                let members = self.rooms.members(context);
+                Some(sum_talking(self.media.as_slice(), &self.rooms, members, i))
+            }
+            None => None,
+        }
+    }
+
+    /// How many rows of samples were added up, taken away or written since the start. Sums are not kept yet, so there
+    /// are none.
+    pub fn work(&self) -> u32
+        ensures value { result ≡ 0 }
+    {
+        0
+    }
+
     /// The counters of a termination.
     pub fn stats(&self, number: u32) -> Option<Stats>
         ensures value { (w : World) → StandsFor self.now w → result ≡ stats_of w number }
     {
-        match self.rooms.record(number) {
-            Some(_) => Some(Stats::new()),
+        match slot_of(&self.rooms, number) {
+            Some(slot) => Some(stats_in(self.media.as_slice(), slot)),
             None => None,
         }
+    }
+
+    /// Passes on by 20 ms: each play list gives its frame of this tick, and the outbox has the packets of all that
+    /// send, in the order of their numbers.
+    pub fn tick(&mut self, outbox: &mut Outbox)
+        ensures sent { (w : World) → StandsFor self.old w → outbox.new.items ≡ sent_in_tick w }
+        ensures after { (w : World) → StandsFor self.old w → StandsFor self.new (after_tick w) }
+    {
+        gateways_are_sound(&self.rooms);
+        each_is_found();
+        what_is_found_is_within_limits();
+        play_all(&mut self.media);
+        self.send_all(outbox);
+        end_all(&self.rooms, &mut self.media);
+    }
+
+    /// Fills an outbox with the packets of those who send.
+    fn send_all(&self, outbox: &mut Outbox)
+        ensures value { outbox.new.items ≡ packets_now self.now }
+    {
+        gateways_are_sound(&self.rooms);
+        fill(self, self.held.as_slice(), outbox);
+    }
+
+    /// The packet of this tick from a termination to its peer.
+    fn packet(&self, sender: &Record, to: Chosen) -> Datagram
+        requires slot { sender.now.slot < self.now.rooms.limits.slots }
+        ensures value { result ≡ packet_now self.now sender.now to }
+    {
+        gateways_are_sound(&self.rooms);
+        let media = self.media.as_slice();
+        let ssrc = self.config.ssrc.wrapping_add(sender.number);
+        let header = media[usize::from(sender.slot)].header(payload_type(to.law), ssrc);
+        let frame = mix(media, &self.rooms, self.held.as_slice(), sender);
+        let bytes = write(header, &encode_frame(to.law, &frame));
+        let address = to.address;
+        let port = to.port;
+        Datagram {
+            from: self.config.limits().port_of(sender.slot),
+            to: Peer { address, port },
+            bytes,
+        }
+    }
+
+    /// Puts the packet of the termination that holds a slot, if it sends.
+    fn put_packet(&self, slot: u8, outbox: &mut Outbox)
+        requires room { length outbox.old.items < TERMINATIONS }
+        ensures put { (r : Record) → holder_of self.now.rooms slot ≡ Some r →
+            outbox.new.items ≡ outbox.old.items ++ option_to_list (option_map (packet_now self.now r) (sent_to r)) }
+        ensures few { length outbox.new.items ≤ length outbox.old.items + 1 }
+    {
+        let Some(sender) = self.rooms.held(slot) else {
+            return;
+        };
+        if let Some(to) = sent_to(&sender) {
+            outbox.push(self.packet(&sender, to));
+        }
+    }
+}
+
+/// Fills an outbox with the packets of those who send.
+fn fill(engine: &Engine, slots: &[u8], outbox: &mut Outbox)
+    requires slots { slots.now ≡ map (λ r. r.slot) engine.now.rooms.terminations }
+    requires few { length slots.now ≤ TERMINATIONS }
+    requires sound { Sound.IsSound engine.now.rooms }
+    ensures value { outbox.new.items ≡ packets_now engine.now }
+{
+    each_is_found();
+    outbox.clear();
+    for slot in slots {
+        engine.put_packet(*slot, outbox);
+    }
+}
+
+/// Has each play list tick.
+fn play_all(media: &mut Vec<Media>)
+    ensures value { media.new.items ≡ map played media.old.items }
+{
+    for i in 0..media.len() {
+        media[i].play();
+    }
+}
+
+/// Whether the termination that holds a slot sends.
+fn sends_in(rooms: &Rooms, slot: u8) -> bool
+    ensures value { result ≡ slot_sends rooms.now slot }
+{
+    match rooms.held(slot) {
+        Some(record) => sent_to(&record).is_some(),
+        None => false,
+    }
+}
+
+/// Ends a tick in which all that send have sent a packet.
+fn end_all(rooms: &Rooms, media: &mut Vec<Media>)
+    requires few { length media.old.items ≤ TERMINATIONS }
+    ensures long { length media.new.items ≡ length media.old.items }
+    ensures each { EachIndex media.old.items (λ slot. media_at media.new.items slot
+        ≡ ended (slot_sends rooms.now slot) (media_at media.old.items slot)) }
+{
+    for i in 0..media.len() {
+        let is_sent = sends_in(rooms, i as u8);
+        media[i].end_tick(is_sent);
+    }
+}
+
+/// The counters of the termination that holds a slot.
+fn stats_in(media: &[Media], slot: u8) -> Stats
+    requires slot { slot < length media.now }
+    ensures value { result ≡ (media_at media.now slot).stats }
+{
+    media[usize::from(slot)].stats()
+}
+
+/// The slot of a termination.
+fn slot_of(rooms: &Rooms, number: u32) -> Option<u8>
+    ensures value { result ≡ option_map (λ r. r.slot) (record_at rooms.now number) }
+    ensures slot { IfSome result (λ slot. slot < rooms.now.limits.slots) }
+{
+    rooms.record(number).map(|record| record.slot)
+}
+
+/// Sets the depth of a termination's play list, where a command names one.
+fn tune(rooms: &Rooms, media: &mut Vec<Media>, number: u32, depth: Option<u8>)
+    requires slots { rooms.now.limits.slots ≤ length media.old.items }
+    ensures long { length media.new.items ≡ length media.old.items }
+    ensures tuned { (r : Record) → record_at rooms.now number ≡ Some r →
+        media.new.items ≡ slice_set media.old.items r.slot (tuned_media depth (media_at media.old.items r.slot)) }
+{
+    if let Some(slot) = slot_of(rooms, number) {
+        media[usize::from(slot)].tune(depth);
+    }
+}
+
+/// Begins the media of a termination that was made.
+fn begin(rooms: &Rooms, media: &mut Vec<Media>, number: u32, config: &Config)
+    requires slots { rooms.now.limits.slots ≤ length media.old.items }
+    ensures long { length media.new.items ≡ length media.old.items }
+    ensures begun { (r : Record) → record_at rooms.now number ≡ Some r →
+        media.new.items ≡ slice_set media.old.items r.slot (begun config.now) }
+{
+    if let Some(slot) = slot_of(rooms, number) {
+        media[usize::from(slot)].begin(config.timestamp, config.sequence);
+    }
+}
+
+/// Puts the slot of a termination that was made behind those that are held.
+fn hold(rooms: &Rooms, held: &mut ArrayVec<u8, TERMINATIONS>, number: u32)
+    requires room { length held.old.items < TERMINATIONS }
+    ensures held { (r : Record) → record_at rooms.now number ≡ Some r → held.new.items ≡ held.old.items ++ r.slot ∷ [] }
+{
+    if let Some(slot) = slot_of(rooms, number) {
+        held.push(slot);
+    }
+}
+
+/// The slots that are held without one of them.
+fn without(held: &mut ArrayVec<u8, TERMINATIONS>, slot: u8)
+    ensures value { held.new.items ≡ filter (λ s. not (s == slot)) held.old.items }
+{
+    held.retain(|other| *other != slot);
+}
+
+/// Takes the slot of a termination out of those that are held.
+fn leave(held: &mut ArrayVec<u8, TERMINATIONS>, slot: Option<u8>)
+    ensures value { (k : ℕ) → slot ≡ Some k → held.new.items ≡ filter (λ s. not (s == k)) held.old.items }
+{
+    if let Some(slot) = slot {
+        without(held, slot);
     }
 }

@@ -15,19 +15,31 @@
 //! (`StandsFor` in `specs/Stands.antt`).
 #![tactic(auto)]
 
+mod arrival;
 mod config;
+mod datagram;
 mod edit;
 mod engine;
 mod fault;
+pub mod laws;
+pub mod media;
+pub mod mixing;
+mod peer;
+pub mod ports;
+pub mod sending;
 mod stats;
+mod taken;
 #[cfg(test)]
 mod tests;
 
 pub use crate::config::Config;
+pub use crate::datagram::{Datagram, Outbox};
 pub use crate::edit::Edit;
 pub use crate::engine::Engine;
 pub use crate::fault::StartFault;
+pub use crate::peer::Peer;
 pub use crate::stats::Stats;
+pub use crate::taken::{DropCause, Taken};
 pub use mg_rooms::{
     Done, Limits, MediaSetting, Mode, Record, Refusal, Rooms, Settings, Target, mode_listens,
     mode_talks,

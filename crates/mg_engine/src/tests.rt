@@ -1,40 +1,334 @@
-use crate::{Config, Edit, Engine, Refusal, Settings, StartFault, Stats, Target};
+use crate::{
+    Config, DropCause, Edit, Engine, MediaSetting, Mode, Outbox, Peer, Settings, Taken, Target,
+};
+use mg_playout::Placed;
+use mg_rtp::{Header, RtpFault, write};
+use mg_sdp::read_sessions;
+use std::alloc::Global;
 use std::test::Fail;
 
-/// An Add without settings.
-fn add(target: Target) -> Edit {
-    Edit::Add {
-        target,
-        settings: Settings::default(),
+const CALLER: Peer = Peer {
+    address: [127, 0, 0, 1],
+    port: 40000,
+};
+
+/// What an Add sets: a mode, a Local and a Remote.
+fn caller(mode: Mode, local: &[u8], remote: &[u8]) -> Result<Settings, Fail> {
+    let local = read_sessions(local).map_err(|_| "a Local")?;
+    let remote = read_sessions(remote).map_err(|_| "a Remote")?;
+    Ok(Settings {
+        mode: Some(mode),
+        depth: None,
+        local: Some(MediaSetting::Offer(local)),
+        remote: Some(MediaSetting::Offer(remote)),
+    })
+}
+
+const MU: &[u8] = b"v=0\nc=IN IP4 $\nm=audio $ RTP/AVP 0\n";
+
+const REMOTES: [&[u8]; 4] = [
+    b"v=0\nc=IN IP4 127.0.0.1\nm=audio 40000 RTP/AVP 0\n",
+    b"v=0\nc=IN IP4 127.0.0.1\nm=audio 40002 RTP/AVP 0\n",
+    b"v=0\nc=IN IP4 127.0.0.1\nm=audio 40004 RTP/AVP 0\n",
+    b"v=0\nc=IN IP4 127.0.0.1\nm=audio 40006 RTP/AVP 0\n",
+];
+
+/// A packet of 160 equal bytes, mu-law, from one source.
+fn packet(byte: u8) -> [u8; 172] {
+    let header = Header {
+        marker: false,
+        payload_type: 0,
+        sequence: 1,
+        timestamp: 0,
+        ssrc: 99,
+    };
+    write(header, &[byte; 160])
+}
+
+/// A conference of the first callers.
+fn conference(alloc: Global, callers: usize) -> Result<Engine, Fail> {
+    let mut engine = Engine::new(alloc, Config::default()).map_err(|_| "sound")?;
+    let mut target = Target::New;
+    for remote in REMOTES.iter().take(callers) {
+        let settings = caller(Mode::SendReceive, MU, remote)?;
+        let done = engine
+            .edit(&Edit::Add { target, settings })
+            .map_err(|_| "an Add")?;
+        target = Target::Number(done.context);
     }
+    Ok(engine)
+}
+
+/// The header of the last packet of an outbox.
+fn last_header(alloc: Global, outbox: &Outbox) -> Result<Vec<u8>, Fail> {
+    let Some(last) = outbox.as_slice().last() else {
+        return Err("a packet".into());
+    };
+    let bytes = last.bytes.as_slice();
+    if bytes.len() < 12 {
+        return Err("a header".into());
+    }
+    let (header, _) = bytes.split_at(12);
+    Ok(Vec::from_slice(alloc, header)?)
+}
+
+/// The first byte of each payload of an outbox.
+fn payloads(alloc: Global, outbox: &Outbox) -> Result<Vec<u8>, Fail> {
+    let mut bytes = Vec::new(alloc);
+    for datagram in outbox {
+        bytes.push(datagram.bytes[12])?;
+    }
+    Ok(bytes)
 }
 
 #[test]
-fn does_edits(rt: HostRuntime) -> Result<(), Fail> {
-    let mut engine = Engine::new(rt.alloc(), Config::default()).map_err(|_| "sound")?;
-    let first = engine.edit(&add(Target::New)).map_err(|_| "added")?;
-    let second = engine
-        .edit(&add(Target::Number(first.context)))
-        .map_err(|_| "added")?;
-    assert!(rt;
-        engine.rooms().members(first.context) == [first.termination, second.termination].as_slice()
+fn mixes_the_others(rt: HostRuntime) -> Result<(), Fail> {
+    let alloc = rt.alloc();
+    let mut engine = conference(alloc, 4)?;
+    let mut outbox = Outbox::new();
+    assert_eq!(rt;
+        engine.media(30000, CALLER, &packet(0x80)),
+        Taken::Placed(Placed::Started)
     );
-    assert!(rt; engine.stats(second.termination) == Some(Stats::new()));
-    let gone = Edit::Subtract {
-        target: Target::Number(1),
-        number: 1,
+    assert_eq!(rt;
+        engine.media(30002, CALLER, &packet(0x80)),
+        Taken::Placed(Placed::Started)
+    );
+    assert_eq!(rt;
+        engine.media(30004, CALLER, &packet(0x00)),
+        Taken::Placed(Placed::Started)
+    );
+    for _ in 0..2 {
+        engine.tick(&mut outbox);
+        let want: &[u8] = &[0xff, 0xff, 0xff, 0xff];
+        assert_eq!(rt; payloads(alloc, &outbox)?.as_slice(), want);
+    }
+    engine.tick(&mut outbox);
+    let want: &[u8] = &[0xff, 0xff, 0x80, 0x80];
+    assert_eq!(rt; payloads(alloc, &outbox)?.as_slice(), want);
+    let header = last_header(alloc, &outbox)?;
+    let head: &[u8] = &[0x80, 0, 0, 2, 0, 0, 1, 0x40, 0, 0, 0, 4];
+    assert_eq!(rt; header.as_slice(), head);
+    let last = outbox
+        .as_slice()
+        .last()
+        .map(|last| (last.from, last.to.port));
+    assert_eq!(rt; last, Some((30006, 40006)));
+    assert_eq!(rt; engine.total(1, 0), Some(32124));
+    let away = Edit::Move {
+        target: Target::New,
+        number: 3,
+        settings: Settings::default(),
     };
-    assert!(rt; engine.edit(&gone).is_ok());
-    assert!(rt; matches!(engine.edit(&gone), Err(Refusal::UnknownTermination)));
-    assert!(rt; engine.stats(1).is_none());
+    engine.edit(&away).map_err(|_| "a Move")?;
+    assert_eq!(rt; engine.total(1, 0), Some(64248));
+    assert_eq!(rt; engine.total(2, 0), Some(-32124));
+    assert_eq!(rt; engine.total(3, 0), None);
+    assert_eq!(rt; engine.total(1, 160), None);
+    assert!(rt;
+        !engine.flow(3, 4) && engine.flow(1, 4) && !engine.flow(1, 1) && !engine.flow(9, 1)
+    );
     Ok(())
 }
 
 #[test]
-fn starts_with_a_sound_configuration(rt: HostRuntime) {
-    let config = Config {
-        control_port: 30000,
-        ..Config::default()
+fn loops_back(rt: HostRuntime) -> Result<(), Fail> {
+    let alloc = rt.alloc();
+    let mut engine = conference(alloc, 2)?;
+    let mut outbox = Outbox::new();
+    let settings = Settings {
+        mode: Some(Mode::Loopback),
+        ..Settings::default()
     };
-    assert!(rt; matches!(Engine::new(rt.alloc(), config), Err(StartFault::BadConfig)));
+    let edit = Edit::Modify {
+        target: Target::Number(1),
+        number: 1,
+        settings,
+    };
+    engine.edit(&edit).map_err(|_| "a Modify")?;
+    engine.media(30000, CALLER, &packet(0x80));
+    engine.media(30002, CALLER, &packet(0x00));
+    for _ in 0..3 {
+        engine.tick(&mut outbox);
+    }
+    let want: &[u8] = &[0x80, 0xff];
+    assert_eq!(rt; payloads(alloc, &outbox)?.as_slice(), want);
+    assert_eq!(rt; engine.total(1, 0), Some(-32124));
+    Ok(())
+}
+
+/// The same packet with another byte at a place.
+fn with_byte(packet: [u8; 172], at: usize, byte: u8) -> [u8; 172] {
+    let mut bytes = packet;
+    if let Some(place) = bytes.get_mut(at) {
+        *place = byte;
+    }
+    bytes
+}
+
+/// The first of some datagrams at a port that isn't dropped for its cause.
+fn first_wrong(
+    engine: &mut Engine,
+    port: u16,
+    source: Peer,
+    cases: &[(&[u8], DropCause)],
+) -> Option<usize> {
+    for (i, (bytes, cause)) in cases.iter().enumerate() {
+        if engine.media(port, source, bytes) != Taken::Dropped(*cause) {
+            return Some(i);
+        }
+    }
+    None
+}
+
+#[test]
+fn drops_what_is_no_frame(rt: HostRuntime) -> Result<(), Fail> {
+    let mut engine = conference(rt.alloc(), 1)?;
+    let bytes = packet(0x80);
+    let padded = with_byte(with_byte(bytes, 0, 0xa0), 171, 0);
+    let extended = with_byte(with_byte(bytes, 0, 0x90), 14, 0xff);
+    let other_law = with_byte(bytes, 1, 8);
+    let cases: [(&[u8], DropCause); 5] = [
+        (bytes.as_slice().split_at(171).0, DropCause::Length),
+        (&padded, DropCause::Rtp(RtpFault::Padding)),
+        (&extended, DropCause::Rtp(RtpFault::Extension)),
+        (
+            bytes.as_slice().split_at(11).0,
+            DropCause::Rtp(RtpFault::Short),
+        ),
+        (&other_law, DropCause::PayloadType),
+    ];
+    assert_eq!(rt; first_wrong(&mut engine, 30000, CALLER, &cases), None);
+    assert_eq!(rt; engine.stats(1).map(|stats| stats.pr), Some(0));
+    Ok(())
+}
+
+#[test]
+fn drops_what_comes_to_nobody(rt: HostRuntime) -> Result<(), Fail> {
+    let mut engine = conference(rt.alloc(), 1)?;
+    let bytes = packet(0x80);
+    let stranger = Peer {
+        address: [127, 0, 0, 2],
+        port: 40000,
+    };
+    let stray: [(&[u8], DropCause); 1] = [(&bytes, DropCause::Stray)];
+    assert_eq!(rt; first_wrong(&mut engine, 30000, stranger, &stray), None);
+    let nobody: [(&[u8], DropCause); 1] = [(&bytes, DropCause::NoTermination)];
+    assert_eq!(rt; first_wrong(&mut engine, 30002, CALLER, &nobody), None);
+    assert_eq!(rt; first_wrong(&mut engine, 30001, CALLER, &nobody), None);
+    let plain = Edit::Add {
+        target: Target::New,
+        settings: Settings::default(),
+    };
+    engine.edit(&plain).map_err(|_| "an Add")?;
+    let deaf: [(&[u8], DropCause); 1] = [(&bytes, DropCause::NoLocal)];
+    assert_eq!(rt; first_wrong(&mut engine, 30002, CALLER, &deaf), None);
+    Ok(())
+}
+
+#[test]
+fn numbers_packets(rt: HostRuntime) -> Result<(), Fail> {
+    let alloc = rt.alloc();
+    let mut engine = conference(alloc, 1)?;
+    let mut outbox = Outbox::new();
+    engine.tick(&mut outbox);
+    let head: &[u8] = &[0x80, 0x80, 0, 0, 0, 0, 0, 0, 0, 0, 0, 1];
+    assert_eq!(rt; last_header(alloc, &outbox)?.as_slice(), head);
+    let quiet = Settings {
+        mode: Some(Mode::Inactive),
+        ..Settings::default()
+    };
+    engine
+        .edit(&Edit::Modify {
+            target: Target::Number(1),
+            number: 1,
+            settings: quiet,
+        })
+        .map_err(|_| "a Modify")?;
+    engine.tick(&mut outbox);
+    assert!(rt; outbox.is_empty());
+    let loud = Settings {
+        mode: Some(Mode::SendReceive),
+        ..Settings::default()
+    };
+    engine
+        .edit(&Edit::Modify {
+            target: Target::Number(1),
+            number: 1,
+            settings: loud,
+        })
+        .map_err(|_| "a Modify")?;
+    engine.tick(&mut outbox);
+    let head: &[u8] = &[0x80, 0x80, 0, 1, 0, 0, 1, 0x40, 0, 0, 0, 1];
+    assert_eq!(rt; last_header(alloc, &outbox)?.as_slice(), head);
+    assert_eq!(rt; engine.stats(1).map(|stats| stats.ps), Some(2));
+    assert_eq!(rt; engine.stats(1).map(|stats| stats.os), Some(320));
+    Ok(())
+}
+
+#[test]
+fn numbers_the_second_packet(rt: HostRuntime) -> Result<(), Fail> {
+    let alloc = rt.alloc();
+    let mut engine = conference(alloc, 1)?;
+    let mut outbox = Outbox::new();
+    engine.tick(&mut outbox);
+    engine.tick(&mut outbox);
+    let head: &[u8] = &[0x80, 0, 0, 1, 0, 0, 0, 0xa0, 0, 0, 0, 1];
+    assert_eq!(rt; last_header(alloc, &outbox)?.as_slice(), head);
+    let want: &[u8] = &[0xff];
+    assert_eq!(rt; payloads(alloc, &outbox)?.as_slice(), want);
+    Ok(())
+}
+
+#[test]
+fn waits_for_half_of_the_depth(rt: HostRuntime) -> Result<(), Fail> {
+    let alloc = rt.alloc();
+    let mut engine = conference(alloc, 2)?;
+    let mut outbox = Outbox::new();
+    let short = Settings {
+        depth: Some(2),
+        ..Settings::default()
+    };
+    engine
+        .edit(&Edit::Modify {
+            target: Target::Number(1),
+            number: 1,
+            settings: short,
+        })
+        .map_err(|_| "a Modify")?;
+    engine.media(30000, CALLER, &packet(0x80));
+    for last in [0xff, 0x80] {
+        engine.tick(&mut outbox);
+        let want: &[u8] = &[0xff, last];
+        assert_eq!(rt; payloads(alloc, &outbox)?.as_slice(), want);
+    }
+    Ok(())
+}
+
+#[test]
+fn newcomer_says_nothing_of_its_forerunner(rt: HostRuntime) -> Result<(), Fail> {
+    let alloc = rt.alloc();
+    let mut engine = conference(alloc, 2)?;
+    let mut outbox = Outbox::new();
+    engine.media(30000, CALLER, &packet(0x80));
+    engine
+        .edit(&Edit::Subtract {
+            target: Target::Number(1),
+            number: 1,
+        })
+        .map_err(|_| "a Subtract")?;
+    let settings = caller(Mode::SendReceive, MU, REMOTES[0])?;
+    let done = engine
+        .edit(&Edit::Add {
+            target: Target::Number(1),
+            settings,
+        })
+        .map_err(|_| "an Add")?;
+    assert_eq!(rt; done.termination, 3);
+    for _ in 0..3 {
+        engine.tick(&mut outbox);
+        let want: &[u8] = &[0xff, 0xff];
+        assert_eq!(rt; payloads(alloc, &outbox)?.as_slice(), want);
+    }
+    Ok(())
 }

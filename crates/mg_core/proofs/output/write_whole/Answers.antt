@@ -7,7 +7,7 @@ use Rattle.mg_core.proofs.output.write_whole.Goals as goal
 pub returns-in_err-at : goal.returns-in_err-at
 returns-in_err-at g c =
     let p = err_from_is_err_and c.from_residual.result c.from_residual.ensures.1 in
-    rw (p.1, p.2) (record { value = stops (g.W.Write.contents c.args.writer.now) (g.W.Write.contents c.loop.writer) (g.W.Write.contents c.write_some.new.writer) c.args.text.now (take (length c.args.text.now - c.loop.at) (drop c.loop.at c.args.text.now)) c.loop.at c.in_err-at.field-0.0 c.loop.invariant.written c.in_err-at.ensures.value })
+    rw p.1 (record { value = stops (g.W.Write.contents c.args.writer.now) (g.W.Write.contents c.loop.writer) (g.W.Write.contents c.write_some.new.writer) c.args.text.now c.loop.at c.loop.invariant.written c.in_err-at.ensures.value })
 
 pub loop-preserved : goal.loop-preserved
 loop-preserved g c =
@@ -19,4 +19,4 @@ loop-preserved g c =
     }
 
 pub returns : goal.returns
-returns g c = record { value = (take c.loop.at c.args.text.now, drop c.loop.at c.args.text.now, sym (take-append-drop c.loop.at c.args.text.now), c.loop.invariant.written) }
+returns g c = record { value = record { front = take c.loop.at c.args.text.now; rest = drop c.loop.at c.args.text.now; parts = sym (take-append-drop c.loop.at c.args.text.now); written = c.loop.invariant.written } }

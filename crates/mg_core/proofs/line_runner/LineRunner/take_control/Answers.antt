@@ -1,22 +1,36 @@
-use Rattle.std.proofs.Common.{◌++◌, ◌∙◌, Err, ap}
-use Rattle.mg_reply.specs.Bytes.{Written}
-use Rattle.mg_core.specs.Run.{answer_line}
+use Rattle.std.proofs.Common.{◌++◌, ◌∙◌, Ok, Err, ap}
 use Rattle.std.proofs.lemmas.Result.{err_from_is_err_and}
-use Rattle.mg_core.proofs.LineLaws.{silent_steps, sent_steps}
+use Rattle.mg_reply.specs.Bytes.{Written}
+use Rattle.mg_core.specs.declared.event.Event.TheVariants.{Control}
+use Rattle.mg_core.specs.Run.{answer_line}
+use Rattle.mg_core.proofs.LineLaws.{silent_steps, answer_steps}
 use Rattle.mg_core.proofs.line_runner.LineRunner.take_control.Goals as goal
 
-pub returns-in_err-write_whole-in-Send-clause-value : goal.returns-in_err-write_whole-in-Send-clause-value
-returns-in_err-write_whole-in-Send-clause-value g c =
+pub returns-in_err-write_whole-in-Send : goal.returns-in_err-write_whole-in-Send
+returns-in_err-write_whole-in-Send g c =
     let p = err_from_is_err_and c.from_residual.result c.from_residual.ensures.1 in
     let line =
     c.as_slice.ensures.value ∙ ap (λ (w : Written). w.text) c.push_answer.ensures.value
     ∙ ap (λ (w : Written). w.text ++ answer_line c.args.source c.answer.result.now) c.clear.ensures.value
     ∙ ap (answer_line c.args.source) c.answer.ensures.value in
-    rw (p.1, p.2) (sent_steps c.args.self.now.core.config c.args.source c.args.bytes.now c.control.new.self.answer c.as_slice.result.now
-    c.args.self.now.core.engine c.control.new.self.engine
-    (g.W.Write.contents c.args.writer.now) (g.W.Write.contents c.write_whole.new.writer) (Err c.in_err-write_whole-in-Send.field-0.0)
-    (rw c.in-Send.is at c.in-Ok.ensures.answered) line c.in_err-write_whole-in-Send.ensures.value)
+    rw (p.1, p.2) (record {
+      value = answer_steps c.args.source c.args.bytes.now c.control.new.self.answer c.as_slice.result.now
+          c.args.self.now.core.state c.control.new.self.state
+          (g.W.Write.contents c.args.writer.now) (g.W.Write.contents c.write_whole.new.writer) (Err c.in_err-write_whole-in-Send.field-0.0)
+          (rw c.in-Send.is at c.in-Ok.ensures.answered) line c.in_err-write_whole-in-Send.ensures.value;
+    })
 
-pub returns-in-Silent-clause-value : goal.returns-in-Silent-clause-value
-returns-in-Silent-clause-value g c =
-    silent_steps c.args.self.now.core.config c.args.source c.args.bytes.now c.control.new.self.answer c.args.self.now.core.engine c.control.new.self.engine (g.W.Write.contents c.args.writer.now) (rw c.in-Silent.is at c.in-Ok.ensures.answered)
+pub returns-in-Silent : goal.returns-in-Silent
+returns-in-Silent g c = record { value = silent_steps (Control c.args.source c.args.bytes.now) c.args.self.now.core.state c.control.new.self.state (g.W.Write.contents c.args.writer.now) (rw c.in-Silent.is at c.in-Ok.ensures.answered) }
+
+pub returns-in_ok-write_whole-in-Send : goal.returns-in_ok-write_whole-in-Send
+returns-in_ok-write_whole-in-Send g c =
+    let line =
+    c.as_slice.ensures.value ∙ ap (λ (w : Written). w.text) c.push_answer.ensures.value
+    ∙ ap (λ (w : Written). w.text ++ answer_line c.args.source c.answer.result.now) c.clear.ensures.value
+    ∙ ap (answer_line c.args.source) c.answer.ensures.value in record {
+      value = answer_steps c.args.source c.args.bytes.now c.control.new.self.answer c.as_slice.result.now
+          c.args.self.now.core.state c.control.new.self.state
+          (g.W.Write.contents c.args.writer.now) (g.W.Write.contents c.write_whole.new.writer) (Ok tt)
+          (rw c.in-Send.is at c.in-Ok.ensures.answered) line c.in_ok-write_whole-in-Send.ensures.value;
+    }

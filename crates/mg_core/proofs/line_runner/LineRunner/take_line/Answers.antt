@@ -1,16 +1,27 @@
-use Rattle.mg_core.proofs.LineLaws.{tick_ran, control_ran, same_steps, some_some}
+use Rattle.std.proofs.Common.{◌≡◌, Some, None, Ok, Err, ap, ◌∙◌}
+use Rattle.std.proofs.lemmas.Result.{err_from_is_err_and}
+use Rattle.mg_core.specs.Script.{event_of}
+use Rattle.mg_core.proofs.LineLaws.{an_event_or_none, line_steps, comment_ran, same_steps}
 use Rattle.mg_core.proofs.line_runner.LineRunner.take_line.Goals as goal
 
-pub returns-in-Ok-Some-Tick-clause-value : goal.returns-in-Ok-Some-Tick-clause-value
-returns-in-Ok-Some-Tick-clause-value g c =
-    same_steps c.args.self.now.core.engine _ (λ w.
-    tick_ran c.args.self.now.core.config c.args.number c.args.line.now w (g.W.Write.contents c.args.writer.now)
-    (some_some _ _ _ _ c.in-Ok-Some-Tick.ensures c.in-Ok-Some-Tick.field-0-is c.in-Ok-Some-Tick.field-0-0-is))
+pub returns-in_err-take_event-in-Ok-Some : goal.returns-in_err-take_event-in-Ok-Some
+returns-in_err-take_event-in-Ok-Some g c =
+    let p = err_from_is_err_and c.from_residual.result c.from_residual.ensures.1 in
+    let is : event_of c.args.line.now ≡ Some (Some c.in-Ok-Some.event) = c.in-Ok-Some.ensures ∙ ap an_event_or_none c.in-Ok-Some.field-0-is in
+    rw (p.1, p.2) (record {
+      value = line_steps c.args.number c.args.line.now c.in-Ok-Some.event c.args.self.now.core.state c.take_event.new.self.core.state
+          (g.W.Write.contents c.args.writer.now) (g.W.Write.contents c.take_event.new.writer) (Err c.in_err-take_event-in-Ok-Some.field-0.0) is c.in_err-take_event-in-Ok-Some.ensures.value;
+    })
 
-pub returns-in-Ok-Some-Control-clause-value : goal.returns-in-Ok-Some-Control-clause-value
-returns-in-Ok-Some-Control-clause-value g c =
-    control_ran c.args.self.now.core.config c.args.number c.args.line.now c.in-Ok-Some-Control.source c.in-Ok-Some-Control.bytes
-    c.args.self.now.core.engine c.take_control.new.self.core.engine
-    (g.W.Write.contents c.args.writer.now) (g.W.Write.contents c.take_control.new.writer) c.take_control.result
-    (some_some _ _ _ _ c.in-Ok-Some-Control.ensures c.in-Ok-Some-Control.field-0-is c.in-Ok-Some-Control.field-0-0-is)
-    (rw c.as_slice.ensures.value at c.take_control.ensures.value)
+pub returns-in-Ok-None : goal.returns-in-Ok-None
+returns-in-Ok-None g c =
+    let is : event_of c.args.line.now ≡ Some None = c.in-Ok-None.ensures ∙ ap an_event_or_none c.in-Ok-None.field-0-is in record {
+      value = same_steps c.args.self.now.core.state _ (λ w. comment_ran c.args.number c.args.line.now w (g.W.Write.contents c.args.writer.now) is);
+    }
+
+pub returns-in_ok-take_event-in-Ok-Some : goal.returns-in_ok-take_event-in-Ok-Some
+returns-in_ok-take_event-in-Ok-Some g c =
+    let is : event_of c.args.line.now ≡ Some (Some c.in-Ok-Some.event) = c.in-Ok-Some.ensures ∙ ap an_event_or_none c.in-Ok-Some.field-0-is in record {
+      value = line_steps c.args.number c.args.line.now c.in-Ok-Some.event c.args.self.now.core.state c.take_event.new.self.core.state
+          (g.W.Write.contents c.args.writer.now) (g.W.Write.contents c.take_event.new.writer) (Ok tt) is c.in_ok-take_event-in-Ok-Some.ensures.value;
+    }

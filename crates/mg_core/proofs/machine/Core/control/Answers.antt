@@ -1,0 +1,24 @@
+use Rattle.std.proofs.Common.{refl, sym, subst, ◌∙◌}
+use Rattle.mg_text.specs.MessageReading.{Read}
+use Rattle.mg_core.specs.CoreView.{CoreView}
+use Rattle.mg_core.specs.declared.answer.Answer.TheVariants.{Send}
+use Rattle.mg_core.specs.declared.state.State.{State}
+use Rattle.mg_core.specs.Step.{told}
+use Rattle.mg_core.specs.World.{StandsFor, with_control}
+use Rattle.mg_core.proofs.AnswerLaws.{is_refused}
+use Rattle.mg_core.proofs.machine.Core.control.Goals as goal
+
+pub returns-in-Ok-clause-answered : goal.returns-in-Ok-clause-answered
+returns-in-Ok-clause-answered c w h =
+    let held = subst (λ (x : CoreView). StandsFor x.state w) (sym c.self.view_is) h in
+    let found = rw c.in-Ok.is at c.read.ensures.found in
+    let (next, came, stands) = c.reply_to.ensures.replied (with_control w) (c.count_control.ensures.counted w held) in
+    (next, (told c.reply_to.result c.reply_to.new.self.answer, (Read c.in-Ok.message, found, came), refl), stands)
+
+pub returns-in-Some-clause-answered : goal.returns-in-Some-clause-answered
+returns-in-Some-clause-answered c w h =
+    let held = subst (λ (x : CoreView). StandsFor x.state w) (sym c.self.view_is) h in
+    let counted = c.count_control-in-Some.ensures.counted w held in
+    let read = rw c.in-Err.is at c.read.ensures in
+    let (reading, is, refused) = is_refused c.args.bytes.now c.in-Err.fault c.in-Some.number (sym c.refusal_of.ensures.value ∙ c.in-Some.is) read.long read.long_only read.version read.version_only read.syntax (with_control w) in
+    (with_control w, (told Send c.refuse.new.self.answer, (reading, is, refused ∙ c.refuse.ensures.refused (with_control w) counted), refl), subst (λ (s : State). StandsFor s (with_control w)) (sym c.refuse.ensures.state) counted)

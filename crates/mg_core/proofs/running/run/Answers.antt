@@ -1,0 +1,22 @@
+use Rattle.std.proofs.Common.{List, ℕ, Ok, Err}
+use Rattle.std.proofs.lemmas.Result.{err_from_is_err_and}
+use Rattle.mg_core.specs.Run.{ScriptRan}
+use Rattle.mg_core.proofs.ScriptLaws.{if_known, not_started, script_fault, script_done}
+use Rattle.mg_core.proofs.running.run.Goals as goal
+
+pub returns-in_err-runner-clause-script : goal.returns-in_err-runner-clause-script
+returns-in_err-runner-clause-script g c =
+    let p = err_from_is_err_and c.from_residual.result c.from_residual.ensures.1 in
+    rw (p.1, p.2) (if_known (g.R.Read.remaining c.args.reader.now) _ (λ script is. not_started c.args.config script (g.W.Write.contents c.args.writer.now) c.in_err-runner.field-0.0))
+
+pub returns-in_err-take_all-clause-script : goal.returns-in_err-take_all-clause-script
+returns-in_err-take_all-clause-script g c =
+    let p = err_from_is_err_and c.from_residual-in_err-take_all.result c.from_residual-in_err-take_all.ensures.1 in
+    rw (p.1, p.2) (if_known (g.R.Read.remaining c.args.reader.now) _ (λ script is.
+    script_fault c.args.config script c.take_all.new.self.runner.core.state (g.W.Write.contents c.args.writer.now) (g.W.Write.contents c.take_all.new.writer) c.in_err-take_all.field-0.0
+    (c.in_err-take_all.ensures.value c.args.config c.in_ok-runner.ensures.start script is)))
+
+pub returns-clause-script : goal.returns-clause-script
+returns-clause-script g c = if_known (g.R.Read.remaining c.args.reader.now) _ (λ script is.
+    script_done c.args.config script c.take_all.new.self.runner.core.state c.counts.result (g.W.Write.contents c.args.writer.now) (g.W.Write.contents c.take_all.new.writer)
+    (c.in_ok-take_all.ensures.value c.args.config c.in_ok-runner.ensures.start script is) c.counts.ensures.events)

@@ -1,0 +1,43 @@
+-- What a gateway does at each event, and at events one after another: the datagrams that it sends, and the world that
+-- it comes to.
+use Rattle.std.specs.Prelude.{◌≡◌, ℕ, List, [], ◌∷◌, ◌++◌, map, Option, Some, None}
+use Rattle.mg_engine.specs.declared.datagram.Datagram.{Datagram}
+use Rattle.mg_engine.specs.declared.peer.Peer.{Peer}
+use Rattle.mg_engine.specs.declared.taken.Taken.{Taken}
+use Rattle.mg_core.specs.declared.event.Event.{Event}
+use Rattle.mg_core.specs.declared.event.Event.TheVariants.{Control, Media, Tick}
+use Rattle.mg_core.specs.declared.answer.Answer.{Answer}
+use Rattle.mg_core.specs.declared.answer.Answer.TheVariants.{Send, Silent}
+use Rattle.mg_core.specs.World.{World, Took, with_control, ticked, packets_of}
+use Rattle.mg_core.specs.Answer.{Answers}
+
+-- a datagram that is sent: an answer from the control port, or a packet of a tick
+pub data Sent : Type 0 where
+  Reply : (to : Peer) (text : List ℕ) → Sent
+  Packet : (datagram : Datagram) → Sent
+
+-- an answer goes to where the datagram came from
+abbrev pub answer_to : Peer → Option (List ℕ) → List Sent
+answer_to source None = []
+answer_to source (Some text) = Reply source text ∷ []
+
+-- the answer that a core tells, with its text
+abbrev pub told : Answer → List ℕ → Option (List ℕ)
+told Send text = Some text
+told Silent text = None
+
+-- In the world w an event has these datagrams sent, in this order, and the world comes to be the next: a control datagram
+-- is answered, an RTP datagram is taken, and a tick sends its packets.
+abbrev pub Step : World → Event → List Sent → World → Type 0
+Step w (Control source bytes) sent next =
+    (answer : Option (List ℕ)) × Answers bytes (with_control w) answer next × (sent ≡ answer_to source answer)
+Step w (Media port source bytes) sent next =
+    (taken : Taken) × Took w port source bytes next taken × (sent ≡ [])
+Step w Tick sent next = (sent ≡ map Packet (packets_of w)) × (next ≡ ticked w)
+
+-- events one after another, each in the world that the one before it left
+abbrev pub Run : World → List Event → List Sent → World → Type 0
+Run w [] sent last = (sent ≡ []) × (last ≡ w)
+Run w (event ∷ events) sent last =
+    (first : List Sent) × (others : List Sent) × (next : World)
+    × Step w event first next × Run next events others last × (sent ≡ first ++ others)

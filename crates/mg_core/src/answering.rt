@@ -1,0 +1,135 @@
+ghost use Rattle.std.specs.Prelude.{◌≡◌, ◌≤◌, ◌+◌, ◌*◌, ◌++◌, [], ◌∷◌, true, length};
+ghost use Rattle.mg_scan.specs.Span.{text_of};
+ghost use Rattle.mg_reply.specs.Bytes.{appended};
+ghost use Rattle.mg_reply.specs.ErrorNumber.{error_text};
+ghost use Rattle.mg_reply.specs.Reply.{IsWhole};
+ghost use Rattle.mg_reply.specs.Written.{head_text};
+ghost use Rattle.mg_text.specs.Message.{items_of, requests_in};
+ghost use Rattle.mg_text.specs.Proper.{are_proper, item_is_proper};
+ghost use Rattle.mg_core.specs.Answer.{has_requests, item_replied, mark_after, replied_to, sent_text};
+ghost use Rattle.mg_core.specs.Steps.{Puts, refusal_of};
+
+use crate::state::State;
+use mg_commands::transaction;
+use mg_engine::Config;
+use mg_scan::Span;
+use mg_text::{
+    Body, Bytes, ErrorNumber, Item, MessageItem, REPLY_LIMIT, ReadFault, Reply, write_error,
+    write_head, write_reply,
+};
+
+/// The error that a message is refused with, where it was not want of memory that kept it from being read.
+pub fn refusal_of(fault: ReadFault) -> Option<ErrorNumber>
+    ensures value { result ≡ refusal_of fault }
+{
+    match fault {
+        ReadFault::Syntax(_) => Some(ErrorNumber::Syntax),
+        ReadFault::Version(_) => Some(ErrorNumber::Version),
+        ReadFault::TooMany => Some(ErrorNumber::NotServed),
+        ReadFault::NoMemory => None,
+    }
+}
+
+/// Writes the refusal of a message as a whole.
+#[tactic(auto, using(crate::proofs::AnswerLaws::totals))]
+pub fn put_error(config: &Config, number: ErrorNumber, answer: &mut Bytes)
+    requires room { 97 ≤ answer.old.room }
+    ensures text { answer.new.text ≡ answer.old.text
+        ++ (head_text config.now.address config.now.control_port ++ error_text number) }
+    ensures total { answer.new.room + length answer.new.text ≡ answer.old.room + length answer.old.text }
+{
+    write_head(config.address, config.control_port, answer);
+    write_error(number, answer);
+}
+
+/// The items of a body, of which an ignored one has none.
+pub fn items_of(body: &Body) -> &[MessageItem]
+    ensures value { result.now ≡ items_of body.now }
+{
+    match body {
+        Body::Requests(items) => items.as_slice(),
+        Body::Ignored => &[],
+    }
+}
+
+/// Whether there is a request among some items.
+pub fn has_requests(items: &[MessageItem]) -> bool
+    ensures value { result ≡ has_requests items.now }
+{
+    items
+        .iter()
+        .any(|item| matches!(item, MessageItem::Request(_)))
+}
+
+/// Writes a reply, or an error in its place where it is too long: at most 16,000 bytes.
+#[tactic(auto, using(crate::proofs::ReplyLaws::sending))]
+fn put_reply(reply: &mut Reply, answer: &mut Bytes)
+    requires whole { IsWhole reply.old }
+    requires room { REPLY_LIMIT ≤ answer.old.room }
+    ensures text { answer.new ≡ appended answer.old (sent_text reply.old) }
+    ensures short { length (sent_text reply.old) ≤ REPLY_LIMIT }
+{
+    if write_reply(reply, answer).is_ok() {
+        return;
+    }
+    let number = reply.number();
+    reply.start(number);
+    reply.put(Item::Fault(ErrorNumber::ReplyTooLong));
+    write_reply(reply, answer).unwrap();
+}
+
+/// Runs an item of the message that stands in `source` and came from a sender, and writes its reply with a mark before
+/// it, if it is a request. What is answered is the mark of the next reply.
+#[tactic(auto, using(crate::proofs::ReplyLaws::one_reply))]
+fn put_item<'m>(
+    state: &mut State,
+    source: &[u8],
+    sender: Span,
+    item: &MessageItem,
+    mark: &'m [u8],
+    reply: &mut Reply,
+    answer: &mut Bytes,
+) -> &'m [u8]
+    requires proper { item_is_proper source.now item.now ≡ true }
+    requires room { 16001 * requests_in (item.now ∷ []) + length mark.now ≤ 1 + answer.old.room }
+    ensures ran { Puts state.old state.new answer.old.text answer.new.text
+        (item_replied source.now (text_of source.now sender) mark.now item.now) }
+    ensures mark { result.now ≡ mark_after mark.now item.now }
+    ensures total { answer.new.room + length answer.new.text ≡ answer.old.room + length answer.old.text }
+    ensures short { length answer.new.text + length result.now
+        ≤ length answer.old.text + length mark.now + 16001 * requests_in (item.now ∷ []) }
+{
+    let _ = sender;
+    match item {
+        MessageItem::Request(request) => {
+            transaction(&mut state.engine, source, request, reply);
+            answer.push(mark);
+            put_reply(reply, answer);
+            b"\n"
+        }
+        MessageItem::Acknowledgement(_) => mark,
+    }
+}
+
+/// Writes the replies to the requests among some items of the message that stands in `source` and came from a sender,
+/// with a line feed between each two.
+#[tactic(auto, using(crate::proofs::ReplyLaws::replying))]
+pub fn put_replies(
+    state: &mut State,
+    source: &[u8],
+    sender: Span,
+    items: &[MessageItem],
+    reply: &mut Reply,
+    answer: &mut Bytes,
+)
+    requires proper { are_proper source.now items.now ≡ true }
+    requires room { 16001 * requests_in items.now ≤ 1 + answer.old.room }
+    ensures ran { Puts state.old state.new answer.old.text answer.new.text
+        (replied_to source.now (text_of source.now sender) [] items.now) }
+    ensures total { answer.new.room + length answer.new.text ≡ answer.old.room + length answer.old.text }
+{
+    let mut mark: &[u8] = b"";
+    for item in items {
+        mark = put_item(state, source, sender, item, mark, reply, answer);
+    }
+}

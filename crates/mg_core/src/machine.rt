@@ -1,0 +1,221 @@
+ghost use Rattle.std.specs.Prelude.{◌≡◌, ◌≤◌, ◌+◌, ◌↔◌, [], true, length, IfOk, OnOk, OnErr, Option, List, ℕ};
+ghost use Rattle.mg_engine.specs.Config.{IsSound};
+ghost use Rattle.mg_engine.specs.Flow.{flow};
+ghost use Rattle.mg_engine.specs.Mix.{total_at};
+ghost use Rattle.mg_engine.specs.World.{stats_of};
+ghost use Rattle.mg_text.specs.Message.{IsMessage, items_of};
+ghost use Rattle.mg_text.specs.Proper.{are_proper};
+ghost use Rattle.mg_core.specs.declared.event.Event.TheVariants as events;
+ghost use Rattle.mg_core.specs.Answer.{to_message, refused};
+ghost use Rattle.mg_core.specs.Step.{Step, answer_to, told};
+ghost use Rattle.mg_core.specs.World.{World, StandsFor, Took, counts_of, packets_of, start_of, ticked, with_control};
+
+use crate::answer::Answer;
+use crate::answering::{has_requests, items_of, put_error, put_replies, refusal_of};
+use crate::counts::Counts;
+use crate::fault::NoMemory;
+use crate::state::State;
+use mg_engine::{Config, Datagram, Engine, Outbox, Peer, Rooms, StartFault, Stats, Taken};
+use mg_rooms::TERMINATIONS;
+use mg_text::{Bytes, ErrorNumber, Message, Reply, read, write_head};
+use std::alloc::Global;
+use std::marker::Model;
+
+/// The bytes of the longest answer: a head, four replies, and a line feed between each two of them.
+pub const ANSWER_LIMIT: usize = 64036;
+
+/// The gateway as a machine of events: it is handed datagrams and ticks, and tells the answers and packets. It opens
+/// nothing, waits for nothing and knows no clock.
+///
+/// It keeps no history. So contracts speak of each world that its state stood for before a call, and of the world that it
+/// stands for afterwards.
+#[derive(Drop)]
+pub struct Core {
+    state: State,
+    reply: Reply,
+    answer: Bytes,
+    outbox: Outbox,
+}
+
+impl Model for Core {
+    ghost use Rattle.std.specs.Prelude.{◌≡◌, ◌+◌, length};
+    ghost use Rattle.mg_core.specs.CoreView.{CoreView};
+
+    ghost Value = { CoreView };
+
+    ghost view = { λ c. record { state = c.state; answer = c.answer.text; outbox = c.outbox.items } };
+
+    ghost invariant = { λ c. c.answer.room + length c.answer.text ≡ 64036 };
+}
+
+impl Core {
+    /// A gateway with this configuration. This takes all the memory that it holds.
+    pub fn new(alloc: Global, config: Config) -> Result<Self, StartFault>
+        ensures bad { (result ≡ Err StartFault.BadConfig) ↔ ¬ IsSound config }
+        ensures started { IfOk result (λ core. (core.answer ≡ []) × (core.outbox ≡ []) × StandsFor core.state (start_of config)) }
+        ensures sound { OnOk result (IsSound config) }
+    {
+        let engine = Engine::new(alloc, config)?;
+        Ok(Core {
+            state: State {
+                engine,
+                counts: Counts::new(),
+            },
+            reply: Reply::new(alloc)?,
+            answer: Bytes::new(alloc, ANSWER_LIMIT)?,
+            outbox: Outbox::new(),
+        })
+    }
+
+    /// Takes a control datagram. Its answer is told by [`Core::answer`]. Memory is taken in reading alone,
+    /// and where it runs out nothing has changed but the last answer, which is empty.
+    pub fn control(&mut self, alloc: Global, source: Peer, bytes: &[u8]) -> Result<Answer, NoMemory>
+        ensures answered { IfOk result (λ answer. (w : World) → StandsFor self.old.state w → (next : World)
+            × Step w (events.Control source bytes.now) (answer_to source (told answer self.new.answer)) next
+            × StandsFor self.new.state next) }
+        ensures silent { result ≡ Ok Answer.Silent → self.new.answer ≡ [] }
+        ensures no_memory { OnErr result (self.new ≡ record self.old { answer = [] }) }
+        ensures outbox { self.new.outbox ≡ self.old.outbox }
+        ensures short { length self.new.answer ≤ ANSWER_LIMIT }
+    {
+        let _ = source;
+        self.answer.clear();
+        match read(alloc, bytes) {
+            Ok(message) => {
+                self.state.count_control();
+                Ok(self.reply_to(bytes, &message))
+            }
+            Err(fault) => match refusal_of(fault) {
+                Some(number) => {
+                    self.state.count_control();
+                    self.refuse(number);
+                    Ok(Answer::Send)
+                }
+                None => Err(NoMemory),
+            },
+        }
+    }
+
+    /// Answers a message, whose requests are run one after another.
+    fn reply_to(&mut self, source: &[u8], message: &Message) -> Answer
+        requires message { IsMessage source.now message.now }
+        requires proper { are_proper source.now (items_of message.now.body) ≡ true }
+        requires empty { self.old.answer ≡ [] }
+        ensures replied { (w : World) → StandsFor self.old.state w → (next : World)
+            × (to_message source.now message.now w ≡ (told result self.new.answer, next)) × StandsFor self.new.state next }
+        ensures silent { result ≡ Answer.Silent → self.new.answer ≡ [] }
+        ensures outbox { self.new.outbox ≡ self.old.outbox }
+        ensures short { length self.new.answer ≤ ANSWER_LIMIT }
+    {
+        let items = items_of(&message.body);
+        if !has_requests(items) {
+            return Answer::Silent;
+        }
+        let config = *self.state.engine.config();
+        write_head(config.address, config.control_port, &mut self.answer);
+        put_replies(
+            &mut self.state,
+            source,
+            message.sender,
+            items,
+            &mut self.reply,
+            &mut self.answer,
+        );
+        Answer::Send
+    }
+
+    /// Answers a datagram that is no message to be served.
+    fn refuse(&mut self, number: ErrorNumber)
+        requires empty { self.old.answer ≡ [] }
+        ensures refused { (w : World) → StandsFor self.old.state w →
+            refused number w ≡ (told Answer.Send self.new.answer, w) }
+        ensures state { self.new.state ≡ self.old.state }
+        ensures outbox { self.new.outbox ≡ self.old.outbox }
+        ensures short { length self.new.answer ≤ ANSWER_LIMIT }
+    {
+        let config = *self.state.engine.config();
+        put_error(&config, number, &mut self.answer);
+    }
+
+    /// The text of the last answer. It is empty after one that was silent, and where memory ran out.
+    pub fn answer(&self) -> &[u8]
+        ensures value { result.now ≡ self.now.answer }
+    {
+        self.answer.as_slice()
+    }
+
+    /// Takes an RTP datagram that came to one of the media ports.
+    pub fn media(&mut self, port: u16, source: Peer, bytes: &[u8]) -> Taken
+        ensures taken { (w : World) → StandsFor self.old.state w → (next : World)
+            × Took w port source bytes.now next result × StandsFor self.new.state next }
+        ensures answer { self.new.answer ≡ self.old.answer }
+        ensures outbox { self.new.outbox ≡ self.old.outbox }
+    {
+        let taken = self.state.engine.media(port, source, bytes);
+        self.state.count_media(taken);
+        taken
+    }
+
+    /// Passes on by 20 ms. The packets that are to be sent are told by [`Core::outbox`].
+    pub fn tick(&mut self)
+        ensures sent { (w : World) → StandsFor self.old.state w → self.new.outbox ≡ packets_of w }
+        ensures next { (w : World) → StandsFor self.old.state w → StandsFor self.new.state (ticked w) }
+        ensures answer { self.new.answer ≡ self.old.answer }
+    {
+        self.state.engine.tick(&mut self.outbox);
+        self.state.count_tick();
+    }
+
+    /// The packets of the last tick, by rising numbers of their terminations.
+    pub fn outbox(&self) -> &[Datagram]
+        ensures value { result.now ≡ self.now.outbox }
+        ensures few { length result.now ≤ TERMINATIONS }
+    {
+        self.outbox.as_slice()
+    }
+
+    /// Whether a talker's speech goes to a listener. It is false for a number that names no termination.
+    pub fn flow(&self, talker: u32, listener: u32) -> bool
+        ensures value { (w : World) → StandsFor self.now.state w → result ≡ flow w.gateway talker listener }
+    {
+        self.state.engine.flow(talker, listener)
+    }
+
+    /// The plain sum of a sample of this tick, the i-th of 160, over the members of a context that talk. There is none
+    /// where the context isn't there, or where a frame has no such sample.
+    pub fn total(&self, context: u32, i: usize) -> Option<i32>
+        ensures value { (w : World) → StandsFor self.now.state w → result ≡ total_at w.gateway context i }
+    {
+        self.state.engine.total(context, i)
+    }
+
+    /// The terminations and contexts.
+    pub fn rooms(&self) -> &Rooms
+        ensures value { (w : World) → StandsFor self.now.state w → result.now ≡ w.gateway.rooms }
+    {
+        self.state.engine.rooms()
+    }
+
+    /// The counters of a termination.
+    pub fn stats(&self, number: u32) -> Option<Stats>
+        ensures value { (w : World) → StandsFor self.now.state w → result ≡ stats_of w.gateway number }
+    {
+        self.state.engine.stats(number)
+    }
+
+    /// How many rows of samples were added up, taken away or written since the start. Sums are not kept yet, so there
+    /// are none.
+    pub fn work(&self) -> u32
+        ensures value { result ≡ 0 }
+    {
+        self.state.engine.work()
+    }
+
+    /// How many events came: control datagrams, RTP datagrams by what became of them, and ticks. Lines, sent and failed
+    /// are 0, for they are counted by who runs the core.
+    pub fn counts(&self) -> Counts
+        ensures value { (w : World) → StandsFor self.now.state w → result ≡ counts_of w.tally }
+    {
+        self.state.counts
+    }
+}

@@ -1,0 +1,40 @@
+ghost use Rattle.std.specs.Prelude.{◌≡◌, ◌+◌};
+ghost use Rattle.mg_core.specs.World.{World, StandsFor, with_control, with_taken};
+
+use crate::counts::Counts;
+use mg_engine::{Engine, Taken};
+
+/// What a gateway keeps from one event to the next: its terminations and contexts, and how many events came.
+#[derive(Drop)]
+pub struct State {
+    pub engine: Engine,
+    /// Of events alone: lines, sent and failed stay 0.
+    pub counts: Counts,
+}
+
+impl State {
+    /// Counts a control datagram.
+    pub fn count_control(&mut self)
+        ensures engine { self.new.engine ≡ self.old.engine }
+        ensures counted { (w : World) → StandsFor self.old w → StandsFor self.new (with_control w) }
+    {
+        self.counts.count_control();
+    }
+
+    /// Counts what became of an RTP datagram.
+    pub fn count_media(&mut self, taken: Taken)
+        ensures engine { self.new.engine ≡ self.old.engine }
+        ensures counted { (w : World) → StandsFor self.old w → StandsFor self.new (record w { tally = with_taken taken w.tally }) }
+    {
+        self.counts.count_media(taken);
+    }
+
+    /// Counts a tick.
+    pub fn count_tick(&mut self)
+        ensures engine { self.new.engine ≡ self.old.engine }
+        ensures counted { (w : World) → StandsFor self.old w →
+            StandsFor self.new (record w { tally = record w.tally { ticks = w.tally.ticks + 1 } }) }
+    {
+        self.counts.count_tick();
+    }
+}

@@ -1,0 +1,57 @@
+-- What is sent in a tick, part by part.
+use Rattle.std.specs.Prelude.{filter_map, option_to_list}
+use Rattle.std.proofs.lemmas.List.{take_more, append-nil}
+use Rattle.std.proofs.lemmas.List.Elements.{filter_map-append}
+use Rattle.std.proofs.Common.{◌≡◌, ℕ, ◌+◌, ◌<◌, [], ◌∷◌, length, get_or, take, ◌%◌, ◌^◌, ℤ, List, ◌++◌, map, Option, Some, None, refl, sym, ap, ◌∙◌}
+use Rattle.mg_g711.specs.Law.{byte_of}
+use Rattle.mg_rtp.specs.declared.header.Header.{Header}
+use Rattle.mg_rtp.specs.Header.{header_bytes, plain}
+use Rattle.mg_sdp.specs.declared.chosen.Chosen.{Chosen}
+use Rattle.mg_rooms.specs.declared.mode.Mode.TheVariants.{Inactive}
+use Rattle.mg_rooms.specs.declared.record.Record.{Record}
+use Rattle.mg_rooms.specs.Limits.{port_of}
+use Rattle.mg_engine.specs.declared.datagram.Datagram.{Datagram}
+use Rattle.mg_engine.specs.Media as media
+use Rattle.mg_engine.specs.Sending.{packet_now, mixed_now}
+use Rattle.mg_engine.specs.Stands.{Kept, media_at}
+use Rattle.mg_engine.specs.Tick.{type_of}
+
+abbrev datagram : Chosen → ℕ → List ℕ → Datagram
+datagram to from bytes = record { from = from; to = record { address = to.address; port = to.port }; bytes = bytes }
+
+abbrev ssrc_of : Kept → Record → ℕ
+ssrc_of k r = (k.config.ssrc + r.number) % 2 ^ 32
+
+pub packet_is : (k : Kept) (r : Record) (to : Chosen) (from : ℕ) (bytes payload : List ℕ) (header : Header) (frame : List ℤ) (m : media.Kept)
+    → from ≡ port_of k.rooms.limits r.slot → bytes ≡ header_bytes plain header ++ payload → payload ≡ map (byte_of to.law) frame
+    → frame ≡ mixed_now k.media k.rooms.terminations r → header ≡ media.header m (type_of to.law) (ssrc_of k r) → m ≡ media_at k.media r.slot
+    → datagram to from bytes ≡ packet_now k r to
+packet_is k r to from bytes payload header frame m port joined encoded mixed headed kept =
+    let head = headed ∙ ap (λ (x : media.Kept). media.header x (type_of to.law) (ssrc_of k r)) kept in
+    let body = encoded ∙ ap (λ (f : List ℤ). map (byte_of to.law) f) mixed in
+    let whole = joined
+    ∙ ap (λ (h : Header). header_bytes plain h ++ payload) head
+    ∙ ap (λ (p : List ℕ). header_bytes plain (media.header (media_at k.media r.slot) (type_of to.law) (ssrc_of k r)) ++ p) body in
+    ap (λ (f : ℕ). datagram to f bytes) port ∙ ap (λ (b : List ℕ). datagram to (port_of k.rooms.limits r.slot) b) whole
+
+abbrev found : Record → Option Record
+found r = Some r
+
+pub found_is : (r s : Record) → found r ≡ found s → r ≡ s
+found_is r s h = cc h
+
+-- what stands for a termination where there is none
+abbrev pub nobody : Record
+nobody = record { number = 0; context = 0; slot = 0; seat = 0; mode = Inactive; depth = 0; local = None; remote = None }
+
+one_of : {A B : Type 0} (f : A → Option B) (x : A) (o : Option B) → f x ≡ o → filter_map f (x ∷ []) ≡ option_to_list o
+one_of f x (Some y) e = rw e refl
+one_of f x None e = rw e refl
+
+-- what is gathered of one more part
+pub one_more : {A B : Type 0} (f : A → Option B) (xs : List A) (k : ℕ) (d : A) → k < length xs → filter_map f (take (k + 1) xs) ≡ filter_map f (take k xs) ++ option_to_list (f (get_or xs k d))
+one_more f xs k d lt =
+    let x = get_or xs k d in
+    ap (filter_map f) (take_more xs k d lt)
+    ∙ filter_map-append f (take k xs) (x ∷ [])
+    ∙ ap (λ (ys : List _). filter_map f (take k xs) ++ ys) (one_of f x (f x) refl)

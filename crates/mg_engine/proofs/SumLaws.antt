@@ -1,0 +1,29 @@
+-- Sums over lists, one part more at a time.
+use Rattle.std.proofs.Common.{◌≡◌, ℕ, ◌+◌, ◌<◌, ◌≤◌, ℤ, pos, ◌+ℤ◌, List, [], ◌∷◌, ◌++◌, length, get_or, map, take, refl, sym, ap, ◌∙◌, arith}
+use Rattle.std.proofs.lemmas.Int.{ints}
+use Rattle.std.specs.List.{range_with_len}
+use Rattle.std.proofs.lemmas.List.{take_more, get_or_default, get_or-map, length-map, same_lists}
+use Rattle.std.proofs.lemmas.List.FromFn.{get_or-map-range_with_len, length-map-range_with_len}
+use Rattle.mg_engine.specs.Mix.{sum_of}
+
+module _ {A : Type 0} (f : A → ℤ) where
+  pub sum-push : (xs : List A) (x : A) → sum_of f (xs ++ x ∷ []) ≡ sum_of f xs +ℤ f x
+  unfolding sum_of
+  sum-push [] x = omega (arith, ints)
+  sum-push (y ∷ ys) x = omega (arith, ints, sum-push ys x)
+
+  pub sum-more : (xs : List A) (k : ℕ) (d : A) → k < length xs → sum_of f (take (k + 1) xs) ≡ sum_of f (take k xs) +ℤ f (get_or xs k d)
+  sum-more xs k d lt = ap (sum_of f) (take_more xs k d lt) ∙ sum-push (take k xs) (get_or xs k d)
+
+-- a list of n parts is what it has at each place
+pub list_is : {A : Type 0} (f : ℕ → A) (xs : List A) (n : ℕ) (d : A) → length xs ≡ n → ((i : ℕ) → i < n → get_or xs i d ≡ f i) → xs ≡ map f (range_with_len 0 n)
+list_is f xs n d len at =
+    let counted = length-map-range_with_len f 0 n in
+    same_lists xs (map f (range_with_len 0 n)) (len ∙ sym counted)
+    (λ k e lt. let below : k < n = omega (arith, lt, len) in get_or_default xs k e d lt ∙ at k below ∙ sym (get_or-map-range_with_len f 0 n k k e below (omega arith)))
+
+-- a list that has f of each part
+pub mapped_is : {A B : Type 0} (f : A → B) (xs : List A) (ys : List B) (d : A) (e : B) → length ys ≡ length xs → ((k : ℕ) → k < length xs → get_or ys k e ≡ f (get_or xs k d)) → ys ≡ map f xs
+mapped_is f xs ys d e len at =
+    same_lists ys (map f xs) (len ∙ sym (length-map xs f))
+    (λ k b lt. let below : k < length xs = omega (arith, lt, len) in get_or_default ys k b e lt ∙ at k below ∙ sym (get_or-map f xs k d b below))

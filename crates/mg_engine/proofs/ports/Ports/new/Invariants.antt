@@ -1,0 +1,10 @@
+use Rattle.std.proofs.Common.{◌≡◌, ℕ, ◌≤◌, nat_eq}
+use Rattle.indexmap.specs.IndexMap.{get}
+use Rattle.mg_engine.proofs.PoolLaws.{slot_below}
+use Rattle.mg_engine.proofs.ports.Ports.new.Given as goal
+
+abbrev pub invariant-loop-slot : goal.invariant-loop-slot
+invariant-loop-slot l = record {
+  slots : (port : ℕ) → get nat_eq l.slots port ≡ slot_below l.limits.base_port l.slot port;
+  below : l.slot ≤ l.limits.slots;
+}

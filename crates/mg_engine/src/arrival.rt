@@ -1,0 +1,68 @@
+//! What an RTP datagram brings to a termination.
+
+ghost use Rattle.std.specs.Prelude.{◌≡◌, ℕ, ℤ, List, Result, Ok, Err};
+ghost use Rattle.mg_rtp.specs.declared.header.Header.{Header};
+ghost use Rattle.mg_rtp.specs.declared.rtp_fault.RtpFault.{RtpFault};
+ghost use Rattle.mg_rtp.specs.Reading.{reading_of};
+ghost use Rattle.mg_engine.specs.Arrival.{is_stray, law_for, decoded, frame_in};
+
+use crate::media::SAMPLES;
+use crate::peer::Peer;
+use crate::sending::payload_type;
+use crate::taken::DropCause;
+use mg_g711::{Frame, Law, decode_frame};
+use mg_rooms::Record;
+use mg_rtp::{Header, Packet, RtpFault};
+use mg_sdp::Chosen;
+
+/// Whether a datagram came from another address than that of the termination's Remote.
+fn is_stray(remote: Option<Chosen>, source: Peer) -> bool
+    ensures value { result ≡ is_stray remote source.address }
+{
+    match remote {
+        Some(remote) => remote.address != source.address,
+        None => false,
+    }
+}
+
+/// The law of the payloads that a termination takes from a source.
+pub fn law_for(termination: &Record, source: Peer) -> Result<Law, DropCause>
+    ensures value { result ≡ law_for termination.now source.address }
+{
+    if is_stray(termination.remote, source) {
+        return Err(DropCause::Stray);
+    }
+    match termination.local {
+        Some(local) => Ok(local.law),
+        None => Err(DropCause::NoLocal),
+    }
+}
+
+/// The frame of a payload that is of a law.
+fn frame_of(law: Law, header: Header, payload: &[u8]) -> Result<(Header, Frame), DropCause>
+    ensures value { result ≡ decoded law (header, payload.now) }
+{
+    if header.payload_type != payload_type(law) {
+        return Err(DropCause::PayloadType);
+    }
+    match <&[u8; SAMPLES]>::try_from(payload) {
+        Ok(payload) => {
+            let frame = decode_frame(law, payload);
+            Ok((header, frame))
+        }
+        Err(_) => Err(DropCause::Length),
+    }
+}
+
+/// The frame of a packet that is of a law.
+pub fn frame_in(
+    law: Law,
+    packet: Result<Packet<'_>, RtpFault>,
+) -> Result<(Header, Frame), DropCause>
+    ensures value { result ≡ frame_in law (reading_of packet.entry) }
+{
+    match packet {
+        Ok(packet) => frame_of(law, packet.header, packet.payload),
+        Err(fault) => Err(DropCause::Rtp(fault)),
+    }
+}

@@ -1,0 +1,134 @@
+ghost use Rattle.std.specs.Prelude.{◌≡◌, IfOk};
+ghost use Rattle.mg_g711.specs.Frame.{IsFrame};
+
+use crate::stats::Stats;
+use mg_g711::Frame;
+use mg_g711::theorems::frames_are_whole;
+use mg_playout::{MAX_DEPTH, MIN_DEPTH, Placed, Playout};
+use mg_rtp::Header;
+use std::alloc::{AllocError, Global};
+use std::marker::Model;
+
+/// How many samples a frame has: 20 ms at 8,000 a second.
+pub const SAMPLES: usize = 160;
+
+/// The media of the termination that holds a slot.
+#[derive(Drop)]
+pub struct Media {
+    play: Playout,
+    frame: Frame,
+    stats: Stats,
+    /// The timestamp of this tick.
+    timestamp: u32,
+    /// The sequence number of the next packet.
+    sequence: u16,
+    /// Whether the last tick sent a packet.
+    is_sending: bool,
+}
+
+impl Model for Media {
+    ghost use Rattle.mg_engine.specs.Media.{Kept};
+
+    ghost Value = { Kept };
+
+    ghost view = { λ m. record { play = m.play; frame = m.frame; stats = m.stats; timestamp = m.timestamp; sequence = m.sequence; is_sending = m.is_sending } };
+}
+
+impl Media {
+    ghost use Rattle.mg_engine.specs.Media.{idle, begun_at, tuned, placed, played, header, ended};
+
+    /// Media of nobody. It takes the memory for a play list.
+    pub fn new(alloc: Global) -> Result<Media, AllocError>
+        ensures value { IfOk result (λ media. media ≡ idle) }
+    {
+        Ok(Media {
+            play: Playout::new(alloc)?,
+            frame: [0; SAMPLES],
+            stats: Stats::new(),
+            timestamp: 0,
+            sequence: 0,
+            is_sending: false,
+        })
+    }
+
+    /// Begins anew, for a termination that is made, with the timestamp of its first tick and the sequence number of
+    /// its first packet.
+    pub fn begin(&mut self, timestamp: u32, sequence: u16)
+        ensures value { self.new ≡ begun_at timestamp sequence }
+    {
+        self.play.clear();
+        self.frame = [0; SAMPLES];
+        self.stats = Stats::new();
+        self.timestamp = timestamp.wrapping_sub(SAMPLES as u32);
+        self.sequence = sequence;
+        self.is_sending = false;
+    }
+
+    /// Sets the depth of the play list, where a command names one, within what a play list can have.
+    pub fn tune(&mut self, depth: Option<u8>)
+        ensures value { self.new ≡ tuned depth self.old }
+    {
+        if let Some(depth) = depth {
+            let depth = usize::from(depth).clamp(MIN_DEPTH, MAX_DEPTH);
+            self.play.set_depth(depth);
+        }
+    }
+
+    /// Takes the frame of a packet that came.
+    pub fn place(&mut self, header: Header, frame: Frame) -> Placed
+        ensures value { placed self.old header frame ≡ (self.new, result) }
+    {
+        self.stats.pr = self.stats.pr.saturating_add(1);
+        self.stats.or_ = self.stats.or_.saturating_add(160);
+        self.play.place(header.ssrc, header.sequence, frame)
+    }
+
+    /// Passes on by 20 ms: what the play list gives is the frame of this tick.
+    pub fn play(&mut self)
+        ensures value { self.new ≡ played self.old }
+    {
+        self.frame = self.play.tick().unwrap_or([0; SAMPLES]);
+        self.timestamp = self.timestamp.wrapping_add(SAMPLES as u32);
+    }
+
+    /// The frame of this tick.
+    pub fn frame(&self) -> &Frame
+        ensures value { result.now ≡ self.now.frame }
+        ensures whole { IsFrame result.now }
+    {
+        frames_are_whole(&self.frame);
+        &self.frame
+    }
+
+    /// The counters.
+    pub fn stats(&self) -> Stats
+        ensures value { result ≡ self.now.stats }
+    {
+        self.stats
+    }
+
+    /// The header of the next packet, with a payload of this type and from this source.
+    pub fn header(&self, payload_type: u8, ssrc: u32) -> Header
+        ensures value { result ≡ header self.now payload_type ssrc }
+    {
+        Header {
+            marker: !self.is_sending,
+            payload_type,
+            sequence: self.sequence,
+            timestamp: self.timestamp,
+            ssrc,
+        }
+    }
+
+    /// Ends a tick in which a packet was sent, or none.
+    pub fn end_tick(&mut self, is_sent: bool)
+        ensures value { self.new ≡ ended is_sent self.old }
+    {
+        if is_sent {
+            self.stats.ps = self.stats.ps.saturating_add(1);
+            self.stats.os = self.stats.os.saturating_add(160);
+            self.sequence = self.sequence.wrapping_add(1);
+        }
+        self.is_sending = is_sent;
+    }
+}

@@ -1,0 +1,49 @@
+ghost use Rattle.std.specs.Prelude.{◌≡◌, IfOk};
+ghost use Rattle.mg_rooms.specs.Limits.{IsValid};
+ghost use Rattle.mg_engine.specs.Ports.{slot_of};
+
+use indexmap::IndexMap;
+use mg_rooms::Limits;
+use std::alloc::{AllocError, Global};
+use std::marker::Model;
+
+/// The slots of the media ports. Contracts see the limits that the pool is made by.
+#[derive(Drop)]
+pub struct Ports {
+    limits: Limits,
+    slots: IndexMap<u16, u8>,
+}
+
+impl Model for Ports {
+    ghost use Rattle.std.specs.Prelude.{◌≡◌, ℕ, nat_eq};
+    ghost use Rattle.indexmap.specs.IndexMap.{get};
+    ghost use Rattle.mg_rooms.specs.declared.limits.Limits.{Limits};
+    ghost use Rattle.mg_engine.specs.Ports.{slot_of};
+
+    ghost Value = { Limits };
+
+    ghost view = { λ p. p.limits };
+
+    ghost invariant = { λ p. (port : ℕ) → get nat_eq p.slots port ≡ slot_of p.limits port };
+}
+
+impl Ports {
+    /// The ports of the pool. It takes memory for each of them.
+    pub fn new(alloc: Global, limits: Limits) -> Result<Ports, AllocError>
+        requires valid { IsValid limits }
+        ensures value { IfOk result (λ ports. ports ≡ limits) }
+    {
+        let mut slots = IndexMap::new(alloc);
+        for slot in 0..limits.slots {
+            slots.insert(limits.base_port + 2 * slot, slot as u8)?;
+        }
+        Ok(Ports { limits, slots })
+    }
+
+    /// The slot of a port, if it is one of the pool's.
+    pub fn slot(&self, port: u16) -> Option<u8>
+        ensures value { result ≡ slot_of self.now port }
+    {
+        self.slots.get(&port).copied()
+    }
+}

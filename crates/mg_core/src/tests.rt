@@ -454,15 +454,46 @@ fn limits_a_line_and_its_datagram(rt: HostRuntime) -> Result<(), Fail> {
     Ok(())
 }
 
-/// Appends a line with the digits of 160 equal bytes at its end.
-fn push_line(line: &mut Vec<u8>, front: &[u8], digits: &[u8]) -> Result<(), Fail> {
-    line.extend_from_slice(front)?;
+/// A script's line that makes a conference of three. The third speaks A-law, the others mu-law, and their media ports are 30000, 30002 and 30004.
+fn conference(alloc: Global) -> Result<Vec<u8>, Fail> {
+    let mut script = Vec::new(alloc);
+    script.extend_from_slice(b"say 127.0.0.1:2945 !/1 [127.0.0.1]:2945 T=1{C=${")?;
+    push_add(&mut script, b"0", b"40000")?;
+    script.push(b',')?;
+    push_add(&mut script, b"0", b"40002")?;
+    script.push(b',')?;
+    push_add(&mut script, b"8", b"40004")?;
+    script.extend_from_slice(b"}}\n")?;
+    Ok(script)
+}
+
+/// Appends an Add of a caller with a payload type who receives at a port.
+fn push_add(line: &mut Vec<u8>, payload_type: &[u8], port: &[u8]) -> Result<(), Fail> {
+    line.extend_from_slice(b"A=${M{O{MO=SR},L{v=0\\nc=IN IP4 $\\nm=audio $ RTP/AVP ")?;
+    line.extend_from_slice(payload_type)?;
+    line.extend_from_slice(b"\\n},R{v=0\\nc=IN IP4 127.0.0.1\\nm=audio ")?;
+    line.extend_from_slice(port)?;
+    line.extend_from_slice(b" RTP/AVP ")?;
+    line.extend_from_slice(payload_type)?;
+    line.extend_from_slice(b"\\n}}}")?;
+    Ok(())
+}
+
+/// Appends a line of RTP with a header and 160 equal bytes of payload.
+fn push_packet(line: &mut Vec<u8>, peers: &[u8], header: &[u8], digits: &[u8]) -> Result<(), Fail> {
+    line.extend_from_slice(b"rtp ")?;
+    line.extend_from_slice(peers)?;
+    line.push(b' ')?;
+    line.extend_from_slice(header)?;
     for _ in 0..160 {
         line.extend_from_slice(digits)?;
     }
     line.push(b'\n')?;
     Ok(())
 }
+
+/// The header of the packet that each caller sends.
+const SPOKEN: &[u8] = b"800000010000000000000063";
 
 /// The last line of a text.
 fn last_line(text: &[u8]) -> &[u8] {
@@ -472,35 +503,27 @@ fn last_line(text: &[u8]) -> &[u8] {
     }
 }
 
-const CALLERS: &[u8] = b"say 127.0.0.1:2945 !/1 [127.0.0.1]:2945 T=1{C=${\
-    A=${M{O{MO=SR},L{v=0\\nc=IN IP4 $\\nm=audio $ RTP/AVP 0\\n},R{v=0\\nc=IN IP4 127.0.0.1\\nm=audio 40000 RTP/AVP 0\\n}}},\
-    A=${M{O{MO=SR},L{v=0\\nc=IN IP4 $\\nm=audio $ RTP/AVP 0\\n},R{v=0\\nc=IN IP4 127.0.0.1\\nm=audio 40002 RTP/AVP 0\\n}}},\
-    A=${M{O{MO=SR},L{v=0\\nc=IN IP4 $\\nm=audio $ RTP/AVP 8\\n},R{v=0\\nc=IN IP4 127.0.0.1\\nm=audio 40004 RTP/AVP 8\\n}}}}}\n";
+/// What the third tick of a conference sends last, where the first two callers speak.
+fn mixed(alloc: Global) -> Result<Vec<u8>, Fail> {
+    let mut script = conference(alloc)?;
+    push_packet(&mut script, b"30000 127.0.0.1:5004", SPOKEN, b"80")?;
+    push_packet(&mut script, b"30002 127.0.0.1:5004", SPOKEN, b"80")?;
+    script.extend_from_slice(b"tick\ntick\ntick\n")?;
+    let (written, _) = played(alloc, script.as_slice());
+    Ok(Vec::from_slice(alloc, last_line(written.as_slice()))?)
+}
 
 #[test]
 fn plays_and_mixes(rt: HostRuntime) -> Result<(), Fail> {
     let alloc = rt.alloc();
-    let mut script = Vec::from_slice(alloc, CALLERS)?;
-    push_line(
-        &mut script,
-        b"rtp 30000 127.0.0.1:5004 800000010000000000000063",
-        b"80",
-    )?;
-    push_line(
-        &mut script,
-        b"rtp 30002 127.0.0.1:5004 800000010000000000000063",
-        b"80",
-    )?;
-    script.extend_from_slice(b"tick\ntick\ntick\n")?;
-    let (written, fault) = played(alloc, script.as_slice());
-    assert_eq!(rt; fault, None);
     let mut wanted = Vec::new(alloc);
-    push_line(
+    push_packet(
         &mut wanted,
-        b"rtp 30004 127.0.0.1:40004 800800020000014000000003",
+        b"30004 127.0.0.1:40004",
+        b"800800020000014000000003",
         b"aa",
     )?;
-    assert_eq!(rt; last_line(written.as_slice()), wanted.as_slice());
+    assert_eq!(rt; mixed(alloc)?.as_slice(), wanted.as_slice());
     Ok(())
 }
 
@@ -511,28 +534,24 @@ fn counted(alloc: Global, script: &[u8]) -> Result<Counts, Fail> {
     run(alloc, Config::default(), &mut reader, &mut written).map_err(|_| "a script".into())
 }
 
+/// What was counted in a conference with a packet, the same again, one from another address, one to a port that nobody
+/// has, one that is too short, and two ticks.
+fn conference_counted(alloc: Global) -> Result<Counts, Fail> {
+    let mut script = conference(alloc)?;
+    push_packet(&mut script, b"30000 127.0.0.1:5004", SPOKEN, b"80")?;
+    push_packet(&mut script, b"30000 127.0.0.1:5004", SPOKEN, b"80")?;
+    push_packet(&mut script, b"30000 127.0.0.2:5004", SPOKEN, b"80")?;
+    script.extend_from_slice(b"rtp 30006 127.0.0.1:5004 80\n")?;
+    script.extend_from_slice(b"rtp 30000 127.0.0.1:5004 80\n")?;
+    script.extend_from_slice(b"tick\ntick\n\n# end\n")?;
+    counted(alloc, script.as_slice())
+}
+
 #[test]
 fn counts_events(rt: HostRuntime) -> Result<(), Fail> {
-    let alloc = rt.alloc();
-    let mut script = Vec::from_slice(alloc, CALLERS)?;
-    let front = b"rtp 30000 127.0.0.1:5004 800000010000000000000063";
-    push_line(&mut script, front, b"80")?;
-    push_line(&mut script, front, b"80")?;
-    push_line(
-        &mut script,
-        b"rtp 30000 127.0.0.2:5004 800000010000000000000063",
-        b"80",
-    )?;
-    script.extend_from_slice(
-        b"rtp 30006 127.0.0.1:5004 80\nrtp 30000 127.0.0.1:5004 80\ntick\ntick\n\n# end\n",
-    )?;
-    let counts = counted(alloc, script.as_slice())?;
-    assert_eq!(rt; counts.lines, 10);
-    assert_eq!(rt; counts.control, 1);
-    assert_eq!(rt; counts.media, 5);
-    assert_eq!(rt; counts.ticks, 2);
-    assert_eq!(rt; counts.sent, 7);
-    assert_eq!(rt; counts.failed, 0);
+    let counts = conference_counted(rt.alloc())?;
+    assert_eq!(rt; [counts.lines, counts.sent, counts.failed], [10, 7, 0]);
+    assert_eq!(rt; [counts.control, counts.media, counts.ticks], [1, 5, 2]);
     assert_eq!(rt; counts.placed, [1, 0, 0, 1, 0]);
     assert_eq!(rt; counts.dropped, [1, 1, 0, 1, 0, 0]);
     Ok(())

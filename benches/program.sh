@@ -11,7 +11,9 @@ trap 'rm -rf "$work"' EXIT
 for crate in "$root"/crates/*; do
     copy=$work/crates/${crate##*/}
     mkdir -p "$copy"
-    cp -R "$crate/src" "$crate/specs" "$crate/proofs" "$copy/"
+    for part in src specs proofs; do
+        [ ! -d "$crate/$part" ] || cp -R "$crate/$part" "$copy/"
+    done
 done
 mkdir -p "$work/crates/bench/src"
 cp "$folder/main.rt.in" "$work/crates/bench/src/main.rt"

@@ -1,16 +1,15 @@
 -- What a gateway answers.
 use Rattle.std.proofs.Common.{◌≡◌, ℕ, ◌+◌, ◌<◌, ◌≤◌, Bool, true, false, List, [], ◌++◌, length, Option, Some, None, Result, Ok, Err, refl, inl, inr, ◌⊎◌, sym, ap, ◌∙◌, append_assoc, length-append, arith}
 use Rattle.std.proofs.lemmas.Bool.{cases_lt}
-use Rattle.mg_scan.specs.Span.{text_of}
 use Rattle.mg_text.specs.declared.message.Message.{Message}
 use Rattle.mg_text.specs.declared.fault.ReadFault.{ReadFault}
 use Rattle.mg_text.specs.declared.fault.ReadFault.TheVariants.{NoMemory, Syntax, Version, TooMany}
-use Rattle.mg_text.specs.Message.{IsTree, IsMessage, IsTooMany, HasOtherVersion, items_of}
+use Rattle.mg_text.specs.Message.{IsTree, IsTooMany, HasOtherVersion}
 use Rattle.mg_text.specs.MessageReading.{MessageReading, IsReading, NoMessage}
 use Rattle.mg_text.specs.MessageReading as readings
 use Rattle.mg_reply.specs.declared.error_number.ErrorNumber.{ErrorNumber}
 use Rattle.mg_reply.specs.Bytes.{Written, appended}
-use Rattle.mg_core.specs.Answer.{Answers, answered, refused}
+use Rattle.mg_core.specs.Answer.{answered, refused}
 use Rattle.mg_core.specs.World.{World}
 use Rattle.mg_core.specs.Steps.{refusal_of}
 

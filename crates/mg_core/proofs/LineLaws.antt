@@ -1,17 +1,17 @@
 -- What is written for one line.
-use Rattle.std.proofs.Common.{◌≡◌, ℕ, List, [], ◌∷◌, ◌++◌, map, Option, Some, None, Result, Ok, Err, refl, sym, ap, subst, ◌∙◌}
+use Rattle.std.proofs.Common.{◌≡◌, ℕ, List, [], ◌∷◌, map, Option, Some, None, Result, Ok, Err, refl, sym, ap, subst, ◌∙◌}
 use Rattle.std.proofs.lemmas.List.{append-nil}
 use Rattle.std.specs.Io.KnownBytes.{Appends}
 use Rattle.mg_engine.specs.declared.datagram.Datagram.{Datagram}
 use Rattle.mg_engine.specs.declared.peer.Peer.{Peer}
 use Rattle.mg_core.specs.declared.event.Event.{Event}
-use Rattle.mg_core.specs.declared.event.Event.TheVariants.{Control, Media, Tick}
+use Rattle.mg_core.specs.declared.event.Event.TheVariants.{Control, Tick}
 use Rattle.mg_core.specs.declared.fault.EventFault.{EventFault}
 use Rattle.mg_core.specs.declared.fault.EventFault.TheVariants as events
 use Rattle.mg_core.specs.declared.fault.ScriptFault.{ScriptFault}
 use Rattle.mg_core.specs.declared.fault.WriteFailed.{WriteFailed}
 use Rattle.mg_core.specs.declared.state.State.{State}
-use Rattle.mg_core.specs.Run.{Ran, answer_line, lines_for}
+use Rattle.mg_core.specs.Run.{answer_line, lines_for}
 use Rattle.mg_core.specs.Script.{event_of, events_of, then_all}
 use Rattle.mg_core.specs.Step.{Sent, Reply, Packet, Step, answer_to}
 use Rattle.mg_core.specs.Steps.{EventRan, LineRan, Steps, Writes, WritesFront, script_fault_of}

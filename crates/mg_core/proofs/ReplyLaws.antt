@@ -15,7 +15,6 @@ use Rattle.mg_reply.specs.declared.item.Item.TheVariants.{Fault}
 use Rattle.mg_reply.specs.declared.error_number.ErrorNumber.TheVariants.{ReplyTooLong}
 use Rattle.mg_reply.specs.ErrorNumber.{error_text}
 use Rattle.mg_reply.specs.Written.{reply_text}
-use Rattle.mg_engine.specs.Stands as engine_stands
 use Rattle.mg_core.specs.declared.state.State.{State}
 use Rattle.mg_core.specs.World.{World, StandsFor}
 use Rattle.mg_core.specs.Steps.{Puts}

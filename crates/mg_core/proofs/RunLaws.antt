@@ -10,13 +10,12 @@ use Rattle.mg_engine.specs.declared.config.Config.{Config}
 use Rattle.mg_core.specs.declared.state.State.{State}
 use Rattle.mg_core.specs.World.{World, StandsFor, start_of}
 use Rattle.mg_core.specs.declared.event.Event.{Event}
-use Rattle.mg_core.specs.declared.fault.ReadFailed.{ReadFailed}
 use Rattle.mg_core.specs.declared.fault.ScriptFault.{ScriptFault}
 use Rattle.mg_core.specs.declared.fault.ScriptFault.TheVariants as faults
 use Rattle.mg_core.specs.Script.{without_return, lines_behind, lines_of, event_of, events_of, then_all}
 use Rattle.mg_core.specs.Step.{Sent, Run}
 use Rattle.mg_core.specs.Run.{Ran, RanInPart, RanFirst, lines_for, line_of}
-use Rattle.mg_core.specs.Steps.{AllRan, LineRan, BytesRan, Finishes, ReadsSome, Steps}
+use Rattle.mg_core.specs.Steps.{AllRan, LineRan, BytesRan, Finishes, Steps}
 use Rattle.mg_core.proofs.WriterLaws.{appends_then, appends_keeps}
 use Rattle.mg_core.proofs.LineLaws.{same_appends}
 

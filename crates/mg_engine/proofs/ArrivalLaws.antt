@@ -1,5 +1,5 @@
 -- An engine stands for the world behind an RTP datagram.
-use Rattle.std.proofs.Common.{◌≡◌, ℕ, ◌<◌, eqb, Bool, true, false, List, ℤ, [], ◌∷◌, length, map, get_or, set, Option, Some, None, Result, Ok, Err, refl, sym, ap, subst, ◌∙◌}
+use Rattle.std.proofs.Common.{◌≡◌, ℕ, ◌<◌, eqb, Bool, true, false, List, ℤ, [], ◌∷◌, length, set, Some, Result, Ok, Err, refl, sym, ap, subst, ◌∙◌}
 use Rattle.std.specs.Prelude.{find, IfOk, ◌↔◌}
 use Rattle.std.specs.Option.{option_map}
 use Rattle.std.proofs.lemmas.Bool.{eqb-true}
@@ -16,9 +16,8 @@ use Rattle.mg_rooms.specs.Changes.{change}
 use Rattle.mg_rooms.specs.World as rooms
 use Rattle.mg_rooms.specs.World.{record_at}
 use Rattle.mg_engine.specs.declared.config.Config.{Config}
-use Rattle.mg_engine.specs.declared.stats.Stats.{Stats}
 use Rattle.mg_engine.specs.declared.taken.Taken.{Taken}
-use Rattle.mg_engine.specs.declared.taken.Taken.TheVariants.{Placed, Dropped}
+use Rattle.mg_engine.specs.declared.taken.Taken.TheVariants.{Placed}
 use Rattle.mg_engine.specs.World.{World, Stream, stream_at}
 use Rattle.mg_engine.specs.Steps.{received}
 use Rattle.mg_rtp.specs.Reading.{IsReading, reading_of}

@@ -1,6 +1,6 @@
 -- An engine stands for the worlds that its edits lead to, and stays whole.
-use Rattle.std.proofs.Common.{◌≡◌, ◌≢◌, ℕ, ◌+◌, ◌*◌, ◌%◌, ◌^◌, ◌<◌, ◌≤◌, eqb, not, Bool, true, false, cond, List, [], ◌∷◌, ◌++◌, length, map, get_or, set, Option, Some, None, Result, Ok, Err, refl, sym, ap, subst, ◌∙◌, arith}
-use Rattle.std.specs.Prelude.{find, filter, count_by, option_to_list}
+use Rattle.std.proofs.Common.{◌≡◌, ◌≢◌, ℕ, ◌+◌, ◌<◌, ◌≤◌, eqb, not, Bool, true, false, List, [], ◌∷◌, ◌++◌, length, map, get_or, set, Option, Some, None, refl, sym, ap, subst, ◌∙◌, arith}
+use Rattle.std.specs.Prelude.{find, filter, count_by}
 use Rattle.std.specs.Option.{option_map}
 use Rattle.std.proofs.lemmas.Bool.{eqb-true, eq-eqb}
 use Rattle.std.proofs.lemmas.List.{length-map, map-append, get_or-set_same, get_or-set_other, set-set}
@@ -15,12 +15,12 @@ use Rattle.mg_rooms.specs.Sound.{IsSound}
 use Rattle.mg_rooms.specs.World as rooms
 use Rattle.mg_rooms.specs.World.{record_at}
 use Rattle.mg_engine.specs.declared.config.Config.{Config}
-use Rattle.mg_engine.specs.World.{World, Stream, ContextEdit, Enter, Leave, new_stream, stream_at}
+use Rattle.mg_engine.specs.World.{World, Stream, ContextEdit, Enter, new_stream, stream_at}
 use Rattle.mg_engine.specs.Flow.{lets_hear}
 use Rattle.mg_engine.specs.Steps.{play_after}
 use Rattle.mg_engine.specs.Media as media
 use Rattle.mg_engine.specs.Media.{idle}
-use Rattle.mg_engine.specs.Outcome.{tuned, streams_with, streams_without, added, modified, moved, subtracted}
+use Rattle.mg_engine.specs.Outcome.{tuned, streams_with, streams_without, added, subtracted}
 use Rattle.mg_engine.specs.Stands.{Kept, StandsFor, IsStream, ShareContext, media_at}
 use Rattle.mg_engine.specs.Whole.{IsWhole}
 use Rattle.mg_engine.proofs.FlowLaws.{entered}

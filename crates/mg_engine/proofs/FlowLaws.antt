@@ -1,15 +1,15 @@
 -- Who hears whom in the worlds that an engine stands for.
-use Rattle.std.proofs.Common.{◌≡◌, ◌≢◌, ℕ, ◌&&◌, ◌||◌, not, eqb, Bool, true, false, cond, List, [], ◌∷◌, Option, Some, None, refl, sym, ap, ◌∙◌}
+use Rattle.std.proofs.Common.{◌≡◌, ◌≢◌, ℕ, ◌&&◌, ◌||◌, not, eqb, Bool, true, false, cond, List, ◌∷◌, Some, None, refl, sym, ap, ◌∙◌}
 use Rattle.std.proofs.lemmas.Bool.{eqb-true, eq-eqb}
 use Rattle.mg_rooms.specs.declared.mode.Mode.{Mode}
 use Rattle.mg_rooms.specs.declared.record.Record.{Record}
 use Rattle.mg_rooms.specs.Mode.{talks, listens}
 use Rattle.mg_rooms.specs.World as rooms
 use Rattle.mg_rooms.specs.World.{record_at}
-use Rattle.mg_engine.specs.World.{World, ContextEdit, Enter, Leave, mode_in, mode_of, context_in, context_of}
+use Rattle.mg_engine.specs.World.{World, ContextEdit, Enter, mode_in, mode_of, context_in, context_of}
 use Rattle.mg_engine.specs.Flow.{flow, lets_hear}
 use Rattle.mg_engine.specs.Sending.{flows_now}
-use Rattle.mg_engine.specs.Stands.{Kept, StandsFor, ShareContext}
+use Rattle.mg_engine.specs.Stands.{Kept, StandsFor}
 use Rattle.mg_engine.proofs.WorldLaws.{found_key}
 
 -- ## Flow by the records of both

@@ -1,8 +1,8 @@
 -- What is sent in a tick, part by part.
 use Rattle.std.specs.Prelude.{filter_map, option_to_list}
-use Rattle.std.proofs.lemmas.List.{take_more, append-nil}
+use Rattle.std.proofs.lemmas.List.{take_more}
 use Rattle.std.proofs.lemmas.List.Elements.{filter_map-append}
-use Rattle.std.proofs.Common.{◌≡◌, ℕ, ◌+◌, ◌<◌, [], ◌∷◌, length, get_or, take, ◌%◌, ◌^◌, ℤ, List, ◌++◌, map, Option, Some, None, refl, sym, ap, ◌∙◌}
+use Rattle.std.proofs.Common.{◌≡◌, ℕ, ◌+◌, ◌<◌, [], ◌∷◌, length, get_or, take, ◌%◌, ◌^◌, ℤ, List, ◌++◌, map, Option, Some, None, refl, ap, ◌∙◌}
 use Rattle.mg_g711.specs.Law.{byte_of}
 use Rattle.mg_rtp.specs.declared.header.Header.{Header}
 use Rattle.mg_rtp.specs.Header.{header_bytes, plain}

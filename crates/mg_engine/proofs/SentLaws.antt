@@ -1,15 +1,13 @@
 -- What an engine sends in a tick is what the world sends.
-use Rattle.std.proofs.Common.{◌≡◌, ℕ, zero, suc, ◌+◌, ◌-◌, ◌*◌, ◌%◌, ◌^◌, ◌<◌, ◌≤◌, ◌++◌, ◌&&◌, ◌||◌, not, eqb, Bool, true, false, cond, List, [], ◌∷◌, ℤ, ◌+ℤ◌, pos, length, map, get_or, Option, Some, None, refl, sym, ap, subst, ◌∙◌, arith}
+use Rattle.std.proofs.Common.{◌≡◌, ℕ, suc, ◌+◌, ◌-◌, ◌*◌, ◌%◌, ◌^◌, ◌<◌, ◌≤◌, ◌++◌, not, Bool, cond, List, [], ◌∷◌, ℤ, ◌+ℤ◌, pos, length, map, get_or, Option, Some, None, refl, sym, ap, subst, ◌∙◌, arith}
 use Rattle.std.specs.Prelude.{filter_map}
 use Rattle.std.specs.List.{cons_option}
-use Rattle.std.specs.List.{list_any, range_with_len}
+use Rattle.std.specs.List.{range_with_len}
 use Rattle.std.specs.Option.{option_map}
 use Rattle.mg_g711.specs.Law.{byte_of}
 use Rattle.mg_rtp.specs.declared.header.Header.{Header}
 use Rattle.mg_rtp.specs.Header.{header_bytes, plain}
 use Rattle.mg_sdp.specs.declared.chosen.Chosen.{Chosen}
-use Rattle.mg_topology.specs.declared.association.Association.{Association}
-use Rattle.mg_rooms.specs.declared.limits.Limits.{Limits}
 use Rattle.mg_rooms.specs.declared.mode.Mode.{Mode}
 use Rattle.mg_rooms.specs.declared.record.Record.{Record}
 use Rattle.mg_rooms.specs.Limits.{port_of}
@@ -18,8 +16,7 @@ use Rattle.mg_rooms.specs.World.{record_at}
 use Rattle.mg_rooms.specs.World as rooms
 use Rattle.mg_engine.specs.declared.config.Config.{Config}
 use Rattle.mg_engine.specs.declared.datagram.Datagram.{Datagram}
-use Rattle.mg_engine.specs.World.{World, Stream, stream_at, frame_in, mode_of, numbers_of}
-use Rattle.mg_engine.specs.Flow.{flow}
+use Rattle.mg_engine.specs.World.{World, Stream, stream_at, frame_in}
 use Rattle.mg_engine.specs.Mixing.{limited}
 use Rattle.mg_engine.specs.Mix.{sum_of, sample_of, part_of_mix, heard, mix, mixed, is_loopback}
 use Rattle.mg_engine.specs.Media as media

@@ -1,6 +1,6 @@
 -- An engine stands for the world after each step of a tick.
-use Rattle.std.proofs.Common.{◌≡◌, ℕ, ◌+◌, ◌-◌, ◌*◌, ◌%◌, ◌^◌, ◌<◌, ◌≤◌, eqb, Bool, true, false, List, [], ◌∷◌, ℤ, length, map, get_or, Option, Some, None, refl, sym, ap, subst, ◌∙◌, arith}
-use Rattle.std.specs.Prelude.{is_some, find}
+use Rattle.std.proofs.Common.{◌≡◌, ℕ, ◌<◌, ◌≤◌, eqb, Bool, true, false, List, [], ◌∷◌, length, map, Option, Some, None, refl, sym, ap, subst, ◌∙◌, arith}
+use Rattle.std.specs.Prelude.{find}
 use Rattle.std.specs.Option.{option_map}
 use Rattle.std.proofs.lemmas.Simd.{map-map}
 use Rattle.std.proofs.lemmas.List.{get_or-map, length-map}
@@ -10,12 +10,11 @@ use Rattle.mg_rooms.specs.declared.record.Record.{Record}
 use Rattle.mg_rooms.specs.World.{record_at, holder_of}
 use Rattle.mg_rooms.specs.World as rooms
 use Rattle.mg_engine.specs.declared.config.Config.{Config}
-use Rattle.mg_engine.specs.declared.stats.Stats.{Stats}
 use Rattle.mg_engine.specs.World.{World, Stream, stream_at}
 use Rattle.mg_engine.specs.Steps.{transmitted, frame_or_silence}
 use Rattle.mg_engine.specs.Media as media
 use Rattle.mg_engine.specs.Media.{idle, timestamp_before}
-use Rattle.mg_engine.specs.Tick.{played, all_played, sent, is_sender, sends_at, sent_to, all_ended, after_tick}
+use Rattle.mg_engine.specs.Tick.{played, all_played, sent, is_sender, sends_at, all_ended, after_tick}
 use Rattle.mg_engine.specs.Sending.{slot_sends}
 use Rattle.mg_engine.specs.Stands.{Kept, StandsFor, IsStream, media_at}
 use Rattle.mg_engine.proofs.SentLaws.{AreOld}

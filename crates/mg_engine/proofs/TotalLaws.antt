@@ -8,10 +8,10 @@ use Rattle.mg_rooms.specs.declared.record.Record.{Record}
 use Rattle.mg_rooms.specs.Mode.{talks}
 use Rattle.mg_rooms.specs.World as rooms
 use Rattle.mg_rooms.specs.World.{record_at, context_at, members_at}
-use Rattle.mg_engine.specs.World.{World, Stream, stream_at, frame_in, mode_in}
+use Rattle.mg_engine.specs.World.{World, Stream, frame_in, mode_in}
 use Rattle.mg_engine.specs.Mix.{sum_of, sample_of, part_of_total, total, total_at}
-use Rattle.mg_engine.specs.Sending.{sample_at, talking_now}
-use Rattle.mg_engine.specs.Stands.{Kept, StandsFor, media_at}
+use Rattle.mg_engine.specs.Sending.{talking_now}
+use Rattle.mg_engine.specs.Stands.{Kept, StandsFor}
 use Rattle.mg_engine.proofs.WorldLaws.{has_stream}
 
 part_by : (k : Kept) (w : World) (i n : ℕ) (o : Option Record) → StandsFor k w → record_at k.rooms n ≡ o → talking_now k.media i o ≡ cond (talks (mode_in o)) (sample_of w n i) (pos 0)

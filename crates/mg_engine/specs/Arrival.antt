@@ -1,6 +1,6 @@
 -- What becomes of an RTP datagram that comes to a media port (RFC 3550, section 5.1; the causes of a drop and their order
 -- are this project's own).
-use Rattle.std.specs.Prelude.{◌≡◌, ℕ, ℤ, ◌==◌, not, ◌&&◌, Bool, true, false, List, map, length, find, Option, Some, None, Result, Ok, Err, if◌then◌else◌}
+use Rattle.std.specs.Prelude.{◌≡◌, ℕ, ℤ, ◌==◌, not, Bool, false, List, map, length, find, Option, Some, None, Result, Ok, Err, if◌then◌else◌}
 use Rattle.std.specs.Str.{bytes_eq}
 use Rattle.mg_g711.specs.declared.law.Law.{Law}
 use Rattle.mg_g711.specs.Law.{sample_of}

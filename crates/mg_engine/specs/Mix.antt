@@ -3,7 +3,7 @@
 use Rattle.std.specs.Prelude.{ℕ, ℤ, pos, ◌+ℤ◌, Bool, true, false, List, [], ◌∷◌, map, ◌&&◌, nat_lt, Option, Some, None, is_some, slice_index_or, if◌then◌else◌}
 use Rattle.std.specs.List.{range_with_len}
 use Rattle.mg_rooms.specs.declared.mode.Mode.{Mode}
-use Rattle.mg_rooms.specs.declared.mode.Mode.TheVariants.{Inactive, SendOnly, ReceiveOnly, SendReceive, Loopback}
+use Rattle.mg_rooms.specs.declared.mode.Mode.TheVariants.{Loopback}
 use Rattle.mg_rooms.specs.Mode.{talks}
 use Rattle.mg_rooms.specs.World.{context_at, members_at}
 use Rattle.mg_engine.specs.World.{World, frame_of, mode_of, numbers_of}

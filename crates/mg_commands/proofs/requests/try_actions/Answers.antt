@@ -1,4 +1,3 @@
-use Rattle.std.proofs.Common.{◌∙◌}
 use Rattle.mg_engine.specs.World.{World}
 use Rattle.mg_commands.specs.Transaction.{with_actions}
 use Rattle.mg_commands.proofs.RunLaws.{actions_go_on, actions_stop, actions_finish}

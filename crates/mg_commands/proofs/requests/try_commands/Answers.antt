@@ -1,4 +1,3 @@
-use Rattle.std.proofs.Common.{◌∙◌}
 use Rattle.mg_engine.specs.World.{World}
 use Rattle.mg_commands.specs.Transaction.{with_commands}
 use Rattle.mg_commands.proofs.RunLaws.{commands_go_on, commands_stop, commands_done}

@@ -1,6 +1,4 @@
-use Rattle.std.proofs.Common.{List, ℕ, Ok, Err}
 use Rattle.std.proofs.lemmas.Result.{err_from_is_err_and}
-use Rattle.mg_core.specs.Run.{ScriptRan}
 use Rattle.mg_core.proofs.ScriptLaws.{if_known, not_started, script_fault, script_done}
 use Rattle.mg_core.proofs.running.run.Goals as goal
 

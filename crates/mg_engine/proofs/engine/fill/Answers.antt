@@ -1,8 +1,7 @@
-use Rattle.std.proofs.Common.{◌≡◌, ◌<◌, List, [], ◌∷◌, ◌++◌, length, get_or, take, sym, ap, ◌∙◌, arith}
-use Rattle.std.specs.Prelude.{filter_map, option_to_list}
+use Rattle.std.proofs.Common.{◌<◌, List, ◌++◌, length, get_or, sym, ap, ◌∙◌, arith}
+use Rattle.std.specs.Prelude.{option_to_list}
 use Rattle.std.specs.Option.{option_map}
-use Rattle.std.proofs.lemmas.List.{length-map, get_or-map, take_more}
-use Rattle.std.proofs.lemmas.List.Elements.{filter_map-append}
+use Rattle.std.proofs.lemmas.List.{length-map, get_or-map}
 use Rattle.mg_rooms.specs.declared.record.Record.{Record}
 use Rattle.mg_rooms.specs.World.{holder_of}
 use Rattle.mg_engine.specs.declared.datagram.Datagram.{Datagram}

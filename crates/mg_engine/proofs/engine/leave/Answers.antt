@@ -1,4 +1,4 @@
-use Rattle.std.proofs.Common.{◌≡◌, ℕ, eqb, not, sym, ap, ◌∙◌, List, Option, Some}
+use Rattle.std.proofs.Common.{◌≡◌, ℕ, eqb, not, sym, ap, ◌∙◌, Option}
 use Rattle.std.specs.Prelude.{filter}
 use Rattle.mg_engine.proofs.engine.leave.Goals as goal
 

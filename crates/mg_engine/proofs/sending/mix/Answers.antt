@@ -1,4 +1,4 @@
-use Rattle.std.proofs.Common.{ℕ, ℤ, Bool, cond, List, map, sym, ap, ◌∙◌}
+use Rattle.std.proofs.Common.{Bool, cond, map, sym, ap, ◌∙◌}
 use Rattle.std.specs.List.{range_with_len}
 use Rattle.std.proofs.lemmas.Simd.{map-map}
 use Rattle.mg_engine.specs.Mixing.{limited}

@@ -1,6 +1,5 @@
-use Rattle.std.proofs.Common.{◌≡◌, ℕ, ℤ, ◌<◌, ◌≤◌, List, pos, ◌+ℤ◌, unsigned_abs, get_or, length, refl, sym, ap, ◌∙◌, arith}
+use Rattle.std.proofs.Common.{ℕ, ℤ, ◌<◌, ◌≤◌, List, pos, ◌+ℤ◌, unsigned_abs, get_or, length, refl, sym, ap, ◌∙◌, arith}
 use Rattle.std.proofs.lemmas.List.{length-map, get_or-map, get_or-replicate, take_all}
-use Rattle.mg_rooms.specs.declared.record.Record.{Record}
 use Rattle.mg_rooms.specs.World.{holder_of}
 use Rattle.mg_engine.specs.Mix.{sum_of}
 use Rattle.mg_engine.specs.Sending.{part_now, heard_now}

@@ -1,4 +1,4 @@
-use Rattle.std.proofs.Common.{◌≡◌, ◌<◌, ℕ, ℤ, ◌+ℤ◌, ◌+◌, take, to_z, of_z, unsigned_abs, w32, sym, ap, ◌∙◌, arith, rules}
+use Rattle.std.proofs.Common.{ℕ, ℤ, ◌+ℤ◌, take, to_z, of_z, unsigned_abs, w32, sym, ap, ◌∙◌, arith, rules}
 use Rattle.std.proofs.lemmas.Int.{to_z-of_z}
 use Rattle.mg_rooms.specs.World.{record_at}
 use Rattle.mg_engine.specs.Mix.{sum_of}

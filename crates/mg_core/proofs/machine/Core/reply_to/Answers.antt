@@ -4,10 +4,10 @@ use Rattle.mg_reply.specs.Bytes.{Written}
 use Rattle.mg_reply.specs.Written.{head_text}
 use Rattle.mg_scan.specs.Span.{text_of}
 use Rattle.mg_text.specs.declared.body.MessageItem.{MessageItem}
-use Rattle.mg_core.specs.Answer.{has_requests, head_of, replied_to}
+use Rattle.mg_core.specs.Answer.{has_requests, replied_to}
 use Rattle.mg_core.specs.CoreView.{CoreView}
 use Rattle.mg_core.specs.World.{StandsFor}
-use Rattle.mg_core.proofs.ReplyLaws.{silent_message, asked_message, writing}
+use Rattle.mg_core.proofs.ReplyLaws.{silent_message, asked_message}
 use Rattle.mg_core.proofs.machine.Core.reply_to.Goals as goal
 
 pub returns-then-not-has_requests-clause-replied : goal.returns-then-not-has_requests-clause-replied

@@ -1,4 +1,4 @@
-use Rattle.std.proofs.Common.{Err, take, length-take, arith}
+use Rattle.std.proofs.Common.{take, length-take, arith}
 use Rattle.std.proofs.lemmas.Result.{err_from_is_err_and}
 use Rattle.mg_core.proofs.RunLaws.{comes_start, comes_bytes, comes_fault, comes_end, progress_unread}
 use Rattle.mg_core.proofs.script_runner.ScriptRunner.take_all.Goals as goal

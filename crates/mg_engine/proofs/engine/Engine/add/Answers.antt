@@ -1,5 +1,4 @@
-use Rattle.std.proofs.Common.{◌≡◌, ◌<◌, ℕ, List, length, Ok, refl, sym, ap, subst, ◌∙◌, arith}
-use Rattle.mg_rooms.specs.declared.record.Record.{Record}
+use Rattle.std.proofs.Common.{◌<◌, length, sym, ap, subst, ◌∙◌, arith}
 use Rattle.mg_rooms.specs.Outcome as commands
 use Rattle.mg_rooms.specs.World as rooms
 use Rattle.mg_engine.specs.Media as media

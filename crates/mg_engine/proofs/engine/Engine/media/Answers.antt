@@ -1,4 +1,4 @@
-use Rattle.std.proofs.Common.{◌<◌, length, Option, Some, None, sym, ap, subst, ◌∙◌, arith}
+use Rattle.std.proofs.Common.{◌<◌, length, Option, sym, ap, subst, ◌∙◌, arith}
 use Rattle.mg_rooms.specs.declared.limits.Limits.{Limits}
 use Rattle.mg_rooms.specs.declared.record.Record.{Record}
 use Rattle.mg_rooms.specs.Sound.{IsSound}

@@ -1,4 +1,4 @@
-use Rattle.std.proofs.Common.{◌≡◌, ℕ, ◌+◌, ◌%◌, ◌^◌, ◌<◌, length, List, get_or, sym, ap, subst, ◌∙◌, arith}
+use Rattle.std.proofs.Common.{ℕ, ◌+◌, ◌%◌, ◌^◌, ◌<◌, length, List, get_or, sym, ap, ◌∙◌, arith}
 use Rattle.std.proofs.lemmas.List.{get_or_default}
 use Rattle.mg_rooms.specs.declared.limits.Limits.{Limits}
 use Rattle.mg_rooms.specs.Limits.{port_of}
@@ -6,7 +6,6 @@ use Rattle.mg_engine.specs.Media as media
 use Rattle.mg_engine.specs.Media.{idle}
 use Rattle.mg_engine.specs.Sending.{mixed_now, packet_now}
 use Rattle.mg_engine.specs.Stands.{Kept}
-use Rattle.mg_engine.specs.Tick.{type_of}
 use Rattle.mg_engine.proofs.SendingLaws.{packet_is}
 use Rattle.mg_engine.proofs.engine.Engine.packet.Goals as goal
 

@@ -1,4 +1,4 @@
-use Rattle.std.proofs.Common.{◌≡◌, List, [], ◌∷◌, ◌++◌, Option, Some, sym, ap, ◌∙◌}
+use Rattle.std.proofs.Common.{◌≡◌, [], ◌∷◌, ◌++◌, Option, sym, ap, ◌∙◌}
 use Rattle.std.specs.Prelude.{option_to_list}
 use Rattle.std.specs.Option.{option_map}
 use Rattle.mg_sdp.specs.declared.chosen.Chosen.{Chosen}

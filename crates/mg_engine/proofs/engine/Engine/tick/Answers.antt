@@ -1,10 +1,9 @@
-use Rattle.std.proofs.Common.{◌≡◌, List, map, refl, sym, ap, subst, ◌∙◌, arith}
+use Rattle.std.proofs.Common.{List, map, refl, sym, ap, subst, ◌∙◌, arith}
 use Rattle.mg_rooms.specs.declared.limits.Limits.{Limits}
-use Rattle.mg_engine.specs.declared.config.Config.{Config}
 use Rattle.mg_engine.specs.Media as media
 use Rattle.mg_engine.specs.Sending.{packets_now}
 use Rattle.mg_engine.specs.Stands.{Kept, StandsFor}
-use Rattle.mg_engine.specs.Tick.{all_played, sent_in_tick}
+use Rattle.mg_engine.specs.Tick.{all_played}
 use Rattle.mg_engine.proofs.SentLaws.{packets_are}
 use Rattle.mg_engine.proofs.TickLaws.{HasMedia, with_media, played_stands, played_old, tick_stands}
 use Rattle.mg_engine.proofs.engine.Engine.tick.Goals as goal

@@ -1,6 +1,6 @@
 use Rattle.std.proofs.Common.{◌<◌, ℕ, ℤ, List, Some, w32, sym, ap, subst, ◌∙◌, arith, rules}
 use Rattle.std.proofs.lemmas.Int.{to_z-of_z}
-use Rattle.mg_rooms.specs.World.{record_at, members_at}
+use Rattle.mg_rooms.specs.World.{record_at}
 use Rattle.mg_engine.specs.Media as media
 use Rattle.mg_engine.specs.Mix.{sum_of}
 use Rattle.mg_engine.specs.Sending.{talking_now}

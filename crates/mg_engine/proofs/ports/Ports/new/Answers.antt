@@ -1,5 +1,4 @@
-use Rattle.std.proofs.Common.{◌≡◌, ℕ, ◌+◌, ◌*◌, eqb, cond, Option, Some, sym, ap, ◌∙◌, arith, nat_eq}
-use Rattle.indexmap.specs.IndexMap.{get}
+use Rattle.std.proofs.Common.{◌≡◌, ℕ, ◌+◌, ◌*◌, eqb, cond, Option, Some, sym, ap, ◌∙◌, arith}
 use Rattle.mg_engine.specs.Ports.{slot_of}
 use Rattle.mg_engine.proofs.PoolLaws.{slot_more, slot_below}
 use Rattle.mg_engine.proofs.ports.Ports.new.Goals as goal

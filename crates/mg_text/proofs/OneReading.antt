@@ -1,14 +1,12 @@
 -- Each datagram is read in exactly one way.
-use Rattle.std.proofs.Common.{◌≡◌, ℕ, ◌<◌, ◌≤◌, eqb, Bool, true, false, List, Option, Some, None, Result, Ok, Err, refl, inl, inr, ◌⊎◌, sym, ap, subst, ◌∙◌, arith, length}
-use Rattle.std.specs.Prelude.{nat_lt}
-use Rattle.std.proofs.lemmas.Bool.{eqb-true, true≢false, ltb-true}
+use Rattle.std.proofs.Common.{◌≡◌, ℕ, ◌≤◌, eqb, Bool, true, false, List, Option, Some, None, Result, Ok, Err, refl, inl, inr, sym, ap, subst, ◌∙◌, arith, length}
+use Rattle.std.proofs.lemmas.Bool.{eqb-true, true≢false}
 use Rattle.std.proofs.lemmas.Bool.Decides.{leb_tells}
 use Rattle.mg_scan.specs.declared.fault.ScanFault.{ScanFault}
 use Rattle.mg_scan.specs.declared.token.Token.{Token}
 use Rattle.mg_text.specs.declared.message.Message.{Message}
 use Rattle.mg_text.specs.Head.{version_of}
 use Rattle.mg_text.specs.Text.{version_at, text_at, is_within}
-use Rattle.mg_text.specs.Grammar.{IsText, IsWorded}
 use Rattle.mg_text.specs.Message.{AreTokens, IsTree, IsMessage, AsksTooMuch, IsTooMany, HasOtherVersion, requests_in, commands_in, items_of}
 use Rattle.mg_text.specs.MessageReading.{MessageReading, Read, TooMany, OtherVersion, NoMessage, IsNoMessage, IsReading}
 use Rattle.mg_text.proofs.ScanLaws.{one_scan}

@@ -8,11 +8,11 @@ use Rattle.mg_core.specs.declared.fault.RunFault.{RunFault}
 use Rattle.mg_core.specs.declared.fault.RunFault.TheVariants as faults
 use Rattle.mg_core.specs.Script.{events_of, lines_of}
 use Rattle.mg_core.specs.declared.counts.Counts.{Counts}
-use Rattle.mg_engine.specs.Config.{IsSound}
+use Rattle.mg_engine.specs.Config.{IsValidConfig}
 use Rattle.mg_bridge.specs.declared.status.Status.{Status}
 use Rattle.mg_bridge.specs.declared.status.Status.TheVariants.{Done, BadLine, Usage, Failed, NoMemory}
 use Rattle.mg_bridge.specs.Status.{code_of, status_of}
-use Rattle.mg_bridge.specs.Options.{Asked, IsRefused, refused, replay}
+use Rattle.mg_bridge.specs.Options.{Invocation, IsRefused, refused, replay}
 use Rattle.mg_bridge.specs.Replay.{Ends, Replays, Tells}
 
 appends_nothing : (old : Option (List ℕ)) → Appends old old []
@@ -22,7 +22,7 @@ appends_nothing (Some held) = sym (append-nil held)
 abbrev no_memory : Result Counts RunFault
 no_memory = Err faults.NoMemory
 
-not_bad : (config : Config) → no_memory ≡ Err faults.BadConfig → IsSound config → ⊥
+not_bad : (config : Config) → no_memory ≡ Err faults.BadConfig → IsValidConfig config → ⊥
 not_bad config e h = cc e
 
 not_begun : (config : Config) (input old : Option (List ℕ)) → Replays config input old old NoMemory
@@ -43,7 +43,7 @@ not_begun config (Some script) old = record {
 }
 
 -- a fault of the words was told, and their input was left alone
-pub ends_told : {R W : Type 0} (remaining : R → Option (List ℕ)) (contents : W → Option (List ℕ)) (asked : Asked) (kind : ErrorKind)
+pub ends_told : {R W : Type 0} (remaining : R → Option (List ℕ)) (contents : W → Option (List ℕ)) (asked : Invocation) (kind : ErrorKind)
     (input rest : R) (old new : W) (status : Status) → IsRefused asked kind → Tells kind old new status → rest ≡ input
     → Ends remaining contents asked input rest old new status
 ends_told remaining contents (replay config) kind input rest old new status memory told left =

@@ -1,4 +1,4 @@
-pub mod AskedLaws
+pub mod InvocationLaws
 pub mod AskedRows
 pub mod CommandLaws
 pub mod EndLaws

@@ -1,9 +1,11 @@
 -- The command line, as the parser of its words knows it, and what words ask of the program.
-use Rattle.std.specs.Prelude.{◌≡◌, ℕ, true, ◌&&◌, nat_lt, if◌then◌else◌, List, [], ◌∷◌, Option, Some, None, unwrap_or, option_and_then, codes, pos}
+use Rattle.std.specs.Prelude.{◌≡◌, ℕ, true, ◌&&◌, nat_lt, if◌then◌else◌, List, [], ◌∷◌, Option}
+use Rattle.std.specs.Prelude.{Some, None, unwrap_or, option_and_then, codes, pos}
 use Rattle.std.specs.Str.Parse.{digits_value, without_leading_plus}
 use Rattle.clap.specs.ValueTests.{is_numeral}
 use Rattle.clap.specs.Walk.{Row, Rule, Text, one_of}
-use Rattle.clap.specs.Simple.{App, new_app, new_rule, on_top, subcommand_of, with_rule, with_subcommand}
+use Rattle.clap.specs.Simple.{App, new_app, new_rule, on_top, subcommand_of, with_rule}
+use Rattle.clap.specs.Simple.{with_subcommand}
 use Rattle.clap.specs.Kinds.{Kinds, IsAmong}
 use Rattle.clap.specs.Faults.{fault_of}
 use Rattle.clap.specs.declared.error.kind.ErrorKind.{ErrorKind}
@@ -14,12 +16,19 @@ use Rattle.mg_engine.specs.Config.{standard}
 
 -- an option with this name that takes one number, from 0 to `most`
 abbrev pub number_rule : Text → ℕ → Rule
-number_rule name most = record (new_rule name) { long = Some name; value_names = 1; parser = Some (Signed (pos 0) (pos most)) }
+number_rule name most =
+    record (new_rule name) {
+      long = Some name;
+      value_names = 1;
+      parser = Some (Signed (pos 0) (pos most));
+    }
 
 -- the options of `replay`, each of which may be given once
 unfoldable pub options : List Rule
-options = number_rule (codes "control-port") 65535 ∷ number_rule (codes "base-port") 65535 ∷ number_rule (codes "slots") 65535
-    ∷ number_rule (codes "ssrc") 4294967295 ∷ number_rule (codes "sequence") 65535 ∷ number_rule (codes "timestamp") 4294967295 ∷ []
+options = number_rule (codes "control-port") 65535 ∷ number_rule (codes "base-port") 65535
+    ∷ number_rule (codes "slots") 65535
+    ∷ number_rule (codes "ssrc") 4294967295 ∷ number_rule (codes "sequence") 65535
+    ∷ number_rule (codes "timestamp") 4294967295 ∷ []
 
 abbrev pub with_rules : App → List Rule → App
 with_rules app [] = app
@@ -32,17 +41,23 @@ replay_line = with_rules (new_app (codes "replay")) options
 
 -- the command line: words without the program's name, of which one is a subcommand
 unfoldable pub command_line : App
-command_line = with_subcommand (on_top (λ top. record top { no_binary_name = true; subcommand_required = true }) (new_app (codes "mg_bridge")))
+command_line =
+    with_subcommand (on_top (λ top. record top {
+      no_binary_name = true;
+      subcommand_required = true;
+    }) (new_app (codes "mg_bridge")))
     replay_line.top
 
 -- the number below `limit` that decimal digits write, with a plus before them or none
 abbrev pub number_below : ℕ → Text → Option ℕ
 number_below limit text = let digits = without_leading_plus text in
-    if is_numeral digits && nat_lt (digits_value 10 digits) limit then Some (digits_value 10 digits) else None
+    if is_numeral digits && nat_lt (digits_value 10 digits) limit
+    then Some (digits_value 10 digits) else None
 
 -- the number that an option was given, and what stands for it where it wasn't
 abbrev pub number_in : ℕ → Text → List Row → ℕ → ℕ
-number_in limit name found otherwise = unwrap_or (option_and_then (number_below limit) (one_of name found)) otherwise
+number_in limit name found otherwise =
+    unwrap_or (option_and_then (number_below limit) (one_of name found)) otherwise
 
 abbrev pub short_in : Text → List Row → ℕ → ℕ
 short_in = number_in 65536
@@ -61,20 +76,21 @@ config_in found = record standard {
   timestamp = long_in (codes "timestamp") found standard.timestamp;
 }
 
--- What words ask of the program: the subcommand's run with a configuration, or none. There is none where the parser of
--- words has a fault to tell, which has one of the kinds. A call for help is such a fault.
-pub data Asked : Type 0 where
-  replay : Config → Asked
-  refused : Kinds → Asked
+-- What words ask of the program: the subcommand's run with a configuration, or none. There is none
+-- where the parser of words has a fault to tell, which has one of the kinds. A call for help is
+-- such a fault.
+pub data Invocation : Type 0 where
+  replay : Config → Invocation
+  refused : Kinds → Invocation
 
-abbrev pub asked_by : Kinds → Option (Text × List Row) → Asked
+abbrev pub asked_by : Kinds → Option (Text × List Row) → Invocation
 asked_by [] (Some found) = replay (config_in found.1)
 asked_by kinds found = refused kinds
 
-unfoldable pub asked : List Text → Asked
+unfoldable pub asked : List Text → Invocation
 asked words = asked_by (fault_of command_line words) (subcommand_of command_line words)
 
 -- the words ask for no run, and an error of this kind says why
-abbrev pub IsRefused : Asked → ErrorKind → Type 0
+abbrev pub IsRefused : Invocation → ErrorKind → Type 0
 IsRefused (replay config) kind = kind ≡ OutOfMemory
 IsRefused (refused kinds) kind = IsAmong kind (OutOfMemory ∷ kinds)

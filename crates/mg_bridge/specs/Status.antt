@@ -4,7 +4,8 @@ use Rattle.mg_core.specs.declared.counts.Counts.{Counts}
 use Rattle.mg_core.specs.declared.fault.RunFault.{RunFault}
 use Rattle.mg_core.specs.declared.fault.RunFault.TheVariants as faults
 use Rattle.mg_bridge.specs.declared.status.Status.{Status}
-use Rattle.mg_bridge.specs.declared.status.Status.TheVariants.{Done, BadLine, Usage, Failed, NoMemory}
+use Rattle.mg_bridge.specs.declared.status.Status.TheVariants.{Done, BadLine, Usage, Failed}
+use Rattle.mg_bridge.specs.declared.status.Status.TheVariants.{NoMemory}
 
 unfoldable pub code_of : Status → ℕ
 code_of Done = 0

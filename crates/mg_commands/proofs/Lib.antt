@@ -1,5 +1,7 @@
 pub mod FaultSteps
-pub mod PropertySteps
-pub mod AskedSteps
+pub mod SearchSteps
+pub mod LevelLaws
+pub mod ParameterLaws
 pub mod RunLaws
+pub mod WideLaws
 pub mod Rows

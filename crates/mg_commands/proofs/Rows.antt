@@ -1,28 +1,26 @@
 -- What small requests come to, by computing.
 use Rattle.std.proofs.Common.{◌≡◌, ℕ, List, [], ◌∷◌, None, refl, codes, false}
 use Rattle.mg_scan.specs.declared.span.Span.{Span}
-use Rattle.mg_reply.specs.declared.command_word.CommandWord.{CommandWord}
-use Rattle.mg_reply.specs.declared.command_word.CommandWord.TheVariants.{Add, Modify, Move, Subtract}
-use Rattle.mg_reply.specs.declared.context_id.ContextId.{ContextId}
-use Rattle.mg_reply.specs.declared.context_id.ContextId.TheVariants.{Choose, Number}
-use Rattle.mg_reply.specs.declared.error_number.ErrorNumber.{ErrorNumber}
-use Rattle.mg_reply.specs.declared.error_number.ErrorNumber.TheVariants.{UnknownContext, UnknownTermination, NoTerminationLeft, AlreadyInContext}
+use Rattle.mg_words.specs.declared.command_word.CommandWord.{CommandWord}
+use Rattle.mg_words.specs.declared.command_word.CommandWord.TheVariants.{Add, Modify, Move, Subtract}
+use Rattle.mg_words.specs.declared.context_id.ContextId.{ContextId}
+use Rattle.mg_words.specs.declared.context_id.ContextId.TheVariants.{Choose, Number}
+use Rattle.mg_words.specs.declared.error_number.ErrorNumber.{ErrorNumber}
+use Rattle.mg_words.specs.declared.error_number.ErrorNumber.TheVariants.{UnknownContext, UnknownTermination, NoTerminationLeft, AlreadyInContext}
 use Rattle.mg_reply.specs.declared.item.Item.{Item}
 use Rattle.mg_reply.specs.declared.item.Item.TheVariants as items
 use Rattle.mg_reply.specs.declared.outcome.Outcome.TheVariants.{Failed, Done}
-use Rattle.mg_reply.specs.Term.{rtp_name}
+use Rattle.mg_words.specs.Term.{rtp_name}
 use Rattle.mg_rooms.specs.Outcome.{add, modify, move_to, subtract}
 use Rattle.mg_engine.specs.Config.{standard}
-use Rattle.mg_engine.specs.World.{World, start_of}
+use Rattle.mg_engine.specs.Gateway.{Gateway, start_of}
 use Rattle.mg_text.specs.declared.command.Command.{Command}
 use Rattle.mg_text.specs.declared.descriptor.Descriptor.{Descriptor}
 use Rattle.mg_text.specs.declared.descriptor.Descriptor.TheVariants.{Audit}
 use Rattle.mg_text.specs.declared.request.Request.{Request}
-use Rattle.mg_commands.specs.Asked.{with_descriptors}
-use Rattle.mg_commands.specs.Faults.{first_fault}
-use Rattle.mg_commands.specs.Name.{name_of, behind_rtp, name_in_rtp, written_name}
+use Rattle.mg_commands.specs.Name.{name_of, after_rtp, name_in_rtp, written_name}
 use Rattle.mg_commands.specs.Outcome.{outcome}
-use Rattle.mg_commands.specs.Properties.{first_of}
+use Rattle.mg_commands.specs.Search.{first_of, first_after}
 use Rattle.mg_commands.specs.Transaction.{replied, with_actions, with_action, with_commands}
 
 abbrev source : List ℕ
@@ -46,17 +44,17 @@ command word term xs = record { word = word; is_optional = false; wants_wildcard
 abbrev request : ContextId → List Command → Request
 request context cs = record { number = 1; actions = record { context = context; properties = []; commands = cs } ∷ [] }
 
-abbrev after : World → ContextId → List Command → World
-after w context cs = (replied source (request context cs) w).world
+abbrev after : Gateway → ContextId → List Command → Gateway
+after w context cs = (replied source (request context cs) w).gateway
 
-abbrev told : World → ContextId → List Command → List Item
-told w context cs = (replied source (request context cs) w).reply.items
+abbrev told : Gateway → ContextId → List Command → List Item
+told w context cs = (replied source (request context cs) w).items
 
-abbrev begun : World
-begun = start_of standard
+abbrev new_gateway : Gateway
+new_gateway = start_of standard
 
-abbrev added : Command
-added = command Add choose []
+abbrev add_one : Command
+add_one = command Add choose []
 
 abbrev done : CommandWord → List ℕ → Item
 done word term = items.Command word term (Done (record { media = None; statistics = None }))
@@ -64,29 +62,29 @@ done word term = items.Command word term (Done (record { media = None; statistic
 abbrev failed : CommandWord → List ℕ → ErrorNumber → Item
 failed word term e = items.Command word term (Failed e)
 
-abbrev one_member : World
-one_member = after begun Choose (added ∷ [])
+abbrev one_member : Gateway
+one_member = after new_gateway Choose (add_one ∷ [])
 
-two_terminations_enter_one_context : told begun Choose (added ∷ added ∷ []) ≡ done Add (rtp_name 1) ∷ done Add (rtp_name 2) ∷ items.Action (Number 1) ∷ []
-unfolding with_actions with_action with_commands outcome add name_of behind_rtp name_in_rtp first_fault first_of with_descriptors
+two_terminations_enter_one_context : told new_gateway Choose (add_one ∷ add_one ∷ []) ≡ done Add (rtp_name 1) ∷ done Add (rtp_name 2) ∷ items.Action (Number 1) ∷ []
+unfolding with_actions with_action with_commands outcome add name_of after_rtp name_in_rtp first_after first_of
 two_terminations_enter_one_context = refl
 
-an_unknown_name_ends_the_request : told begun Choose (command Modify ninth [] ∷ added ∷ []) ≡ failed Modify (rtp_name 9) UnknownTermination ∷ items.Action Choose ∷ []
-unfolding with_actions with_action with_commands outcome add modify name_of behind_rtp name_in_rtp written_name first_fault first_of with_descriptors
+an_unknown_name_ends_the_request : told new_gateway Choose (command Modify ninth [] ∷ add_one ∷ []) ≡ failed Modify (rtp_name 9) UnknownTermination ∷ items.Action Choose ∷ []
+unfolding with_actions with_action with_commands outcome add modify name_of after_rtp name_in_rtp written_name first_after first_of
 an_unknown_name_ends_the_request = refl
 
-one_slot_is_used_up : told (start_of (record standard { slots = 1 })) Choose (added ∷ added ∷ []) ≡ done Add (rtp_name 1) ∷ failed Add (codes "$") NoTerminationLeft ∷ items.Action (Number 1) ∷ []
-unfolding with_actions with_action with_commands outcome add name_of behind_rtp name_in_rtp written_name first_fault first_of with_descriptors
+one_slot_is_used_up : told (start_of (record standard { slots = 1 })) Choose (add_one ∷ add_one ∷ []) ≡ done Add (rtp_name 1) ∷ failed Add (codes "$") NoTerminationLeft ∷ items.Action (Number 1) ∷ []
+unfolding with_actions with_action with_commands outcome add name_of after_rtp name_in_rtp written_name first_after first_of
 one_slot_is_used_up = refl
 
-a_context_ends_with_its_last_member : told one_member (Number 1) (command Subtract first (Audit [] ∷ []) ∷ added ∷ []) ≡ done Subtract (rtp_name 1) ∷ failed Add (codes "$") UnknownContext ∷ items.Action (Number 1) ∷ []
-unfolding with_actions with_action with_commands outcome add subtract name_of behind_rtp name_in_rtp written_name first_fault first_of with_descriptors
+a_context_ends_with_its_last_member : told one_member (Number 1) (command Subtract first (Audit [] ∷ []) ∷ add_one ∷ []) ≡ done Subtract (rtp_name 1) ∷ failed Add (codes "$") UnknownContext ∷ items.Action (Number 1) ∷ []
+unfolding with_actions with_action with_commands outcome add subtract name_of after_rtp name_in_rtp written_name first_after first_of
 a_context_ends_with_its_last_member = refl
 
-an_ended_context_stays_the_action_s : told (after one_member (Number 1) (command Subtract first [] ∷ [])) Choose (added ∷ command Subtract second (Audit [] ∷ []) ∷ added ∷ []) ≡ done Add (rtp_name 2) ∷ done Subtract (rtp_name 2) ∷ failed Add (codes "$") UnknownContext ∷ items.Action (Number 2) ∷ []
-unfolding with_actions with_action with_commands outcome add subtract name_of behind_rtp name_in_rtp written_name first_fault first_of with_descriptors
+an_ended_context_stays_the_action_s : told (after one_member (Number 1) (command Subtract first [] ∷ [])) Choose (add_one ∷ command Subtract second (Audit [] ∷ []) ∷ add_one ∷ []) ≡ done Add (rtp_name 2) ∷ done Subtract (rtp_name 2) ∷ failed Add (codes "$") UnknownContext ∷ items.Action (Number 2) ∷ []
+unfolding with_actions with_action with_commands outcome add subtract name_of after_rtp name_in_rtp written_name first_after first_of
 an_ended_context_stays_the_action_s = refl
 
 a_member_cannot_move_to_its_context : told one_member (Number 1) (command Move first [] ∷ []) ≡ failed Move (rtp_name 1) AlreadyInContext ∷ items.Action (Number 1) ∷ []
-unfolding with_actions with_action with_commands outcome add move_to name_of behind_rtp name_in_rtp written_name first_fault first_of with_descriptors
+unfolding with_actions with_action with_commands outcome add move_to name_of after_rtp name_in_rtp written_name first_after first_of
 a_member_cannot_move_to_its_context = refl

@@ -1,16 +1,28 @@
--- One step of the loops over commands and actions.
-use Rattle.std.proofs.Common.{◌≡◌, ℕ, ◌+◌, ◌<◌, ◌≤◌, Bool, true, false, List, length, get_or, drop, refl, sym, ap, ◌∙◌}
+-- What comes of the commands and actions of a request, step by step.
+use Rattle.std.proofs.Common.{◌≡◌, ℕ, ◌+◌, ◌<◌, ◌≤◌, Bool, true, false, List, [], ◌∷◌, ◌++◌, length, get_or, drop, Ok, Err, refl, sym, ap, ◌∙◌, append_assoc}
 use Rattle.std.specs.List.{list_all}
 use Rattle.std.proofs.lemmas.List.{drop_more, drop_all}
 use Rattle.std.proofs.lemmas.List.Folds.{list_all_at}
-use Rattle.mg_reply.specs.Reply.{Answered}
+use Rattle.mg_scan.specs.Span.{text_of}
+use Rattle.mg_words.specs.Leads.{Leads}
+use Rattle.mg_words.specs.declared.error_number.ErrorNumber.{ErrorNumber}
+use Rattle.mg_words.specs.declared.error_number.ErrorNumber.TheVariants.{NotServed}
+use Rattle.mg_reply.specs.declared.item.Item.{Item}
+use Rattle.mg_reply.specs.declared.item.Item.TheVariants as replies
+use Rattle.mg_reply.specs.declared.outcome.Outcome.TheVariants.{Failed, Done}
+use Rattle.mg_reply.specs.Reply.{Answered, started, after_put, after_all}
 use Rattle.mg_rooms.specs.declared.target.Target.{Target}
-use Rattle.mg_engine.specs.World.{World}
-use Rattle.mg_engine.specs.Stands.{Kept, StandsFor}
+use Rattle.mg_engine.specs.Gateway.{Gateway}
+use Rattle.mg_engine.specs.Stands.{EngineState, StandsFor}
 use Rattle.mg_text.specs.declared.command.Command.{Command}
 use Rattle.mg_text.specs.declared.request.Action.{Action}
+use Rattle.mg_text.specs.declared.request.Request.{Request}
 use Rattle.mg_text.specs.Proper.{command_is_proper, action_is_proper}
-use Rattle.mg_commands.specs.Transaction.{Run, State, RunsTo, ActsTo, with_command, with_commands, with_action, with_actions}
+use Rattle.mg_commands.specs.declared.served.Served.{Served}
+use Rattle.mg_commands.specs.Name.{written_name}
+use Rattle.mg_commands.specs.Outcome.{outcome}
+use Rattle.mg_commands.specs.Transaction.{ActionState, TransactionState, after_command, with_command, with_commands, action_start, id_of, target_of, is_refused, with_action, with_actions, replied}
+use Rattle.mg_commands.specs.aids.Runs.{Comes, ActionKept, action_kept, IsAction, TransactionKept, transaction_kept, IsTransaction}
 
 value_cases : (b : Bool) → (b ≡ false → true ≡ false) → b ≡ true
 value_cases true h = refl
@@ -25,75 +37,144 @@ action_proper source xs i d lt all = value_cases (action_is_proper source (get_o
 
 pub ruleset propers = (command_proper, action_proper)
 
+-- an item put after others
+put_last : (base : Answered) (xs : List Item) (x : Item) → after_all base (xs ++ x ∷ []) ≡ after_put (after_all base xs) x
+put_last base [] x = refl
+put_last base (y ∷ ys) x = put_last (after_put base y) ys x
+
+put_next : (base before : Answered) (xs : List Item) (x : Item) → before ≡ after_all base xs → after_put before x ≡ after_all base (xs ++ x ∷ [])
+put_next base before xs x h = ap (λ (r : Answered). after_put r x) h ∙ sym (put_last base xs x)
+
+-- ## A command
+
+abbrev item_done : Command → Served → Item
+item_done c s = replies.Command c.word s.term (Done s.parts)
+
+abbrev item_failed : List ℕ → Command → ErrorNumber → Item
+item_failed source c e = replies.Command c.word (written_name (text_of source c.term)) (Failed e)
+
+with_outcome : (source : List ℕ) (c : Command) (run : ActionState) (target : Target) → run.target ≡ target → with_command source c run ≡ after_command source run c (outcome source run.gateway target c)
+with_outcome source c run target h = ap (λ (t : Target). after_command source run c (outcome source run.gateway t c)) h
+
+pub command_done : (source : List ℕ) (c : Command) (old new : EngineState) (target : Target) (before told : Answered) (s : Served) → ((w : Gateway) → StandsFor old w → Comes new (Ok s) (outcome source w target c)) → told ≡ after_put before (item_done c s)
+    → (base : Answered) → Leads (IsAction base) (action_kept old target before) (action_kept new s.target told) (λ run next. with_command source c run ≡ (next, true))
+command_done source c old new target before told s came put base run h =
+    let (w, did, stands) = came run.gateway h.gateway in (
+      record { gateway = w; target = s.target; items = run.items ++ item_done c s ∷ [] },
+      with_outcome source c run target h.target ∙ ap (after_command source run c) did,
+      record { gateway = stands; target = refl; reply = put ∙ put_next base before run.items (item_done c s) h.reply },
+    )
+
+pub command_failed : (source : List ℕ) (c : Command) (old new : EngineState) (target : Target) (before told : Answered) (e : ErrorNumber) → ((w : Gateway) → StandsFor old w → Comes new (Err e) (outcome source w target c)) → new ≡ old → told ≡ after_put before (item_failed source c e)
+    → (base : Answered) → Leads (IsAction base) (action_kept old target before) (action_kept new target told) (λ run next. with_command source c run ≡ (next, false))
+command_failed source c old new target before told e came same put base run h = (
+  record { gateway = run.gateway; target = run.target; items = run.items ++ item_failed source c e ∷ [] },
+  with_outcome source c run target h.target ∙ ap (after_command source run c) (came run.gateway h.gateway),
+  record { gateway = rw same h.gateway; target = h.target; reply = put ∙ put_next base before run.items (item_failed source c e) h.reply },
+)
+
 -- ## Commands
 
-abbrev run_of : World → Target → Answered → Run
-run_of w target reply = record { world = w; target = target; reply = reply }
-
-command_done : (source : List ℕ) (cs : List Command) (i : ℕ) (d : Command) (run next : Run) → i < length cs → with_command source (get_or cs i d) run ≡ (next, true) → with_commands source (drop i cs) run ≡ with_commands source (drop (i + 1) cs) next
+next_done : (source : List ℕ) (cs : List Command) (i : ℕ) (d : Command) (run next : ActionState) → i < length cs → with_command source (get_or cs i d) run ≡ (next, true) → with_commands source (drop i cs) run ≡ with_commands source (drop (i + 1) cs) next
 unfolding with_commands
-command_done source cs i d run next lt e = rw (drop_more cs i d lt, e) refl
+next_done source cs i d run next lt e = rw (drop_more cs i d lt, e) refl
 
-command_failed : (source : List ℕ) (cs : List Command) (i : ℕ) (d : Command) (run next : Run) → i < length cs → with_command source (get_or cs i d) run ≡ (next, false) → with_commands source (drop i cs) run ≡ (next, false)
+next_failed : (source : List ℕ) (cs : List Command) (i : ℕ) (d : Command) (run next : ActionState) → i < length cs → with_command source (get_or cs i d) run ≡ (next, false) → with_commands source (drop i cs) run ≡ (next, false)
 unfolding with_commands
-command_failed source cs i d run next lt e = rw (drop_more cs i d lt, e) refl
+next_failed source cs i d run next lt e = rw (drop_more cs i d lt, e) refl
 
-commands_end : (source : List ℕ) (cs : List Command) (i : ℕ) (run : Run) → length cs ≤ i → with_commands source (drop i cs) run ≡ (run, true)
+commands_end : (source : List ℕ) (cs : List Command) (i : ℕ) (run : ActionState) → length cs ≤ i → with_commands source (drop i cs) run ≡ (run, true)
 unfolding with_commands
 commands_end source cs i run le = rw (drop_all i cs le) refl
 
--- The loop over commands: it was entered with an engine that stood for each world w, and f w is what comes of w.
-module _ (source : List ℕ) (cs : List Command) (entered kept : Kept) (target : Target) (reply : Answered) (f : World → Run × Bool) (i : ℕ)
-    (inside : (w : World) → StandsFor entered w → (now : World) × (f w ≡ with_commands source (drop i cs) (run_of now target reply)) × StandsFor kept now) where
-  pub commands_go_on : (c d : Command) (new : Kept) (next : Target) (told : Answered) → i < length cs → c ≡ get_or cs i d → RunsTo kept new next told true (λ w. with_command source c (run_of w target reply)) → (w : World) → StandsFor entered w → (now : World) × (f w ≡ with_commands source (drop (i + 1) cs) (run_of now next told)) × StandsFor new now
-  commands_go_on c d new next told lt is step w h =
-      let (now, came, stands) = inside w h in
-      let (after, did, left) = step now stands in
-      (after, came ∙ command_done source cs i d (run_of now target reply) (run_of after next told) lt (ap (λ (c : Command). with_command source c (run_of now target reply)) (sym is) ∙ did), left)
+-- The loop over commands, at the command i. What it was entered with stood for actions; each came to one of those for
+-- which what it has now stands.
+module _ (source : List ℕ) (cs : List Command) (base : Answered) (entered kept : ActionKept) (i : ℕ)
+    (inside : Leads (IsAction base) entered kept (λ run now. with_commands source cs run ≡ with_commands source (drop i cs) now)) where
+  pub commands_go_on : (c d : Command) (new : ActionKept) → i < length cs → c ≡ get_or cs i d → Leads (IsAction base) kept new (λ run next. with_command source c run ≡ (next, true)) → Leads (IsAction base) entered new (λ run now. with_commands source cs run ≡ with_commands source (drop (i + 1) cs) now)
+  commands_go_on c d new lt is step run h =
+      let (now, came, stands) = inside run h in
+      let (next, did, left) = step now stands in
+      (next, came ∙ next_done source cs i d now next lt (ap (λ (c : Command). with_command source c now) (sym is) ∙ did), left)
 
-  pub commands_stop : (c d : Command) (new : Kept) (next : Target) (told : Answered) → i < length cs → c ≡ get_or cs i d → RunsTo kept new next told false (λ w. with_command source c (run_of w target reply)) → RunsTo entered new next told false f
-  commands_stop c d new next told lt is step w h =
-      let (now, came, stands) = inside w h in
-      let (after, did, left) = step now stands in
-      (after, came ∙ command_failed source cs i d (run_of now target reply) (run_of after next told) lt (ap (λ (c : Command). with_command source c (run_of now target reply)) (sym is) ∙ did), left)
+  pub commands_stop : (c d : Command) (new : ActionKept) → i < length cs → c ≡ get_or cs i d → Leads (IsAction base) kept new (λ run next. with_command source c run ≡ (next, false)) → Leads (IsAction base) entered new (λ run next. with_commands source cs run ≡ (next, false))
+  commands_stop c d new lt is step run h =
+      let (now, came, stands) = inside run h in
+      let (next, did, left) = step now stands in
+      (next, came ∙ next_failed source cs i d now next lt (ap (λ (c : Command). with_command source c now) (sym is) ∙ did), left)
 
-  pub commands_done : length cs ≤ i → RunsTo entered kept target reply true f
-  commands_done le w h =
-      let (now, came, stands) = inside w h in
-      (now, came ∙ commands_end source cs i (run_of now target reply) le, stands)
+  pub commands_finish : length cs ≤ i → Leads (IsAction base) entered kept (λ run next. with_commands source cs run ≡ (next, true))
+  commands_finish le run h =
+      let (now, came, stands) = inside run h in
+      (now, came ∙ commands_end source cs i now le, stands)
+
+-- ## An action
+
+pub action_refused : (source : List ℕ) (a : Action) (kept : EngineState) (before fault told : Answered) → is_refused a ≡ true → fault ≡ after_put before (replies.Fault NotServed) → told ≡ after_put fault (replies.Action a.context)
+    → (base : Answered) → Leads (IsTransaction base) (transaction_kept kept before) (transaction_kept kept told) (λ s next. with_action source a s ≡ (next, false))
+unfolding with_action
+action_refused source a kept before fault told e first last base s h = (
+  record { gateway = s.gateway; items = s.items ++ replies.Fault NotServed ∷ replies.Action a.context ∷ [] },
+  rw e refl,
+  record {
+    gateway = h.gateway;
+    reply = last ∙ put_next base fault (s.items ++ replies.Fault NotServed ∷ []) (replies.Action a.context) (first ∙ put_next base before s.items (replies.Fault NotServed) h.reply)
+        ∙ ap (after_all base) (append_assoc s.items (replies.Fault NotServed ∷ []) (replies.Action a.context ∷ []));
+  },
+)
+
+pub action_ended : (source : List ℕ) (a : Action) (old new : EngineState) (before told ended : Answered) (target : Target) (is_done : Bool) → is_refused a ≡ false → ended ≡ after_put told (replies.Action (id_of target))
+    → ((base : Answered) → Leads (IsAction base) (action_kept old (target_of a.context) before) (action_kept new target told) (λ run next. with_commands source a.commands run ≡ (next, is_done)))
+    → (base : Answered) → Leads (IsTransaction base) (transaction_kept old before) (transaction_kept new ended) (λ s next. with_action source a s ≡ (next, is_done))
+unfolding with_action
+action_ended source a old new before told ended target is_done e put ran base s h =
+    let (next, did, stands) = ran base (action_start a s) (record { gateway = h.gateway; target = refl; reply = h.reply }) in (
+      record { gateway = next.gateway; items = next.items ++ replies.Action (id_of target) ∷ [] },
+      rw (e, did, stands.target) refl,
+      record { gateway = stands.gateway; reply = put ∙ put_next base told next.items (replies.Action (id_of target)) stands.reply },
+    )
 
 -- ## Actions
 
-abbrev state_of : World → Answered → State
-state_of w reply = record { world = w; reply = reply }
-
-action_done : (source : List ℕ) (xs : List Action) (i : ℕ) (d : Action) (s next : State) → i < length xs → with_action source (get_or xs i d) s ≡ (next, true) → with_actions source (drop i xs) s ≡ with_actions source (drop (i + 1) xs) next
+next_whole : (source : List ℕ) (xs : List Action) (i : ℕ) (d : Action) (s next : TransactionState) → i < length xs → with_action source (get_or xs i d) s ≡ (next, true) → with_actions source (drop i xs) s ≡ with_actions source (drop (i + 1) xs) next
 unfolding with_actions
-action_done source xs i d s next lt e = rw (drop_more xs i d lt, e) refl
+next_whole source xs i d s next lt e = rw (drop_more xs i d lt, e) refl
 
-action_stopped : (source : List ℕ) (xs : List Action) (i : ℕ) (d : Action) (s next : State) → i < length xs → with_action source (get_or xs i d) s ≡ (next, false) → with_actions source (drop i xs) s ≡ next
+next_last : (source : List ℕ) (xs : List Action) (i : ℕ) (d : Action) (s next : TransactionState) → i < length xs → with_action source (get_or xs i d) s ≡ (next, false) → with_actions source (drop i xs) s ≡ next
 unfolding with_actions
-action_stopped source xs i d s next lt e = rw (drop_more xs i d lt, e) refl
+next_last source xs i d s next lt e = rw (drop_more xs i d lt, e) refl
 
-actions_end : (source : List ℕ) (xs : List Action) (i : ℕ) (s : State) → length xs ≤ i → with_actions source (drop i xs) s ≡ s
+actions_end : (source : List ℕ) (xs : List Action) (i : ℕ) (s : TransactionState) → length xs ≤ i → with_actions source (drop i xs) s ≡ s
 unfolding with_actions
 actions_end source xs i s le = rw (drop_all i xs le) refl
 
-module _ (source : List ℕ) (xs : List Action) (entered kept : Kept) (reply : Answered) (f : World → State) (i : ℕ)
-    (inside : (w : World) → StandsFor entered w → (now : World) × (f w ≡ with_actions source (drop i xs) (state_of now reply)) × StandsFor kept now) where
-  pub actions_go_on : (a d : Action) (new : Kept) (told : Answered) → i < length xs → a ≡ get_or xs i d → ActsTo kept new told true (λ w. with_action source a (state_of w reply)) → (w : World) → StandsFor entered w → (now : World) × (f w ≡ with_actions source (drop (i + 1) xs) (state_of now told)) × StandsFor new now
-  actions_go_on a d new told lt is step w h =
-      let (now, came, stands) = inside w h in
-      let (after, did, left) = step now stands in
-      (after, came ∙ action_done source xs i d (state_of now reply) (state_of after told) lt (ap (λ (a : Action). with_action source a (state_of now reply)) (sym is) ∙ did), left)
+module _ (source : List ℕ) (xs : List Action) (base : Answered) (entered kept : TransactionKept) (i : ℕ)
+    (inside : Leads (IsTransaction base) entered kept (λ s now. with_actions source xs s ≡ with_actions source (drop i xs) now)) where
+  pub actions_go_on : (a d : Action) (new : TransactionKept) → i < length xs → a ≡ get_or xs i d → Leads (IsTransaction base) kept new (λ s next. with_action source a s ≡ (next, true)) → Leads (IsTransaction base) entered new (λ s now. with_actions source xs s ≡ with_actions source (drop (i + 1) xs) now)
+  actions_go_on a d new lt is step s h =
+      let (now, came, stands) = inside s h in
+      let (next, did, left) = step now stands in
+      (next, came ∙ next_whole source xs i d now next lt (ap (λ (a : Action). with_action source a now) (sym is) ∙ did), left)
 
-  pub actions_stop : (a d : Action) (new : Kept) (told : Answered) → i < length xs → a ≡ get_or xs i d → ActsTo kept new told false (λ w. with_action source a (state_of w reply)) → (w : World) → StandsFor entered w → (now : World) × (f w ≡ state_of now told) × StandsFor new now
-  actions_stop a d new told lt is step w h =
-      let (now, came, stands) = inside w h in
-      let (after, did, left) = step now stands in
-      (after, came ∙ action_stopped source xs i d (state_of now reply) (state_of after told) lt (ap (λ (a : Action). with_action source a (state_of now reply)) (sym is) ∙ did), left)
+  pub actions_stop : (a d : Action) (new : TransactionKept) → i < length xs → a ≡ get_or xs i d → Leads (IsTransaction base) kept new (λ s next. with_action source a s ≡ (next, false)) → Leads (IsTransaction base) entered new (λ s next. with_actions source xs s ≡ next)
+  actions_stop a d new lt is step s h =
+      let (now, came, stands) = inside s h in
+      let (next, did, left) = step now stands in
+      (next, came ∙ next_last source xs i d now next lt (ap (λ (a : Action). with_action source a now) (sym is) ∙ did), left)
 
-  pub actions_finish : length xs ≤ i → (w : World) → StandsFor entered w → (now : World) × (f w ≡ state_of now reply) × StandsFor kept now
-  actions_finish le w h =
-      let (now, came, stands) = inside w h in
-      (now, came ∙ actions_end source xs i (state_of now reply) le, stands)
+  pub actions_finish : length xs ≤ i → Leads (IsTransaction base) entered kept (λ s next. with_actions source xs s ≡ next)
+  actions_finish le s h =
+      let (now, came, stands) = inside s h in
+      (now, came ∙ actions_end source xs i now le, stands)
+
+-- ## A request
+
+abbrev Answers : List ℕ → Request → Answered → Gateway → Gateway → Type 0
+Answers source request told w next = ((replied source request w).gateway ≡ next) × (told ≡ after_all (started request.number) (replied source request w).items)
+
+pub request_ran : (source : List ℕ) (request : Request) (old new : EngineState) (before told : Answered) → before ≡ started request.number
+    → ((base : Answered) → Leads (IsTransaction base) (transaction_kept old before) (transaction_kept new told) (λ s next. with_actions source request.actions s ≡ next))
+    → Leads StandsFor old new (Answers source request told)
+request_ran source request old new before told e ran w h =
+    let (next, did, stands) = ran (started request.number) (record { gateway = w; items = [] }) (record { gateway = h; reply = e }) in
+    (next.gateway, (ap (λ (s : TransactionState). s.gateway) did, stands.reply ∙ ap (λ (s : TransactionState). after_all (started request.number) s.items) (sym did)), stands.gateway)

@@ -1,7 +1,11 @@
 pub mod Name
-pub mod Transaction
-pub mod Faults
-pub mod Properties
-pub mod Asked
-pub mod Wanted
+pub mod Part
+pub mod Search
+pub mod DescriptorFault
+pub mod PropertyFault
+pub mod CommandParameters
+pub mod ReplyDescriptors
 pub mod Outcome
+pub mod Transaction
+pub mod Theorems
+pub mod aids

@@ -1,45 +1,61 @@
--- A transaction: what comes of the commands of a request, action by action (RFC 3525, section 8.2.2).
-use Rattle.std.specs.Prelude.{◌≡◌, ℕ, ◌==◌, ◌||◌, not, Bool, true, false, List, [], ◌∷◌, length, Ok, Err, if◌then◌else◌}
+-- A transaction: what comes of the commands of a request, action by action (RFC 3525, section
+-- 8.2.2).
+use Rattle.std.specs.Prelude.{ℕ, ◌==◌, ◌||◌, not, Bool, true, false, List, [], ◌∷◌, ◌++◌, length}
+use Rattle.std.specs.Prelude.{Ok, Err, if◌then◌else◌}
 use Rattle.mg_scan.specs.Span.{text_of}
-use Rattle.mg_reply.specs.declared.context_id.ContextId.{ContextId}
-use Rattle.mg_reply.specs.declared.context_id.ContextId.TheVariants as contexts
-use Rattle.mg_reply.specs.declared.error_number.ErrorNumber.TheVariants.{NotServed}
-use Rattle.mg_reply.specs.declared.item.Item.TheVariants as items
+use Rattle.mg_words.specs.declared.context_id.ContextId.{ContextId}
+use Rattle.mg_words.specs.declared.context_id.ContextId.TheVariants as contexts
+use Rattle.mg_words.specs.declared.error_number.ErrorNumber.TheVariants.{NotServed}
+use Rattle.mg_reply.specs.declared.item.Item.{Item}
+use Rattle.mg_reply.specs.declared.item.Item.TheVariants as replies
 use Rattle.mg_reply.specs.declared.outcome.Outcome.TheVariants.{Failed, Done}
-use Rattle.mg_reply.specs.Reply.{Answered, started, after_put}
 use Rattle.mg_rooms.specs.declared.target.Target.{Target}
 use Rattle.mg_rooms.specs.declared.target.Target.TheVariants as targets
-use Rattle.mg_engine.specs.Stands.{Kept, StandsFor}
-use Rattle.mg_engine.specs.World.{World}
+use Rattle.mg_engine.specs.Gateway.{Gateway}
 use Rattle.mg_text.specs.declared.command.Command.{Command}
 use Rattle.mg_text.specs.declared.request.Action.{Action}
 use Rattle.mg_text.specs.declared.request.Request.{Request}
 use Rattle.mg_commands.specs.Name.{written_name}
-use Rattle.mg_commands.specs.Outcome.{Came, outcome}
+use Rattle.mg_commands.specs.Outcome.{CommandOutcome, outcome}
 
 -- ## Commands
 
--- an action under way: the world, the action's context, and the reply so far
-pub record Run : Type 0 where
-  pub world : World
+-- an action under way: the gateway, the action's context, and the items of the reply so far
+pub record ActionState : Type 0 where
+  pub gateway : Gateway
   pub target : Target
-  pub reply : Answered
+  pub items : List Item
 
--- a run after a command, and whether the command was done
-abbrev pub after_command : List ℕ → Run → Command → Came → Run × Bool
-after_command source run c (Ok p) = (record { world = p.0; target = p.1.target; reply = after_put run.reply (items.Command c.word p.1.term (Done p.1.parts)) }, true)
-after_command source run c (Err e) = (record { world = run.world; target = run.target; reply = after_put run.reply (items.Command c.word (written_name (text_of source c.term)) (Failed e)) }, false)
+-- an action after a command, and whether the command was done
+abbrev pub after_command : List ℕ → ActionState → Command → CommandOutcome → ActionState × Bool
+after_command source run c (Ok p) = (
+  record {
+    gateway = p.0;
+    target = p.1.target;
+    items = run.items ++ replies.Command c.word p.1.term (Done p.1.parts) ∷ [];
+  },
+  true,
+)
+after_command source run c (Err e) = (
+  record {
+    gateway = run.gateway;
+    target = run.target;
+    items = run.items
+        ++ replies.Command c.word (written_name (text_of source c.term)) (Failed e) ∷ [];
+  },
+  false,
+)
 
-abbrev pub with_command : List ℕ → Command → Run → Run × Bool
-with_command source c run = after_command source run c (outcome source run.world run.target c)
+abbrev pub with_command : List ℕ → Command → ActionState → ActionState × Bool
+with_command source c run = after_command source run c (outcome source run.gateway run.target c)
 
 -- what comes of the rest, unless a command failed
-abbrev pub go_on : (Run → Run × Bool) → Run × Bool → Run × Bool
+abbrev pub go_on : (ActionState → ActionState × Bool) → ActionState × Bool → ActionState × Bool
 go_on rest (run, true) = rest run
 go_on rest (run, false) = (run, false)
 
--- a run after commands, up to the first that fails, and whether all were done
-unfoldable pub with_commands : List ℕ → List Command → Run → Run × Bool
+-- an action after commands, up to the first that fails, and whether all were done
+unfoldable pub with_commands : List ℕ → List Command → ActionState → ActionState × Bool
 with_commands source [] run = (run, true)
 with_commands source (c ∷ cs) run = go_on (with_commands source cs) (with_command source c run)
 
@@ -66,45 +82,47 @@ is_all _ = false
 abbrev pub is_refused : Action → Bool
 is_refused a = is_all a.context || not (length a.properties == 0)
 
--- a transaction under way
-pub record State : Type 0 where
-  pub world : World
-  pub reply : Answered
+-- a transaction under way: the gateway, and the items of the reply so far
+pub record TransactionState : Type 0 where
+  pub gateway : Gateway
+  pub items : List Item
 
--- the end of an action behind what came of it
-abbrev pub ended : Run × Bool → State × Bool
-ended (run, done) = (record { world = run.world; reply = after_put run.reply (items.Action (id_of run.target)) }, done)
+abbrev pub action_start : Action → TransactionState → ActionState
+action_start a s =
+    record { gateway = s.gateway; target = target_of a.context; items = s.items }
 
-abbrev pub refused : Action → State → State × Bool
-refused a s = (record { world = s.world; reply = after_put (after_put s.reply (items.Fault NotServed)) (items.Action a.context) }, false)
+-- the end of an action after what came of it
+abbrev pub action_end : ActionState × Bool → TransactionState × Bool
+action_end (run, is_done) = (
+  record { gateway = run.gateway; items = run.items ++ replies.Action (id_of run.target) ∷ [] },
+  is_done,
+)
 
-abbrev pub begun : Action → State → Run
-begun a s = record { world = s.world; target = target_of a.context; reply = s.reply }
+abbrev pub refusal : Action → TransactionState → TransactionState × Bool
+refusal a s = (
+  record {
+    gateway = s.gateway;
+    items = s.items ++ replies.Fault NotServed ∷ replies.Action a.context ∷ [];
+  },
+  false,
+)
 
-unfoldable pub with_action : List ℕ → Action → State → State × Bool
-with_action source a s = if is_refused a then refused a s else ended (with_commands source a.commands (begun a s))
+unfoldable pub with_action : List ℕ → Action → TransactionState → TransactionState × Bool
+with_action source a s =
+    if is_refused a then refusal a s
+    else action_end (with_commands source a.commands (action_start a s))
 
 -- what comes of the rest, unless an action was not done whole
-abbrev pub rest_of : (State → State) → State × Bool → State
+abbrev pub rest_of : (TransactionState → TransactionState) → TransactionState × Bool
+    → TransactionState
 rest_of rest (s, true) = rest s
 rest_of rest (s, false) = s
 
-unfoldable pub with_actions : List ℕ → List Action → State → State
+unfoldable pub with_actions : List ℕ → List Action → TransactionState → TransactionState
 with_actions source [] s = s
 with_actions source (a ∷ actions) s = rest_of (with_actions source actions) (with_action source a s)
 
--- the world after a request, and the reply to it
-abbrev pub replied : List ℕ → Request → World → State
-replied source request w = with_actions source request.actions (record { world = w; reply = started request.number })
-
--- ## What a call left
-
--- an engine that stood for each world w stands for the world of what comes of w
-abbrev pub RunsTo : Kept → Kept → Target → Answered → Bool → (World → Run × Bool) → Type 0
-RunsTo old new target reply done f = (w : World) → StandsFor old w → (after : World) × (f w ≡ (record { world = after; target = target; reply = reply }, done)) × StandsFor new after
-
-abbrev pub ActsTo : Kept → Kept → Answered → Bool → (World → State × Bool) → Type 0
-ActsTo old new reply done f = (w : World) → StandsFor old w → (after : World) × (f w ≡ (record { world = after; reply = reply }, done)) × StandsFor new after
-
-abbrev pub RepliesTo : Kept → Kept → Answered → (World → State) → Type 0
-RepliesTo old new reply f = (w : World) → StandsFor old w → (after : World) × (f w ≡ record { world = after; reply = reply }) × StandsFor new after
+-- the gateway after a request, and the items of the reply to it
+abbrev pub replied : List ℕ → Request → Gateway → TransactionState
+replied source request w =
+    with_actions source request.actions (record { gateway = w; items = [] })

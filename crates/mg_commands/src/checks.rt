@@ -1,32 +1,16 @@
 //! What is looked at before a command is done. Nothing is changed here.
 
 ghost use Rattle.std.specs.Prelude.{◌≡◌};
-ghost use Rattle.mg_engine.specs.World.{World};
+ghost use Rattle.mg_engine.specs.Gateway.{Gateway};
 ghost use Rattle.mg_engine.specs.Stands.{StandsFor};
-ghost use Rattle.mg_commands.specs.Outcome.{error_of, is_served_word, is_served, if_served, unless, descriptors_checked, checked, to_be_made, number_in};
+ghost use Rattle.mg_commands.specs.Outcome.{is_served_word, is_served, if_served, unless, check_descriptors, check_command, check_new_name, number_in};
 
-use crate::asked::{Asked, asked_of};
-use crate::faults::descriptors_fault;
+use crate::command_parameters::{CommandParameters, parameters_of};
+use crate::descriptor_fault::descriptors_fault;
 use crate::name::Name;
-use crate::properties::properties_fault;
-use mg_engine::{Engine, Refusal};
+use crate::property_fault::properties_fault;
+use mg_engine::Engine;
 use mg_text::{Command, CommandWord, Descriptor, ErrorNumber};
-
-/// The error number of a refusal.
-pub fn error_of(refusal: Refusal) -> ErrorNumber
-    ensures value { result ≡ error_of refusal }
-{
-    match refusal {
-        Refusal::UnknownContext => ErrorNumber::UnknownContext,
-        Refusal::NoContextLeft => ErrorNumber::NoContextLeft,
-        Refusal::UnknownTermination => ErrorNumber::UnknownTermination,
-        Refusal::NoTerminationLeft => ErrorNumber::NoTerminationLeft,
-        Refusal::AlreadyInContext => ErrorNumber::AlreadyInContext,
-        Refusal::ContextFull => ErrorNumber::ContextFull,
-        Refusal::NotInContext => ErrorNumber::NotInContext,
-        Refusal::NoMedia => ErrorNumber::NoMedia,
-    }
-}
 
 fn is_served_word(word: CommandWord) -> bool
     ensures value { result ≡ is_served_word word }
@@ -72,25 +56,32 @@ fn unless(fault: Option<ErrorNumber>) -> Result<(), ErrorNumber>
 }
 
 /// What descriptors ask for, if they are served.
-fn descriptors_checked(source: &[u8], descriptors: &[Descriptor]) -> Result<Asked, ErrorNumber>
-    ensures value { result ≡ descriptors_checked source.now descriptors.now }
+fn check_descriptors(
+    source: &[u8],
+    descriptors: &[Descriptor],
+) -> Result<CommandParameters, ErrorNumber>
+    ensures value { result ≡ check_descriptors source.now descriptors.now }
 {
     unless(descriptors_fault(source, descriptors))?;
     unless(properties_fault(source, descriptors))?;
-    Ok(asked_of(source, descriptors))
+    Ok(parameters_of(source, descriptors))
 }
 
 /// What a command asks for, if its text is served.
-pub fn checked(source: &[u8], name: Name, command: &Command) -> Result<Asked, ErrorNumber>
-    ensures value { result ≡ checked source.now name command.now }
+pub fn check_command(
+    source: &[u8],
+    name: Name,
+    command: &Command,
+) -> Result<CommandParameters, ErrorNumber>
+    ensures value { result ≡ check_command source.now name command.now }
 {
     if_served(is_served(name, command))?;
-    descriptors_checked(source, command.descriptors.as_slice())
+    check_descriptors(source, command.descriptors.as_slice())
 }
 
 /// That an Add names a termination to be made, and none by its name.
-pub fn to_be_made(engine: &Engine, name: Name) -> Result<(), ErrorNumber>
-    ensures value { (w : World) → StandsFor engine.now w → result ≡ to_be_made w name }
+pub fn check_new_name(engine: &Engine, name: Name) -> Result<(), ErrorNumber>
+    ensures value { (w : Gateway) → StandsFor engine.now w → result ≡ check_new_name w name }
 {
     match name {
         Name::Choose => Ok(()),

@@ -13,18 +13,21 @@
 //! tried isn't told. A command that is refused leaves the engine as it was.
 #![tactic(auto)]
 
-mod asked;
 mod checks;
-mod faults;
+mod command_parameters;
+mod descriptor_fault;
+mod descriptor_parts;
+pub mod laws;
 mod name;
 mod outcomes;
-mod parts;
-mod properties;
-mod requests;
+mod part;
+mod property_fault;
+mod reply_descriptors;
+mod reply_parts;
 mod served;
 #[cfg(test)]
 mod tests;
-mod wanted;
+mod transactions;
 
 pub use crate::name::{Name, name_of, written_name};
-pub use crate::requests::transaction;
+pub use crate::transactions::transaction;

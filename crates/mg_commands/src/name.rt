@@ -1,9 +1,9 @@
 ghost use Rattle.std.specs.Prelude.{◌≡◌, true, Some, None, MatchOption};
-ghost use Rattle.mg_reply.specs.Term.{is_term};
-ghost use Rattle.mg_commands.specs.Name.{behind_rtp, name_in_rtp, name_of, written_name};
+ghost use Rattle.mg_words.specs.Term.{is_term};
+ghost use Rattle.mg_commands.specs.Name.{after_rtp, name_in_rtp, name_of, written_name};
 
-use mg_numbers::number_of;
 use mg_text::Term;
+use mg_words::number_of;
 
 /// What the name of a termination reads as (RFC 3525, section 6.2), whatever the case of its letters.
 #[derive(Clone, Copy, Debug, PartialEq, Eq)]
@@ -20,10 +20,10 @@ pub enum Name {
     Other,
 }
 
-/// What stands behind `RTP/`, if that stands in front.
-#[tactic(auto, unfolding(crate::specs::Name::behind_rtp))]
-fn behind_rtp(text: &[u8]) -> Option<&[u8]>
-    ensures value { MatchOption result (behind_rtp text.now ≡ None) (λ rest. behind_rtp text.now ≡ Some rest.now) }
+/// What stands after `RTP/`, if that stands in front.
+#[tactic(auto, unfolding(crate::specs::Name::after_rtp))]
+fn after_rtp(text: &[u8]) -> Option<&[u8]>
+    ensures value { MatchOption result (after_rtp text.now ≡ None) (λ rest. after_rtp text.now ≡ Some rest.now) }
 {
     if text.len() < 4 {
         return None;
@@ -36,7 +36,7 @@ fn behind_rtp(text: &[u8]) -> Option<&[u8]>
     }
 }
 
-/// What a name reads as by what stands behind its `RTP/`.
+/// What a name reads as by what stands after its `RTP/`.
 #[tactic(auto, unfolding(crate::specs::Name::name_in_rtp))]
 fn name_in_rtp(text: &[u8]) -> Name
     ensures value { result ≡ name_in_rtp text.now }
@@ -63,7 +63,7 @@ pub fn name_of(text: &[u8]) -> Name
     match text {
         b"$" => Name::Choose,
         b"*" => Name::All,
-        _ => match behind_rtp(text) {
+        _ => match after_rtp(text) {
             Some(rest) => name_in_rtp(rest),
             None => Name::Other,
         },

@@ -1,16 +1,17 @@
 //! What commands come to.
 
 ghost use Rattle.std.specs.Prelude.{◌≡◌, OnErr};
-ghost use Rattle.mg_engine.specs.World.{World};
+ghost use Rattle.mg_engine.specs.Gateway.{Gateway};
 ghost use Rattle.mg_engine.specs.Stands.{StandsFor};
-ghost use Rattle.mg_commands.specs.Outcome.{Comes, served_at, edited, added, modified, moved, subtracted, audited_number, audited_root, audited, by_word, outcome};
+ghost use Rattle.mg_commands.specs.aids.Runs.{Comes};
+ghost use Rattle.mg_commands.specs.Outcome.{served_at, edit_outcome, add_outcome, modify_outcome, move_outcome, subtract_outcome, audit_termination, audit_root, audit_outcome, outcome_by_word, outcome};
 
-use crate::asked::Asked;
-use crate::checks::{checked, error_of, number_in, to_be_made};
+use crate::checks::{check_command, check_new_name, number_in};
+use crate::command_parameters::CommandParameters;
 use crate::name::{Name, name_of};
-use crate::parts::parts_told;
+use crate::reply_descriptors::ReplyDescriptors;
+use crate::reply_parts::reply_parts;
 use crate::served::Served;
-use crate::wanted::Wanted;
 use mg_engine::{Done, Edit, Engine, Target};
 use mg_text::{Command, CommandWord, ErrorNumber, Parts, Term};
 
@@ -26,117 +27,112 @@ fn served_at(target: Target, number: u32, parts: Parts) -> Served
 }
 
 /// Does an edit.
-fn edited(engine: &mut Engine, edit: &Edit) -> Result<Done, ErrorNumber>
-    ensures came { (w : World) → StandsFor engine.old w → Comes engine.new result (edited w edit.now) }
+fn edit_outcome(engine: &mut Engine, edit: &Edit) -> Result<Done, ErrorNumber>
+    ensures came { (w : Gateway) → StandsFor engine.old w → Comes engine.new result (edit_outcome w edit.now) }
     ensures refused { OnErr result (engine.new ≡ engine.old) }
 {
-    match engine.edit(edit) {
-        Ok(done) => Ok(done),
-        Err(refusal) => Err(error_of(refusal)),
-    }
+    engine.edit(edit)
 }
 
 /// An Add (RFC 3525, section 7.2.1).
-fn added(
+fn add_outcome(
     engine: &mut Engine,
     target: Target,
     name: Name,
-    asked: Asked,
+    parameters: CommandParameters,
 ) -> Result<Served, ErrorNumber>
-    ensures came { (w : World) → StandsFor engine.old w → Comes engine.new result (added w target name asked) }
+    ensures came { (w : Gateway) → StandsFor engine.old w → Comes engine.new result (add_outcome w target name parameters) }
     ensures refused { OnErr result (engine.new ≡ engine.old) }
 {
-    to_be_made(engine, name)?;
-    let wanted = Wanted::after(&asked);
+    check_new_name(engine, name)?;
+    let descriptors = ReplyDescriptors::after(&parameters);
     let edit = Edit::Add {
         target,
-        settings: asked.settings,
+        settings: parameters.settings,
     };
-    let done = edited(engine, &edit)?;
-    let parts = parts_told(engine, done.termination, wanted);
+    let done = edit_outcome(engine, &edit)?;
+    let parts = reply_parts(engine, done.termination, descriptors);
     Ok(served_at(Target::Number(done.context), done.termination, parts))
 }
 
 /// A Modify (RFC 3525, section 7.2.2).
-fn modified(
+fn modify_outcome(
     engine: &mut Engine,
     target: Target,
     name: Name,
-    asked: Asked,
+    parameters: CommandParameters,
 ) -> Result<Served, ErrorNumber>
-    ensures came { (w : World) → StandsFor engine.old w → Comes engine.new result (modified w target name asked) }
+    ensures came { (w : Gateway) → StandsFor engine.old w → Comes engine.new result (modify_outcome w target name parameters) }
     ensures refused { OnErr result (engine.new ≡ engine.old) }
 {
     let number = number_in(name)?;
-    let wanted = Wanted::after(&asked);
+    let descriptors = ReplyDescriptors::after(&parameters);
     let edit = Edit::Modify {
         target,
         number,
-        settings: asked.settings,
+        settings: parameters.settings,
     };
-    edited(engine, &edit)?;
-    let parts = parts_told(engine, number, wanted);
+    edit_outcome(engine, &edit)?;
+    let parts = reply_parts(engine, number, descriptors);
     Ok(served_at(target, number, parts))
 }
 
 /// A Move (RFC 3525, section 7.2.4).
-fn moved(
+fn move_outcome(
     engine: &mut Engine,
     target: Target,
     name: Name,
-    asked: Asked,
+    parameters: CommandParameters,
 ) -> Result<Served, ErrorNumber>
-    ensures came { (w : World) → StandsFor engine.old w → Comes engine.new result (moved w target name asked) }
+    ensures came { (w : Gateway) → StandsFor engine.old w → Comes engine.new result (move_outcome w target name parameters) }
     ensures refused { OnErr result (engine.new ≡ engine.old) }
 {
     let number = number_in(name)?;
-    let wanted = Wanted::after(&asked);
+    let descriptors = ReplyDescriptors::after(&parameters);
     let edit = Edit::Move {
         target,
         number,
-        settings: asked.settings,
+        settings: parameters.settings,
     };
-    let done = edited(engine, &edit)?;
-    let parts = parts_told(engine, number, wanted);
+    let done = edit_outcome(engine, &edit)?;
+    let parts = reply_parts(engine, number, descriptors);
     Ok(served_at(Target::Number(done.context), number, parts))
 }
 
 /// A Subtract (RFC 3525, section 7.2.3). What it tells is as it was before.
-fn subtracted(
+fn subtract_outcome(
     engine: &mut Engine,
     target: Target,
     name: Name,
-    asked: &Asked,
+    parameters: &CommandParameters,
 ) -> Result<Served, ErrorNumber>
-    ensures came { (w : World) → StandsFor engine.old w → Comes engine.new result (subtracted w target name asked.now) }
+    ensures came { (w : Gateway) → StandsFor engine.old w → Comes engine.new result (subtract_outcome w target name parameters.now) }
     ensures refused { OnErr result (engine.new ≡ engine.old) }
 {
     let number = number_in(name)?;
-    let before = parts_told(engine, number, Wanted::before(asked));
-    edited(engine, &Edit::Subtract { target, number })?;
+    let before = reply_parts(engine, number, ReplyDescriptors::before(parameters));
+    edit_outcome(engine, &Edit::Subtract { target, number })?;
     Ok(served_at(target, number, before))
 }
 
 /// An AuditValue of a termination (RFC 3525, section 7.2.5).
-fn audited_number(
+fn audit_termination(
     engine: &Engine,
     target: Target,
     name: Name,
-    asked: &Asked,
+    parameters: &CommandParameters,
 ) -> Result<Served, ErrorNumber>
-    ensures value { (w : World) → StandsFor engine.now w → result ≡ audited_number w target name asked.now }
+    ensures value { (w : Gateway) → StandsFor engine.now w → result ≡ audit_termination w target name parameters.now }
 {
     let number = number_in(name)?;
-    if let Err(refusal) = engine.rooms().find(target, number) {
-        return Err(error_of(refusal));
-    }
-    let parts = parts_told(engine, number, Wanted::audited(asked));
+    engine.rooms().find(target, number)?;
+    let parts = reply_parts(engine, number, ReplyDescriptors::by_audit(parameters));
     Ok(served_at(target, number, parts))
 }
 
 /// An AuditValue of the gateway as a whole, which tells that it is there.
-fn audited_root(target: Target) -> Result<Served, ErrorNumber>
-    ensures value { result ≡ audited_root target }
+fn audit_root(target: Target) -> Result<Served, ErrorNumber>
+    ensures value { result ≡ audit_root target }
 {
     match target {
         Target::Null => Ok(Served {
@@ -152,39 +148,39 @@ fn audited_root(target: Target) -> Result<Served, ErrorNumber>
 }
 
 /// An AuditValue.
-fn audited(
+fn audit_outcome(
     engine: &Engine,
     target: Target,
     name: Name,
-    asked: &Asked,
+    parameters: &CommandParameters,
 ) -> Result<Served, ErrorNumber>
-    ensures value { (w : World) → StandsFor engine.now w → result ≡ audited w target name asked.now }
+    ensures value { (w : Gateway) → StandsFor engine.now w → result ≡ audit_outcome w target name parameters.now }
 {
     match name {
-        Name::Root => audited_root(target),
+        Name::Root => audit_root(target),
         Name::Choose | Name::All | Name::Number(_) | Name::Other => {
-            audited_number(engine, target, name, asked)
+            audit_termination(engine, target, name, parameters)
         }
     }
 }
 
 /// What a command comes to whose text was checked.
-fn by_word(
+fn outcome_by_word(
     engine: &mut Engine,
     word: CommandWord,
     target: Target,
     name: Name,
-    asked: Asked,
+    parameters: CommandParameters,
 ) -> Result<Served, ErrorNumber>
-    ensures came { (w : World) → StandsFor engine.old w → Comes engine.new result (by_word word w target name asked) }
+    ensures came { (w : Gateway) → StandsFor engine.old w → Comes engine.new result (outcome_by_word word w target name parameters) }
     ensures refused { OnErr result (engine.new ≡ engine.old) }
 {
     match word {
-        CommandWord::Add => added(engine, target, name, asked),
-        CommandWord::Modify => modified(engine, target, name, asked),
-        CommandWord::Move => moved(engine, target, name, asked),
-        CommandWord::Subtract => subtracted(engine, target, name, &asked),
-        CommandWord::AuditValue => audited(engine, target, name, &asked),
+        CommandWord::Add => add_outcome(engine, target, name, parameters),
+        CommandWord::Modify => modify_outcome(engine, target, name, parameters),
+        CommandWord::Move => move_outcome(engine, target, name, parameters),
+        CommandWord::Subtract => subtract_outcome(engine, target, name, &parameters),
+        CommandWord::AuditValue => audit_outcome(engine, target, name, &parameters),
         CommandWord::AuditCapability | CommandWord::Notify | CommandWord::ServiceChange => {
             Err(ErrorNumber::NotServed)
         }
@@ -199,10 +195,10 @@ pub fn outcome(
     target: Target,
     command: &Command,
 ) -> Result<Served, ErrorNumber>
-    ensures came { (w : World) → StandsFor engine.old w → Comes engine.new result (outcome source.now w target command.now) }
+    ensures came { (w : Gateway) → StandsFor engine.old w → Comes engine.new result (outcome source.now w target command.now) }
     ensures refused { OnErr result (engine.new ≡ engine.old) }
 {
     let name = name_of(command.term.text(source));
-    let asked = checked(source, name, command)?;
-    by_word(engine, command.word, target, name, asked)
+    let parameters = check_command(source, name, command)?;
+    outcome_by_word(engine, command.word, target, name, parameters)
 }

@@ -7,11 +7,11 @@ use Rattle.mg_text.specs.declared.fault.ReadFault.TheVariants.{NoMemory, Syntax,
 use Rattle.mg_text.specs.Message.{IsTree, IsTooMany, HasOtherVersion}
 use Rattle.mg_text.specs.MessageReading.{MessageReading, IsReading, NoMessage}
 use Rattle.mg_text.specs.MessageReading as readings
-use Rattle.mg_reply.specs.declared.error_number.ErrorNumber.{ErrorNumber}
+use Rattle.mg_words.specs.declared.error_number.ErrorNumber.{ErrorNumber}
 use Rattle.mg_reply.specs.Bytes.{Written, appended}
 use Rattle.mg_core.specs.Answer.{answered, refused}
 use Rattle.mg_core.specs.World.{World}
-use Rattle.mg_core.specs.Steps.{refusal_of}
+use Rattle.mg_core.specs.aids.Steps.{refusal_of}
 
 -- room that was left is room plus what was written
 pub appended-total : (w : Written) (a : List ℕ) → length a ≤ w.room → (appended w a).room + length (appended w a).text ≡ w.room + length w.text

@@ -13,7 +13,7 @@ in_front-more : (bytes : List ℕ) (b : ℕ) (o : Option (List ℕ)) → in_fron
 in_front-more bytes b None = refl
 in_front-more bytes b (Some rest) = ap (λ (l : List ℕ). Some l) (append_assoc bytes (b ∷ []) rest)
 
--- one byte more: behind a backslash, a backslash, a plain byte, and what is none of these
+-- one byte more: after a backslash, a backslash, a plain byte, and what is none of these
 pub behind_backslash : (bytes text : List ℕ) (i byte : ℕ) → i < length text → escaped_byte (get_or text i 0) ≡ Some byte → in_front (bytes ++ byte ∷ []) (unescaped false (drop (i + 1) text)) ≡ in_front bytes (unescaped true (drop i text))
 unfolding unescaped
 behind_backslash bytes text i byte lt e = rw (drop_more text i 0 lt, e) (in_front-more bytes byte (unescaped false (drop (i + 1) text)))

@@ -4,17 +4,18 @@ use Rattle.std.proofs.lemmas.List.{append-nil}
 use Rattle.std.specs.Io.KnownBytes.{Appends}
 use Rattle.mg_engine.specs.declared.datagram.Datagram.{Datagram}
 use Rattle.mg_engine.specs.declared.peer.Peer.{Peer}
+use Rattle.mg_words.specs.Leads.{Leads}
 use Rattle.mg_core.specs.declared.event.Event.{Event}
 use Rattle.mg_core.specs.declared.event.Event.TheVariants.{Control, Tick}
 use Rattle.mg_core.specs.declared.fault.EventFault.{EventFault}
 use Rattle.mg_core.specs.declared.fault.EventFault.TheVariants as events
-use Rattle.mg_core.specs.declared.fault.ScriptFault.{ScriptFault}
+use Rattle.mg_core.specs.declared.fault.LineFault.{LineFault}
 use Rattle.mg_core.specs.declared.fault.WriteFailed.{WriteFailed}
-use Rattle.mg_core.specs.declared.state.State.{State}
+use Rattle.mg_core.specs.declared.state.CoreState.{CoreState}
 use Rattle.mg_core.specs.Run.{answer_line, lines_for}
 use Rattle.mg_core.specs.Script.{event_of, events_of, then_all}
 use Rattle.mg_core.specs.Step.{Sent, Reply, Packet, Step, answer_to}
-use Rattle.mg_core.specs.Steps.{EventRan, LineRan, Steps, Writes, WritesFront, script_fault_of}
+use Rattle.mg_core.specs.aids.Steps.{EventRan, LineRan, Writes, WritesFront, line_fault_of}
 use Rattle.mg_core.specs.World.{World, StandsFor, packets_of, ticked}
 
 pub same_appends : (a : Option (List ℕ)) → Appends a a []
@@ -36,27 +37,27 @@ written_ran event sent text w next a b (Err failed) step is put = record { sent 
 pub silent_ran : (event : Event) (w next : World) (a : Option (List ℕ)) → Step w event [] next → EventRan event w next a a (Ok tt)
 silent_ran event w next a step = record { sent = []; step = step; written = same_appends a }
 
-pub silent_steps : (event : Event) (old new : State) (a : Option (List ℕ)) → Steps old new (λ w next. Step w event [] next) → Steps old new (λ w next. EventRan event w next a a (Ok tt))
+pub silent_steps : (event : Event) (old new : CoreState) (a : Option (List ℕ)) → Leads StandsFor old new (λ w next. Step w event [] next) → Leads StandsFor old new (λ w next. EventRan event w next a a (Ok tt))
 silent_steps event old new a h w stands =
     let (next, step, left) = h w stands in
     (next, silent_ran event w next a step, left)
 
 -- an answer
-pub answer_steps : (source : Peer) (bytes text line : List ℕ) (old new : State) (a b : Option (List ℕ)) (r : Result (Unit {0}) WriteFailed) → Steps old new (λ w next. Step w (Control source bytes) (answer_to source (Some text)) next) → line ≡ answer_line source text → Writes line a b r → Steps old new (λ w next. EventRan (Control source bytes) w next a b (event_result r))
+pub answer_steps : (source : Peer) (bytes text line : List ℕ) (old new : CoreState) (a b : Option (List ℕ)) (r : Result (Unit {0}) WriteFailed) → Leads StandsFor old new (λ w next. Step w (Control source bytes) (answer_to source (Some text)) next) → line ≡ answer_line source text → Writes line a b r → Leads StandsFor old new (λ w next. EventRan (Control source bytes) w next a b (event_result r))
 answer_steps source bytes text line old new a b r h is put w stands =
     let (next, step, left) = h w stands in
     (next, written_ran (Control source bytes) (Reply source text ∷ []) line w next a b r step (is ∙ sym (append-nil (answer_line source text))) put, left)
 
 -- a tick
-pub tick_steps : (old new : State) (outbox : List Datagram) (text : List ℕ) (a b : Option (List ℕ)) (r : Result (Unit {0}) WriteFailed) → ((w : World) → StandsFor old w → outbox ≡ packets_of w) → ((w : World) → StandsFor old w → StandsFor new (ticked w)) → text ≡ lines_for (map Packet outbox) → Writes text a b r → Steps old new (λ w next. EventRan Tick w next a b (event_result r))
+pub tick_steps : (old new : CoreState) (outbox : List Datagram) (text : List ℕ) (a b : Option (List ℕ)) (r : Result (Unit {0}) WriteFailed) → ((w : World) → StandsFor old w → outbox ≡ packets_of w) → ((w : World) → StandsFor old w → StandsFor new (ticked w)) → text ≡ lines_for (map Packet outbox) → Writes text a b r → Leads StandsFor old new (λ w next. EventRan Tick w next a b (event_result r))
 tick_steps old new outbox text a b r sent after is put w stands =
     (ticked w, written_ran Tick (map Packet outbox) text w (ticked w) a b r (ap (map Packet) (sent w stands), refl) is put, after w stands)
 
 -- ## Lines
 
-abbrev pub line_result : Result (Unit {0}) EventFault → Result (Unit {0}) ScriptFault
+abbrev pub line_result : Result (Unit {0}) EventFault → Result (Unit {0}) LineFault
 line_result (Ok done) = Ok tt
-line_result (Err fault) = Err (script_fault_of fault)
+line_result (Err fault) = Err (line_fault_of fault)
 
 abbrev pub an_event_or_none : Option Event → Option (Option Event)
 an_event_or_none e = Some e
@@ -91,10 +92,10 @@ event_line number line event w next a b (Err events.Write) is h = record {
 event_line number line event w next a b (Err events.NoMemory) is h = h
 
 -- a step that left the state alone
-pub same_steps : (kept : State) (R : World → World → Type 0) → ((w : World) → R w w) → Steps kept kept R
+pub same_steps : (kept : CoreState) (R : World → World → Type 0) → ((w : World) → R w w) → Leads StandsFor kept kept R
 same_steps kept R f w stands = (w, f w, stands)
 
-pub line_steps : (number : ℕ) (line : List ℕ) (event : Event) (old new : State) (a b : Option (List ℕ)) (r : Result (Unit {0}) EventFault) → event_of line ≡ Some (Some event) → Steps old new (λ w next. EventRan event w next a b r) → Steps old new (λ w next. LineRan number line w next a b (line_result r))
+pub line_steps : (number : ℕ) (line : List ℕ) (event : Event) (old new : CoreState) (a b : Option (List ℕ)) (r : Result (Unit {0}) EventFault) → event_of line ≡ Some (Some event) → Leads StandsFor old new (λ w next. EventRan event w next a b r) → Leads StandsFor old new (λ w next. LineRan number line w next a b (line_result r))
 line_steps number line event old new a b r is h w stands =
     let (next, came, left) = h w stands in
     (next, event_line number line event w next a b r is came, left)

@@ -1,5 +1,6 @@
 -- Replies after one another.
-use Rattle.std.proofs.Common.{◌≡◌, ℕ, ◌+◌, ◌-◌, ◌*◌, ◌^◌, ◌<◌, ◌≤◌, ltb, ◌||◌, Bool, true, false, List, [], ◌∷◌, ◌++◌, length, get_or, drop, Option, Some, None, Result, Ok, Err, refl, sym, ap, ◌∙◌, append_assoc, length-append, arith, decimal, codes}
+use Rattle.std.specs.List.{list_all}
+use Rattle.std.proofs.Common.{◌≡◌, ◌&&◌, eqb, if◌then◌else◌, ℕ, ◌+◌, ◌-◌, ◌*◌, ◌^◌, ◌<◌, ◌≤◌, ltb, ◌||◌, Bool, true, false, List, [], ◌∷◌, ◌++◌, length, get_or, drop, Option, Some, None, Result, Ok, Err, refl, sym, ap, ◌∙◌, append_assoc, length-append, arith, decimal, codes}
 use Rattle.std.specs.Prelude.{is_err, IsOk}
 use Rattle.std.proofs.lemmas.Bool.{le-ltb, ltb-false}
 use Rattle.std.proofs.lemmas.List.{drop_more, drop_all, append-nil}
@@ -10,23 +11,31 @@ use Rattle.mg_text.specs.declared.body.MessageItem.TheVariants as items
 use Rattle.mg_scan.specs.Span.{text_of}
 use Rattle.mg_text.specs.declared.message.Message.{Message}
 use Rattle.mg_text.specs.Message.{items_of, requests_in}
-use Rattle.mg_text.specs.Proper.{are_proper, item_is_proper}
+use Rattle.mg_text.specs.Proper.{are_proper, item_is_proper, request_is_proper}
 use Rattle.mg_reply.specs.declared.item.Item.TheVariants.{Fault}
-use Rattle.mg_reply.specs.declared.error_number.ErrorNumber.TheVariants.{ReplyTooLong}
-use Rattle.mg_reply.specs.ErrorNumber.{error_text}
+use Rattle.mg_words.specs.declared.error_number.ErrorNumber.TheVariants.{ReplyTooLong}
+use Rattle.mg_words.specs.ErrorNumber.{error_row, error_text}
 use Rattle.mg_reply.specs.Written.{reply_text}
-use Rattle.mg_core.specs.declared.state.State.{State}
+use Rattle.mg_engine.specs.Stands as engine_stands
+use Rattle.mg_core.specs.declared.state.CoreState.{CoreState}
 use Rattle.mg_core.specs.World.{World, StandsFor}
-use Rattle.mg_core.specs.Steps.{Puts}
-use Rattle.mg_reply.specs.Reply.{Answered}
+use Rattle.mg_core.specs.aids.Steps.{Puts, put_text}
+use Rattle.mg_reply.specs.Reply.{Answered, started, is_action, is_refusal, last_is_action, with_item, after_put, after_all}
+use Rattle.mg_reply.specs.Reply.{marked as marked_long}
 use Rattle.mg_text.specs.declared.request.Request.{Request}
-use Rattle.mg_commands.specs.Transaction.{RepliesTo, replied}
+use Rattle.mg_commands.specs.Theorems.{ItemsAreWide, ItemsAreWhole}
+use Rattle.mg_commands.specs.Transaction.{replied}
+use Rattle.mg_engine.specs.Gateway.{Gateway}
+use Rattle.mg_words.specs.Leads.{Leads}
+use Rattle.mg_words.specs.Limits.{reply_limit}
+use Rattle.mg_reply.specs.declared.item.Item.{Item}
+use Rattle.mg_reply.specs.Theorems.{TextAlone, AllThere, is_wide, is_too_long}
 use Rattle.mg_core.specs.Answer.{with_front, has_requests, head_of, if_asked, item_replied, mark_after, marked, replied_to, sent_text, to_message}
 
 -- the error in the place of a reply is short
 pub refusal_short : (n : ℕ) → n < 2 ^ 32 → length (reply_text n (Fault ReplyTooLong ∷ [])) ≤ 16000
-unfolding error_text
-refusal_short n small = simp length-append (omega (arith, length-decimal-le 10 n (omega arith) (omega arith) (omega arith)))
+unfolding error_text error_row
+refusal_short n small = simp length-append (omega (arith, length-decimal-le 10 n (omega arith) (omega arith) (omega arith), length-decimal-le 3 533 (omega arith) (omega arith) (omega arith)))
 
 value_cases : (b : Bool) → (b ≡ false → true ≡ false) → b ≡ true
 value_cases true h = refl
@@ -44,11 +53,61 @@ fits_marks n marks room le is = omega (arith, le, is)
 
 pub ruleset one_reply = (fits_marks, length-append, append_assoc)
 
--- a request that was run and whose reply was written with_front a mark; what else is kept stays
-pub request_put : (source sender mark : List ℕ) (request : Request) (old new : State) (reply : Answered) (before text : List ℕ) → new.counts ≡ old.counts → RepliesTo old.engine new.engine reply (replied source request) → text ≡ before ++ (mark ++ sent_text reply) → Puts old new before text (item_replied source sender mark (items.Request request))
-request_put source sender mark request old new reply before text same ran is w h =
+-- ## A reply is too long by its text alone
+
+abbrev pub writing : List ℕ → World → List ℕ × World
+writing text w = (text, w)
+
+picked : (b : Bool) (x y : Answered) (n : ℕ) → x.number ≡ n → y.number ≡ n → (if b then x else y).number ≡ n
+picked true x y n p q = p
+picked false x y n p q = q
+
+number_kept : (n : ℕ) (r : Answered) (xs : List Item) → r.number ≡ n → (after_all r xs).number ≡ n
+number_kept n r [] h = h
+number_kept n r (x ∷ xs) h =
+    let put = picked (is_action x && r.has_pending) (with_item r x 0) (if eqb r.room 0 then marked_long r else with_item r x 1) r.number refl
+    (picked (eqb r.room 0) (marked_long r) (with_item r x 1) r.number refl refl) in
+    number_kept n (after_put r x) xs (put ∙ h)
+
+or_false : (a b : Bool) → (a || b) ≡ false → a ≡ false
+or_false true b h = h
+or_false false b h = refl
+
+abbrev put_by : Answered → Bool → List ℕ
+put_by r b = if b then reply_text r.number (Fault ReplyTooLong ∷ []) else reply_text r.number r.items
+
+abbrev sent_by : ℕ → List Item → Bool → List ℕ
+sent_by n xs b = if b then reply_text n (Fault ReplyTooLong ∷ []) else reply_text n xs
+
+sent_is : (b : Bool) (n : ℕ) (r : Answered) (xs : List Item) → r.number ≡ n → is_too_long r ≡ b
+    → ltb reply_limit (length (reply_text n xs)) ≡ b → (r.is_long ≡ false → r.items ≡ xs) → put_text r ≡ sent_text n xs
+sent_is true n r xs number long text there =
+    ap (put_by r) long ∙ ap (λ (k : ℕ). reply_text k (Fault ReplyTooLong ∷ [])) number ∙ sym (ap (sent_by n xs) text)
+sent_is false n r xs number long text there =
+    ap (put_by r) long ∙ ap (λ (k : ℕ). reply_text k r.items) number
+    ∙ ap (reply_text n) (there (or_false r.is_long (ltb reply_limit (length (reply_text r.number r.items))) long))
+    ∙ sym (ap (sent_by n xs) text)
+
+put_is_sent : TextAlone → AllThere → (n : ℕ) (xs : List Item) → list_all is_wide xs ≡ true
+    → (is_refusal xs || last_is_action false xs) ≡ true → put_text (after_all (started n) xs) ≡ sent_text n xs
+put_is_sent alone there n xs wide whole =
+    sent_is (ltb reply_limit (length (reply_text n xs))) n (after_all (started n) xs) xs (number_kept n (started n) xs refl)
+    (alone n xs wide whole) refl (there n xs)
+
+-- a request that was run and whose reply was written with a mark in front; what else is kept stays
+pub request_put : TextAlone → AllThere → ItemsAreWide → ItemsAreWhole → (source sender mark : List ℕ) (request : Request) (old new : CoreState) (reply : Answered) (before text : List ℕ)
+    → new.counts ≡ old.counts → request_is_proper source request ≡ true
+    → Leads engine_stands.StandsFor old.engine new.engine (λ w next. ((replied source request w).gateway ≡ next) × (reply ≡ after_all (started request.number) (replied source request w).items))
+    → text ≡ before ++ (mark ++ put_text reply) → Puts old new before text (item_replied source sender mark (items.Request request))
+request_put alone there wide whole source sender mark request old new reply before text same proper ran is w h =
     let (next, came, stands) = ran w.gateway h.gateway in
-    (record w { gateway = next }, mark ++ sent_text reply, ap (marked mark w) came, is, record { gateway = stands; replies = h.replies; counts = same ∙ h.counts })
+    let xs = (replied source request w.gateway).items in
+    let sent : put_text reply ≡ sent_text request.number xs = ap put_text came.1 ∙ put_is_sent alone there request.number xs (wide source request w.gateway proper) (whole source request w.gateway proper) in
+    let written = mark ++ sent_text request.number xs in (
+      record w { gateway = next },
+      (written, ap (λ (g : Gateway). writing written (record w { gateway = g })) came.0, is ∙ ap (λ (l : List ℕ). before ++ (mark ++ l)) sent),
+      record { gateway = stands; replies = h.replies; counts = same ∙ h.counts },
+    )
 
 -- where there is no request, nothing is written
 pub no_request : (source sender mark : List ℕ) (xs : List MessageItem) (w : World) → has_requests xs ≡ false → replied_to source sender mark xs w ≡ ([], w)
@@ -73,9 +132,6 @@ requests_from xs i d lt = ap requests_in (drop_more xs i d lt) ∙ requests_more
 abbrev pub answering : Option (List ℕ) → World → Option (List ℕ) × World
 answering answer w = (answer, w)
 
-abbrev pub writing : List ℕ → World → List ℕ × World
-writing text w = (text, w)
-
 pub silent_message : (source : List ℕ) (m : Message) (w : World) → has_requests (items_of m.body) ≡ false → to_message source m w ≡ answering None w
 silent_message source m w h =
     let sender = text_of source m.sender in
@@ -90,10 +146,10 @@ asked_message source m w next head out text h came front is =
     ∙ ap (λ (l : List ℕ). answering (Some l) next) (sym is)
 
 -- The loop over items: it was entered with a state that stood for each world w, and f w is what is written for them.
-abbrev pub IsUnderWay : State → State → List ℕ → List ℕ → (World → List ℕ × World) → (World → List ℕ × World) → Type 0
+abbrev pub IsUnderWay : CoreState → CoreState → List ℕ → List ℕ → (World → List ℕ × World) → (World → List ℕ × World) → Type 0
 IsUnderWay entered kept before text f rest = (w : World) → StandsFor entered w → (now : World) × (out : List ℕ) × (f w ≡ with_front out (rest now)) × (text ≡ before ++ out) × StandsFor kept now
 
-pub items_start : (kept : State) (text : List ℕ) (f : World → List ℕ × World) → IsUnderWay kept kept text text f f
+pub items_start : (kept : CoreState) (text : List ℕ) (f : World → List ℕ × World) → IsUnderWay kept kept text text f f
 items_start kept text f w h = (w, [], refl, sym (append-nil text), h)
 
 item_done : (source sender mark : List ℕ) (xs : List MessageItem) (i : ℕ) (d : MessageItem) (w after : World) (out : List ℕ) → i < length xs → item_replied source sender mark (get_or xs i d) w ≡ (out, after) → replied_to source sender mark (drop i xs) w ≡ with_front out (replied_to source sender (mark_after mark (get_or xs i d)) (drop (i + 1) xs) after)
@@ -103,12 +159,13 @@ item_done source sender mark xs i d w with_front out lt e = rw (drop_more xs i d
 after_both : (a b : List ℕ) (p : List ℕ × World) → with_front a (with_front b p) ≡ with_front (a ++ b) p
 after_both a b p = ap (λ (l : List ℕ). let q : List ℕ × World = (l, p.1) in q) (sym (append_assoc a b p.0))
 
-pub items_more : (source sender mark next : List ℕ) (xs : List MessageItem) (i : ℕ) (x d : MessageItem) (entered kept new : State) (before text more : List ℕ) (f : World → List ℕ × World) → i < length xs → x ≡ get_or xs i d → next ≡ mark_after mark x
+pub items_more : (source sender mark next : List ℕ) (xs : List MessageItem) (i : ℕ) (x d : MessageItem) (entered kept new : CoreState) (before text more : List ℕ) (f : World → List ℕ × World) → i < length xs → x ≡ get_or xs i d → next ≡ mark_after mark x
     → IsUnderWay entered kept before text f (replied_to source sender mark (drop i xs)) → Puts kept new text more (item_replied source sender mark x)
     → IsUnderWay entered new before more f (replied_to source sender next (drop (i + 1) xs))
 items_more source sender mark next xs i x d entered kept new before text more f lt is marked inside step w h =
     let (now, out, came, written, stands) = inside w h in
-    let (after, part, did, grown, left) = step now stands in
+    let (after, wrote, left) = step now stands in
+    let (part, did, grown) = wrote in
     let one = item_done source sender mark xs i d now after part lt (ap (λ (y : MessageItem). item_replied source sender mark y now) (sym is) ∙ did) in
     let mark_is : mark_after mark (get_or xs i d) ≡ next = ap (mark_after mark) (sym is) ∙ sym marked in
     let rest = λ (m : List ℕ). with_front (out ++ part) (replied_to source sender m (drop (i + 1) xs) after) in (
@@ -123,9 +180,9 @@ no_items : (source sender mark : List ℕ) (xs : List MessageItem) (i : ℕ) (w 
 unfolding replied_to
 no_items source sender mark xs i w le = rw (drop_all i xs le) refl
 
-pub items_end : (source sender mark : List ℕ) (xs : List MessageItem) (i : ℕ) (entered kept : State) (before text : List ℕ) (f : World → List ℕ × World) → length xs ≤ i → IsUnderWay entered kept before text f (replied_to source sender mark (drop i xs)) → Puts entered kept before text f
+pub items_end : (source sender mark : List ℕ) (xs : List MessageItem) (i : ℕ) (entered kept : CoreState) (before text : List ℕ) (f : World → List ℕ × World) → length xs ≤ i → IsUnderWay entered kept before text f (replied_to source sender mark (drop i xs)) → Puts entered kept before text f
 items_end source sender mark xs i entered kept before text f le inside w h =
     let (now, out, came, written, stands) = inside w h in
-    (now, out, came ∙ ap (with_front out) (no_items source sender mark xs i now le) ∙ ap (λ (l : List ℕ). let q : List ℕ × World = (l, now) in q) (append-nil out), written, stands)
+    (now, (out, came ∙ ap (with_front out) (no_items source sender mark xs i now le) ∙ ap (λ (l : List ℕ). let q : List ℕ × World = (l, now) in q) (append-nil out), written), stands)
 
 pub ruleset replying = (is_proper, requests_from, length-append)

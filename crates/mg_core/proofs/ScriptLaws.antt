@@ -8,10 +8,10 @@ use Rattle.mg_engine.specs.declared.fault.StartFault.TheVariants as starts
 use Rattle.mg_core.specs.declared.counts.Counts.{Counts}
 use Rattle.mg_core.specs.declared.fault.ScriptFault.{ScriptFault}
 use Rattle.mg_core.specs.declared.fault.ScriptFault.TheVariants as faults
-use Rattle.mg_core.specs.declared.state.State.{State}
+use Rattle.mg_core.specs.declared.state.CoreState.{CoreState}
 use Rattle.mg_core.specs.Run.{ScriptRan}
 use Rattle.mg_core.specs.Script.{lines_of}
-use Rattle.mg_core.specs.Steps.{AllRan, run_fault_at_start, run_fault_of}
+use Rattle.mg_core.specs.aids.Steps.{AllRan, run_fault_at_start, run_fault_of}
 use Rattle.mg_core.specs.World.{World, StandsFor, counts_of, start_of}
 use Rattle.mg_core.proofs.RunLaws.{ran_nothing}
 
@@ -29,11 +29,11 @@ pub not_started : (config : Config) (script : List ℕ) (a : Option (List ℕ)) 
 not_started config script a starts.BadConfig = keeps_same a
 not_started config script a starts.NoMemory = record { lines = []; others = lines_of script; script_is = refl; last = start_of config; ran = ran_nothing (start_of config) a }
 
-pub script_fault : (config : Config) (script : List ℕ) (state : State) (a b : Option (List ℕ)) (fault : ScriptFault) → AllRan config script state a b (Err fault) → ScriptRan config script a b (Err (run_fault_of fault))
+pub script_fault : (config : Config) (script : List ℕ) (state : CoreState) (a b : Option (List ℕ)) (fault : ScriptFault) → AllRan config script state a b (Err fault) → ScriptRan config script a b (Err (run_fault_of fault))
 script_fault config script state a b (faults.Bad n) h = h
 script_fault config script state a b faults.Read h = h
 script_fault config script state a b faults.Write h = h
 script_fault config script state a b faults.NoMemory h = h
 
-pub script_done : (config : Config) (script : List ℕ) (state : State) (counts : Counts) (a b : Option (List ℕ)) → AllRan config script state a b (Ok tt) → ((w : World) → StandsFor state w → record counts { lines = 0; sent = 0; failed = 0 } ≡ counts_of w.tally) → ScriptRan config script a b (Ok counts)
+pub script_done : (config : Config) (script : List ℕ) (state : CoreState) (counts : Counts) (a b : Option (List ℕ)) → AllRan config script state a b (Ok tt) → ((w : World) → StandsFor state w → record counts { lines = 0; sent = 0; failed = 0 } ≡ counts_of w.tally) → ScriptRan config script a b (Ok counts)
 script_done config script state counts a b h counted = record { last = h.0; ran = h.1; counted = counted h.0 h.2 }

@@ -1,31 +1,33 @@
 -- What a gateway answers to a control datagram, and what becomes of the world by it.
-use Rattle.std.specs.Prelude.{◌≡◌, ℕ, ◌||◌, nat_lt, Bool, true, false, List, [], ◌∷◌, ◌++◌, length, Option, Some, None, if◌then◌else◌}
+use Rattle.std.specs.Prelude.{◌≡◌, ℕ, nat_lt, Bool, true, false, List, [], ◌∷◌, ◌++◌, length}
+use Rattle.std.specs.Prelude.{Option, Some, None, if◌then◌else◌}
 use Rattle.std.specs.List.{list_any}
 use Rattle.mg_scan.specs.Span.{text_of}
 use Rattle.mg_text.specs.declared.message.Message.{Message}
 use Rattle.mg_text.specs.declared.body.MessageItem.{MessageItem}
 use Rattle.mg_text.specs.declared.body.MessageItem.TheVariants as items
 use Rattle.mg_text.specs.Message.{items_of}
-use Rattle.mg_text.specs.MessageReading.{MessageReading, Read, TooMany, OtherVersion, NoMessage, IsReading}
+use Rattle.mg_text.specs.MessageReading.{MessageReading, Read, TooMany, OtherVersion, NoMessage}
+use Rattle.mg_text.specs.MessageReading.{IsReading}
 use Rattle.mg_reply.specs.declared.item.Item.TheVariants as told
-use Rattle.mg_reply.specs.declared.error_number.ErrorNumber.{ErrorNumber}
-use Rattle.mg_reply.specs.declared.error_number.ErrorNumber.TheVariants.{Syntax, Version, NotServed, ReplyTooLong}
-use Rattle.mg_reply.specs.ErrorNumber.{error_text}
-use Rattle.mg_reply.specs.Reply.{Answered}
+use Rattle.mg_words.specs.declared.error_number.ErrorNumber.{ErrorNumber}
+use Rattle.mg_words.specs.declared.error_number.ErrorNumber.TheVariants.{Syntax, Version, NotServed}
+use Rattle.mg_words.specs.declared.error_number.ErrorNumber.TheVariants.{ReplyTooLong}
+use Rattle.mg_words.specs.ErrorNumber.{error_text}
+use Rattle.mg_reply.specs.declared.item.Item.{Item}
+use Rattle.mg_words.specs.Limits.{reply_limit}
 use Rattle.mg_reply.specs.Written.{head_text, reply_text}
-use Rattle.mg_commands.specs.Transaction.{State, replied}
+use Rattle.mg_commands.specs.Transaction.{TransactionState, replied}
 use Rattle.mg_core.specs.World.{World}
 
 -- ## A reply
 
--- a reply is sent whole if it has room for its items and at most 16,000 bytes
-abbrev pub is_long : Answered → Bool
-is_long r = r.is_long || nat_lt 16000 (length (reply_text r.number r.items))
-
--- the text of a reply, or of the error in its place
-abbrev pub sent_text : Answered → List ℕ
-sent_text r =
-    if is_long r then reply_text r.number (told.Fault ReplyTooLong ∷ []) else reply_text r.number r.items
+-- a reply is sent whole if it has at most 16,000 bytes, and else the error in its place
+abbrev pub sent_text : ℕ → List Item → List ℕ
+sent_text n items =
+    if nat_lt reply_limit (length (reply_text n items))
+    then reply_text n (told.Fault ReplyTooLong ∷ [])
+    else reply_text n items
 
 -- ## The items of a message
 
@@ -37,13 +39,15 @@ abbrev pub has_requests : List MessageItem → Bool
 has_requests xs = list_any is_request xs
 
 -- a mark and the reply after it, and the world with what the request left of the gateway
-abbrev pub marked : List ℕ → World → State → List ℕ × World
-marked mark w s = (mark ++ sent_text s.reply, record w { gateway = s.world })
+abbrev pub marked : List ℕ → World → ℕ → TransactionState → List ℕ × World
+marked mark w n s = (mark ++ sent_text n s.items, record w { gateway = s.gateway })
 
--- What is written for an item that came from a sender, and the world after it: a mark and the reply, if it is a request.
--- For now an acknowledgement leaves the world as it was, since no reply is kept.
+-- What is written for an item that came from a sender, and the world after it: a mark and the
+-- reply, if it is a request. For now an acknowledgement leaves the world as it was, since no reply
+-- is kept.
 abbrev pub item_replied : List ℕ → List ℕ → List ℕ → MessageItem → World → List ℕ × World
-item_replied source sender mark (items.Request request) w = marked mark w (replied source request w.gateway)
+item_replied source sender mark (items.Request request) w =
+    marked mark w request.number (replied source request w.gateway)
 item_replied source sender mark (items.Acknowledgement ranges) w = ([], w)
 
 -- the mark of the next reply: a line feed after the first
@@ -59,8 +63,8 @@ with_front text p = (text ++ p.0, p.1)
 abbrev pub followed : (World → List ℕ × World) → List ℕ × World → List ℕ × World
 followed rest p = with_front p.0 (rest p.1)
 
--- The replies to the requests among items, the first with this mark before it, and the world after all of them: each is
--- run in the world that the one before it left.
+-- The replies to the requests among items, the first with this mark before it, and the world after
+-- all of them: each is run in the world that the one before it left.
 unfoldable pub replied_to : List ℕ → List ℕ → List ℕ → List MessageItem → World → List ℕ × World
 replied_to source sender mark [] w = ([], w)
 replied_to source sender mark (x ∷ xs) w =
@@ -96,4 +100,5 @@ answered source NoMessage w = refused Syntax w
 -- the answer to a datagram, if there is one, and the world after it, by what it reads as
 abbrev pub Answers : List ℕ → World → Option (List ℕ) → World → Type 0
 Answers source w answer next =
-    (reading : MessageReading) × IsReading source reading × (answered source reading w ≡ (answer, next))
+    (reading : MessageReading) × IsReading source reading
+    × (answered source reading w ≡ (answer, next))

@@ -5,4 +5,4 @@ pub mod Answer
 pub mod Step
 pub mod Script
 pub mod Run
-pub mod Steps
+pub mod aids

@@ -1,9 +1,10 @@
 -- Peers by their texts.
 use Rattle.std.specs.Prelude.{ℕ, List, ◌++◌, Option, Some, codes, decimal}
-use Rattle.mg_numbers.specs.Numbers.{port_of}
-use Rattle.mg_numbers.specs.Address.{◌>>=◌, address_of}
-use Rattle.mg_numbers.specs.Cut.{cut}
-use Rattle.mg_sdp.specs.Written.{address_text}
+use Rattle.mg_words.specs.Numbers.{port_of}
+use Rattle.mg_words.specs.OptionSteps.{◌>>=◌}
+use Rattle.mg_words.specs.Address.{address_of}
+use Rattle.mg_words.specs.Cut.{cut}
+use Rattle.mg_words.specs.Address.{address_text}
 use Rattle.mg_engine.specs.declared.peer.Peer.{Peer}
 
 abbrev pub peer : List ℕ → ℕ → Peer

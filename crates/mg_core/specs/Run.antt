@@ -1,5 +1,6 @@
 -- What a run of a script writes.
-use Rattle.std.specs.Prelude.{◌≡◌, ℕ, ◌+◌, List, ◌∷◌, ◌++◌, length, flat_map, Option, Some, None, Result, Ok, Err, codes, decimal}
+use Rattle.std.specs.Prelude.{◌≡◌, ℕ, ◌+◌, List, ◌∷◌, ◌++◌, length, flat_map, Option, Some, None}
+use Rattle.std.specs.Prelude.{Result, Ok, Err, codes, decimal}
 use Rattle.std.specs.Io.KnownBytes.{Keeps, Appends}
 use Rattle.hex.specs.Hex.{encode_lower}
 use Rattle.mg_engine.specs.declared.config.Config.{Config}
@@ -18,12 +19,14 @@ use Rattle.mg_core.specs.Script.{lines_of, event_of, events_of, escaped}
 
 -- the line for an answer to a peer
 abbrev pub answer_line : Peer → List ℕ → List ℕ
-answer_line peer text = codes "say " ++ (peer_text peer ++ (codes " " ++ (escaped text ++ codes "\n")))
+answer_line peer text =
+    codes "say " ++ (peer_text peer ++ (codes " " ++ (escaped text ++ codes "\n")))
 
 -- the line for a packet, its bytes as hexadecimal digits in lower case
 abbrev pub packet_line : Datagram → List ℕ
 packet_line d =
-    codes "rtp " ++ (decimal d.from ++ (codes " " ++ (peer_text d.to ++ (codes " " ++ (encode_lower d.bytes ++ codes "\n")))))
+    codes "rtp " ++ (decimal d.from ++
+    (codes " " ++ (peer_text d.to ++ (codes " " ++ (encode_lower d.bytes ++ codes "\n")))))
 
 abbrev pub line_of : Sent → List ℕ
 line_of (Reply to text) = answer_line to text
@@ -34,9 +37,10 @@ lines_for sent = flat_map line_of sent
 
 -- ## Lines in
 
--- Lines were run from the world w: they are these events, one after another these have these datagrams sent and lead to
--- the last world, and a writer holds the lines of the datagrams.
-pub record Ran (w : World) (lines : List (List ℕ)) (last : World) (old new : Option (List ℕ)) : Type 0 where
+-- Lines were run from the world w: they are these events, one after another these have these
+-- datagrams sent and lead to the last world, and a writer holds the lines of the datagrams.
+pub record Ran (w : World) (lines : List (List ℕ)) (last : World)
+    (old new : Option (List ℕ)) : Type 0 where
   pub events : List Event
   pub sent : List Sent
   pub are : events_of lines ≡ Some events
@@ -44,7 +48,8 @@ pub record Ran (w : World) (lines : List (List ℕ)) (last : World) (old new : O
   pub written : Appends old new (lines_for sent)
 
 -- the same, but that a writer holds the front of those lines alone
-pub record RanInPart (w : World) (lines : List (List ℕ)) (last : World) (old new : Option (List ℕ)) : Type 0 where
+pub record RanInPart (w : World) (lines : List (List ℕ)) (last : World)
+    (old new : Option (List ℕ)) : Type 0 where
   pub events : List Event
   pub sent : List Sent
   pub front : List ℕ
@@ -57,13 +62,15 @@ pub record RanInPart (w : World) (lines : List (List ℕ)) (last : World) (old n
 -- ## The outcome of a run over a script on a new gateway
 
 -- all of the script was run, and its events were counted
-pub record RanToEnd (config : Config) (script : List ℕ) (counts : Counts) (old new : Option (List ℕ)) : Type 0 where
+pub record RanToEnd (config : Config) (script : List ℕ) (counts : Counts)
+    (old new : Option (List ℕ)) : Type 0 where
   pub last : World
   pub ran : Ran (start_of config) (lines_of script) last old new
   pub counted : record counts { lines = 0; sent = 0; failed = 0 } ≡ counts_of last.tally
 
 -- the lines before the first bad one were run, which has this number
-pub record RanToBadLine (config : Config) (script : List ℕ) (number : ℕ) (old new : Option (List ℕ)) : Type 0 where
+pub record RanToBadLine (config : Config) (script : List ℕ) (number : ℕ)
+    (old new : Option (List ℕ)) : Type 0 where
   pub lines : List (List ℕ)
   pub bad : List ℕ
   pub others : List (List ℕ)
@@ -82,14 +89,16 @@ pub record RanFirst (config : Config) (script : List ℕ) (old new : Option (Lis
   pub ran : Ran (start_of config) lines last old new
 
 -- they were, but for what was not written
-pub record RanFirstInPart (config : Config) (script : List ℕ) (old new : Option (List ℕ)) : Type 0 where
+pub record RanFirstInPart (config : Config) (script : List ℕ)
+    (old new : Option (List ℕ)) : Type 0 where
   pub lines : List (List ℕ)
   pub others : List (List ℕ)
   pub script_is : lines_of script ≡ lines ++ others
   pub last : World
   pub ran : RanInPart (start_of config) lines last old new
 
-abbrev pub ScriptRan : Config → List ℕ → Option (List ℕ) → Option (List ℕ) → Result Counts RunFault → Type 0
+abbrev pub ScriptRan : Config → List ℕ → Option (List ℕ) → Option (List ℕ) → Result Counts RunFault
+    → Type 0
 ScriptRan config script old new (Ok counts) = RanToEnd config script counts old new
 ScriptRan config script old new (Err (faults.Script n)) = RanToBadLine config script n old new
 ScriptRan config script old new (Err faults.Read) = RanFirst config script old new

@@ -1,54 +1,61 @@
--- Scripts: text lines that stand for the events of a gateway, and the lines that it writes for its answers. The format
--- is this gateway's own.
-use Rattle.std.specs.Prelude.{◌≡◌, ℕ, ◌-◌, Bool, true, false, ◌&&◌, ◌==◌, nat_le, nat_lt, List, [], ◌∷◌, ◌++◌, length, take, flat_map, Option, Some, None, Result, Ok, Err, codes, slice_index, if◌then◌else◌}
+-- Scripts: text lines that stand for the events of a gateway, and the lines that it writes for its
+-- answers. The format is this gateway's own.
+use Rattle.std.specs.Prelude.{ℕ, ◌-◌, Bool, true, false, ◌&&◌, ◌==◌, nat_le, nat_lt, List, []}
+use Rattle.std.specs.Prelude.{◌∷◌, ◌++◌, length, take, flat_map, Option, Some, None, Result, Ok}
+use Rattle.std.specs.Prelude.{Err, codes, slice_index, if◌then◌else◌}
 use Rattle.std.specs.Str.{bytes_eq}
 use Rattle.std.specs.Option.{option_map}
 use Rattle.hex.specs.Hex.{decode_of}
 use Rattle.hex.specs.declared.error.FromHexError.{FromHexError}
-use Rattle.mg_numbers.specs.Cut.{cut}
-use Rattle.mg_numbers.specs.Numbers.{port_of}
-use Rattle.mg_numbers.specs.Address.{◌>>=◌}
+use Rattle.mg_words.specs.Cut.{cut}
+use Rattle.mg_words.specs.Numbers.{port_of}
+use Rattle.mg_words.specs.OptionSteps.{◌>>=◌}
 use Rattle.mg_core.specs.declared.event.Event.{Event}
 use Rattle.mg_core.specs.declared.event.Event.TheVariants.{Control, Media, Tick}
 use Rattle.mg_core.specs.declared.script.Spelling.{Spelling}
 use Rattle.mg_core.specs.declared.script.Spelling.TheVariants.{Text, Digits}
-use Rattle.mg_core.specs.declared.script.LineFault.{LineFault}
-use Rattle.mg_core.specs.declared.script.LineFault.TheVariants as faults
 use Rattle.mg_core.specs.Peer.{peer_of}
 
 -- A line's text: without the line feed at its end, and without one carriage return before that.
 abbrev pub without_return : List ℕ → List ℕ
-without_return line = if slice_index line (length line - 1) == 13 then take (length line - 1) line else line
+without_return line =
+    if slice_index line (length line - 1) == 13 then take (length line - 1) line else line
 
--- The lines of a text behind a line that was begun. The last line may lack its line feed.
-unfoldable pub lines_behind : List ℕ → List ℕ → List (List ℕ)
-lines_behind begun [] = if length begun == 0 then [] else begun ∷ []
-lines_behind begun (b ∷ bs) = if b == 10 then without_return begun ∷ lines_behind [] bs else lines_behind (begun ++ b ∷ []) bs
+-- The lines of a text after a line that was begun. The last line may lack its line feed.
+unfoldable pub lines_after : List ℕ → List ℕ → List (List ℕ)
+lines_after begun [] = if length begun == 0 then [] else begun ∷ []
+lines_after begun (b ∷ bs) =
+    if b == 10 then without_return begun ∷ lines_after [] bs else lines_after (begun ++ b ∷ []) bs
 
 abbrev pub lines_of : List ℕ → List (List ℕ)
-lines_of text = lines_behind [] text
+lines_of text = lines_after [] text
 
 -- a visible ASCII byte or a space
 abbrev pub is_plain : ℕ → Bool
 is_plain b = nat_le 32 b && nat_le b 126
 
--- what a byte behind a backslash stands for
+-- what a byte after a backslash stands for
 abbrev pub escaped_byte : ℕ → Option ℕ
-escaped_byte b = if b == 110 then Some 10 else (if b == 114 then Some 13 else (if b == 92 then Some 92 else None))
+escaped_byte b =
+    if b == 110 then Some 10 else (if b == 114 then Some 13
+    else (if b == 92 then Some 92 else None))
 
--- The bytes of a text in which \n, \r and \\ stand for a line feed, a carriage return and a backslash. A backslash may
--- stand before it.
+-- The bytes of a text in which \n, \r and \\ stand for a line feed, a carriage return and a
+-- backslash. A backslash may stand before it.
 unfoldable pub unescaped : Bool → List ℕ → Option (List ℕ)
 unescaped true [] = None
 unescaped false [] = Some []
-unescaped true (b ∷ bs) = escaped_byte b >>= λ byte. option_map (λ rest. byte ∷ rest) (unescaped false bs)
+unescaped true (b ∷ bs) =
+    escaped_byte b >>= λ byte. option_map (λ rest. byte ∷ rest) (unescaped false bs)
 unescaped false (b ∷ bs) =
     if b == 92 then unescaped true bs
     else (if is_plain b then option_map (λ rest. b ∷ rest) (unescaped false bs) else None)
 
 -- the same bytes as such a text
 abbrev pub escape_of : ℕ → List ℕ
-escape_of b = if b == 10 then codes "\\n" else (if b == 13 then codes "\\r" else (if b == 92 then codes "\\\\" else b ∷ []))
+escape_of b =
+    if b == 10 then codes "\\n" else
+    (if b == 13 then codes "\\r" else (if b == 92 then codes "\\\\" else b ∷ []))
 
 abbrev pub escaped : List ℕ → List ℕ
 escaped bytes = flat_map escape_of bytes
@@ -64,7 +71,9 @@ datagram bytes = if nat_le (length bytes) 65535 then Some bytes else None
 
 -- how a key word says that bytes are spelled
 unfoldable pub spelling_of : List ℕ → Option Spelling
-spelling_of key = if bytes_eq key (codes "say") then Some Text else (if bytes_eq key (codes "control") then Some Digits else None)
+spelling_of key =
+    if bytes_eq key (codes "say") then Some Text
+    else (if bytes_eq key (codes "control") then Some Digits else None)
 
 -- what the last part of a line spells: a text, or hexadecimal digits in either case
 abbrev pub spelled_bytes : Option Spelling → List ℕ → Option (List ℕ)
@@ -89,7 +98,7 @@ media_of parts = do
   bytes ← datagram bytes
   an_event (Media port source bytes)
 
--- two parts behind a key word, with one space between: a peer, and the bytes of a datagram
+-- two parts after a key word, with one space between: a peer, and the bytes of a datagram
 unfoldable pub control_of : List ℕ → List ℕ → Option (Option Event)
 control_of key rest = do
   parts ← cut 32 rest
@@ -112,8 +121,8 @@ abbrev pub is_comment : List ℕ → Bool
 is_comment [] = true
 is_comment (b ∷ bs) = b == 35
 
--- The event that a line stands for, `Some None` for a line that stands for none, and `None` for a bad line. A line has
--- at most 140,000 bytes.
+-- The event that a line stands for, `Some None` for a line that stands for none, and `None` for a
+-- bad line. A line has at most 140,000 bytes.
 unfoldable pub event_of : List ℕ → Option (Option Event)
 event_of line =
     if nat_lt 140000 (length line) then None
@@ -133,9 +142,3 @@ events_of (line ∷ lines) = do
   event ← event_of line
   events ← events_of lines
   Some (then_all event events)
-
--- what a reader of a line answered, seen by view, is the value that the line stands for, unless memory ran out
-abbrev pub Reads : {X Y : Type 0} → (X → Y) → Result X LineFault → Option Y → Type 0
-Reads view (Ok x) o = o ≡ Some (view x)
-Reads view (Err faults.Bad) o = o ≡ None
-Reads view (Err faults.NoMemory) o = Unit {0}

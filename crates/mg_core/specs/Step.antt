@@ -1,5 +1,5 @@
--- What a gateway does at each event, and at events one after another: the datagrams that it sends, and the world that
--- it comes to.
+-- What a gateway does at each event, and at events one after another: the datagrams that it sends,
+-- and the world that it comes to.
 use Rattle.std.specs.Prelude.{◌≡◌, ℕ, List, [], ◌∷◌, ◌++◌, map, Option, Some, None}
 use Rattle.mg_engine.specs.declared.datagram.Datagram.{Datagram}
 use Rattle.mg_engine.specs.declared.peer.Peer.{Peer}
@@ -26,11 +26,12 @@ abbrev pub told : Answer → List ℕ → Option (List ℕ)
 told Send text = Some text
 told Silent text = None
 
--- In the world w an event has these datagrams sent, in this order, and the world comes to be the next: a control datagram
--- is answered, an RTP datagram is taken, and a tick sends its packets.
+-- In the world w an event has these datagrams sent, in this order, and the world comes to be the
+-- next: a control datagram is answered, an RTP datagram is taken, and a tick sends its packets.
 abbrev pub Step : World → Event → List Sent → World → Type 0
 Step w (Control source bytes) sent next =
-    (answer : Option (List ℕ)) × Answers bytes (with_control w) answer next × (sent ≡ answer_to source answer)
+    (answer : Option (List ℕ)) × Answers bytes (with_control w) answer next
+    × (sent ≡ answer_to source answer)
 Step w (Media port source bytes) sent next =
     (taken : Taken) × Took w port source bytes next taken × (sent ≡ [])
 Step w Tick sent next = (sent ≡ map Packet (packets_of w)) × (next ≡ ticked w)

@@ -1,5 +1,6 @@
 -- What a bridge is, seen from outside, and which worlds the state of a core stands for.
-use Rattle.std.specs.Prelude.{◌≡◌, ℕ, ◌+◌, ◌-◌, ◌^◌, min, List, [], map, replicate, slice_index, slice_set}
+use Rattle.std.specs.Prelude.{◌≡◌, ℕ, ◌+◌, ◌-◌, ◌^◌, min, List, [], map, replicate, slice_index}
+use Rattle.std.specs.Prelude.{slice_set}
 use Rattle.mg_playout.specs.declared.placed.Placed.{Placed}
 use Rattle.mg_playout.specs.declared.placed.Placed.TheVariants as placed
 use Rattle.mg_engine.specs.declared.config.Config.{Config}
@@ -11,21 +12,21 @@ use Rattle.mg_engine.specs.declared.taken.Taken.{Taken}
 use Rattle.mg_engine.specs.declared.taken.Taken.TheVariants as takens
 use Rattle.mg_engine.specs.Arrival.{Takes}
 use Rattle.mg_engine.specs.Tick.{after_tick, sent_in_tick}
-use Rattle.mg_engine.specs.World as engine
+use Rattle.mg_engine.specs.Gateway as engine
 use Rattle.mg_engine.specs.Stands as engine_stands
 use Rattle.mg_core.specs.declared.counts.Counts.{Counts}
-use Rattle.mg_core.specs.declared.state.State.{State}
+use Rattle.mg_core.specs.declared.state.CoreState.{CoreState}
 
--- A reply that is kept for a request that comes again: the sender's name in small letters, the request's number, and
--- the reply's text (RFC 3525, section 8.2 and annex D.1).
+-- A reply that is kept for a request that comes again: the sender's name in small letters, the
+-- request's number, and the reply's text (RFC 3525, section 8.2 and annex D.1).
 pub record KeptReply : Type 0 where
   pub sender : List ℕ
   pub number : ℕ
   pub text : List ℕ
 
--- How many control datagrams, RTP datagrams and ticks came. Of the RTP datagrams, how many a play list answered Started,
--- Placed, Pushed, Again and Late; and how many were dropped for NoTermination, Stray, NoLocal, Rtp, PayloadType and
--- Length.
+-- How many control datagrams, RTP datagrams and ticks came. Of the RTP datagrams, how many a play
+-- list answered Started, Placed, Pushed, Again and Late; and how many were dropped for
+-- NoTermination, Stray, NoLocal, Rtp, PayloadType and Length.
 pub record Tally : Type 0 where
   pub control : ℕ
   pub media : ℕ
@@ -33,14 +34,16 @@ pub record Tally : Type 0 where
   pub placed : List ℕ
   pub dropped : List ℕ
 
--- the gateway with its terminations and contexts; the replies that are kept, oldest first; and how many events came
+-- the gateway with its terminations and contexts; the replies that are kept, oldest first; and how
+-- many events came
 pub record World : Type 0 where
-  pub gateway : engine.World
+  pub gateway : engine.Gateway
   pub replies : List KeptReply
   pub tally : Tally
 
 abbrev pub no_events : Tally
-no_events = record { control = 0; media = 0; ticks = 0; placed = replicate 5 0; dropped = replicate 6 0 }
+no_events =
+    record { control = 0; media = 0; ticks = 0; placed = replicate 5 0; dropped = replicate 6 0 }
 
 -- the world that no event came to
 abbrev pub start_of : Config → World
@@ -67,8 +70,10 @@ abbrev pub one_more_at : ℕ → List ℕ → List ℕ
 one_more_at k counts = slice_set counts k (slice_index counts k + 1)
 
 abbrev pub with_taken : Taken → Tally → Tally
-with_taken (takens.Placed p) t = record t { media = t.media + 1; placed = one_more_at (place_of p) t.placed }
-with_taken (takens.Dropped cause) t = record t { media = t.media + 1; dropped = one_more_at (cause_of cause) t.dropped }
+with_taken (takens.Placed p) t =
+    record t { media = t.media + 1; placed = one_more_at (place_of p) t.placed }
+with_taken (takens.Dropped cause) t =
+    record t { media = t.media + 1; dropped = one_more_at (cause_of cause) t.dropped }
 
 -- a count stays at the greatest value of 64 bits
 abbrev pub capped : ℕ → ℕ
@@ -96,12 +101,16 @@ with_control w = record w { tally = record w.tally { control = w.tally.control +
 -- what became of an RTP datagram at a port, and the world after it
 abbrev pub Took : World → ℕ → Peer → List ℕ → World → Taken → Type 0
 Took w port source bytes after result =
-    (g : engine.World) × Takes w.gateway port source.address bytes g result
+    (g : engine.Gateway) × Takes w.gateway port source.address bytes g result
     × (after ≡ record w { gateway = g; tally = with_taken result w.tally })
 
 -- the world after a tick, and the packets that are sent in it
 abbrev pub ticked : World → World
-ticked w = record w { gateway = after_tick w.gateway; tally = record w.tally { ticks = w.tally.ticks + 1 } }
+ticked w =
+    record w {
+      gateway = after_tick w.gateway;
+      tally = record w.tally { ticks = w.tally.ticks + 1 };
+    }
 
 abbrev pub packets_of : World → List Datagram
 packets_of w = sent_in_tick w.gateway
@@ -109,7 +118,7 @@ packets_of w = sent_in_tick w.gateway
 -- ## Which worlds a state stands for
 
 -- For now no reply is kept: each request is run.
-pub record StandsFor (state : State) (w : World) : Type 0 where
+pub record StandsFor (state : CoreState) (w : World) : Type 0 where
   pub gateway : engine_stands.StandsFor state.engine w.gateway
   pub replies : w.replies ≡ []
   pub counts : state.counts ≡ counts_of w.tally

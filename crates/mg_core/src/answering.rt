@@ -1,17 +1,19 @@
 ghost use Rattle.std.specs.Prelude.{◌≡◌, ◌≤◌, ◌+◌, ◌*◌, ◌++◌, [], ◌∷◌, true, length};
 ghost use Rattle.mg_scan.specs.Span.{text_of};
 ghost use Rattle.mg_reply.specs.Bytes.{appended};
-ghost use Rattle.mg_reply.specs.ErrorNumber.{error_text};
+ghost use Rattle.mg_words.specs.ErrorNumber.{error_text};
 ghost use Rattle.mg_reply.specs.Reply.{IsWhole};
 ghost use Rattle.mg_reply.specs.Written.{head_text};
 ghost use Rattle.mg_text.specs.Message.{items_of, requests_in};
 ghost use Rattle.mg_text.specs.Proper.{are_proper, item_is_proper};
-ghost use Rattle.mg_core.specs.Answer.{has_requests, item_replied, mark_after, replied_to, sent_text};
-ghost use Rattle.mg_core.specs.Steps.{Puts, refusal_of};
+ghost use Rattle.mg_core.specs.Answer.{has_requests, item_replied, mark_after, replied_to};
+ghost use Rattle.mg_core.specs.aids.Steps.{Puts, put_text, refusal_of};
 
-use crate::state::State;
+use crate::state::CoreState;
+use mg_commands::laws::items_are_wide_and_whole;
 use mg_commands::transaction;
 use mg_engine::Config;
+use mg_reply::theorems::too_long_by_text_alone;
 use mg_scan::Span;
 use mg_text::{
     Body, Bytes, ErrorNumber, Item, MessageItem, REPLY_LIMIT, ReadFault, Reply, write_error,
@@ -66,8 +68,8 @@ pub fn has_requests(items: &[MessageItem]) -> bool
 fn put_reply(reply: &mut Reply, answer: &mut Bytes)
     requires whole { IsWhole reply.old }
     requires room { REPLY_LIMIT ≤ answer.old.room }
-    ensures text { answer.new ≡ appended answer.old (sent_text reply.old) }
-    ensures short { length (sent_text reply.old) ≤ REPLY_LIMIT }
+    ensures text { answer.new ≡ appended answer.old (put_text reply.old) }
+    ensures short { length (put_text reply.old) ≤ REPLY_LIMIT }
 {
     if write_reply(reply, answer).is_ok() {
         return;
@@ -82,7 +84,7 @@ fn put_reply(reply: &mut Reply, answer: &mut Bytes)
 /// it, if it is a request. What is answered is the mark of the next reply.
 #[tactic(auto, using(crate::proofs::ReplyLaws::one_reply))]
 fn put_item<'m>(
-    state: &mut State,
+    state: &mut CoreState,
     source: &[u8],
     sender: Span,
     item: &MessageItem,
@@ -103,6 +105,8 @@ fn put_item<'m>(
     match item {
         MessageItem::Request(request) => {
             transaction(&mut state.engine, source, request, reply);
+            items_are_wide_and_whole();
+            too_long_by_text_alone();
             answer.push(mark);
             put_reply(reply, answer);
             b"\n"
@@ -115,7 +119,7 @@ fn put_item<'m>(
 /// with a line feed between each two.
 #[tactic(auto, using(crate::proofs::ReplyLaws::replying))]
 pub fn put_replies(
-    state: &mut State,
+    state: &mut CoreState,
     source: &[u8],
     sender: Span,
     items: &[MessageItem],

@@ -22,6 +22,15 @@ pub enum EventFault {
     NoMemory,
 }
 
+/// Why a line was not run, or not all that it sends was written.
+#[derive(Clone, Copy, Debug, PartialEq, Eq)]
+pub enum LineFault {
+    /// The line with this number, counted from 1, is no script line.
+    Bad(u64),
+    Write,
+    NoMemory,
+}
+
 /// Why a script was not run to its end, on a gateway that was started.
 #[derive(Clone, Copy, Debug, PartialEq, Eq)]
 pub enum ScriptFault {
@@ -70,23 +79,38 @@ impl From<ReadFailed> for ScriptFault {
     }
 }
 
-impl From<EventFault> for ScriptFault {
+impl From<EventFault> for LineFault {
     ghost use Rattle.std.specs.Prelude.{◌≡◌};
-    ghost use Rattle.mg_core.specs.Steps.{script_fault_of};
+    ghost use Rattle.mg_core.specs.aids.Steps.{line_fault_of};
 
-    ghost from_gives = { λ fault e. e ≡ script_fault_of fault };
+    ghost from_gives = { λ fault e. e ≡ line_fault_of fault };
 
     fn from(fault: EventFault) -> Self {
         match fault {
-            EventFault::Write => ScriptFault::Write,
-            EventFault::NoMemory => ScriptFault::NoMemory,
+            EventFault::Write => LineFault::Write,
+            EventFault::NoMemory => LineFault::NoMemory,
+        }
+    }
+}
+
+impl From<LineFault> for ScriptFault {
+    ghost use Rattle.std.specs.Prelude.{◌≡◌};
+    ghost use Rattle.mg_core.specs.aids.Steps.{script_fault_of};
+
+    ghost from_gives = { λ fault e. e ≡ script_fault_of fault };
+
+    fn from(fault: LineFault) -> Self {
+        match fault {
+            LineFault::Bad(number) => ScriptFault::Bad(number),
+            LineFault::Write => ScriptFault::Write,
+            LineFault::NoMemory => ScriptFault::NoMemory,
         }
     }
 }
 
 impl From<ScriptFault> for RunFault {
     ghost use Rattle.std.specs.Prelude.{◌≡◌};
-    ghost use Rattle.mg_core.specs.Steps.{run_fault_of};
+    ghost use Rattle.mg_core.specs.aids.Steps.{run_fault_of};
 
     ghost from_gives = { λ fault e. e ≡ run_fault_of fault };
 
@@ -102,7 +126,7 @@ impl From<ScriptFault> for RunFault {
 
 impl From<StartFault> for RunFault {
     ghost use Rattle.std.specs.Prelude.{◌≡◌};
-    ghost use Rattle.mg_core.specs.Steps.{run_fault_at_start};
+    ghost use Rattle.mg_core.specs.aids.Steps.{run_fault_at_start};
 
     ghost from_gives = { λ fault e. e ≡ run_fault_at_start fault };
 

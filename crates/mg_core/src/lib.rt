@@ -38,6 +38,6 @@ pub use crate::peer::peer_of;
 pub use crate::running::run;
 // A crate can name a core in a contract only if the type of its state is exported.
 #[doc(hidden)]
-pub use crate::state::State;
+pub use crate::state::CoreState;
 pub use mg_engine::{Config, Datagram, DropCause, Peer, Record, Rooms, StartFault, Stats, Taken};
 pub use mg_rooms::{LAST_CONTEXT, TERMINATIONS};

@@ -1,15 +1,16 @@
 ghost use Rattle.std.specs.Prelude.{◌≡◌, ◌+◌, ◌↔◌, [], Some, length, IfOk, OnOk};
-ghost use Rattle.mg_engine.specs.Config.{IsSound};
+ghost use Rattle.mg_engine.specs.Config.{IsValidConfig};
+ghost use Rattle.mg_words.specs.Leads.{Leads};
 ghost use Rattle.mg_core.specs.Step.{Step};
-ghost use Rattle.mg_core.specs.Steps.{EventRan, LineRan, Steps};
+ghost use Rattle.mg_core.specs.aids.Steps.{EventRan, LineRan};
 ghost use Rattle.mg_core.specs.World.{StandsFor, start_of};
 
 use crate::answer::Answer;
 use crate::event::Event;
-use crate::fault::{EventFault, ScriptFault};
+use crate::fault::{EventFault, LineFault};
 use crate::machine::{ANSWER_LIMIT, Core};
 use crate::output::{push_answer, push_packets, write_whole};
-use crate::script::{LineFault, event_of};
+use crate::script::{ParseFault, event_of};
 use mg_engine::{Config, Peer, StartFault};
 use mg_text::Bytes;
 use std::alloc::Global;
@@ -32,8 +33,8 @@ pub struct LineRunner {
 impl LineRunner {
     /// A runner on a new gateway.
     pub fn new(alloc: Global, config: Config) -> Result<Self, StartFault>
-        ensures bad { (result ≡ Err StartFault.BadConfig) ↔ ¬ IsSound config }
-        ensures sound { OnOk result (IsSound config) }
+        ensures bad { (result ≡ Err StartFault.BadConfig) ↔ ¬ IsValidConfig config }
+        ensures sound { OnOk result (IsValidConfig config) }
         ensures start { IfOk result (λ runner. StandsFor runner.core.state (start_of config)) }
     {
         let core = Core::new(alloc, config)?;
@@ -53,7 +54,7 @@ impl LineRunner {
         bytes: &[u8],
         writer: &mut W,
     ) -> Result<(), EventFault>
-        ensures value { Steps self.old.core.state self.new.core.state (λ w next.
+        ensures value { Leads StandsFor self.old.core.state self.new.core.state (λ w next.
             EventRan (Event.Control source bytes.now) w next (W.contents writer.old) (W.contents writer.new) result) }
     {
         let Ok(answer) = self.core.control(alloc, source, bytes) else {
@@ -73,7 +74,7 @@ impl LineRunner {
 
     /// Takes an RTP datagram at a media port.
     fn take_media(&mut self, port: u16, source: Peer, bytes: &[u8])
-        ensures value { Steps self.old.core.state self.new.core.state (λ w next.
+        ensures value { Leads StandsFor self.old.core.state self.new.core.state (λ w next.
             Step w (Event.Media port source bytes.now) [] next) }
     {
         let _ = self.core.media(port, source, bytes);
@@ -82,7 +83,7 @@ impl LineRunner {
     /// Passes on by 20 ms, and writes the lines of the packets that are sent.
     #[tactic(auto, using(crate::proofs::AnswerLaws::totals))]
     fn take_tick<W: Write>(&mut self, writer: &mut W) -> Result<(), EventFault>
-        ensures value { Steps self.old.core.state self.new.core.state (λ w next.
+        ensures value { Leads StandsFor self.old.core.state self.new.core.state (λ w next.
             EventRan Event.Tick w next (W.contents writer.old) (W.contents writer.new) result) }
     {
         self.core.tick();
@@ -101,7 +102,7 @@ impl LineRunner {
         event: &Event,
         writer: &mut W,
     ) -> Result<(), EventFault>
-        ensures value { Steps self.old.core.state self.new.core.state (λ w next.
+        ensures value { Leads StandsFor self.old.core.state self.new.core.state (λ w next.
             EventRan event.now w next (W.contents writer.old) (W.contents writer.new) result) }
     {
         match event {
@@ -123,13 +124,13 @@ impl LineRunner {
         number: u64,
         line: &[u8],
         writer: &mut W,
-    ) -> Result<(), ScriptFault>
-        ensures value { Steps self.old.core.state self.new.core.state (λ w next.
+    ) -> Result<(), LineFault>
+        ensures value { Leads StandsFor self.old.core.state self.new.core.state (λ w next.
             LineRan number line.now w next (W.contents writer.old) (W.contents writer.new) result) }
     {
         match event_of(alloc, line) {
-            Err(LineFault::Bad) => Err(ScriptFault::Bad(number)),
-            Err(LineFault::NoMemory) => Err(ScriptFault::NoMemory),
+            Err(ParseFault::Bad) => Err(LineFault::Bad(number)),
+            Err(ParseFault::NoMemory) => Err(LineFault::NoMemory),
             Ok(None) => Ok(()),
             Ok(Some(event)) => {
                 self.take_event(alloc, &event, writer)?;

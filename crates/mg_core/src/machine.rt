@@ -1,20 +1,21 @@
 ghost use Rattle.std.specs.Prelude.{◌≡◌, ◌≤◌, ◌+◌, ◌↔◌, [], true, length, IfOk, OnOk, OnErr, Option, List, ℕ};
-ghost use Rattle.mg_engine.specs.Config.{IsSound};
+ghost use Rattle.mg_engine.specs.Config.{IsValidConfig};
 ghost use Rattle.mg_engine.specs.Flow.{flow};
 ghost use Rattle.mg_engine.specs.Mix.{total_at};
-ghost use Rattle.mg_engine.specs.World.{stats_of};
+ghost use Rattle.mg_engine.specs.Gateway.{stats_of};
 ghost use Rattle.mg_text.specs.Message.{IsMessage, items_of};
 ghost use Rattle.mg_text.specs.Proper.{are_proper};
 ghost use Rattle.mg_core.specs.declared.event.Event.TheVariants as events;
 ghost use Rattle.mg_core.specs.Answer.{to_message, refused};
 ghost use Rattle.mg_core.specs.Step.{Step, answer_to, told};
+ghost use Rattle.mg_words.specs.Leads.{Leads};
 ghost use Rattle.mg_core.specs.World.{World, StandsFor, Took, counts_of, packets_of, start_of, ticked, with_control};
 
 use crate::answer::Answer;
 use crate::answering::{has_requests, items_of, put_error, put_replies, refusal_of};
 use crate::counts::Counts;
 use crate::fault::NoMemory;
-use crate::state::State;
+use crate::state::CoreState;
 use mg_engine::{Config, Datagram, Engine, Outbox, Peer, Rooms, StartFault, Stats, Taken};
 use mg_rooms::TERMINATIONS;
 use mg_text::{Bytes, ErrorNumber, Message, Reply, read, write_head};
@@ -31,7 +32,7 @@ pub const ANSWER_LIMIT: usize = 64036;
 /// stands for afterwards.
 #[derive(Drop)]
 pub struct Core {
-    state: State,
+    state: CoreState,
     reply: Reply,
     answer: Bytes,
     outbox: Outbox,
@@ -51,13 +52,13 @@ impl Model for Core {
 impl Core {
     /// A gateway with this configuration. This takes all the memory that it holds.
     pub fn new(alloc: Global, config: Config) -> Result<Self, StartFault>
-        ensures bad { (result ≡ Err StartFault.BadConfig) ↔ ¬ IsSound config }
+        ensures bad { (result ≡ Err StartFault.BadConfig) ↔ ¬ IsValidConfig config }
         ensures started { IfOk result (λ core. (core.answer ≡ []) × (core.outbox ≡ []) × StandsFor core.state (start_of config)) }
-        ensures sound { OnOk result (IsSound config) }
+        ensures sound { OnOk result (IsValidConfig config) }
     {
         let engine = Engine::new(alloc, config)?;
         Ok(Core {
-            state: State {
+            state: CoreState {
                 engine,
                 counts: Counts::new(),
             },
@@ -70,9 +71,8 @@ impl Core {
     /// Takes a control datagram. Its answer is told by [`Core::answer`]. Memory is taken in reading alone,
     /// and where it runs out nothing has changed but the last answer, which is empty.
     pub fn control(&mut self, alloc: Global, source: Peer, bytes: &[u8]) -> Result<Answer, NoMemory>
-        ensures answered { IfOk result (λ answer. (w : World) → StandsFor self.old.state w → (next : World)
-            × Step w (events.Control source bytes.now) (answer_to source (told answer self.new.answer)) next
-            × StandsFor self.new.state next) }
+        ensures answered { IfOk result (λ answer. Leads StandsFor self.old.state self.new.state (λ w next.
+            Step w (events.Control source bytes.now) (answer_to source (told answer self.new.answer)) next)) }
         ensures silent { result ≡ Ok Answer.Silent → self.new.answer ≡ [] }
         ensures no_memory { OnErr result (self.new ≡ record self.old { answer = [] }) }
         ensures outbox { self.new.outbox ≡ self.old.outbox }
@@ -101,8 +101,8 @@ impl Core {
         requires message { IsMessage source.now message.now }
         requires proper { are_proper source.now (items_of message.now.body) ≡ true }
         requires empty { self.old.answer ≡ [] }
-        ensures replied { (w : World) → StandsFor self.old.state w → (next : World)
-            × (to_message source.now message.now w ≡ (told result self.new.answer, next)) × StandsFor self.new.state next }
+        ensures replied { Leads StandsFor self.old.state self.new.state (λ w next.
+            to_message source.now message.now w ≡ (told result self.new.answer, next)) }
         ensures silent { result ≡ Answer.Silent → self.new.answer ≡ [] }
         ensures outbox { self.new.outbox ≡ self.old.outbox }
         ensures short { length self.new.answer ≤ ANSWER_LIMIT }
@@ -146,8 +146,8 @@ impl Core {
 
     /// Takes an RTP datagram that came to one of the media ports.
     pub fn media(&mut self, port: u16, source: Peer, bytes: &[u8]) -> Taken
-        ensures taken { (w : World) → StandsFor self.old.state w → (next : World)
-            × Took w port source bytes.now next result × StandsFor self.new.state next }
+        ensures taken { Leads StandsFor self.old.state self.new.state (λ w next.
+            Took w port source bytes.now next result) }
         ensures answer { self.new.answer ≡ self.old.answer }
         ensures outbox { self.new.outbox ≡ self.old.outbox }
     {

@@ -5,7 +5,7 @@ ghost use Rattle.hex.specs.Hex.{encode_lower};
 ghost use Rattle.mg_core.specs.Peer.{peer_text};
 ghost use Rattle.mg_core.specs.Run.{answer_line, packet_line, lines_for};
 ghost use Rattle.mg_core.specs.Step.{Packet};
-ghost use Rattle.mg_core.specs.Steps.{Writes, WritesSome};
+ghost use Rattle.mg_core.specs.aids.Steps.{Writes, WritesSome};
 
 use crate::fault::WriteFailed;
 use mg_engine::{Datagram, Peer};

@@ -2,7 +2,7 @@ ghost use Rattle.std.specs.Prelude.{◌≡◌};
 ghost use Rattle.mg_core.specs.Peer.{peer_of};
 
 use mg_engine::Peer;
-use mg_numbers::{address_of, cut, port_of};
+use mg_words::{address_of, cut, port_of};
 
 /// The peer that a text names: an address, a colon and a port.
 #[tactic(auto, unfolding(crate::specs::Peer::peer_of))]

@@ -1,5 +1,5 @@
 ghost use Rattle.std.specs.Prelude.{◌≡◌, ◌↔◌, Some, Err, IfSome, OnOk};
-ghost use Rattle.mg_engine.specs.Config.{IsSound};
+ghost use Rattle.mg_engine.specs.Config.{IsValidConfig};
 ghost use Rattle.mg_core.specs.Run.{ScriptRan};
 
 use crate::counts::Counts;
@@ -25,8 +25,8 @@ pub fn run<R: Read, W: Write>(
 ) -> Result<Counts, RunFault>
     ensures script { IfSome (R.remaining reader.old) (λ script.
         ScriptRan config script (W.contents writer.old) (W.contents writer.new) result) }
-    ensures bad { (result ≡ Err RunFault.BadConfig) ↔ ¬ IsSound config }
-    ensures sound { OnOk result (IsSound config) }
+    ensures bad { (result ≡ Err RunFault.BadConfig) ↔ ¬ IsValidConfig config }
+    ensures sound { OnOk result (IsValidConfig config) }
 {
     let mut runner = ScriptRunner::new(alloc, config)?;
     runner.take_all(alloc, reader, writer)?;

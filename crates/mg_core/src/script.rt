@@ -1,12 +1,13 @@
 ghost use Rattle.std.specs.Prelude.{◌≡◌, false};
-ghost use Rattle.mg_core.specs.Script.{Reads, is_plain, escaped_byte, unescaped, ok_of, spelling_of, bytes_of, datagram, media_of, control_of, datagram_of, is_comment, event_of};
+ghost use Rattle.mg_core.specs.aids.Reads.{Reads};
+ghost use Rattle.mg_core.specs.Script.{is_plain, escaped_byte, unescaped, ok_of, spelling_of, bytes_of, datagram, media_of, control_of, datagram_of, is_comment, event_of};
 ghost use Rattle.hex.specs.Hex.{decode_of};
 
 use crate::event::Event;
 use crate::peer::peer_of;
 use hex::FromHexError;
-use mg_numbers::{cut, port_of};
-use mg_text::Items;
+use mg_text::TreeList;
+use mg_words::{cut, port_of};
 use std::alloc::{AllocError, AllocFailed, Global};
 
 /// The bytes of the longest line of a script.
@@ -17,31 +18,31 @@ pub const DATAGRAM_LIMIT: usize = 65535;
 
 /// Why a line was not read.
 #[derive(Clone, Copy, Debug, PartialEq, Eq)]
-pub enum LineFault {
+pub enum ParseFault {
     /// It is no line of a script.
     Bad,
     NoMemory,
 }
 
-impl From<AllocError> for LineFault {
+impl From<AllocError> for ParseFault {
     ghost use Rattle.std.specs.Prelude.{◌≡◌};
-    ghost use Rattle.mg_core.specs.declared.script.LineFault.TheVariants as faults;
+    ghost use Rattle.mg_core.specs.declared.script.ParseFault.TheVariants as faults;
 
     ghost from_gives = { λ _ e. e ≡ faults.NoMemory };
 
     fn from(_value: AllocError) -> Self {
-        LineFault::NoMemory
+        ParseFault::NoMemory
     }
 }
 
-impl<T: Drop> From<AllocFailed<T>> for LineFault {
+impl<T: Drop> From<AllocFailed<T>> for ParseFault {
     ghost use Rattle.std.specs.Prelude.{◌≡◌};
-    ghost use Rattle.mg_core.specs.declared.script.LineFault.TheVariants as faults;
+    ghost use Rattle.mg_core.specs.declared.script.ParseFault.TheVariants as faults;
 
     ghost from_gives = { λ _ e. e ≡ faults.NoMemory };
 
     fn from(_value: AllocFailed<T>) -> Self {
-        LineFault::NoMemory
+        ParseFault::NoMemory
     }
 }
 
@@ -52,7 +53,7 @@ fn is_plain(b: u8) -> bool
     matches!(b, 0x20..=0x7E)
 }
 
-/// What a byte behind a backslash stands for.
+/// What a byte after a backslash stands for.
 fn escaped_byte(b: u8) -> Option<u8>
     ensures value { result ≡ escaped_byte b }
 {
@@ -66,7 +67,7 @@ fn escaped_byte(b: u8) -> Option<u8>
 
 /// The bytes of a text with escapes.
 #[tactic(auto, using(crate::proofs::EscapeSteps::steps))]
-fn unescape(alloc: Global, text: &[u8]) -> Result<Vec<u8>, LineFault>
+fn unescape(alloc: Global, text: &[u8]) -> Result<Vec<u8>, ParseFault>
     ensures { Reads (λ bytes. bytes.items) result (unescaped false text.now) }
 {
     let mut bytes = Vec::new(alloc);
@@ -74,7 +75,7 @@ fn unescape(alloc: Global, text: &[u8]) -> Result<Vec<u8>, LineFault>
     for b in text {
         if is_escaped {
             let Some(byte) = escaped_byte(*b) else {
-                return Err(LineFault::Bad);
+                return Err(ParseFault::Bad);
             };
             bytes.push(byte)?;
             is_escaped = false;
@@ -83,23 +84,23 @@ fn unescape(alloc: Global, text: &[u8]) -> Result<Vec<u8>, LineFault>
         } else if is_plain(*b) {
             bytes.push(*b)?;
         } else {
-            return Err(LineFault::Bad);
+            return Err(ParseFault::Bad);
         }
     }
     if is_escaped {
-        return Err(LineFault::Bad);
+        return Err(ParseFault::Bad);
     }
     Ok(bytes)
 }
 
 /// The bytes of hexadecimal digits.
-fn unhex(alloc: Global, digits: &[u8]) -> Result<Vec<u8>, LineFault>
+fn unhex(alloc: Global, digits: &[u8]) -> Result<Vec<u8>, ParseFault>
     ensures { Reads (λ bytes. bytes.items) result (ok_of (decode_of digits.now)) }
 {
     match hex::decode(alloc, digits) {
         Ok(bytes) => Ok(bytes),
-        Err(FromHexError::OutOfMemory) => Err(LineFault::NoMemory),
-        Err(_) => Err(LineFault::Bad),
+        Err(FromHexError::OutOfMemory) => Err(ParseFault::NoMemory),
+        Err(_) => Err(ParseFault::Bad),
     }
 }
 
@@ -126,66 +127,66 @@ fn spelling_of(key: &[u8]) -> Option<Spelling>
     }
 }
 
-/// The bytes that the last part of a line spells behind its key word.
-fn bytes_of(alloc: Global, key: &[u8], spelled: &[u8]) -> Result<Vec<u8>, LineFault>
+/// The bytes that the last part of a line spells after its key word.
+fn bytes_of(alloc: Global, key: &[u8], spelled: &[u8]) -> Result<Vec<u8>, ParseFault>
     ensures { Reads (λ bytes. bytes.items) result (bytes_of key.now spelled.now) }
 {
     match spelling_of(key) {
         Some(Spelling::Text) => unescape(alloc, spelled),
         Some(Spelling::Digits) => unhex(alloc, spelled),
-        None => Err(LineFault::Bad),
+        None => Err(ParseFault::Bad),
     }
 }
 
 /// An RTP datagram: a port, a peer and hexadecimal digits, with one space between each two.
 #[tactic(auto, unfolding(crate::specs::Script::media_of))]
-fn media_of(alloc: Global, parts: &[u8]) -> Result<Option<Event>, LineFault>
+fn media_of(alloc: Global, parts: &[u8]) -> Result<Option<Event>, ParseFault>
     ensures { Reads (λ event. event) result (media_of parts.now) }
 {
     let Some((port, rest)) = cut(b' ', parts) else {
-        return Err(LineFault::Bad);
+        return Err(ParseFault::Bad);
     };
     let Some(port) = port_of(port) else {
-        return Err(LineFault::Bad);
+        return Err(ParseFault::Bad);
     };
     let Some((peer, digits)) = cut(b' ', rest) else {
-        return Err(LineFault::Bad);
+        return Err(ParseFault::Bad);
     };
     let Some(source) = peer_of(peer) else {
-        return Err(LineFault::Bad);
+        return Err(ParseFault::Bad);
     };
     let bytes = unhex(alloc, digits)?;
     if bytes.len() > DATAGRAM_LIMIT {
-        return Err(LineFault::Bad);
+        return Err(ParseFault::Bad);
     }
-    Ok(Some(Event::Media(port, source, Items::new(bytes))))
+    Ok(Some(Event::Media(port, source, TreeList::new(bytes))))
 }
 
-/// A control datagram behind its key word: a peer and bytes, with one space between.
+/// A control datagram after its key word: a peer and bytes, with one space between.
 #[tactic(auto, unfolding(crate::specs::Script::control_of))]
-fn control_of(alloc: Global, key: &[u8], rest: &[u8]) -> Result<Option<Event>, LineFault>
+fn control_of(alloc: Global, key: &[u8], rest: &[u8]) -> Result<Option<Event>, ParseFault>
     ensures { Reads (λ event. event) result (control_of key.now rest.now) }
 {
     let Some((peer, spelled)) = cut(b' ', rest) else {
-        return Err(LineFault::Bad);
+        return Err(ParseFault::Bad);
     };
     let Some(source) = peer_of(peer) else {
-        return Err(LineFault::Bad);
+        return Err(ParseFault::Bad);
     };
     let bytes = bytes_of(alloc, key, spelled)?;
     if bytes.len() > DATAGRAM_LIMIT {
-        return Err(LineFault::Bad);
+        return Err(ParseFault::Bad);
     }
-    Ok(Some(Event::Control(source, Items::new(bytes))))
+    Ok(Some(Event::Control(source, TreeList::new(bytes))))
 }
 
 /// A datagram: a key word, a space, and what the key word asks for.
 #[tactic(auto, unfolding(crate::specs::Script::datagram_of))]
-fn datagram_of(alloc: Global, line: &[u8]) -> Result<Option<Event>, LineFault>
+fn datagram_of(alloc: Global, line: &[u8]) -> Result<Option<Event>, ParseFault>
     ensures { Reads (λ event. event) result (datagram_of line.now) }
 {
     let Some((key, rest)) = cut(b' ', line) else {
-        return Err(LineFault::Bad);
+        return Err(ParseFault::Bad);
     };
     if key == b"rtp".as_slice() {
         return media_of(alloc, rest);
@@ -205,11 +206,11 @@ fn is_comment(line: &[u8]) -> bool
 
 /// The event that a line stands for, without the end of the line.
 #[tactic(auto, unfolding(crate::specs::Script::event_of))]
-pub fn event_of(alloc: Global, line: &[u8]) -> Result<Option<Event>, LineFault>
+pub fn event_of(alloc: Global, line: &[u8]) -> Result<Option<Event>, ParseFault>
     ensures { Reads (λ event. event) result (event_of line.now) }
 {
     if line.len() > LINE_LIMIT {
-        return Err(LineFault::Bad);
+        return Err(ParseFault::Bad);
     }
     if is_comment(line) {
         return Ok(None);

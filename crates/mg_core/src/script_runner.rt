@@ -1,12 +1,13 @@
 ghost use Rattle.std.specs.Prelude.{◌≡◌, ◌+◌, ◌*◌, ◌^◌, ◌<◌, ◌≤◌, ◌↔◌, [], ℕ, List, length, Some, OnOk, IfOk, Result};
 ghost use Rattle.mg_engine.specs.declared.config.Config.{Config};
-ghost use Rattle.mg_engine.specs.Config.{IsSound};
+ghost use Rattle.mg_engine.specs.Config.{IsValidConfig};
+ghost use Rattle.mg_words.specs.Leads.{Leads};
 ghost use Rattle.mg_core.specs.World.{World, StandsFor, counts_of, start_of};
 ghost use Rattle.mg_core.specs.Script.{without_return};
-ghost use Rattle.mg_core.specs.Steps.{AllRan, LineRan, BytesRan, Finishes, ReadsSome, Steps};
+ghost use Rattle.mg_core.specs.aids.Steps.{AllRan, LineRan, BytesRan, Finishes, ReadsSome};
 
 use crate::counts::Counts;
-use crate::fault::{ReadFailed, ScriptFault};
+use crate::fault::{LineFault, ReadFailed, ScriptFault};
 use crate::line_runner::LineRunner;
 use mg_engine::{Config, StartFault};
 use mg_text::Bytes;
@@ -57,8 +58,8 @@ fn read_some<R: Read>(
 impl ScriptRunner {
     /// A runner on a new gateway, at the start of a script.
     pub fn new(alloc: Global, config: Config) -> Result<Self, StartFault>
-        ensures bad { (result ≡ Err StartFault.BadConfig) ↔ ¬ IsSound config }
-        ensures sound { OnOk result (IsSound config) }
+        ensures bad { (result ≡ Err StartFault.BadConfig) ↔ ¬ IsValidConfig config }
+        ensures sound { OnOk result (IsValidConfig config) }
         ensures start { IfOk result (λ s. StandsFor s.runner.core.state (start_of config)) }
         ensures lines { IfOk result (λ s. s.lines ≡ 0) }
         ensures begun { IfOk result (λ s. s.begun.text ≡ []) }
@@ -72,11 +73,11 @@ impl ScriptRunner {
     }
 
     /// Takes the line that was begun, which ends here.
-    fn end_line<W: Write>(&mut self, alloc: Global, writer: &mut W) -> Result<(), ScriptFault>
+    fn end_line<W: Write>(&mut self, alloc: Global, writer: &mut W) -> Result<(), LineFault>
         requires few { self.old.lines + 1 < 2 ^ 64 }
         ensures begun { OnOk result (self.new.begun.text ≡ []) }
         ensures lines { OnOk result (self.new.lines ≡ self.old.lines + 1) }
-        ensures value { Steps self.old.runner.core.state self.new.runner.core.state (λ w next.
+        ensures value { Leads StandsFor self.old.runner.core.state self.new.runner.core.state (λ w next.
             LineRan (self.old.lines + 1) (without_return self.old.begun.text)
             w next (W.contents writer.old) (W.contents writer.new) result) }
     {
@@ -94,10 +95,10 @@ impl ScriptRunner {
         alloc: Global,
         bytes: &[u8],
         writer: &mut W,
-    ) -> Result<(), ScriptFault>
+    ) -> Result<(), LineFault>
         requires few { self.old.lines + length bytes.now < 2 ^ 64 }
         ensures lines { OnOk result (self.new.lines ≤ self.old.lines + length bytes.now) }
-        ensures value { Steps self.old.runner.core.state self.new.runner.core.state (λ w next.
+        ensures value { Leads StandsFor self.old.runner.core.state self.new.runner.core.state (λ w next.
             BytesRan self.old.lines self.new.lines self.old.begun.text bytes.now self.new.begun.text
             w next (W.contents writer.old) (W.contents writer.new) result) }
     {
@@ -107,7 +108,7 @@ impl ScriptRunner {
                 continue;
             }
             if self.begun.room() == 0 {
-                return Err(ScriptFault::Bad(self.lines + 1));
+                return Err(LineFault::Bad(self.lines + 1));
             }
             self.begun.push(&[*b]);
         }
@@ -115,9 +116,9 @@ impl ScriptRunner {
     }
 
     /// Takes the last line, if one was begun: it has no line feed.
-    fn finish<W: Write>(&mut self, alloc: Global, writer: &mut W) -> Result<(), ScriptFault>
+    fn finish<W: Write>(&mut self, alloc: Global, writer: &mut W) -> Result<(), LineFault>
         requires few { self.old.lines + 1 < 2 ^ 64 }
-        ensures value { Steps self.old.runner.core.state self.new.runner.core.state (λ w next.
+        ensures value { Leads StandsFor self.old.runner.core.state self.new.runner.core.state (λ w next.
             Finishes self.old.lines self.old.begun.text w next (W.contents writer.old) (W.contents writer.new) result) }
     {
         let line = self.begun.as_slice();
@@ -146,7 +147,8 @@ impl ScriptRunner {
         let mut buffer = [0; READ_SIZE];
         for _ in 0..u32::MAX {
             let Some(n) = read_some(reader, &mut buffer)? else {
-                return self.finish(alloc, writer);
+                self.finish(alloc, writer)?;
+                return Ok(());
             };
             self.take_bytes(alloc, &buffer[..n], writer)?;
         }

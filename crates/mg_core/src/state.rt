@@ -6,13 +6,13 @@ use mg_engine::{Engine, Taken};
 
 /// What a gateway keeps from one event to the next: its terminations and contexts, and how many events came.
 #[derive(Drop)]
-pub struct State {
+pub struct CoreState {
     pub engine: Engine,
     /// Of events alone: lines, sent and failed stay 0.
     pub counts: Counts,
 }
 
-impl State {
+impl CoreState {
     /// Counts a control datagram.
     pub fn count_control(&mut self)
         ensures engine { self.new.engine ≡ self.old.engine }

@@ -1,5 +1,5 @@
-use crate::{Answer, Config, Core, Counts, Peer, RunFault, StartFault, run};
-use std::alloc::Global;
+use crate::{Answer, Config, Core, Counts, NoMemory, Peer, RunFault, StartFault, run};
+use std::alloc::{AllocError, Global};
 use std::io::{self, Cursor, Error, ErrorKind, Read, Write};
 use std::test::Fail;
 
@@ -301,32 +301,58 @@ fn ignores_answers(rt: HostRuntime) -> Result<(), Fail> {
     Ok(())
 }
 
+/// Whether a core answers a datagram of the controller with a text.
+fn is_answered(
+    alloc: Global,
+    core: &mut Core,
+    bytes: &[u8],
+    text: &[u8],
+) -> Result<bool, NoMemory> {
+    let answer = core.control(alloc, CONTROLLER, bytes)?;
+    Ok(answer == Answer::Send && core.answer() == text)
+}
+
+/// The heartbeat with spaces after it, so many bytes in all.
+fn filled(alloc: Global, len: usize) -> Result<Vec<u8>, AllocError> {
+    let mut message = Vec::from_slice(alloc, HEARTBEAT)?;
+    message.resize(len, b' ')?;
+    Ok(message)
+}
+
 #[test]
 fn limits_a_datagram(rt: HostRuntime) -> Result<(), Fail> {
     let alloc = rt.alloc();
+    let longest = filled(alloc, 8192)?;
+    let longer = filled(alloc, 8193)?;
+    let refusal = b"MEGACO/1 [127.0.0.1]:2944\nError=501{\"not served\"}";
     let mut core = Core::new(alloc, Config::default())?;
-    let mut message = Vec::from_slice(alloc, HEARTBEAT)?;
-    message.resize(8192, b' ')?;
-    assert_eq!(rt;
-        core.control(alloc, CONTROLLER, message.as_slice())?,
-        Answer::Send
-    );
-    assert_eq!(rt; core.answer(), REPLY);
-    message.push(b' ')?;
-    assert_eq!(rt;
-        core.control(alloc, CONTROLLER, message.as_slice())?,
-        Answer::Send
-    );
-    assert_eq!(rt;
-        core.answer(),
-        b"MEGACO/1 [127.0.0.1]:2944\nError=501{\"not served\"}".as_slice()
-    );
-    for closing in [72, 73, 74, 75] {
-        assert_eq!(rt; HEARTBEAT[closing], b'}');
-        let (cut, _) = HEARTBEAT.split_at(closing);
-        assert_eq!(rt; core.control(alloc, CONTROLLER, cut)?, Answer::Send);
-        assert_eq!(rt; core.answer(), SYNTAX);
+    assert!(rt; is_answered(alloc, &mut core, longest.as_slice(), REPLY)?);
+    assert!(rt; is_answered(alloc, &mut core, longer.as_slice(), refusal)?);
+    Ok(())
+}
+
+/// Whether a core refuses each of some fronts of a message.
+fn refuses_fronts(
+    alloc: Global,
+    core: &mut Core,
+    message: &[u8],
+    lengths: &[usize],
+) -> Result<bool, NoMemory> {
+    let mut are_refused = true;
+    for length in lengths {
+        let (front, _) = message.split_at((*length).min(message.len()));
+        let answer = core.control(alloc, CONTROLLER, front)?;
+        are_refused = are_refused && answer == Answer::Send && core.answer() == SYNTAX;
     }
+    Ok(are_refused)
+}
+
+#[test]
+fn refuses_a_message_without_its_end(rt: HostRuntime) -> Result<(), Fail> {
+    let alloc = rt.alloc();
+    let mut core = Core::new(alloc, Config::default())?;
+    let lengths = [72, 73, 74, 75];
+    assert!(rt; refuses_fronts(alloc, &mut core, HEARTBEAT, &lengths)?);
     Ok(())
 }
 
@@ -454,46 +480,15 @@ fn limits_a_line_and_its_datagram(rt: HostRuntime) -> Result<(), Fail> {
     Ok(())
 }
 
-/// A script's line that makes a conference of three. The third speaks A-law, the others mu-law, and their media ports are 30000, 30002 and 30004.
-fn conference(alloc: Global) -> Result<Vec<u8>, Fail> {
-    let mut script = Vec::new(alloc);
-    script.extend_from_slice(b"say 127.0.0.1:2945 !/1 [127.0.0.1]:2945 T=1{C=${")?;
-    push_add(&mut script, b"0", b"40000")?;
-    script.push(b',')?;
-    push_add(&mut script, b"0", b"40002")?;
-    script.push(b',')?;
-    push_add(&mut script, b"8", b"40004")?;
-    script.extend_from_slice(b"}}\n")?;
-    Ok(script)
-}
-
-/// Appends an Add of a caller with a payload type who receives at a port.
-fn push_add(line: &mut Vec<u8>, payload_type: &[u8], port: &[u8]) -> Result<(), Fail> {
-    line.extend_from_slice(b"A=${M{O{MO=SR},L{v=0\\nc=IN IP4 $\\nm=audio $ RTP/AVP ")?;
-    line.extend_from_slice(payload_type)?;
-    line.extend_from_slice(b"\\n},R{v=0\\nc=IN IP4 127.0.0.1\\nm=audio ")?;
-    line.extend_from_slice(port)?;
-    line.extend_from_slice(b" RTP/AVP ")?;
-    line.extend_from_slice(payload_type)?;
-    line.extend_from_slice(b"\\n}}}")?;
-    Ok(())
-}
-
-/// Appends a line of RTP with a header and 160 equal bytes of payload.
-fn push_packet(line: &mut Vec<u8>, peers: &[u8], header: &[u8], digits: &[u8]) -> Result<(), Fail> {
-    line.extend_from_slice(b"rtp ")?;
-    line.extend_from_slice(peers)?;
-    line.push(b' ')?;
-    line.extend_from_slice(header)?;
+/// Appends a line with the digits of 160 equal bytes at its end.
+fn push_line(line: &mut Vec<u8>, front: &[u8], digits: &[u8]) -> Result<(), Fail> {
+    line.extend_from_slice(front)?;
     for _ in 0..160 {
         line.extend_from_slice(digits)?;
     }
     line.push(b'\n')?;
     Ok(())
 }
-
-/// The header of the packet that each caller sends.
-const SPOKEN: &[u8] = b"800000010000000000000063";
 
 /// The last line of a text.
 fn last_line(text: &[u8]) -> &[u8] {
@@ -503,27 +498,35 @@ fn last_line(text: &[u8]) -> &[u8] {
     }
 }
 
-/// What the third tick of a conference sends last, where the first two callers speak.
-fn mixed(alloc: Global) -> Result<Vec<u8>, Fail> {
-    let mut script = conference(alloc)?;
-    push_packet(&mut script, b"30000 127.0.0.1:5004", SPOKEN, b"80")?;
-    push_packet(&mut script, b"30002 127.0.0.1:5004", SPOKEN, b"80")?;
-    script.extend_from_slice(b"tick\ntick\ntick\n")?;
-    let (written, _) = played(alloc, script.as_slice());
-    Ok(Vec::from_slice(alloc, last_line(written.as_slice()))?)
-}
+const CALLERS: &[u8] = b"say 127.0.0.1:2945 !/1 [127.0.0.1]:2945 T=1{C=${\
+    A=${M{O{MO=SR},L{v=0\\nc=IN IP4 $\\nm=audio $ RTP/AVP 0\\n},R{v=0\\nc=IN IP4 127.0.0.1\\nm=audio 40000 RTP/AVP 0\\n}}},\
+    A=${M{O{MO=SR},L{v=0\\nc=IN IP4 $\\nm=audio $ RTP/AVP 0\\n},R{v=0\\nc=IN IP4 127.0.0.1\\nm=audio 40002 RTP/AVP 0\\n}}},\
+    A=${M{O{MO=SR},L{v=0\\nc=IN IP4 $\\nm=audio $ RTP/AVP 8\\n},R{v=0\\nc=IN IP4 127.0.0.1\\nm=audio 40004 RTP/AVP 8\\n}}}}}\n";
 
 #[test]
 fn plays_and_mixes(rt: HostRuntime) -> Result<(), Fail> {
     let alloc = rt.alloc();
+    let mut script = Vec::from_slice(alloc, CALLERS)?;
+    push_line(
+        &mut script,
+        b"rtp 30000 127.0.0.1:5004 800000010000000000000063",
+        b"80",
+    )?;
+    push_line(
+        &mut script,
+        b"rtp 30002 127.0.0.1:5004 800000010000000000000063",
+        b"80",
+    )?;
+    script.extend_from_slice(b"tick\ntick\ntick\n")?;
+    let (written, fault) = played(alloc, script.as_slice());
+    assert_eq!(rt; fault, None);
     let mut wanted = Vec::new(alloc);
-    push_packet(
+    push_line(
         &mut wanted,
-        b"30004 127.0.0.1:40004",
-        b"800800020000014000000003",
+        b"rtp 30004 127.0.0.1:40004 800800020000014000000003",
         b"aa",
     )?;
-    assert_eq!(rt; mixed(alloc)?.as_slice(), wanted.as_slice());
+    assert_eq!(rt; last_line(written.as_slice()), wanted.as_slice());
     Ok(())
 }
 
@@ -534,24 +537,28 @@ fn counted(alloc: Global, script: &[u8]) -> Result<Counts, Fail> {
     run(alloc, Config::default(), &mut reader, &mut written).map_err(|_| "a script".into())
 }
 
-/// What was counted in a conference with a packet, the same again, one from another address, one to a port that nobody
-/// has, one that is too short, and two ticks.
-fn conference_counted(alloc: Global) -> Result<Counts, Fail> {
-    let mut script = conference(alloc)?;
-    push_packet(&mut script, b"30000 127.0.0.1:5004", SPOKEN, b"80")?;
-    push_packet(&mut script, b"30000 127.0.0.1:5004", SPOKEN, b"80")?;
-    push_packet(&mut script, b"30000 127.0.0.2:5004", SPOKEN, b"80")?;
-    script.extend_from_slice(b"rtp 30006 127.0.0.1:5004 80\n")?;
-    script.extend_from_slice(b"rtp 30000 127.0.0.1:5004 80\n")?;
-    script.extend_from_slice(b"tick\ntick\n\n# end\n")?;
-    counted(alloc, script.as_slice())
-}
-
 #[test]
 fn counts_events(rt: HostRuntime) -> Result<(), Fail> {
-    let counts = conference_counted(rt.alloc())?;
-    assert_eq!(rt; [counts.lines, counts.sent, counts.failed], [10, 7, 0]);
-    assert_eq!(rt; [counts.control, counts.media, counts.ticks], [1, 5, 2]);
+    let alloc = rt.alloc();
+    let mut script = Vec::from_slice(alloc, CALLERS)?;
+    let front = b"rtp 30000 127.0.0.1:5004 800000010000000000000063";
+    push_line(&mut script, front, b"80")?;
+    push_line(&mut script, front, b"80")?;
+    push_line(
+        &mut script,
+        b"rtp 30000 127.0.0.2:5004 800000010000000000000063",
+        b"80",
+    )?;
+    script.extend_from_slice(
+        b"rtp 30006 127.0.0.1:5004 80\nrtp 30000 127.0.0.1:5004 80\ntick\ntick\n\n# end\n",
+    )?;
+    let counts = counted(alloc, script.as_slice())?;
+    assert_eq!(rt; counts.lines, 10);
+    assert_eq!(rt; counts.control, 1);
+    assert_eq!(rt; counts.media, 5);
+    assert_eq!(rt; counts.ticks, 2);
+    assert_eq!(rt; counts.sent, 7);
+    assert_eq!(rt; counts.failed, 0);
     assert_eq!(rt; counts.placed, [1, 0, 0, 1, 0]);
     assert_eq!(rt; counts.dropped, [1, 1, 0, 1, 0, 0]);
     Ok(())

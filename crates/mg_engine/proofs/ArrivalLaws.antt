@@ -13,29 +13,29 @@ use Rattle.mg_playout.specs.Playout as play_lists
 use Rattle.mg_playout.specs.Playout.{PlayList}
 use Rattle.mg_rooms.specs.declared.record.Record.{Record}
 use Rattle.mg_rooms.specs.Changes.{change}
-use Rattle.mg_rooms.specs.World as rooms
-use Rattle.mg_rooms.specs.World.{record_at}
+use Rattle.mg_rooms.specs.Registry as rooms
+use Rattle.mg_rooms.specs.Registry.{record_at}
 use Rattle.mg_engine.specs.declared.config.Config.{Config}
 use Rattle.mg_engine.specs.declared.taken.Taken.{Taken}
 use Rattle.mg_engine.specs.declared.taken.Taken.TheVariants.{Placed}
-use Rattle.mg_engine.specs.World.{World, Stream, stream_at}
+use Rattle.mg_engine.specs.Gateway.{Gateway, TerminationMedia, media_of}
 use Rattle.mg_engine.specs.Steps.{received}
 use Rattle.mg_rtp.specs.Reading.{IsReading, reading_of}
 use Rattle.mg_engine.specs.Arrival.{Arrived, placed, placed_at, taken_at}
 use Rattle.mg_engine.specs.Media as media
 use Rattle.mg_engine.specs.Media.{idle}
-use Rattle.mg_engine.specs.Sending.{PlacedAt}
-use Rattle.mg_engine.specs.Stands.{Kept, StandsFor, IsStream, media_at}
+use Rattle.mg_engine.specs.aids.Sending.{PlacedAt}
+use Rattle.mg_engine.specs.Stands.{EngineState, StandsFor, IsMediaOf, media_at}
 use Rattle.mg_engine.proofs.EditLaws.{Slots, others_kept, apart_from}
 use Rattle.mg_engine.proofs.KeyLaws.{found_changed, found_other, mapped_kept}
 use Rattle.mg_engine.proofs.TickLaws.{with_media}
-use Rattle.mg_engine.proofs.WorldLaws.{has_stream, some_is}
+use Rattle.mg_engine.proofs.GatewayLaws.{has_media, some_is}
 
 pub is_reading : (bytes : List ℕ) (r : Result Packet RtpFault) → IfOk r (λ packet. IsPacket bytes packet.header packet.payload.now) → ((f : RtpFault) → (r ≡ Err f) ↔ IsFault bytes f) → IsReading bytes (reading_of r)
 is_reading bytes (Ok packet) found fault = found
 is_reading bytes (Err f) found fault = (fault f).0 refl
 
-placed_is : (config : Config) (header : Header) (frame : List ℤ) (m : media.Kept) (s : Stream) → IsStream config m s → IsStream config ((media.placed m header frame).0) (placed header frame s)
+placed_is : (config : Config) (header : Header) (frame : List ℤ) (m : media.SlotMedia) (s : TerminationMedia) → IsMediaOf config m s → IsMediaOf config ((media.placed m header frame).0) (placed header frame s)
 placed_is config header frame m s h = record {
   play = ap (λ (p : PlayList). (play_lists.placed p header.ssrc header.sequence frame).0) h.play;
   frame = h.frame;
@@ -45,47 +45,47 @@ placed_is config header frame m s h = record {
   is_sending = h.is_sending;
 }
 
-abbrev with_stream : World → ℕ → (Stream → Stream) → World
-with_stream w n f = record w { streams = change (λ s. s.number) n (λ s. Some (f s)) w.streams }
+abbrev with_changed : Gateway → ℕ → (TerminationMedia → TerminationMedia) → Gateway
+with_changed w n f = record w { media = change (λ s. s.number) n (λ s. Some (f s)) w.media }
 
-module _ (k : Kept) (w : World) (r : Record) (f : Stream → Stream) (m : media.Kept) (s : Stream) (keeps : (x : Stream) → (f x).number ≡ x.number) (slots : Slots k.rooms) (found : record_at k.rooms r.number ≡ Some r) (lt : r.slot < length k.media) (h : StandsFor k w) (there : stream_at w r.number ≡ Some s) (is : IsStream k.config m (f s)) where
-  stream_placed : (n : ℕ) (q : Record) (t : Stream) → record_at k.rooms n ≡ Some q → find (λ x. eqb x.number n) (change (λ x. x.number) r.number (λ x. Some (f x)) w.streams) ≡ Some t → (b : Bool) → eqb r.number n ≡ b → IsStream k.config (media_at (set k.media r.slot m) q.slot) t
-  stream_placed n q t at now true e =
+module _ (k : EngineState) (w : Gateway) (r : Record) (f : TerminationMedia → TerminationMedia) (m : media.SlotMedia) (s : TerminationMedia) (keeps : (x : TerminationMedia) → (f x).number ≡ x.number) (slots : Slots k.rooms) (found : record_at k.rooms r.number ≡ Some r) (lt : r.slot < length k.media) (h : StandsFor k w) (there : media_of w r.number ≡ Some s) (is : IsMediaOf k.config m (f s)) where
+  media_placed : (n : ℕ) (q : Record) (t : TerminationMedia) → record_at k.rooms n ≡ Some q → find (λ x. eqb x.number n) (change (λ x. x.number) r.number (λ x. Some (f x)) w.media) ≡ Some t → (b : Bool) → eqb r.number n ≡ b → IsMediaOf k.config (media_at (set k.media r.slot m) q.slot) t
+  media_placed n q t at now true e =
       let same : r.number ≡ n = eqb-true r.number n e in
       let record_is : r ≡ q = some_is r q (sym found ∙ ap (record_at k.rooms) same ∙ at) in
-      let stream_is : f s ≡ t = some_is (f s) t (ap (option_map f) (sym there) ∙ sym (found_changed (λ x. x.number) f r.number w.streams keeps) ∙ ap (λ (i : ℕ). find (λ x. eqb x.number i) (change (λ x. x.number) r.number (λ x. Some (f x)) w.streams)) same ∙ now) in
+      let media_is : f s ≡ t = some_is (f s) t (ap (option_map f) (sym there) ∙ sym (found_changed (λ x. x.number) f r.number w.media keeps) ∙ ap (λ (i : ℕ). find (λ x. eqb x.number i) (change (λ x. x.number) r.number (λ x. Some (f x)) w.media)) same ∙ now) in
       let kept : media_at (set k.media r.slot m) q.slot ≡ m = ap (λ (x : Record). media_at (set k.media r.slot m) x.slot) (sym record_is) ∙ get_or-set_same k.media r.slot m idle lt in
-      subst (λ (x : media.Kept). IsStream k.config x t) (sym kept) (subst (λ (x : Stream). IsStream k.config m x) stream_is is)
-  stream_placed n q t at now false e =
+      subst (λ (x : media.SlotMedia). IsMediaOf k.config x t) (sym kept) (subst (λ (x : TerminationMedia). IsMediaOf k.config m x) media_is is)
+  media_placed n q t at now false e =
       let apart = apart_from n r.number e in
-      let stream = sym (found_other (λ x. x.number) (λ x. Some (f x)) r.number n w.streams (λ x ys same. let no : eqb x.number n ≡ false = ap (λ (i : ℕ). eqb i n) (eqb-true x.number r.number same) ∙ e in rw (keeps x, no) refl)) ∙ now in
+      let stream = sym (found_other (λ x. x.number) (λ x. Some (f x)) r.number n w.media (λ x ys same. let no : eqb x.number n ≡ false = ap (λ (i : ℕ). eqb i n) (eqb-true x.number r.number same) ∙ e in rw (keeps x, no) refl)) ∙ now in
       let kept : media_at (set k.media r.slot m) q.slot ≡ media_at k.media q.slot = others_kept k.rooms k.media m n r.number r q slots found at apart in
-      subst (λ (x : media.Kept). IsStream k.config x t) (sym kept) (h.streams n q t at stream)
+      subst (λ (x : media.SlotMedia). IsMediaOf k.config x t) (sym kept) (h.media n q t at stream)
 
-  pub placed_stands : StandsFor (with_media k (set k.media r.slot m)) (with_stream w r.number f)
+  pub placed_stands : StandsFor (with_media k (set k.media r.slot m)) (with_changed w r.number f)
   placed_stands = record {
     config = h.config;
     rooms = h.rooms;
-    numbers = mapped_kept (λ x. x.number) (λ x. x.number) r.number (λ x. Some (f x)) w.streams s (ap (λ (n : ℕ). n ∷ []) (keeps s)) there ∙ h.numbers;
-    streams = λ n q t at now. stream_placed n q t at now (eqb r.number n) refl;
+    numbers = mapped_kept (λ x. x.number) (λ x. x.number) r.number (λ x. Some (f x)) w.media s (ap (λ (n : ℕ). n ∷ []) (keeps s)) there ∙ h.numbers;
+    media = λ n q t at now. media_placed n q t at now (eqb r.number n) refl;
     hears = h.hears;
   }
 
-abbrev Took : Kept → World → ℕ → Arrived → List media.Kept → Taken → Type 0
-Took k w n arrived after result = (now : World) × (taken_at w n arrived ≡ (now, result)) × StandsFor (with_media k after) now
+abbrev Took : EngineState → Gateway → ℕ → Arrived → List media.SlotMedia → Taken → Type 0
+Took k w n arrived after result = (now : Gateway) × (taken_at w n arrived ≡ (now, result)) × StandsFor (with_media k after) now
 
-pub took_stands : (k : Kept) (w : World) (r : Record) (after : List media.Kept) (arrived : Arrived) (result : Taken) → Slots k.rooms → record_at k.rooms r.number ≡ Some r → r.slot < length k.media → PlacedAt k.media after r.slot arrived result → StandsFor k w → Took k w r.number arrived after result
-took_stands k w r after (Err cause) result slots found lt p h = (w, ap (λ (t : Taken). let q : World × Taken = (w, t) in q) (sym p.1), subst (λ (ms : List media.Kept). StandsFor (with_media k ms) w) (sym p.0) h)
+pub took_stands : (k : EngineState) (w : Gateway) (r : Record) (after : List media.SlotMedia) (arrived : Arrived) (result : Taken) → Slots k.rooms → record_at k.rooms r.number ≡ Some r → r.slot < length k.media → PlacedAt k.media after r.slot arrived result → StandsFor k w → Took k w r.number arrived after result
+took_stands k w r after (Err cause) result slots found lt p h = (w, ap (λ (t : Taken). let q : Gateway × Taken = (w, t) in q) (sym p.1), subst (λ (ms : List media.SlotMedia). StandsFor (with_media k ms) w) (sym p.0) h)
 took_stands k w r after (Ok a) result slots found lt p h =
-    let (s, there, is) = has_stream k w r.number r h found in
-    let now = with_stream w r.number (placed a.0 a.1) in
+    let (s, there, is) = has_media k w r.number r h found in
+    let now = with_changed w r.number (placed a.0 a.1) in
     let m = (media.placed (media_at k.media r.slot) a.0 a.1).0 in
     let answer = ap (λ (x : PlayList). Placed ((play_lists.placed x a.0.ssrc a.0.sequence a.1).1)) (sym is.play) ∙ sym p.1 in
     let stands = placed_stands k w r (placed a.0 a.1) m s (λ x. refl) slots found lt h there (placed_is k.config a.0 a.1 (media_at k.media r.slot) s is) in
-    (now, ap (placed_at w r.number a) there ∙ ap (λ (t : Taken). let q : World × Taken = (now, t) in q) answer, subst (λ (ms : List media.Kept). StandsFor (with_media k ms) now) (sym p.0) stands)
+    (now, ap (placed_at w r.number a) there ∙ ap (λ (t : Taken). let q : Gateway × Taken = (now, t) in q) answer, subst (λ (ms : List media.SlotMedia). StandsFor (with_media k ms) now) (sym p.0) stands)
 
 -- an engine whose media alone changed
-pub media_alone : (old new : Kept) → new.config ≡ old.config → new.rooms ≡ old.rooms → with_media old new.media ≡ new
+pub media_alone : (old new : EngineState) → new.config ≡ old.config → new.rooms ≡ old.rooms → with_media old new.media ≡ new
 media_alone old new config same =
-    let keep : Config → rooms.World → Kept = λ (c : Config). λ (w : rooms.World). record { config = c; rooms = w; media = new.media } in
-    ap (λ (c : Config). keep c old.rooms) (sym config) ∙ ap (λ (w : rooms.World). keep new.config w) (sym same)
+    let keep : Config → rooms.Registry → EngineState = λ (c : Config). λ (w : rooms.Registry). record { config = c; rooms = w; media = new.media } in
+    ap (λ (c : Config). keep c old.rooms) (sym config) ∙ ap (λ (w : rooms.Registry). keep new.config w) (sym same)

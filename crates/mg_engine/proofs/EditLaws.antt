@@ -7,35 +7,35 @@ use Rattle.std.proofs.lemmas.List.{length-map, map-append, get_or-set_same, get_
 use Rattle.mg_playout.specs.Playout.{PlayList}
 use Rattle.mg_rooms.specs.declared.done.Done.{Done}
 use Rattle.mg_rooms.specs.declared.limits.Limits.{Limits}
-use Rattle.mg_rooms.specs.declared.limits.TheConstants.{TERMINATIONS}
+use Rattle.mg_words.specs.declared.limits.TheConstants.{TERMINATIONS}
 use Rattle.mg_rooms.specs.declared.record.Record.{Record}
 use Rattle.mg_rooms.specs.declared.settings.Settings.{Settings}
 use Rattle.mg_rooms.specs.Changes.{change}
-use Rattle.mg_rooms.specs.Sound.{IsSound}
-use Rattle.mg_rooms.specs.World as rooms
-use Rattle.mg_rooms.specs.World.{record_at}
+use Rattle.mg_rooms.specs.Consistent.{IsConsistent}
+use Rattle.mg_rooms.specs.Registry as rooms
+use Rattle.mg_rooms.specs.Registry.{record_at}
 use Rattle.mg_engine.specs.declared.config.Config.{Config}
-use Rattle.mg_engine.specs.World.{World, Stream, ContextEdit, Enter, new_stream, stream_at}
+use Rattle.mg_engine.specs.Gateway.{Gateway, TerminationMedia, ContextEdit, Enter, new_media, media_of}
 use Rattle.mg_engine.specs.Flow.{lets_hear}
 use Rattle.mg_engine.specs.Steps.{play_after}
 use Rattle.mg_engine.specs.Media as media
 use Rattle.mg_engine.specs.Media.{idle}
-use Rattle.mg_engine.specs.Outcome.{tuned, streams_with, streams_without, added, subtracted}
-use Rattle.mg_engine.specs.Stands.{Kept, StandsFor, IsStream, ShareContext, media_at}
-use Rattle.mg_engine.specs.Whole.{IsWhole}
+use Rattle.mg_engine.specs.Outcome.{tuned, media_with, media_without, added, subtracted}
+use Rattle.mg_engine.specs.Stands.{EngineState, StandsFor, IsMediaOf, ShareContext, media_at}
+use Rattle.mg_engine.specs.aids.Whole.{IsWhole}
 use Rattle.mg_engine.proofs.FlowLaws.{entered}
 use Rattle.mg_engine.proofs.KeyLaws.{none_before_last, found_push, found_push_other, found_changed, found_other, found_replaced, none_left, mapped_kept, keys_left, spots_left}
 use Rattle.mg_engine.proofs.OutcomeLaws.{Adds, Changes, Removes}
 use Rattle.mg_engine.proofs.SentLaws.{ByNumber}
 use Rattle.mg_engine.proofs.SendingLaws.{nobody}
-use Rattle.mg_engine.proofs.WorldLaws.{found_too, found_key, has_stream, some_is}
+use Rattle.mg_engine.proofs.GatewayLaws.{found_too, found_key, has_media, some_is}
 
 abbrev some_record : Record → Option Record
 some_record r = Some r
 
 -- ## Media of the termination that an edit is done on
 
-begun_is : (config : Config) (n : ℕ) → IsStream config (media.begun config) (new_stream n)
+begun_is : (config : Config) (n : ℕ) → IsMediaOf config (media.begun config) (new_media n)
 begun_is config n = record {
   play = refl;
   frame = refl;
@@ -45,7 +45,7 @@ begun_is config n = record {
   is_sending = refl;
 }
 
-tuned_is : (config : Config) (settings : Settings) (m : media.Kept) (s : Stream) → IsStream config m s → IsStream config (media.tuned settings.depth m) (tuned settings s)
+tuned_is : (config : Config) (settings : Settings) (m : media.SlotMedia) (s : TerminationMedia) → IsMediaOf config m s → IsMediaOf config (media.tuned settings.depth m) (tuned settings s)
 tuned_is config settings m s h = record {
   play = ap (λ (p : PlayList). play_after settings.depth p) h.play;
   frame = h.frame;
@@ -65,18 +65,18 @@ length_push : {A : Type 0} (xs : List A) (y : A) → length (xs ++ y ∷ []) ≡
 length_push [] y = refl
 length_push (x ∷ xs) y = omega (arith, length_push xs y)
 
-more_terminations : (old new : rooms.World) (d : Done) → Adds old new d → length new.terminations ≡ length old.terminations + 1
+more_terminations : (old new : rooms.Registry) (d : Done) → Adds old new d → length new.terminations ≡ length old.terminations + 1
 more_terminations old new d a = ap length a.terminations ∙ length_push old.terminations a.added
 
-pub slots_kept : (config : Config) (old new : rooms.World) (pool : Limits) (kept : List media.Kept) (held : List ℕ) → IsWhole config old pool kept held → new.limits ≡ old.limits → new.limits.slots ≤ length kept
+pub slots_kept : (config : Config) (old new : rooms.Registry) (pool : Limits) (kept : List media.SlotMedia) (held : List ℕ) → IsWhole config old pool kept held → new.limits ≡ old.limits → new.limits.slots ≤ length kept
 slots_kept config old new pool kept held h same = omega (arith, ap (λ (l : Limits). l.slots) (same ∙ h.limits), h.media)
 
-pub room_left : (config : Config) (old new : rooms.World) (d : Done) (pool : Limits) (kept : List media.Kept) (held : List ℕ) → IsWhole config old pool kept held → Adds old new d → IsSound new → length new.terminations ≤ new.limits.slots → length held < TERMINATIONS
+pub room_left : (config : Config) (old new : rooms.Registry) (d : Done) (pool : Limits) (kept : List media.SlotMedia) (held : List ℕ) → IsWhole config old pool kept held → Adds old new d → IsConsistent new → length new.terminations ≤ new.limits.slots → length held < TERMINATIONS
 room_left config old new d pool kept held h a sound few =
     let some = ap length h.held ∙ length-map old.terminations (λ r. r.slot) in
     omega (arith, few, more_terminations old new d a, some, sound.limits.0.few_slots)
 
-pub whole_added : (config : Config) (old new : rooms.World) (d : Done) (pool : Limits) (kept after : List media.Kept) (held now : List ℕ) → IsWhole config old pool kept held → (a : Adds old new d)
+pub whole_added : (config : Config) (old new : rooms.Registry) (d : Done) (pool : Limits) (kept after : List media.SlotMedia) (held now : List ℕ) → IsWhole config old pool kept held → (a : Adds old new d)
     → length after ≡ length kept → now ≡ held ++ a.added.slot ∷ [] → IsWhole config new pool after now
 whole_added config old new d pool kept after held now h a same pushed =
     record {
@@ -90,7 +90,7 @@ whole_added config old new d pool kept after held now h a same pushed =
     }
 
 -- what was added is found
-pub made_is : (old new : rooms.World) (d : Done) (a : Adds old new d) → ByNumber new → record_at new d.termination ≡ Some a.added
+pub made_is : (old new : rooms.Registry) (d : Done) (a : Adds old new d) → ByNumber new → record_at new d.termination ≡ Some a.added
 made_is old new d a by_number =
     let at = ap (λ (rs : List Record). get_or rs (length old.terminations) nobody) a.terminations ∙ last_is old.terminations a.added nobody in
     let here = by_number (length old.terminations) nobody (omega (arith, more_terminations old new d a)) in
@@ -98,28 +98,28 @@ made_is old new d a by_number =
     ap (record_at new) (sym a.number) ∙ there
 
 -- media that begin and are tuned
-pub begun_tuned : (kept first after : List media.Kept) (slot : ℕ) (begun : media.Kept) (depth : Option ℕ) → slot < length kept → first ≡ set kept slot begun → after ≡ set first slot (media.tuned depth (media_at first slot)) → after ≡ set kept slot (media.tuned depth begun)
+pub begun_tuned : (kept first after : List media.SlotMedia) (slot : ℕ) (begun : media.SlotMedia) (depth : Option ℕ) → slot < length kept → first ≡ set kept slot begun → after ≡ set first slot (media.tuned depth (media_at first slot)) → after ≡ set kept slot (media.tuned depth begun)
 begun_tuned kept first after slot begun depth lt one two =
     two
-    ∙ ap (λ (ms : List media.Kept). set ms slot (media.tuned depth (media_at ms slot))) one
-    ∙ ap (λ (m : media.Kept). set (set kept slot begun) slot (media.tuned depth m)) (get_or-set_same kept slot begun idle lt)
+    ∙ ap (λ (ms : List media.SlotMedia). set ms slot (media.tuned depth (media_at ms slot))) one
+    ∙ ap (λ (m : media.SlotMedia). set (set kept slot begun) slot (media.tuned depth m)) (get_or-set_same kept slot begun idle lt)
     ∙ set-set kept slot begun (media.tuned depth begun)
 
 -- no termination had the number before
-unknown_before : (old new : rooms.World) (d : Done) → Adds old new d → IsSound new → record_at old d.termination ≡ None
+unknown_before : (old new : rooms.Registry) (d : Done) → Adds old new d → IsConsistent new → record_at old d.termination ≡ None
 unknown_before old new d a sound =
     let once = subst (λ (rs : List Record). count_by (λ r. eqb r.number d.termination) rs ≤ 1) a.terminations (sound.terminations.one_number d.termination) in
     none_before_last (λ r. eqb r.number d.termination) old.terminations a.added (eq-eqb a.added.number d.termination a.number) once
 
-pub none_too : (k : Kept) (w : World) (n : ℕ) → map (λ s. s.number) w.streams ≡ map (λ r. r.number) k.rooms.terminations → record_at k.rooms n ≡ None → (o : Option Stream) → stream_at w n ≡ o → o ≡ None
+pub none_too : (k : EngineState) (w : Gateway) (n : ℕ) → map (λ s. s.number) w.media ≡ map (λ r. r.number) k.rooms.terminations → record_at k.rooms n ≡ None → (o : Option TerminationMedia) → media_of w n ≡ o → o ≡ None
 none_too k w n same none None e = refl
 none_too k w n same none (Some s) e =
-    let (r, found) = found_too (λ s. s.number) (λ r. r.number) n w.streams k.rooms.terminations same s e in
+    let (r, found) = found_too (λ s. s.number) (λ r. r.number) n w.media k.rooms.terminations same s e in
     absurd (neither r (sym found ∙ none)) where
       neither : (r : Record) → Option.Some r ≡ None → ⊥
       neither r h = cc h
 
-abbrev pub Slots : rooms.World → Type 0
+abbrev pub Slots : rooms.Registry → Type 0
 Slots w = (a b : ℕ) (r s : Record) → record_at w a ≡ Some r → record_at w b ≡ Some s → r.slot ≡ s.slot → a ≡ b
 
 same_case : (m n : ℕ) (b : Bool) → eqb m n ≡ b → (m ≡ n → ⊥) → b ≡ false
@@ -127,11 +127,11 @@ same_case m n true e h = absurd (h (eqb-true m n e))
 same_case m n false e h = refl
 
 -- the media of other terminations stay
-pub others_kept : (w : rooms.World) (kept : List media.Kept) (m : media.Kept) (n x : ℕ) (r q : Record) → Slots w → record_at w x ≡ Some r → record_at w n ≡ Some q → n ≢ x → media_at (set kept r.slot m) q.slot ≡ media_at kept q.slot
+pub others_kept : (w : rooms.Registry) (kept : List media.SlotMedia) (m : media.SlotMedia) (n x : ℕ) (r q : Record) → Slots w → record_at w x ≡ Some r → record_at w n ≡ Some q → n ≢ x → media_at (set kept r.slot m) q.slot ≡ media_at kept q.slot
 others_kept w kept m n x r q slots found there apart =
     get_or-set_other kept r.slot q.slot m idle (λ same. apart (slots n x q r there found same))
 
-abbrev pub Others : rooms.World → rooms.World → ℕ → Type 0
+abbrev pub Others : rooms.Registry → rooms.Registry → ℕ → Type 0
 Others old new n = (m : ℕ) → m ≢ n → record_at new m ≡ record_at old m
 
 pub apart_from : (m n : ℕ) → eqb n m ≡ false → m ≢ n
@@ -142,7 +142,7 @@ apart_from m n e same = neither (sym e ∙ eq-eqb n m (sym same)) where
 -- ## Who shares a context
 
 -- what else there was before shared a context then
-shared_before : (old new : rooms.World) (n t l : ℕ) → Others old new n → ShareContext new t l → t ≢ n → l ≢ n → ShareContext old t l
+shared_before : (old new : rooms.Registry) (n t l : ℕ) → Others old new n → ShareContext new t l → t ≢ n → l ≢ n → ShareContext old t l
 shared_before old new n t l others s first second = record {
   first = s.first;
   second = s.second;
@@ -152,19 +152,19 @@ shared_before old new n t l others s first second = record {
   apart = s.apart;
 }
 
-abbrev pub AllHear : rooms.World → List ContextEdit → Type 0
+abbrev pub AllHear : rooms.Registry → List ContextEdit → Type 0
 AllHear w es = (t l : ℕ) → ShareContext w t l → lets_hear es t l ≡ true
 
 -- one enters a context, and others stay where they are
-pub all_hear_newcomer : (old new : rooms.World) (n : ℕ) (es : List ContextEdit) → Others old new n → AllHear old es → AllHear new (Enter n ∷ es)
+pub all_hear_newcomer : (old new : rooms.Registry) (n : ℕ) (es : List ContextEdit) → Others old new n → AllHear old es → AllHear new (Enter n ∷ es)
 all_hear_newcomer old new n es others h t l s =
     entered es t l n (eqb t n) (eqb l n) refl refl (λ first second. h t l (shared_before old new n t l others s first second))
 
 -- all stay in their contexts
-abbrev Stay : rooms.World → rooms.World → Type 0
+abbrev Stay : rooms.Registry → rooms.Registry → Type 0
 Stay old new = (m : ℕ) (r : Record) → record_at new m ≡ Some r → (q : Record) × (record_at old m ≡ Some q) × (q.context ≡ r.context)
 
-pub all_hear_still : (old new : rooms.World) (es : List ContextEdit) → Stay old new → AllHear old es → AllHear new es
+pub all_hear_still : (old new : rooms.Registry) (es : List ContextEdit) → Stay old new → AllHear old es → AllHear new es
 all_hear_still old new es stay h t l s =
     let (p, first, from) = stay t s.first s.is_first in
     let (q, second, to) = stay l s.second s.is_second in
@@ -177,43 +177,43 @@ all_hear_still old new es stay h t l s =
       apart = s.apart;
     })
 
-abbrev newcomer : Settings → Done → Stream
-newcomer settings d = tuned settings (new_stream d.termination)
+abbrev newcomer : Settings → Done → TerminationMedia
+newcomer settings d = tuned settings (new_media d.termination)
 
-abbrev with_rooms : Kept → rooms.World → List media.Kept → Kept
+abbrev with_rooms : EngineState → rooms.Registry → List media.SlotMedia → EngineState
 with_rooms k new after = record { config = k.config; rooms = new; media = after }
 
-added_stream : (k : Kept) (new : rooms.World) (after : List media.Kept) (w : World) (settings : Settings) (d : Done) (r : Record) → Adds k.rooms new d → IsSound new → Slots new → Others k.rooms new d.termination → record_at new d.termination ≡ Some r
+added_media : (k : EngineState) (new : rooms.Registry) (after : List media.SlotMedia) (w : Gateway) (settings : Settings) (d : Done) (r : Record) → Adds k.rooms new d → IsConsistent new → Slots new → Others k.rooms new d.termination → record_at new d.termination ≡ Some r
     → r.slot < length k.media → after ≡ set k.media r.slot (media.tuned settings.depth (media.begun k.config)) → StandsFor k w
-    → (m : ℕ) (q : Record) (s : Stream) → record_at new m ≡ Some q → find (λ s. eqb s.number m) (w.streams ++ newcomer settings d ∷ []) ≡ Some s → (b : Bool) → eqb d.termination m ≡ b → IsStream k.config (media_at after q.slot) s
-added_stream k new after w settings d r a sound slots others made lt set_to h m q s found there true e =
+    → (m : ℕ) (q : Record) (s : TerminationMedia) → record_at new m ≡ Some q → find (λ s. eqb s.number m) (w.media ++ newcomer settings d ∷ []) ≡ Some s → (b : Bool) → eqb d.termination m ≡ b → IsMediaOf k.config (media_at after q.slot) s
+added_media k new after w settings d r a sound slots others made lt set_to h m q s found there true e =
     let same : d.termination ≡ m = eqb-true d.termination m e in
     let is : r ≡ q = some_is r q (sym made ∙ ap (record_at new) same ∙ found) in
-    let none = none_too k w d.termination h.numbers (unknown_before k.rooms new d a sound) (stream_at w d.termination) refl in
-    let pushed = found_push (λ s. s.number) m w.streams (newcomer settings d) e (ap (stream_at w) (sym same) ∙ none) in
+    let none = none_too k w d.termination h.numbers (unknown_before k.rooms new d a sound) (media_of w d.termination) refl in
+    let pushed = found_push (λ s. s.number) m w.media (newcomer settings d) e (ap (media_of w) (sym same) ∙ none) in
     let stream : newcomer settings d ≡ s = some_is (newcomer settings d) s (sym pushed ∙ there) in
     let kept : media_at after q.slot ≡ media.tuned settings.depth (media.begun k.config) =
-    ap (λ (x : Record). media_at after x.slot) (sym is) ∙ ap (λ (ms : List media.Kept). media_at ms r.slot) set_to ∙ get_or-set_same k.media r.slot (media.tuned settings.depth (media.begun k.config)) idle lt in
-    subst (λ (x : media.Kept). IsStream k.config x s) (sym kept) (subst (λ (x : Stream). IsStream k.config (media.tuned settings.depth (media.begun k.config)) x) stream (tuned_is k.config settings (media.begun k.config) (new_stream d.termination) (begun_is k.config d.termination)))
-added_stream k new after w settings d r a sound slots others made lt set_to h m q s found there false e =
+    ap (λ (x : Record). media_at after x.slot) (sym is) ∙ ap (λ (ms : List media.SlotMedia). media_at ms r.slot) set_to ∙ get_or-set_same k.media r.slot (media.tuned settings.depth (media.begun k.config)) idle lt in
+    subst (λ (x : media.SlotMedia). IsMediaOf k.config x s) (sym kept) (subst (λ (x : TerminationMedia). IsMediaOf k.config (media.tuned settings.depth (media.begun k.config)) x) stream (tuned_is k.config settings (media.begun k.config) (new_media d.termination) (begun_is k.config d.termination)))
+added_media k new after w settings d r a sound slots others made lt set_to h m q s found there false e =
     let apart = apart_from m d.termination e in
     let old = sym (others m apart) ∙ found in
-    let stream = sym (found_push_other (λ s. s.number) m w.streams (newcomer settings d) e) ∙ there in
+    let stream = sym (found_push_other (λ s. s.number) m w.media (newcomer settings d) e) ∙ there in
     let kept : media_at after q.slot ≡ media_at k.media q.slot =
-    ap (λ (ms : List media.Kept). media_at ms q.slot) set_to ∙ others_kept new k.media (media.tuned settings.depth (media.begun k.config)) m d.termination r q slots made found apart in
-    subst (λ (x : media.Kept). IsStream k.config x s) (sym kept) (h.streams m q s old stream)
+    ap (λ (ms : List media.SlotMedia). media_at ms q.slot) set_to ∙ others_kept new k.media (media.tuned settings.depth (media.begun k.config)) m d.termination r q slots made found apart in
+    subst (λ (x : media.SlotMedia). IsMediaOf k.config x s) (sym kept) (h.media m q s old stream)
 
-pub added_stands : (k : Kept) (new : rooms.World) (after : List media.Kept) (w : World) (settings : Settings) (d : Done) (r : Record) → Adds k.rooms new d → IsSound new → Slots new → Others k.rooms new d.termination → record_at new d.termination ≡ Some r
+pub added_stands : (k : EngineState) (new : rooms.Registry) (after : List media.SlotMedia) (w : Gateway) (settings : Settings) (d : Done) (r : Record) → Adds k.rooms new d → IsConsistent new → Slots new → Others k.rooms new d.termination → record_at new d.termination ≡ Some r
     → r.slot < length k.media → after ≡ set k.media r.slot (media.tuned settings.depth (media.begun k.config)) → StandsFor k w → StandsFor (with_rooms k new after) (added w settings new d)
 added_stands k new after w settings d r a sound slots others made lt set_to h = record {
   config = h.config;
   rooms = refl;
-  numbers = map-append (λ s. s.number) w.streams (newcomer settings d ∷ [])
+  numbers = map-append (λ s. s.number) w.media (newcomer settings d ∷ [])
       ∙ ap (λ (ns : List ℕ). ns ++ d.termination ∷ []) h.numbers
       ∙ ap (λ (n : ℕ). map (λ r. r.number) k.rooms.terminations ++ n ∷ []) (sym a.number)
       ∙ sym (map-append (λ r. r.number) k.rooms.terminations (a.added ∷ []))
       ∙ ap (map (λ r. r.number)) (sym a.terminations);
-  streams = λ m q s found there. added_stream k new after w settings d r a sound slots others made lt set_to h m q s found there (eqb d.termination m) refl;
+  media = λ m q s found there. added_media k new after w settings d r a sound slots others made lt set_to h m q s found there (eqb d.termination m) refl;
   hears = all_hear_newcomer k.rooms new d.termination w.edits others h.hears;
 }
 
@@ -222,27 +222,27 @@ no_record r h = cc h
 
 -- ## A Modify and a Move
 
-number_of_was : (k : Kept) (n : ℕ) (r : Record) → record_at k.rooms n ≡ Some r → r.number ≡ n
+number_of_was : (k : EngineState) (n : ℕ) (r : Record) → record_at k.rooms n ≡ Some r → r.number ≡ n
 number_of_was k n r there = found_key (λ x. x.number) n k.rooms.terminations r there
 
 -- the termination has its new record
-pub changed_is : (k : Kept) (new : rooms.World) (n : ℕ) (d : Done) (a : Changes k.rooms new n d) → record_at new n ≡ Some a.changed
+pub changed_is : (k : EngineState) (new : rooms.Registry) (n : ℕ) (d : Done) (a : Changes k.rooms new n d) → record_at new n ≡ Some a.changed
 changed_is k new n d a =
     let number = a.same ∙ number_of_was k n a.was a.there in
     ap (find (λ x. eqb x.number n)) (a.terminations ∙ ap (λ (m : ℕ). change (λ x. x.number) m (λ _. Some a.changed) k.rooms.terminations) number)
     ∙ found_replaced (λ x. x.number) a.changed n k.rooms.terminations a.was number a.there
 
 -- it is done on the termination that was named
-pub changed_at : (k : Kept) (new : rooms.World) (n : ℕ) (d : Done) → Changes k.rooms new n d → d.termination ≡ n
+pub changed_at : (k : EngineState) (new : rooms.Registry) (n : ℕ) (d : Done) → Changes k.rooms new n d → d.termination ≡ n
 changed_at k new n d a = sym a.number ∙ a.same ∙ number_of_was k n a.was a.there
 
-kept_by : {B : Type 0} (f : Record → B) (k : Kept) (new : rooms.World) (n : ℕ) (d : Done) (a : Changes k.rooms new n d) → f a.changed ≡ f a.was → map f new.terminations ≡ map f k.rooms.terminations
+kept_by : {B : Type 0} (f : Record → B) (k : EngineState) (new : rooms.Registry) (n : ℕ) (d : Done) (a : Changes k.rooms new n d) → f a.changed ≡ f a.was → map f new.terminations ≡ map f k.rooms.terminations
 kept_by f k new n d a same =
     let number = a.same ∙ number_of_was k n a.was a.there in
     ap (map f) (a.terminations ∙ ap (λ (m : ℕ). change (λ x. x.number) m (λ _. Some a.changed) k.rooms.terminations) number)
     ∙ mapped_kept (λ x. x.number) f n (λ _. Some a.changed) k.rooms.terminations a.was (ap (λ (b : _). b ∷ []) same) a.there
 
-pub whole_changed : (k : Kept) (new : rooms.World) (n : ℕ) (d : Done) (pool : Limits) (after : List media.Kept) (held : List ℕ) → IsWhole k.config k.rooms pool k.media held → Changes k.rooms new n d → length after ≡ length k.media → IsWhole k.config new pool after held
+pub whole_changed : (k : EngineState) (new : rooms.Registry) (n : ℕ) (d : Done) (pool : Limits) (after : List media.SlotMedia) (held : List ℕ) → IsWhole k.config k.rooms pool k.media held → Changes k.rooms new n d → length after ≡ length k.media → IsWhole k.config new pool after held
 whole_changed k new n d pool after held h a same = record {
   limits = a.limits ∙ h.limits;
   ports = h.ports;
@@ -250,68 +250,68 @@ whole_changed k new n d pool after held h a same = record {
   held = h.held ∙ sym (kept_by (λ r. r.slot) k new n d a a.slot);
 }
 
-tuned_stream : (k : Kept) (new : rooms.World) (after : List media.Kept) (w : World) (settings : Settings) (n : ℕ) (d : Done) (a : Changes k.rooms new n d) → Slots new → Others k.rooms new n
+tuned_media : (k : EngineState) (new : rooms.Registry) (after : List media.SlotMedia) (w : Gateway) (settings : Settings) (n : ℕ) (d : Done) (a : Changes k.rooms new n d) → Slots new → Others k.rooms new n
     → a.changed.slot < length k.media → after ≡ set k.media a.changed.slot (media.tuned settings.depth (media_at k.media a.changed.slot)) → StandsFor k w
-    → (m : ℕ) (q : Record) (s : Stream) → record_at new m ≡ Some q → find (λ s. eqb s.number m) (streams_with settings n w.streams) ≡ Some s → (b : Bool) → eqb n m ≡ b → IsStream k.config (media_at after q.slot) s
-tuned_stream k new after w settings n d a slots others lt set_to h m q s found there true e =
+    → (m : ℕ) (q : Record) (s : TerminationMedia) → record_at new m ≡ Some q → find (λ s. eqb s.number m) (media_with settings n w.media) ≡ Some s → (b : Bool) → eqb n m ≡ b → IsMediaOf k.config (media_at after q.slot) s
+tuned_media k new after w settings n d a slots others lt set_to h m q s found there true e =
     let same : n ≡ m = eqb-true n m e in
     let is : a.changed ≡ q = some_is a.changed q (sym (changed_is k new n d a) ∙ ap (record_at new) same ∙ found) in
-    let (t, was, stream) = has_stream k w n a.was h a.there in
-    let changed = ap (λ (x : ℕ). find (λ s. eqb s.number x) (streams_with settings n w.streams)) same ∙ there in
-    let now = sym (found_changed (λ s. s.number) (tuned settings) n w.streams (λ x. refl)) ∙ changed in
+    let (t, was, stream) = has_media k w n a.was h a.there in
+    let changed = ap (λ (x : ℕ). find (λ s. eqb s.number x) (media_with settings n w.media)) same ∙ there in
+    let now = sym (found_changed (λ s. s.number) (tuned settings) n w.media (λ x. refl)) ∙ changed in
     let s_is : tuned settings t ≡ s = some_is (tuned settings t) s (ap (option_map (tuned settings)) (sym was) ∙ now) in
     let old = media_at k.media a.changed.slot in
     let kept : media_at after q.slot ≡ media.tuned settings.depth old =
-    ap (λ (x : Record). media_at after x.slot) (sym is) ∙ ap (λ (ms : List media.Kept). media_at ms a.changed.slot) set_to ∙ get_or-set_same k.media a.changed.slot (media.tuned settings.depth old) idle lt in
-    let begin = subst (λ (slot : ℕ). IsStream k.config (media_at k.media slot) t) (sym a.slot) stream in
-    subst (λ (x : media.Kept). IsStream k.config x s) (sym kept) (subst (λ (x : Stream). IsStream k.config (media.tuned settings.depth old) x) s_is (tuned_is k.config settings old t begin))
-tuned_stream k new after w settings n d a slots others lt set_to h m q s found there false e =
+    ap (λ (x : Record). media_at after x.slot) (sym is) ∙ ap (λ (ms : List media.SlotMedia). media_at ms a.changed.slot) set_to ∙ get_or-set_same k.media a.changed.slot (media.tuned settings.depth old) idle lt in
+    let begin = subst (λ (slot : ℕ). IsMediaOf k.config (media_at k.media slot) t) (sym a.slot) stream in
+    subst (λ (x : media.SlotMedia). IsMediaOf k.config x s) (sym kept) (subst (λ (x : TerminationMedia). IsMediaOf k.config (media.tuned settings.depth old) x) s_is (tuned_is k.config settings old t begin))
+tuned_media k new after w settings n d a slots others lt set_to h m q s found there false e =
     let apart = apart_from m n e in
     let old = sym (others m apart) ∙ found in
-    let stream = sym (found_other (λ s. s.number) (λ s. Some (tuned settings s)) n m w.streams (λ x ys same. let no : eqb x.number m ≡ false = ap (λ (i : ℕ). eqb i m) (eqb-true x.number n same) ∙ e in rw no refl)) ∙ there in
+    let stream = sym (found_other (λ s. s.number) (λ s. Some (tuned settings s)) n m w.media (λ x ys same. let no : eqb x.number m ≡ false = ap (λ (i : ℕ). eqb i m) (eqb-true x.number n same) ∙ e in rw no refl)) ∙ there in
     let kept : media_at after q.slot ≡ media_at k.media q.slot =
-    ap (λ (ms : List media.Kept). media_at ms q.slot) set_to ∙ others_kept new k.media (media.tuned settings.depth (media_at k.media a.changed.slot)) m n a.changed q slots (changed_is k new n d a) found apart in
-    subst (λ (x : media.Kept). IsStream k.config x s) (sym kept) (h.streams m q s old stream)
+    ap (λ (ms : List media.SlotMedia). media_at ms q.slot) set_to ∙ others_kept new k.media (media.tuned settings.depth (media_at k.media a.changed.slot)) m n a.changed q slots (changed_is k new n d a) found apart in
+    subst (λ (x : media.SlotMedia). IsMediaOf k.config x s) (sym kept) (h.media m q s old stream)
 
-tuned_numbers : (k : Kept) (new : rooms.World) (w : World) (settings : Settings) (n : ℕ) (d : Done) (a : Changes k.rooms new n d) → StandsFor k w → map (λ s. s.number) (streams_with settings n w.streams) ≡ map (λ r. r.number) new.terminations
+tuned_numbers : (k : EngineState) (new : rooms.Registry) (w : Gateway) (settings : Settings) (n : ℕ) (d : Done) (a : Changes k.rooms new n d) → StandsFor k w → map (λ s. s.number) (media_with settings n w.media) ≡ map (λ r. r.number) new.terminations
 tuned_numbers k new w settings n d a h =
-    let (t, was, stream) = has_stream k w n a.was h a.there in
-    mapped_kept (λ s. s.number) (λ s. s.number) n (λ s. Some (tuned settings s)) w.streams t refl was
+    let (t, was, stream) = has_media k w n a.was h a.there in
+    mapped_kept (λ s. s.number) (λ s. s.number) n (λ s. Some (tuned settings s)) w.media t refl was
     ∙ h.numbers
     ∙ sym (kept_by (λ r. r.number) k new n d a a.same)
 
 -- a Modify leaves each termination in its context
-stays_at : (k : Kept) (new : rooms.World) (n : ℕ) (d : Done) (a : Changes k.rooms new n d) → a.changed.context ≡ a.was.context → Others k.rooms new n → (m : ℕ) (r : Record) → record_at new m ≡ Some r → (b : Bool) → eqb n m ≡ b → (q : Record) × (record_at k.rooms m ≡ Some q) × (q.context ≡ r.context)
+stays_at : (k : EngineState) (new : rooms.Registry) (n : ℕ) (d : Done) (a : Changes k.rooms new n d) → a.changed.context ≡ a.was.context → Others k.rooms new n → (m : ℕ) (r : Record) → record_at new m ≡ Some r → (b : Bool) → eqb n m ≡ b → (q : Record) × (record_at k.rooms m ≡ Some q) × (q.context ≡ r.context)
 stays_at k new n d a context others m r found true e =
     let same : n ≡ m = eqb-true n m e in
     let is : a.changed ≡ r = some_is a.changed r (sym (changed_is k new n d a) ∙ ap (record_at new) same ∙ found) in
     (a.was, ap (record_at k.rooms) (sym same) ∙ a.there, sym context ∙ ap (λ (x : Record). x.context) is)
 stays_at k new n d a context others m r found false e = (r, sym (others m (apart_from m n e)) ∙ found, refl)
 
-pub all_stay : (k : Kept) (new : rooms.World) (n : ℕ) (d : Done) (a : Changes k.rooms new n d) → a.changed.context ≡ a.was.context → Others k.rooms new n → Stay k.rooms new
+pub all_stay : (k : EngineState) (new : rooms.Registry) (n : ℕ) (d : Done) (a : Changes k.rooms new n d) → a.changed.context ≡ a.was.context → Others k.rooms new n → Stay k.rooms new
 all_stay k new n d a context others m r found = stays_at k new n d a context others m r found (eqb n m) refl
 
 -- the streams after a command on a termination
-pub changed_stands : (k : Kept) (new : rooms.World) (after : List media.Kept) (w now : World) (settings : Settings) (n : ℕ) (d : Done) (a : Changes k.rooms new n d) → Slots new → Others k.rooms new n
+pub changed_stands : (k : EngineState) (new : rooms.Registry) (after : List media.SlotMedia) (w now : Gateway) (settings : Settings) (n : ℕ) (d : Done) (a : Changes k.rooms new n d) → Slots new → Others k.rooms new n
     → a.changed.slot < length k.media → after ≡ set k.media a.changed.slot (media.tuned settings.depth (media_at k.media a.changed.slot)) → StandsFor k w
-    → now.config ≡ w.config → now.rooms ≡ new → now.streams ≡ streams_with settings n w.streams → AllHear new now.edits → StandsFor (with_rooms k new after) now
+    → now.config ≡ w.config → now.rooms ≡ new → now.media ≡ media_with settings n w.media → AllHear new now.edits → StandsFor (with_rooms k new after) now
 changed_stands k new after w now settings n d a slots others lt set_to h config same streams hears = record {
   config = config ∙ h.config;
   rooms = same;
   numbers = ap (map (λ s. s.number)) streams ∙ tuned_numbers k new w settings n d a h;
-  streams = λ m q s found there. tuned_stream k new after w settings n d a slots others lt set_to h m q s found (ap (find (λ s. eqb s.number m)) (sym streams) ∙ there) (eqb n m) refl;
+  media = λ m q s found there. tuned_media k new after w settings n d a slots others lt set_to h m q s found (ap (find (λ s. eqb s.number m)) (sym streams) ∙ there) (eqb n m) refl;
   hears = hears;
 }
 
 -- ## A Subtract
 
-pub removed_at : (k : Kept) (new : rooms.World) (n : ℕ) (d : Done) → Removes k.rooms new n d → d.termination ≡ n
+pub removed_at : (k : EngineState) (new : rooms.Registry) (n : ℕ) (d : Done) → Removes k.rooms new n d → d.termination ≡ n
 removed_at k new n d a = sym a.number ∙ number_of_was k n a.was a.there
 
-left_terminations : (k : Kept) (new : rooms.World) (n : ℕ) (d : Done) (a : Removes k.rooms new n d) → new.terminations ≡ change (λ x. x.number) n (λ _. None) k.rooms.terminations
+left_terminations : (k : EngineState) (new : rooms.Registry) (n : ℕ) (d : Done) (a : Removes k.rooms new n d) → new.terminations ≡ change (λ x. x.number) n (λ _. None) k.rooms.terminations
 left_terminations k new n d a = a.terminations ∙ ap (λ (m : ℕ). change (λ x. x.number) m (λ _. None) k.rooms.terminations) (removed_at k new n d a)
 
-pub whole_removed : (k : Kept) (new : rooms.World) (n : ℕ) (d : Done) (pool : Limits) (held now : List ℕ) → IsWhole k.config k.rooms pool k.media held → (a : Removes k.rooms new n d) → IsSound k.rooms → now ≡ filter (λ s. not (eqb s a.was.slot)) held → IsWhole k.config new pool k.media now
+pub whole_removed : (k : EngineState) (new : rooms.Registry) (n : ℕ) (d : Done) (pool : Limits) (held now : List ℕ) → IsWhole k.config k.rooms pool k.media held → (a : Removes k.rooms new n d) → IsConsistent k.rooms → now ≡ filter (λ s. not (eqb s a.was.slot)) held → IsWhole k.config new pool k.media now
 whole_removed k new n d pool held now h a sound left = record {
   limits = a.limits ∙ h.limits;
   ports = h.ports;
@@ -322,35 +322,35 @@ whole_removed k new n d pool held now h a sound left = record {
       ∙ ap (map (λ r. r.slot)) (sym (left_terminations k new n d a));
 }
 
-left_stream : (k : Kept) (new : rooms.World) (w : World) (n : ℕ) (d : Done) → Removes k.rooms new n d → IsSound k.rooms → Others k.rooms new n → StandsFor k w
-    → (m : ℕ) (q : Record) (s : Stream) → record_at new m ≡ Some q → find (λ s. eqb s.number m) (streams_without n w.streams) ≡ Some s → (b : Bool) → eqb n m ≡ b → IsStream k.config (media_at k.media q.slot) s
-left_stream k new w n d a sound others h m q s found there true e =
+left_media : (k : EngineState) (new : rooms.Registry) (w : Gateway) (n : ℕ) (d : Done) → Removes k.rooms new n d → IsConsistent k.rooms → Others k.rooms new n → StandsFor k w
+    → (m : ℕ) (q : Record) (s : TerminationMedia) → record_at new m ≡ Some q → find (λ s. eqb s.number m) (media_without n w.media) ≡ Some s → (b : Bool) → eqb n m ≡ b → IsMediaOf k.config (media_at k.media q.slot) s
+left_media k new w n d a sound others h m q s found there true e =
     let gone = ap (find (λ x. eqb x.number n)) (left_terminations k new n d a) ∙ none_left (λ x. x.number) n k.rooms.terminations (sound.terminations.one_number n) in
     absurd (no_record q (sym (ap (record_at new) (eqb-true n m e) ∙ found) ∙ gone))
-left_stream k new w n d a sound others h m q s found there false e =
+left_media k new w n d a sound others h m q s found there false e =
     let apart = apart_from m n e in
-    let stream = sym (found_other (λ s. s.number) (λ _. None) n m w.streams (λ x ys same. let no : eqb x.number m ≡ false = ap (λ (i : ℕ). eqb i m) (eqb-true x.number n same) ∙ e in rw no refl)) ∙ there in
-    h.streams m q s (sym (others m apart) ∙ found) stream
+    let stream = sym (found_other (λ s. s.number) (λ _. None) n m w.media (λ x ys same. let no : eqb x.number m ≡ false = ap (λ (i : ℕ). eqb i m) (eqb-true x.number n same) ∙ e in rw no refl)) ∙ there in
+    h.media m q s (sym (others m apart) ∙ found) stream
 
 -- those that are left stay in their contexts
-left_at : (k : Kept) (new : rooms.World) (n : ℕ) (d : Done) → Removes k.rooms new n d → IsSound k.rooms → Others k.rooms new n → (m : ℕ) (r : Record) → record_at new m ≡ Some r → (b : Bool) → eqb n m ≡ b → (q : Record) × (record_at k.rooms m ≡ Some q) × (q.context ≡ r.context)
+left_at : (k : EngineState) (new : rooms.Registry) (n : ℕ) (d : Done) → Removes k.rooms new n d → IsConsistent k.rooms → Others k.rooms new n → (m : ℕ) (r : Record) → record_at new m ≡ Some r → (b : Bool) → eqb n m ≡ b → (q : Record) × (record_at k.rooms m ≡ Some q) × (q.context ≡ r.context)
 left_at k new n d a sound others m r found true e =
     let gone = ap (find (λ x. eqb x.number n)) (left_terminations k new n d a) ∙ none_left (λ x. x.number) n k.rooms.terminations (sound.terminations.one_number n) in
     absurd (no_record r (sym (ap (record_at new) (eqb-true n m e) ∙ found) ∙ gone))
 left_at k new n d a sound others m r found false e = (r, sym (others m (apart_from m n e)) ∙ found, refl)
 
-those_left : (k : Kept) (new : rooms.World) (n : ℕ) (d : Done) → Removes k.rooms new n d → IsSound k.rooms → Others k.rooms new n → Stay k.rooms new
+those_left : (k : EngineState) (new : rooms.Registry) (n : ℕ) (d : Done) → Removes k.rooms new n d → IsConsistent k.rooms → Others k.rooms new n → Stay k.rooms new
 those_left k new n d a sound others m r found = left_at k new n d a sound others m r found (eqb n m) refl
 
-pub removed_stands : (k : Kept) (new : rooms.World) (w : World) (n : ℕ) (d : Done) (a : Removes k.rooms new n d) → IsSound k.rooms → Others k.rooms new n → StandsFor k w → StandsFor (with_rooms k new k.media) (subtracted w new d)
+pub removed_stands : (k : EngineState) (new : rooms.Registry) (w : Gateway) (n : ℕ) (d : Done) (a : Removes k.rooms new n d) → IsConsistent k.rooms → Others k.rooms new n → StandsFor k w → StandsFor (with_rooms k new k.media) (subtracted w new d)
 removed_stands k new w n d a sound others h = record {
   config = h.config;
   rooms = refl;
-  numbers = ap (λ (m : ℕ). map (λ s. s.number) (streams_without m w.streams)) (removed_at k new n d a)
-      ∙ keys_left (λ s. s.number) n w.streams
+  numbers = ap (λ (m : ℕ). map (λ s. s.number) (media_without m w.media)) (removed_at k new n d a)
+      ∙ keys_left (λ s. s.number) n w.media
       ∙ ap (change (λ m. m) n (λ _. None)) h.numbers
       ∙ sym (keys_left (λ r. r.number) n k.rooms.terminations)
       ∙ ap (map (λ r. r.number)) (sym (left_terminations k new n d a));
-  streams = λ m q s found there. left_stream k new w n d a sound others h m q s found (ap (λ (i : ℕ). find (λ s. eqb s.number m) (streams_without i w.streams)) (sym (removed_at k new n d a)) ∙ there) (eqb n m) refl;
+  media = λ m q s found there. left_media k new w n d a sound others h m q s found (ap (λ (i : ℕ). find (λ s. eqb s.number m) (media_without i w.media)) (sym (removed_at k new n d a)) ∙ there) (eqb n m) refl;
   hears = all_hear_still k.rooms new w.edits (those_left k new n d a sound others) h.hears;
 }

@@ -1,16 +1,16 @@
 -- Who hears whom in the worlds that an engine stands for.
 use Rattle.std.proofs.Common.{◌≡◌, ◌≢◌, ℕ, ◌&&◌, ◌||◌, not, eqb, Bool, true, false, cond, List, ◌∷◌, Some, None, refl, sym, ap, ◌∙◌}
 use Rattle.std.proofs.lemmas.Bool.{eqb-true, eq-eqb}
-use Rattle.mg_rooms.specs.declared.mode.Mode.{Mode}
+use Rattle.mg_words.specs.declared.mode.Mode.{Mode}
 use Rattle.mg_rooms.specs.declared.record.Record.{Record}
-use Rattle.mg_rooms.specs.Mode.{talks, listens}
-use Rattle.mg_rooms.specs.World as rooms
-use Rattle.mg_rooms.specs.World.{record_at}
-use Rattle.mg_engine.specs.World.{World, ContextEdit, Enter, mode_in, mode_of, context_in, context_of}
+use Rattle.mg_words.specs.Mode.{talks, listens}
+use Rattle.mg_rooms.specs.Registry as rooms
+use Rattle.mg_rooms.specs.Registry.{record_at}
+use Rattle.mg_engine.specs.Gateway.{Gateway, ContextEdit, Enter, mode_in, mode_of, context_in, context_of}
 use Rattle.mg_engine.specs.Flow.{flow, lets_hear}
-use Rattle.mg_engine.specs.Sending.{flows_now}
-use Rattle.mg_engine.specs.Stands.{Kept, StandsFor}
-use Rattle.mg_engine.proofs.WorldLaws.{found_key}
+use Rattle.mg_engine.specs.aids.Sending.{flows_now}
+use Rattle.mg_engine.specs.Stands.{EngineState, StandsFor}
+use Rattle.mg_engine.proofs.GatewayLaws.{found_key}
 
 -- ## Flow by the records of both
 
@@ -31,16 +31,16 @@ unequal m n e same = absurd (neither (sym e ∙ eq-eqb m n same)) where
   neither : false ≡ true → ⊥
   neither h = cc h
 
-pub mode_found : (k : Kept) (w : World) (n : ℕ) (r : Record) → StandsFor k w → record_at k.rooms n ≡ Some r → mode_of w n ≡ r.mode
-mode_found k w n r h found = ap (λ (x : rooms.World). mode_in (record_at x n)) h.rooms ∙ ap mode_in found
+pub mode_found : (k : EngineState) (w : Gateway) (n : ℕ) (r : Record) → StandsFor k w → record_at k.rooms n ≡ Some r → mode_of w n ≡ r.mode
+mode_found k w n r h found = ap (λ (x : rooms.Registry). mode_in (record_at x n)) h.rooms ∙ ap mode_in found
 
-context_found : (k : Kept) (w : World) (n : ℕ) (r : Record) → StandsFor k w → record_at k.rooms n ≡ Some r → context_of w n ≡ r.context
-context_found k w n r h found = ap (λ (x : rooms.World). context_in (record_at x n)) h.rooms ∙ ap context_in found
+context_found : (k : EngineState) (w : Gateway) (n : ℕ) (r : Record) → StandsFor k w → record_at k.rooms n ≡ Some r → context_of w n ≡ r.context
+context_found k w n r h found = ap (λ (x : rooms.Registry). context_in (record_at x n)) h.rooms ∙ ap context_in found
 
-pub number_found : (w : rooms.World) (n : ℕ) (r : Record) → record_at w n ≡ Some r → r.number ≡ n
+pub number_found : (w : rooms.Registry) (n : ℕ) (r : Record) → record_at w n ≡ Some r → r.number ≡ n
 number_found w n r found = found_key (λ x. x.number) n w.terminations r found
 
-pub flow_is : (k : Kept) (w : World) (t l : ℕ) (a b : Record) → StandsFor k w → record_at k.rooms t ≡ Some a → record_at k.rooms l ≡ Some b → flow w t l ≡ flows_now a b
+pub flow_is : (k : EngineState) (w : Gateway) (t l : ℕ) (a b : Record) → StandsFor k w → record_at k.rooms t ≡ Some a → record_at k.rooms l ≡ Some b → flow w t l ≡ flows_now a b
 flow_is k w t l a b h first second =
     let x = lets_hear w.edits t l in
     let hears = λ (together : eqb a.context b.context ≡ true) (apart : eqb t l ≡ false). h.hears t l (record {
@@ -72,15 +72,15 @@ none_second true true false x = refl
 none_second true false talking x = refl
 none_second false apart talking x = refl
 
-pub no_talker : (k : Kept) (w : World) (t l : ℕ) → StandsFor k w → record_at k.rooms t ≡ None → flow w t l ≡ false
+pub no_talker : (k : EngineState) (w : Gateway) (t l : ℕ) → StandsFor k w → record_at k.rooms t ≡ None → flow w t l ≡ false
 no_talker k w t l h none =
-    let mode = ap (λ (x : rooms.World). mode_in (record_at x t)) h.rooms ∙ ap mode_in none in
+    let mode = ap (λ (x : rooms.Registry). mode_in (record_at x t)) h.rooms ∙ ap mode_in none in
     ap (λ (m : Mode). eqb (context_of w t) (context_of w l) && (not (eqb t l) && (talks m && (listens (mode_of w l) && lets_hear w.edits t l)))) mode
     ∙ none_first (eqb (context_of w t) (context_of w l)) (not (eqb t l)) (listens (mode_of w l) && lets_hear w.edits t l)
 
-pub no_listener : (k : Kept) (w : World) (t l : ℕ) → StandsFor k w → record_at k.rooms l ≡ None → flow w t l ≡ false
+pub no_listener : (k : EngineState) (w : Gateway) (t l : ℕ) → StandsFor k w → record_at k.rooms l ≡ None → flow w t l ≡ false
 no_listener k w t l h none =
-    let mode = ap (λ (x : rooms.World). mode_in (record_at x l)) h.rooms ∙ ap mode_in none in
+    let mode = ap (λ (x : rooms.Registry). mode_in (record_at x l)) h.rooms ∙ ap mode_in none in
     ap (λ (m : Mode). eqb (context_of w t) (context_of w l) && (not (eqb t l) && (talks (mode_of w t) && (listens m && lets_hear w.edits t l)))) mode
     ∙ none_second (eqb (context_of w t) (context_of w l)) (not (eqb t l)) (talks (mode_of w t)) (lets_hear w.edits t l)
 

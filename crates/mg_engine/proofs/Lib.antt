@@ -2,7 +2,7 @@ pub mod PoolLaws
 pub mod SumLaws
 pub mod SendingLaws
 pub mod KeyLaws
-pub mod WorldLaws
+pub mod GatewayLaws
 pub mod FlowLaws
 pub mod SentLaws
 pub mod TickLaws

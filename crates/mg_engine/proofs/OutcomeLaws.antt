@@ -4,50 +4,51 @@ use Rattle.std.specs.Prelude.{ok_or}
 use Rattle.mg_rooms.specs.declared.done.Done.{Done}
 use Rattle.mg_rooms.specs.declared.place.Place.{Place}
 use Rattle.mg_rooms.specs.declared.record.Record.{Record}
-use Rattle.mg_rooms.specs.declared.refusal.Refusal.{Refusal}
-use Rattle.mg_rooms.specs.declared.refusal.Refusal.TheVariants.{AlreadyInContext, NotInContext, UnknownTermination}
+use Rattle.mg_words.specs.declared.error_number.ErrorNumber.{ErrorNumber}
+use Rattle.mg_words.specs.declared.error_number.ErrorNumber.TheVariants.{AlreadyInContext, NotInContext, UnknownTermination}
 use Rattle.mg_rooms.specs.declared.settings.Settings.{Settings}
 use Rattle.mg_rooms.specs.declared.target.Target.{Target}
-use Rattle.mg_rooms.specs.Results.{◌>>=◌, passes}
+use Rattle.mg_words.specs.ResultSteps.{◌>>=◌}
+use Rattle.mg_rooms.specs.Results.{passes}
 use Rattle.mg_rooms.specs.declared.limits.Limits.{Limits}
-use Rattle.mg_rooms.specs.Limits.{port_of}
+use Rattle.mg_rooms.specs.Limits.{slot_port}
 use Rattle.mg_rooms.specs.Settings.{local_after, remote_after}
-use Rattle.mg_rooms.specs.World.{World, record_at}
+use Rattle.mg_rooms.specs.Registry.{Registry, record_at}
 use Rattle.mg_rooms.specs.Record.{done, fresh, at_place, with_settings}
 use Rattle.mg_rooms.specs.Changes.{change, inserted, replaced, removed, entered, entered_at, left}
 use Rattle.mg_rooms.specs.Outcome.{may_enter, may_have_members, member, named, is_number, new_slot, new_place, add, modify, move_to, subtract}
 
 -- each step of an outcome that is done is done
-after_ok : {A B : Type 0} (P : Type 0) (r : Result A Refusal) (f : A → Result B Refusal) (y : B) → (r >>= f) ≡ Ok y → ((x : A) → f x ≡ Ok y → P) → P
+after_ok : {A B : Type 0} (P : Type 0) (r : Result A ErrorNumber) (f : A → Result B ErrorNumber) (y : B) → (r >>= f) ≡ Ok y → ((x : A) → f x ≡ Ok y → P) → P
 after_ok P (Ok x) f y e k = k x e
 after_ok P (Err refusal) f y e k = absurd (cc e)
 
 abbrev some : Record → Option Record
 some r = Some r
 
-abbrev did : World × Done → Result (World × Done) Refusal
+abbrev did : Registry × Done → Result (Registry × Done) ErrorNumber
 did p = Ok p
 
-ok_is : (p q : World × Done) → did p ≡ did q → p ≡ q
+ok_is : (p q : Registry × Done) → did p ≡ did q → p ≡ q
 ok_is p q e = cc
 
-entered_terminations : (w : World) (place : Place) (n : ℕ) (made : Option ℕ) → (entered_at w place n made).terminations ≡ w.terminations
+entered_terminations : (w : Registry) (place : Place) (n : ℕ) (made : Option ℕ) → (entered_at w place n made).terminations ≡ w.terminations
 entered_terminations w place n (Some room) = refl
 entered_terminations w place n None = refl
 
-entered_limits : (w : World) (place : Place) (n : ℕ) (made : Option ℕ) → (entered_at w place n made).limits ≡ w.limits
+entered_limits : (w : Registry) (place : Place) (n : ℕ) (made : Option ℕ) → (entered_at w place n made).limits ≡ w.limits
 entered_limits w place n (Some room) = refl
 entered_limits w place n None = refl
 
 -- a termination more
-pub record Adds (old new : World) (d : Done) : Type 0 where
+pub record Adds (old new : Registry) (d : Done) : Type 0 where
   pub added : Record
   pub terminations : new.terminations ≡ old.terminations ++ added ∷ []
   pub number : added.number ≡ d.termination
   pub limits : new.limits ≡ old.limits
 
 -- the termination that it was done on has another record, with the slot that it had
-pub record Changes (old new : World) (n : ℕ) (d : Done) : Type 0 where
+pub record Changes (old new : Registry) (n : ℕ) (d : Done) : Type 0 where
   pub was : Record
   pub there : record_at old n ≡ Some was
   pub changed : Record
@@ -58,24 +59,24 @@ pub record Changes (old new : World) (n : ℕ) (d : Done) : Type 0 where
   pub limits : new.limits ≡ old.limits
 
 -- it is there no longer
-pub record Removes (old new : World) (n : ℕ) (d : Done) : Type 0 where
+pub record Removes (old new : Registry) (n : ℕ) (d : Done) : Type 0 where
   pub was : Record
   pub there : record_at old n ≡ Some was
   pub number : was.number ≡ d.termination
   pub terminations : new.terminations ≡ change (λ x. x.number) d.termination (λ _. None) old.terminations
   pub limits : new.limits ≡ old.limits
 
-adds_by : (w new : World) (d : Done) (r : Record) (place : Place) → did (entered (inserted w r) place r.number, done r) ≡ did (new, d) → Adds w new d
+adds_by : (w new : Registry) (d : Done) (r : Record) (place : Place) → did (entered (inserted w r) place r.number, done r) ≡ did (new, d) → Adds w new d
 adds_by w new d r place e =
     let is = ok_is (entered (inserted w r) place r.number, done r) (new, d) e in
     record {
       added = r;
-      terminations = ap (λ (p : World × Done). p.0.terminations) (sym is) ∙ entered_terminations (inserted w r) place r.number place.made;
-      number = ap (λ (p : World × Done). p.1.termination) is;
-      limits = ap (λ (p : World × Done). p.0.limits) (sym is) ∙ entered_limits (inserted w r) place r.number place.made;
+      terminations = ap (λ (p : Registry × Done). p.0.terminations) (sym is) ∙ entered_terminations (inserted w r) place r.number place.made;
+      number = ap (λ (p : Registry × Done). p.1.termination) is;
+      limits = ap (λ (p : Registry × Done). p.0.limits) (sym is) ∙ entered_limits (inserted w r) place r.number place.made;
     }
 
-pub add_adds : (w : World) (target : Target) (settings : Settings) (new : World) (d : Done) → add w target settings ≡ did (new, d) → Adds w new d
+pub add_adds : (w : Registry) (target : Target) (settings : Settings) (new : Registry) (d : Done) → add w target settings ≡ did (new, d) → Adds w new d
 unfolding add
 add_adds w target settings new d e =
     after_ok (Adds w new d) (may_enter w target) _ (new, d) e (λ _ one.
@@ -84,11 +85,11 @@ add_adds w target settings new d e =
     after_ok (Adds w new d) (with_settings w.limits settings (fresh w.next_termination slot place)) _ (new, d) three (λ r four.
     adds_by w new d r place four))))
 
-after_ok_is : {A B : Type 0} (P : Type 0) (r : Result A Refusal) (f : A → Result B Refusal) (y : B) → (r >>= f) ≡ Ok y → ((x : A) → r ≡ Ok x → f x ≡ Ok y → P) → P
+after_ok_is : {A B : Type 0} (P : Type 0) (r : Result A ErrorNumber) (f : A → Result B ErrorNumber) (y : B) → (r >>= f) ≡ Ok y → ((x : A) → r ≡ Ok x → f x ≡ Ok y → P) → P
 after_ok_is P (Ok x) f y e k = k x refl e
 after_ok_is P (Err refusal) f y e k = absurd (cc e)
 
-abbrev fine : Record → Result Record Refusal
+abbrev fine : Record → Result Record ErrorNumber
 fine r = Ok r
 
 fine_is : (r q : Record) → fine r ≡ fine q → r ≡ q
@@ -98,7 +99,7 @@ named_at : (o : Option Record) (r : Record) → ok_or o UnknownTermination ≡ f
 named_at (Some x) r e = ap some (fine_is x r e)
 named_at None r e = absurd (cc e)
 
-member_at : (w : World) (target : Target) (n : ℕ) (r : Record) → member w target n ≡ fine r → record_at w n ≡ Some r
+member_at : (w : Registry) (target : Target) (n : ℕ) (r : Record) → member w target n ≡ fine r → record_at w n ≡ Some r
 member_at w target n r e =
     after_ok_is (record_at w n ≡ Some r) (named w n) _ r e (λ x found one.
     after_ok (record_at w n ≡ Some r) (may_have_members w target) _ r one (λ _ two.
@@ -112,11 +113,11 @@ pub record SameTermination (old r : Record) : Type 0 where
 
 settings_keep : (limits : Limits) (settings : Settings) (old r : Record) → with_settings limits settings old ≡ fine r → SameTermination old r
 settings_keep limits settings old r e =
-    after_ok (SameTermination old r) (local_after limits.address (port_of limits old.slot) settings.local old.local) _ r e (λ local one.
+    after_ok (SameTermination old r) (local_after limits.address (slot_port limits old.slot) settings.local old.local) _ r e (λ local one.
     after_ok (SameTermination old r) (remote_after settings.remote old.remote) _ r one (λ remote two.
     let is = fine_is _ r two in record { slot = ap (λ (x : Record). x.slot) (sym is); number = ap (λ (x : Record). x.number) (sym is) }))
 
-abbrev changes_by : (w new : World) (n : ℕ) (d : Done) (was r : Record) → record_at w n ≡ Some was → SameTermination was r → did (replaced w r, done r) ≡ did (new, d) → Changes w new n d
+abbrev changes_by : (w new : Registry) (n : ℕ) (d : Done) (was r : Record) → record_at w n ≡ Some was → SameTermination was r → did (replaced w r, done r) ≡ did (new, d) → Changes w new n d
 changes_by w new n d was r there same e =
     let is = ok_is (replaced w r, done r) (new, d) e in
     record {
@@ -125,29 +126,29 @@ changes_by w new n d was r there same e =
       changed = r;
       slot = same.slot;
       same = same.number;
-      terminations = ap (λ (p : World × Done). p.0.terminations) (sym is);
-      number = ap (λ (p : World × Done). p.1.termination) is;
-      limits = ap (λ (p : World × Done). p.0.limits) (sym is);
+      terminations = ap (λ (p : Registry × Done). p.0.terminations) (sym is);
+      number = ap (λ (p : Registry × Done). p.1.termination) is;
+      limits = ap (λ (p : Registry × Done). p.0.limits) (sym is);
     }
 
 -- settings leave a termination in its context
 settings_stay : (limits : Limits) (settings : Settings) (old r : Record) → with_settings limits settings old ≡ fine r → r.context ≡ old.context
 settings_stay limits settings old r e =
-    after_ok (r.context ≡ old.context) (local_after limits.address (port_of limits old.slot) settings.local old.local) _ r e (λ local one.
+    after_ok (r.context ≡ old.context) (local_after limits.address (slot_port limits old.slot) settings.local old.local) _ r e (λ local one.
     after_ok (r.context ≡ old.context) (remote_after settings.remote old.remote) _ r one (λ remote two. ap (λ (x : Record). x.context) (sym (fine_is _ r two))))
 
 -- the same, and it stays in its context
-abbrev pub Stays : World → World → ℕ → Done → Type 0
+abbrev pub Stays : Registry → Registry → ℕ → Done → Type 0
 Stays w new n d = (a : Changes w new n d) × (a.changed.context ≡ a.was.context)
 
-pub modify_changes : (w : World) (target : Target) (n : ℕ) (settings : Settings) (new : World) (d : Done) → modify w target n settings ≡ did (new, d) → Stays w new n d
+pub modify_changes : (w : Registry) (target : Target) (n : ℕ) (settings : Settings) (new : Registry) (d : Done) → modify w target n settings ≡ did (new, d) → Stays w new n d
 unfolding modify
 modify_changes w target n settings new d e =
     after_ok_is (Stays w new n d) (member w target n) _ (new, d) e (λ old found one.
     after_ok_is (Stays w new n d) (with_settings w.limits settings old) _ (new, d) one (λ r set two.
     (changes_by w new n d old r (member_at w target n old found) (settings_keep w.limits settings old r set) two, settings_stay w.limits settings old r set)))
 
-moves_by : (w new : World) (n : ℕ) (d : Done) (was r : Record) (place : Place) (from : ℕ) → record_at w n ≡ Some was → SameTermination was r → did (left (entered (replaced w r) place r.number) from r.number, done r) ≡ did (new, d) → Changes w new n d
+moves_by : (w new : Registry) (n : ℕ) (d : Done) (was r : Record) (place : Place) (from : ℕ) → record_at w n ≡ Some was → SameTermination was r → did (left (entered (replaced w r) place r.number) from r.number, done r) ≡ did (new, d) → Changes w new n d
 moves_by w new n d was r place from there same e =
     let is = ok_is (left (entered (replaced w r) place r.number) from r.number, done r) (new, d) e in
     record {
@@ -156,12 +157,12 @@ moves_by w new n d was r place from there same e =
       changed = r;
       slot = same.slot;
       same = same.number;
-      terminations = ap (λ (p : World × Done). p.0.terminations) (sym is) ∙ entered_terminations (replaced w r) place r.number place.made;
-      number = ap (λ (p : World × Done). p.1.termination) is;
-      limits = ap (λ (p : World × Done). p.0.limits) (sym is) ∙ entered_limits (replaced w r) place r.number place.made;
+      terminations = ap (λ (p : Registry × Done). p.0.terminations) (sym is) ∙ entered_terminations (replaced w r) place r.number place.made;
+      number = ap (λ (p : Registry × Done). p.1.termination) is;
+      limits = ap (λ (p : Registry × Done). p.0.limits) (sym is) ∙ entered_limits (replaced w r) place r.number place.made;
     }
 
-pub move_changes : (w : World) (target : Target) (n : ℕ) (settings : Settings) (new : World) (d : Done) → move_to w target n settings ≡ did (new, d) → Changes w new n d
+pub move_changes : (w : Registry) (target : Target) (n : ℕ) (settings : Settings) (new : Registry) (d : Done) → move_to w target n settings ≡ did (new, d) → Changes w new n d
 unfolding move_to
 move_changes w target n settings new d e =
     after_ok_is (Changes w new n d) (named w n) _ (new, d) e (λ old found one.
@@ -172,18 +173,18 @@ move_changes w target n settings new d e =
     let same = settings_keep w.limits settings (at_place old place) r set in
     moves_by w new n d old r place old.context (named_at (record_at w n) old found) (record { slot = same.slot; number = same.number }) five)))))
 
-removes_by : (w new : World) (n : ℕ) (d : Done) (r : Record) → record_at w n ≡ Some r → did (left (removed w r.number) r.context r.number, done r) ≡ did (new, d) → Removes w new n d
+removes_by : (w new : Registry) (n : ℕ) (d : Done) (r : Record) → record_at w n ≡ Some r → did (left (removed w r.number) r.context r.number, done r) ≡ did (new, d) → Removes w new n d
 removes_by w new n d r there e =
     let is = ok_is (left (removed w r.number) r.context r.number, done r) (new, d) e in
     record {
       was = r;
       there = there;
-      number = ap (λ (p : World × Done). p.1.termination) is;
-      terminations = ap (λ (p : World × Done). p.0.terminations) (sym is) ∙ ap (λ (n : ℕ). change (λ x. x.number) n (λ _. None) w.terminations) (ap (λ (p : World × Done). p.1.termination) is);
-      limits = ap (λ (p : World × Done). p.0.limits) (sym is);
+      number = ap (λ (p : Registry × Done). p.1.termination) is;
+      terminations = ap (λ (p : Registry × Done). p.0.terminations) (sym is) ∙ ap (λ (n : ℕ). change (λ x. x.number) n (λ _. None) w.terminations) (ap (λ (p : Registry × Done). p.1.termination) is);
+      limits = ap (λ (p : Registry × Done). p.0.limits) (sym is);
     }
 
-pub subtract_removes : (w : World) (target : Target) (n : ℕ) (new : World) (d : Done) → subtract w target n ≡ did (new, d) → Removes w new n d
+pub subtract_removes : (w : Registry) (target : Target) (n : ℕ) (new : Registry) (d : Done) → subtract w target n ≡ did (new, d) → Removes w new n d
 unfolding subtract
 subtract_removes w target n new d e =
     after_ok_is (Removes w new n d) (member w target n) _ (new, d) e (λ r found one.

@@ -7,12 +7,12 @@ use Rattle.std.proofs.lemmas.Bool.{eqb-true, eq-eqb}
 use Rattle.std.specs.List.{AllByRecursion}
 use Rattle.mg_rooms.specs.declared.limits.Limits.{Limits}
 use Rattle.mg_rooms.specs.declared.record.Record.{Record}
-use Rattle.mg_rooms.specs.Limits.{port_of}
-use Rattle.mg_rooms.specs.Sound.{IsSound, IsTermination}
-use Rattle.mg_rooms.specs.World as rooms
-use Rattle.mg_rooms.specs.World.{holder_of}
+use Rattle.mg_rooms.specs.Limits.{slot_port}
+use Rattle.mg_rooms.specs.Consistent.{IsConsistent, IsTermination}
+use Rattle.mg_rooms.specs.Registry as rooms
+use Rattle.mg_rooms.specs.Registry.{holder_of}
 use Rattle.mg_engine.specs.Arrival.{at_port}
-use Rattle.mg_engine.specs.Ports.{slot_of}
+use Rattle.mg_engine.specs.aids.Ports.{slot_of}
 use Rattle.std.proofs.lemmas.List.Folds.{find-append}
 
 abbrev number_of_slot : ℕ → Option ℕ
@@ -81,18 +81,18 @@ none_of p k (suc n) s h le lt = none_at p k n s (p k) refl h (none_of p (k + 1) 
 
 module _ (limits : Limits) where
   abbrev here : ℕ → Record → Bool
-  here port r = eqb (port_of limits r.slot) port
+  here port r = eqb (slot_port limits r.slot) port
 
   same_bool : (a b : Bool) → (a ≡ true → b ≡ true) → (b ≡ true → a ≡ true) → a ≡ b
   same_bool true b to from = sym (to refl)
   same_bool false true to from = from refl
   same_bool false false to from = refl
 
-  same_slot : (port slot : ℕ) (r : Record) → port_of limits slot ≡ port → here port r ≡ eqb r.slot slot
+  same_slot : (port slot : ℕ) (r : Record) → slot_port limits slot ≡ port → here port r ≡ eqb r.slot slot
   same_slot port slot r is =
       same_bool (here port r) (eqb r.slot slot)
-      (λ h. eq-eqb r.slot slot (omega (arith, is, eqb-true (port_of limits r.slot) port h)))
-      (λ h. eq-eqb (port_of limits r.slot) port (omega (arith, is, eqb-true r.slot slot h)))
+      (λ h. eq-eqb r.slot slot (omega (arith, is, eqb-true (slot_port limits r.slot) port h)))
+      (λ h. eq-eqb (slot_port limits r.slot) port (omega (arith, is, eqb-true r.slot slot h)))
 
   find-same : (f g : Record → Bool) (rs : List Record) → ((r : Record) → f r ≡ g r) → find f rs ≡ find g rs
   find-same f g [] h = refl
@@ -103,15 +103,15 @@ module _ (limits : Limits) where
   find-nowhere f P (r ∷ rs) all h = rw (h r all.0) (find-nowhere f P rs all.1 h)
 
 -- the slot of a port is that of the termination that has it
-pub at_slot_of : (w : rooms.World) (port slot : ℕ) → slot_of w.limits port ≡ Some slot → holder_of w slot ≡ at_port w port
+pub at_slot_of : (w : rooms.Registry) (port slot : ℕ) → slot_of w.limits port ≡ Some slot → holder_of w slot ≡ at_port w port
 unfolding slot_of
 at_slot_of w port slot h =
-    let f = found (λ s. eqb (port_of w.limits s) port) 0 w.limits.slots slot h in
-    let is = eqb-true (port_of w.limits slot) port f.passes in
+    let f = found (λ s. eqb (slot_port w.limits s) port) 0 w.limits.slots slot h in
+    let is = eqb-true (slot_port w.limits slot) port f.passes in
     sym (find-same w.limits (here w.limits port) (λ r. eqb r.slot slot) w.terminations (λ r. same_slot w.limits port slot r is))
 
-pub at_no_slot : (w : rooms.World) (port : ℕ) → IsSound w → slot_of w.limits port ≡ None → at_port w port ≡ None
+pub at_no_slot : (w : rooms.Registry) (port : ℕ) → IsConsistent w → slot_of w.limits port ≡ None → at_port w port ≡ None
 unfolding slot_of
 at_no_slot w port sound h =
     find-nowhere w.limits (here w.limits port) (IsTermination w.limits w.next_termination) w.terminations sound.terminations.each
-    (λ r is. none_of (λ s. eqb (port_of w.limits s) port) 0 w.limits.slots r.slot h (omega arith) (omega (arith, is.slot)))
+    (λ r is. none_of (λ s. eqb (slot_port w.limits s) port) 0 w.limits.slots r.slot h (omega arith) (omega (arith, is.slot)))

@@ -7,32 +7,32 @@ use Rattle.mg_g711.specs.Law.{byte_of}
 use Rattle.mg_rtp.specs.declared.header.Header.{Header}
 use Rattle.mg_rtp.specs.Header.{header_bytes, plain}
 use Rattle.mg_sdp.specs.declared.chosen.Chosen.{Chosen}
-use Rattle.mg_rooms.specs.declared.mode.Mode.TheVariants.{Inactive}
+use Rattle.mg_words.specs.declared.mode.Mode.TheVariants.{Inactive}
 use Rattle.mg_rooms.specs.declared.record.Record.{Record}
-use Rattle.mg_rooms.specs.Limits.{port_of}
+use Rattle.mg_rooms.specs.Limits.{slot_port}
 use Rattle.mg_engine.specs.declared.datagram.Datagram.{Datagram}
 use Rattle.mg_engine.specs.Media as media
-use Rattle.mg_engine.specs.Sending.{packet_now, mixed_now}
-use Rattle.mg_engine.specs.Stands.{Kept, media_at}
+use Rattle.mg_engine.specs.aids.Sending.{packet_now, mixed_now}
+use Rattle.mg_engine.specs.Stands.{EngineState, media_at}
 use Rattle.mg_engine.specs.Tick.{type_of}
 
 abbrev datagram : Chosen → ℕ → List ℕ → Datagram
 datagram to from bytes = record { from = from; to = record { address = to.address; port = to.port }; bytes = bytes }
 
-abbrev ssrc_of : Kept → Record → ℕ
+abbrev ssrc_of : EngineState → Record → ℕ
 ssrc_of k r = (k.config.ssrc + r.number) % 2 ^ 32
 
-pub packet_is : (k : Kept) (r : Record) (to : Chosen) (from : ℕ) (bytes payload : List ℕ) (header : Header) (frame : List ℤ) (m : media.Kept)
-    → from ≡ port_of k.rooms.limits r.slot → bytes ≡ header_bytes plain header ++ payload → payload ≡ map (byte_of to.law) frame
+pub packet_is : (k : EngineState) (r : Record) (to : Chosen) (from : ℕ) (bytes payload : List ℕ) (header : Header) (frame : List ℤ) (m : media.SlotMedia)
+    → from ≡ slot_port k.rooms.limits r.slot → bytes ≡ header_bytes plain header ++ payload → payload ≡ map (byte_of to.law) frame
     → frame ≡ mixed_now k.media k.rooms.terminations r → header ≡ media.header m (type_of to.law) (ssrc_of k r) → m ≡ media_at k.media r.slot
     → datagram to from bytes ≡ packet_now k r to
 packet_is k r to from bytes payload header frame m port joined encoded mixed headed kept =
-    let head = headed ∙ ap (λ (x : media.Kept). media.header x (type_of to.law) (ssrc_of k r)) kept in
+    let head = headed ∙ ap (λ (x : media.SlotMedia). media.header x (type_of to.law) (ssrc_of k r)) kept in
     let body = encoded ∙ ap (λ (f : List ℤ). map (byte_of to.law) f) mixed in
     let whole = joined
     ∙ ap (λ (h : Header). header_bytes plain h ++ payload) head
     ∙ ap (λ (p : List ℕ). header_bytes plain (media.header (media_at k.media r.slot) (type_of to.law) (ssrc_of k r)) ++ p) body in
-    ap (λ (f : ℕ). datagram to f bytes) port ∙ ap (λ (b : List ℕ). datagram to (port_of k.rooms.limits r.slot) b) whole
+    ap (λ (f : ℕ). datagram to f bytes) port ∙ ap (λ (b : List ℕ). datagram to (slot_port k.rooms.limits r.slot) b) whole
 
 abbrev found : Record → Option Record
 found r = Some r

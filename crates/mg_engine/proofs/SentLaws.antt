@@ -8,24 +8,24 @@ use Rattle.mg_g711.specs.Law.{byte_of}
 use Rattle.mg_rtp.specs.declared.header.Header.{Header}
 use Rattle.mg_rtp.specs.Header.{header_bytes, plain}
 use Rattle.mg_sdp.specs.declared.chosen.Chosen.{Chosen}
-use Rattle.mg_rooms.specs.declared.mode.Mode.{Mode}
+use Rattle.mg_words.specs.declared.mode.Mode.{Mode}
 use Rattle.mg_rooms.specs.declared.record.Record.{Record}
-use Rattle.mg_rooms.specs.Limits.{port_of}
-use Rattle.mg_rooms.specs.Mode.{talks, listens}
-use Rattle.mg_rooms.specs.World.{record_at}
-use Rattle.mg_rooms.specs.World as rooms
+use Rattle.mg_rooms.specs.Limits.{slot_port}
+use Rattle.mg_words.specs.Mode.{talks, listens}
+use Rattle.mg_rooms.specs.Registry.{record_at}
+use Rattle.mg_rooms.specs.Registry as rooms
 use Rattle.mg_engine.specs.declared.config.Config.{Config}
 use Rattle.mg_engine.specs.declared.datagram.Datagram.{Datagram}
-use Rattle.mg_engine.specs.World.{World, Stream, stream_at, frame_in}
+use Rattle.mg_engine.specs.Gateway.{Gateway, TerminationMedia, media_of, frame_in}
 use Rattle.mg_engine.specs.Mixing.{limited}
 use Rattle.mg_engine.specs.Mix.{sum_of, sample_of, part_of_mix, heard, mix, mixed, is_loopback}
 use Rattle.mg_engine.specs.Media as media
 use Rattle.mg_engine.specs.Tick.{type_of, header_of, packet, packet_to, packet_of, packets, sent_to}
-use Rattle.mg_engine.specs.Sending.{flows_now, sample_at, part_now, heard_now, mix_now, mixed_now, packet_now, packets_now}
-use Rattle.mg_engine.specs.Stands.{Kept, StandsFor, IsStream, media_at}
+use Rattle.mg_engine.specs.aids.Sending.{flows_now, sample_at, part_now, heard_now, mix_now, mixed_now, packet_now, packets_now}
+use Rattle.mg_engine.specs.Stands.{EngineState, StandsFor, IsMediaOf, media_at}
 use Rattle.mg_engine.proofs.SendingLaws.{nobody}
 use Rattle.mg_engine.proofs.FlowLaws.{flow_is, mode_found}
-use Rattle.mg_engine.proofs.WorldLaws.{has_stream, found_key}
+use Rattle.mg_engine.proofs.GatewayLaws.{has_media, found_key}
 
 -- ## Sums
 
@@ -49,15 +49,15 @@ gathered-cong f g (x ∷ xs) d h =
 -- ## Mixes
 
 -- each termination in the list is found by its number
-abbrev pub ByNumber : rooms.World → Type 0
+abbrev pub ByNumber : rooms.Registry → Type 0
 ByNumber w = (i : ℕ) (d : Record) → i < length w.terminations → record_at w (get_or w.terminations i d).number ≡ Some (get_or w.terminations i d)
 
-sample_is : (k : Kept) (w : World) (r : Record) (i : ℕ) → StandsFor k w → record_at k.rooms r.number ≡ Some r → sample_of w r.number i ≡ sample_at k.media r.slot i
+sample_is : (k : EngineState) (w : Gateway) (r : Record) (i : ℕ) → StandsFor k w → record_at k.rooms r.number ≡ Some r → sample_of w r.number i ≡ sample_at k.media r.slot i
 sample_is k w r i h found =
-    let (s, there, is) = has_stream k w r.number r h found in
-    ap (λ (o : Option Stream). get_or (frame_in o) i (pos 0)) there ∙ ap (λ (xs : List ℤ). get_or xs i (pos 0)) (sym is.frame)
+    let (s, there, is) = has_media k w r.number r h found in
+    ap (λ (o : Option TerminationMedia). get_or (frame_in o) i (pos 0)) there ∙ ap (λ (xs : List ℤ). get_or xs i (pos 0)) (sym is.frame)
 
-part_is : (k : Kept) (w : World) (l t : Record) (i : ℕ) → StandsFor k w → record_at k.rooms l.number ≡ Some l → record_at k.rooms t.number ≡ Some t → part_of_mix w l.number i t.number ≡ part_now k.media l i t
+part_is : (k : EngineState) (w : Gateway) (l t : Record) (i : ℕ) → StandsFor k w → record_at k.rooms l.number ≡ Some l → record_at k.rooms t.number ≡ Some t → part_of_mix w l.number i t.number ≡ part_now k.media l i t
 part_is k w l t i h listens talks =
     ap (λ (b : Bool). cond b (sample_of w t.number i) (pos 0)) (flow_is k w t.number l.number t l h talks listens)
     ∙ ap (λ (z : ℤ). cond (flows_now t l) z (pos 0)) (sample_is k w t i h talks)
@@ -67,30 +67,30 @@ unfolding sum_of
 sum-map f g [] = refl
 sum-map f g (x ∷ xs) = ap (λ (z : ℤ). f (g x) +ℤ z) (sum-map f g xs)
 
-heard_is : (k : Kept) (w : World) (l : Record) (i : ℕ) → ByNumber k.rooms → StandsFor k w → record_at k.rooms l.number ≡ Some l → heard w l.number i ≡ heard_now k.media k.rooms.terminations l i
+heard_is : (k : EngineState) (w : Gateway) (l : Record) (i : ℕ) → ByNumber k.rooms → StandsFor k w → record_at k.rooms l.number ≡ Some l → heard w l.number i ≡ heard_now k.media k.rooms.terminations l i
 heard_is k w l i by_number h found =
-    ap (λ (x : rooms.World). sum_of (part_of_mix w l.number i) (map (λ r. r.number) x.terminations)) h.rooms
+    ap (λ (x : rooms.Registry). sum_of (part_of_mix w l.number i) (map (λ r. r.number) x.terminations)) h.rooms
     ∙ sum-map (part_of_mix w l.number i) (λ r. r.number) k.rooms.terminations
     ∙ sum-cong (λ (r : Record). part_of_mix w l.number i r.number) (part_now k.media l i) k.rooms.terminations nobody (λ j lt. part_is k w l (get_or k.rooms.terminations j nobody) i h found (by_number j nobody lt))
 
-mix_is : (k : Kept) (w : World) (l : Record) (i : ℕ) → ByNumber k.rooms → StandsFor k w → record_at k.rooms l.number ≡ Some l → mix w l.number i ≡ mix_now k.media k.rooms.terminations l i
+mix_is : (k : EngineState) (w : Gateway) (l : Record) (i : ℕ) → ByNumber k.rooms → StandsFor k w → record_at k.rooms l.number ≡ Some l → mix w l.number i ≡ mix_now k.media k.rooms.terminations l i
 mix_is k w l i by_number h found =
     ap (λ (m : Mode). cond (is_loopback m) (sample_of w l.number i) (limited (heard w l.number i))) (mode_found k w l.number l h found)
     ∙ ap (λ (z : ℤ). cond (is_loopback l.mode) z (limited (heard w l.number i))) (sample_is k w l i h found)
     ∙ ap (λ (z : ℤ). cond (is_loopback l.mode) (sample_at k.media l.slot i) (limited z)) (heard_is k w l i by_number h found)
 
-pub mixed_is : (k : Kept) (w : World) (l : Record) → ByNumber k.rooms → StandsFor k w → record_at k.rooms l.number ≡ Some l → mixed w l.number ≡ mixed_now k.media k.rooms.terminations l
+pub mixed_is : (k : EngineState) (w : Gateway) (l : Record) → ByNumber k.rooms → StandsFor k w → record_at k.rooms l.number ≡ Some l → mixed w l.number ≡ mixed_now k.media k.rooms.terminations l
 mixed_is k w l by_number h found = map-cong (mix w l.number) (mix_now k.media k.rooms.terminations l) (range_with_len 0 160) (λ i. mix_is k w l i by_number h found)
 
 -- ## Packets
 
-abbrev pub AreOld : World → Type 0
-AreOld w = (n : ℕ) (s : Stream) → stream_at w n ≡ Some s → 1 ≤ s.ticks
+abbrev pub AreOld : Gateway → Type 0
+AreOld w = (n : ℕ) (s : TerminationMedia) → media_of w n ≡ Some s → 1 ≤ s.ticks
 
 abbrev headed : Bool → ℕ → ℕ → ℕ → ℕ → Header
 headed marker payload_type sequence timestamp ssrc = record { marker = marker; payload_type = payload_type; sequence = sequence; timestamp = timestamp; ssrc = ssrc }
 
-header_is : (w : World) (to : Chosen) (n : ℕ) (m : media.Kept) (s : Stream) → IsStream w.config m s → 1 ≤ s.ticks → s.number ≡ n → header_of w to s ≡ media.header m (type_of to.law) ((w.config.ssrc + n) % 2 ^ 32)
+header_is : (w : Gateway) (to : Chosen) (n : ℕ) (m : media.SlotMedia) (s : TerminationMedia) → IsMediaOf w.config m s → 1 ≤ s.ticks → s.number ≡ n → header_of w to s ≡ media.header m (type_of to.law) ((w.config.ssrc + n) % 2 ^ 32)
 header_is w to n m s is old same =
     let config = w.config in
     let t = type_of to.law in
@@ -106,29 +106,29 @@ header_is w to n m s is old same =
 abbrev datagram : Chosen → ℕ → List ℕ → Datagram
 datagram to from bytes = record { from = from; to = record { address = to.address; port = to.port }; bytes = bytes }
 
-packet_same : (k : Kept) (w : World) (r : Record) (to : Chosen) (s : Stream) → ByNumber k.rooms → StandsFor k w → record_at k.rooms r.number ≡ Some r → stream_at w r.number ≡ Some s → 1 ≤ s.ticks → packet w r to s ≡ packet_now k r to
+packet_same : (k : EngineState) (w : Gateway) (r : Record) (to : Chosen) (s : TerminationMedia) → ByNumber k.rooms → StandsFor k w → record_at k.rooms r.number ≡ Some r → media_of w r.number ≡ Some s → 1 ≤ s.ticks → packet w r to s ≡ packet_now k r to
 packet_same k w r to s by_number h found there old =
-    let is = h.streams r.number r s found there in
-    let number = found_key (λ x. x.number) r.number w.streams s there in
-    let mine = subst (λ (x : Config). IsStream x (media_at k.media r.slot) s) (sym h.config) is in
+    let is = h.media r.number r s found there in
+    let number = found_key (λ x. x.number) r.number w.media s there in
+    let mine = subst (λ (x : Config). IsMediaOf x (media_at k.media r.slot) s) (sym h.config) is in
     let head = header_is w to r.number (media_at k.media r.slot) s mine old number
     ∙ ap (λ (x : Config). media.header (media_at k.media r.slot) (type_of to.law) ((x.ssrc + r.number) % 2 ^ 32)) h.config in
     let body = mixed_is k w r by_number h found in
-    ap (λ (x : rooms.World). datagram to (port_of x.limits r.slot) (header_bytes plain (header_of w to s) ++ map (byte_of to.law) (mixed w r.number))) h.rooms
-    ∙ ap (λ (x : Header). datagram to (port_of k.rooms.limits r.slot) (header_bytes plain x ++ map (byte_of to.law) (mixed w r.number))) head
-    ∙ ap (λ (x : List ℤ). datagram to (port_of k.rooms.limits r.slot) (header_bytes plain (media.header (media_at k.media r.slot) (type_of to.law) ((k.config.ssrc + r.number) % 2 ^ 32)) ++ map (byte_of to.law) x)) body
+    ap (λ (x : rooms.Registry). datagram to (slot_port x.limits r.slot) (header_bytes plain (header_of w to s) ++ map (byte_of to.law) (mixed w r.number))) h.rooms
+    ∙ ap (λ (x : Header). datagram to (slot_port k.rooms.limits r.slot) (header_bytes plain x ++ map (byte_of to.law) (mixed w r.number))) head
+    ∙ ap (λ (x : List ℤ). datagram to (slot_port k.rooms.limits r.slot) (header_bytes plain (media.header (media_at k.media r.slot) (type_of to.law) ((k.config.ssrc + r.number) % 2 ^ 32)) ++ map (byte_of to.law) x)) body
 
 abbrev some : Datagram → Option Datagram
 some d = Some d
 
-packet_to_is : (k : Kept) (w : World) (r : Record) (to : Option Chosen) → ByNumber k.rooms → AreOld w → StandsFor k w → record_at k.rooms r.number ≡ Some r → packet_to w r to ≡ option_map (packet_now k r) to
+packet_to_is : (k : EngineState) (w : Gateway) (r : Record) (to : Option Chosen) → ByNumber k.rooms → AreOld w → StandsFor k w → record_at k.rooms r.number ≡ Some r → packet_to w r to ≡ option_map (packet_now k r) to
 packet_to_is k w r None by_number old h found = refl
 packet_to_is k w r (Some to) by_number old h found =
-    let (s, there, is) = has_stream k w r.number r h found in
-    ap (λ (o : Option Stream). option_map (packet w r to) o) there ∙ ap (λ (d : Datagram). some d) (packet_same k w r to s by_number h found there (old r.number s there))
+    let (s, there, is) = has_media k w r.number r h found in
+    ap (λ (o : Option TerminationMedia). option_map (packet w r to) o) there ∙ ap (λ (d : Datagram). some d) (packet_same k w r to s by_number h found there (old r.number s there))
 
-pub packets_are : (k : Kept) (w : World) → ByNumber k.rooms → AreOld w → StandsFor k w → packets w ≡ packets_now k
+pub packets_are : (k : EngineState) (w : Gateway) → ByNumber k.rooms → AreOld w → StandsFor k w → packets w ≡ packets_now k
 packets_are k w by_number old h =
-    ap (λ (x : rooms.World). filter_map (packet_of w) x.terminations) h.rooms
+    ap (λ (x : rooms.Registry). filter_map (packet_of w) x.terminations) h.rooms
     ∙ gathered-cong (packet_of w) (λ r. option_map (packet_now k r) (sent_to r)) k.rooms.terminations nobody
     (λ i lt. let r = get_or k.rooms.terminations i nobody in packet_to_is k w r (sent_to r) by_number old h (by_number i nobody lt))

@@ -1,6 +1,7 @@
--- What becomes of an RTP datagram that comes to a media port (RFC 3550, section 5.1; the causes of a drop and their order
--- are this project's own).
-use Rattle.std.specs.Prelude.{◌≡◌, ℕ, ℤ, ◌==◌, not, Bool, false, List, map, length, find, Option, Some, None, Result, Ok, Err, if◌then◌else◌}
+-- What becomes of an RTP datagram that comes to a media port (RFC 3550, section 5.1; the causes of
+-- a drop and their order are this project's own).
+use Rattle.std.specs.Prelude.{◌≡◌, ℕ, ℤ, ◌==◌, not, Bool, false, List, map, length}
+use Rattle.std.specs.Prelude.{find, Option, Some, None, Result, Ok, Err, if◌then◌else◌}
 use Rattle.std.specs.Str.{bytes_eq}
 use Rattle.mg_g711.specs.declared.law.Law.{Law}
 use Rattle.mg_g711.specs.Law.{sample_of}
@@ -10,13 +11,14 @@ use Rattle.mg_sdp.specs.declared.chosen.Chosen.{Chosen}
 use Rattle.mg_playout.specs.Playout as play_lists
 use Rattle.mg_rooms.specs.declared.record.Record.{Record}
 use Rattle.mg_rooms.specs.Changes.{change}
-use Rattle.mg_rooms.specs.Limits.{port_of}
-use Rattle.mg_rooms.specs.World as rooms
+use Rattle.mg_rooms.specs.Limits.{slot_port}
+use Rattle.mg_words.specs.ResultSteps.{◌>>=◌}
+use Rattle.mg_rooms.specs.Registry as rooms
 use Rattle.mg_engine.specs.declared.taken.DropCause.{DropCause}
 use Rattle.mg_engine.specs.declared.taken.DropCause.TheVariants as causes
 use Rattle.mg_engine.specs.declared.taken.Taken.{Taken}
 use Rattle.mg_engine.specs.declared.taken.Taken.TheVariants.{Placed, Dropped}
-use Rattle.mg_engine.specs.World.{World, Stream, stream_at}
+use Rattle.mg_engine.specs.Gateway.{Gateway, TerminationMedia, media_of}
 use Rattle.mg_engine.specs.Steps.{received}
 use Rattle.mg_engine.specs.Tick.{type_of}
 
@@ -47,11 +49,6 @@ law_in (Some local) = Ok local.law
 abbrev pub law_for : Record → List ℕ → Result Law DropCause
 law_for r source = if is_stray r.remote source then Err causes.Stray else law_in r.local
 
-infixl 10 ◌>>=◌
-abbrev pub ◌>>=◌ : {A B : Type 0} → Result A DropCause → (A → Result B DropCause) → Result B DropCause
-(Ok x) >>= f = f x
-(Err e) >>= f = Err e
-
 -- what comes to a termination
 abbrev pub arrived : Record → List ℕ → Reading → Arrived
 arrived r source reading = do
@@ -59,28 +56,36 @@ arrived r source reading = do
   frame_in law reading
 
 -- a frame is placed in the play list of a stream
-abbrev pub placed : Header → List ℤ → Stream → Stream
-placed header frame s = record s { play = (play_lists.placed s.play header.ssrc header.sequence frame).0; stats = received s.stats }
+abbrev pub placed : Header → List ℤ → TerminationMedia → TerminationMedia
+placed header frame s =
+    record s {
+      play = (play_lists.placed s.play header.ssrc header.sequence frame).0;
+      stats = received s.stats;
+    }
 
-abbrev pub placed_at : World → ℕ → Header × List ℤ → Option Stream → World × Taken
+abbrev pub placed_at : Gateway → ℕ → Header × List ℤ → Option TerminationMedia → Gateway × Taken
 placed_at w n p None = (w, Dropped causes.NoTermination)
-placed_at w n p (Some s) = (record w { streams = change (λ s. s.number) n (λ s. Some (placed p.0 p.1 s)) w.streams }, Placed ((play_lists.placed s.play p.0.ssrc p.0.sequence p.1).1))
+placed_at w n p (Some s) = (
+  record w { media = change (λ s. s.number) n (λ s. Some (placed p.0 p.1 s)) w.media },
+  Placed ((play_lists.placed s.play p.0.ssrc p.0.sequence p.1).1),
+)
 
-abbrev pub taken_at : World → ℕ → Arrived → World × Taken
-taken_at w n (Ok p) = placed_at w n p (stream_at w n)
+abbrev pub taken_at : Gateway → ℕ → Arrived → Gateway × Taken
+taken_at w n (Ok p) = placed_at w n p (media_of w n)
 taken_at w n (Err cause) = (w, Dropped cause)
 
 -- the termination that has a port
-abbrev pub at_port : rooms.World → ℕ → Option Record
-at_port w port = find (λ r. port_of w.limits r.slot == port) w.terminations
+abbrev pub at_port : rooms.Registry → ℕ → Option Record
+at_port w port = find (λ r. slot_port w.limits r.slot == port) w.terminations
 
-abbrev pub taken_by : World → Option Record → List ℕ → Reading → World × Taken
+abbrev pub taken_by : Gateway → Option Record → List ℕ → Reading → Gateway × Taken
 taken_by w None source reading = (w, Dropped causes.NoTermination)
 taken_by w (Some r) source reading = taken_at w r.number (arrived r source reading)
 
 -- the world after a datagram came to a port from an address, and what became of it
-abbrev pub taken : World → ℕ → List ℕ → Reading → World × Taken
+abbrev pub taken : Gateway → ℕ → List ℕ → Reading → Gateway × Taken
 taken w port source reading = taken_by w (at_port w.rooms port) source reading
 
-abbrev pub Takes : World → ℕ → List ℕ → List ℕ → World → Taken → Type 0
-Takes w port source bytes after result = (reading : Reading) × IsReading bytes reading × (taken w port source reading ≡ (after, result))
+abbrev pub Takes : Gateway → ℕ → List ℕ → List ℕ → Gateway → Taken → Type 0
+Takes w port source bytes after result =
+    (reading : Reading) × IsReading bytes reading × (taken w port source reading ≡ (after, result))

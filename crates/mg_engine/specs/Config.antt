@@ -1,7 +1,7 @@
 -- What a gateway is started with.
 use Rattle.std.specs.Prelude.{◌≢◌, ℕ, ◌+◌, ◌*◌, ◌<◌, [], ◌∷◌}
 use Rattle.mg_rooms.specs.declared.limits.Limits.{Limits}
-use Rattle.mg_rooms.specs.Limits.{IsValid}
+use Rattle.mg_rooms.specs.Limits.{AreValidLimits}
 use Rattle.mg_engine.specs.declared.config.Config.{Config}
 
 -- the gateway on this machine, with all its slots
@@ -20,7 +20,14 @@ standard = record {
 
 -- what terminations and contexts are made within
 abbrev pub limits_of : Config → Limits
-limits_of c = record { address = c.address; base_port = c.base_port; slots = c.slots; first_termination = c.first_termination; first_context = c.first_context }
+limits_of c =
+    record {
+      address = c.address;
+      base_port = c.base_port;
+      slots = c.slots;
+      first_termination = c.first_termination;
+      first_context = c.first_context;
+    }
 
 -- a control port that is none of the media ports
 pub record HasControlPort (c : Config) : Type 0 where
@@ -28,6 +35,6 @@ pub record HasControlPort (c : Config) : Type 0 where
   pub apart : (slot : ℕ) → slot < c.slots → c.control_port ≢ c.base_port + 2 * slot
 
 -- a gateway can be started with it
-pub record IsSound (c : Config) : Type 0 where
-  pub limits : IsValid (limits_of c)
+pub record IsValidConfig (c : Config) : Type 0 where
+  pub limits : AreValidLimits (limits_of c)
   pub control_port : HasControlPort c

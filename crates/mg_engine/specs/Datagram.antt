@@ -4,4 +4,8 @@ use Rattle.mg_engine.specs.declared.datagram.Datagram.{Datagram}
 
 -- a datagram of zeros, which fills the places of an outbox that are free
 abbrev pub blank : Datagram
-blank = record { from = 0; to = record { address = 0 ∷ 0 ∷ 0 ∷ 0 ∷ []; port = 0 }; bytes = replicate 172 0 }
+blank = record {
+  from = 0;
+  to = record { address = 0 ∷ 0 ∷ 0 ∷ 0 ∷ []; port = 0 };
+  bytes = replicate 172 0;
+}

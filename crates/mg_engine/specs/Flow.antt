@@ -1,10 +1,10 @@
--- Who hears whom, by modes and by all that happened (RFC 3525, sections 7.1.7 and 7.1.18). That a newcomer and each
--- member hear each other is this project's own rule.
+-- Who hears whom, by modes and by all that happened (RFC 3525, sections 7.1.7 and 7.1.18). That a
+-- newcomer and each member hear each other is this project's own rule.
 use Rattle.std.specs.Prelude.{ℕ, ◌==◌, ◌&&◌, ◌||◌, not, Bool, true, List, [], ◌∷◌, if◌then◌else◌}
 use Rattle.std.specs.List.{list_any}
 use Rattle.mg_topology.specs.Triple.{lets}
-use Rattle.mg_rooms.specs.Mode.{talks, listens}
-use Rattle.mg_engine.specs.World.{World, ContextEdit, Enter, Leave, Apply, context_of, mode_of}
+use Rattle.mg_words.specs.Mode.{talks, listens}
+use Rattle.mg_engine.specs.Gateway.{Gateway, ContextEdit, Enter, Leave, Apply, context_of, mode_of}
 
 abbrev pub has : List ℕ → ℕ → Bool
 has members n = list_any (λ m. m == n) members
@@ -17,8 +17,9 @@ leads first second talker listener = has first talker && has second listener
 abbrev pub speaks_of : List ℕ → List ℕ → ℕ → ℕ → Bool
 speaks_of first second a b = leads first second a b || leads first second b a
 
--- The last word on a pair, looked for from the newest edit backwards: the last triple that speaks of it after the latest
--- time that each of the two entered a context. Where there is none, each hears the other.
+-- The last word on a pair, looked for from the newest edit backwards: the last triple that speaks
+-- of it after the latest time that each of the two entered a context. Where there is none, each
+-- hears the other.
 abbrev pub lets_hear : List ContextEdit → ℕ → ℕ → Bool
 lets_hear [] talker listener = true
 lets_hear (Enter n ∷ es) talker listener =
@@ -29,9 +30,10 @@ lets_hear (Apply first second association ∷ es) talker listener =
     then lets association (leads first second talker listener)
     else lets_hear es talker listener
 
--- The talker's speech goes to the listener: both are in one context, they differ, the one talks, the other listens, and
--- the last word lets it. A number that names no termination has no flow, for it neither talks nor listens.
-abbrev pub flow : World → ℕ → ℕ → Bool
+-- The talker's speech goes to the listener: both are in one context, they differ, the one talks,
+-- the other listens, and the last word lets it. A number that names no termination has no flow, for
+-- it neither talks nor listens.
+abbrev pub flow : Gateway → ℕ → ℕ → Bool
 flow w talker listener =
     (context_of w talker == context_of w listener)
     && (not (talker == listener)

@@ -1,5 +1,5 @@
 pub mod Config
-pub mod World
+pub mod Gateway
 pub mod Flow
 pub mod Mixing
 pub mod Mix
@@ -9,7 +9,5 @@ pub mod Datagram
 pub mod Tick
 pub mod Arrival
 pub mod Media
-pub mod Ports
 pub mod Stands
-pub mod Sending
-pub mod Whole
+pub mod aids

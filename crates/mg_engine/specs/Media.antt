@@ -5,13 +5,14 @@ use Rattle.mg_playout.specs.declared.placed.Placed.{Placed}
 use Rattle.mg_playout.specs.Playout as play_lists
 use Rattle.mg_playout.specs.Playout.{PlayList, first_state}
 use Rattle.mg_engine.specs.declared.config.Config.{Config}
-use Rattle.mg_engine.specs.declared.stats.Stats.{Stats}
-use Rattle.mg_engine.specs.World.{silence, no_packets}
+use Rattle.mg_words.specs.declared.stats.Stats.{Stats}
+use Rattle.mg_engine.specs.Gateway.{silence}
+use Rattle.mg_words.specs.Stats.{no_packets}
 use Rattle.mg_engine.specs.Steps.{play_after, received, transmitted, frame_or_silence}
 
--- The play list, the frame of this tick (160 samples), the counters, the timestamp of this tick, the sequence number of
--- the next packet, and whether the last tick sent one.
-pub record Kept : Type 0 where
+-- The play list, the frame of this tick (160 samples), the counters, the timestamp of this tick,
+-- the sequence number of the next packet, and whether the last tick sent one.
+pub record SlotMedia : Type 0 where
   pub play : PlayList
   pub frame : List ℤ
   pub stats : Stats
@@ -28,37 +29,69 @@ abbrev pub timestamp_before : ℕ → ℕ
 timestamp_before n = (n + (2 ^ 32 - 160)) % 2 ^ 32
 
 -- media of nobody
-abbrev pub idle : Kept
-idle = record { play = first_state; frame = silence; stats = no_packets; timestamp = 0; sequence = 0; is_sending = false }
+abbrev pub idle : SlotMedia
+idle = record {
+  play = first_state;
+  frame = silence;
+  stats = no_packets;
+  timestamp = 0;
+  sequence = 0;
+  is_sending = false;
+}
 
--- those of a termination as it is made, with the timestamp of its first tick and the number of its first packet
-abbrev pub begun_at : ℕ → ℕ → Kept
-begun_at timestamp sequence = record { play = first_state; frame = silence; stats = no_packets; timestamp = timestamp_before timestamp; sequence = sequence % 2 ^ 16; is_sending = false }
+-- those of a termination as it is made, with the timestamp of its first tick and the number of its
+-- first packet
+abbrev pub begun_at : ℕ → ℕ → SlotMedia
+begun_at timestamp sequence =
+    record {
+      play = first_state;
+      frame = silence;
+      stats = no_packets;
+      timestamp = timestamp_before timestamp;
+      sequence = sequence % 2 ^ 16;
+      is_sending = false;
+    }
 
-abbrev pub begun : Config → Kept
+abbrev pub begun : Config → SlotMedia
 begun config = begun_at config.timestamp config.sequence
 
 -- with the depth of the play list that a command names
-abbrev pub tuned : Option ℕ → Kept → Kept
+abbrev pub tuned : Option ℕ → SlotMedia → SlotMedia
 tuned depth m = record m { play = play_after depth m.play }
 
 -- a packet came, and its frame was placed
-abbrev pub placed : Kept → Header → List ℤ → Kept × Placed
+abbrev pub placed : SlotMedia → Header → List ℤ → SlotMedia × Placed
 placed m header frame =
     let after = play_lists.placed m.play header.ssrc header.sequence frame in
     (record m { play = after.0; stats = received m.stats }, after.1)
 
 -- the play list ticks, and what it gives is the frame of this tick
-abbrev pub played : Kept → Kept
+abbrev pub played : SlotMedia → SlotMedia
 played m =
     let after = play_lists.ticked m.play in
-    record m { play = after.0; frame = frame_or_silence after.1; timestamp = next_timestamp m.timestamp }
+    record m {
+      play = after.0;
+      frame = frame_or_silence after.1;
+      timestamp = next_timestamp m.timestamp;
+    }
 
 -- the header of the next packet; the marker is set where the last tick sent none
-abbrev pub header : Kept → ℕ → ℕ → Header
-header m payload_type ssrc = record { marker = not m.is_sending; payload_type = payload_type; sequence = m.sequence; timestamp = m.timestamp; ssrc = ssrc }
+abbrev pub header : SlotMedia → ℕ → ℕ → Header
+header m payload_type ssrc =
+    record {
+      marker = not m.is_sending;
+      payload_type = payload_type;
+      sequence = m.sequence;
+      timestamp = m.timestamp;
+      ssrc = ssrc;
+    }
 
 -- the end of a tick in which a packet was sent, or none
-abbrev pub ended : Bool → Kept → Kept
-ended true m = record m { stats = transmitted m.stats; sequence = (m.sequence + 1) % 2 ^ 16; is_sending = true }
+abbrev pub ended : Bool → SlotMedia → SlotMedia
+ended true m =
+    record m {
+      stats = transmitted m.stats;
+      sequence = (m.sequence + 1) % 2 ^ 16;
+      is_sending = true;
+    }
 ended false m = record m { is_sending = false }

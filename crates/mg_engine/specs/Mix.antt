@@ -1,12 +1,13 @@
--- What is said in a context in this tick, and what each listener is sent of it (this project's own: sums are plain, and a
--- mix is limited once).
-use Rattle.std.specs.Prelude.{ℕ, ℤ, pos, ◌+ℤ◌, Bool, true, false, List, [], ◌∷◌, map, ◌&&◌, nat_lt, Option, Some, None, is_some, slice_index_or, if◌then◌else◌}
+-- What is said in a context in this tick, and what each listener is sent of it (this project's own:
+-- sums are plain, and a mix is limited once).
+use Rattle.std.specs.Prelude.{ℕ, ℤ, pos, ◌+ℤ◌, Bool, true, false, List, [], ◌∷◌, map, ◌&&◌, nat_lt}
+use Rattle.std.specs.Prelude.{Option, Some, None, is_some, slice_index_or, if◌then◌else◌}
 use Rattle.std.specs.List.{range_with_len}
-use Rattle.mg_rooms.specs.declared.mode.Mode.{Mode}
-use Rattle.mg_rooms.specs.declared.mode.Mode.TheVariants.{Loopback}
-use Rattle.mg_rooms.specs.Mode.{talks}
-use Rattle.mg_rooms.specs.World.{context_at, members_at}
-use Rattle.mg_engine.specs.World.{World, frame_of, mode_of, numbers_of}
+use Rattle.mg_words.specs.declared.mode.Mode.{Mode}
+use Rattle.mg_words.specs.declared.mode.Mode.TheVariants.{Loopback}
+use Rattle.mg_words.specs.Mode.{talks}
+use Rattle.mg_rooms.specs.Registry.{context_at, members_at}
+use Rattle.mg_engine.specs.Gateway.{Gateway, frame_of, mode_of, numbers_of}
 use Rattle.mg_engine.specs.Mixing.{limited}
 use Rattle.mg_engine.specs.Flow.{flow}
 
@@ -15,36 +16,37 @@ sum_of f [] = pos 0
 sum_of f (x ∷ xs) = f x +ℤ sum_of f xs
 
 -- sample i of the frame that this tick plays
-abbrev pub sample_of : World → ℕ → ℕ → ℤ
+abbrev pub sample_of : Gateway → ℕ → ℕ → ℤ
 sample_of w n i = slice_index_or (frame_of w n) i (pos 0)
 
 -- what a member adds to the total of its context: its sample, if it talks
-abbrev pub part_of_total : World → ℕ → ℕ → ℤ
+abbrev pub part_of_total : Gateway → ℕ → ℕ → ℤ
 part_of_total w i n = if talks (mode_of w n) then sample_of w n i else pos 0
 
 -- the plain sum of sample i of the members of a context that talk
-abbrev pub total : World → ℕ → ℕ → ℤ
+abbrev pub total : Gateway → ℕ → ℕ → ℤ
 total w c i = sum_of (part_of_total w i) (members_at w.rooms c)
 
 -- the same, where the context is there and the sample is one of a frame
-abbrev pub total_at : World → ℕ → ℕ → Option ℤ
+abbrev pub total_at : Gateway → ℕ → ℕ → Option ℤ
 total_at w c i = if is_some (context_at w.rooms c) && nat_lt i 160 then Some (total w c i) else None
 
 -- what a termination adds to the mix of a listener: its sample, if its speech goes there
-abbrev pub part_of_mix : World → ℕ → ℕ → ℕ → ℤ
+abbrev pub part_of_mix : Gateway → ℕ → ℕ → ℕ → ℤ
 part_of_mix w listener i talker = if flow w talker listener then sample_of w talker i else pos 0
 
 -- the plain sum of sample i of all whose speech goes to a listener
-abbrev pub heard : World → ℕ → ℕ → ℤ
+abbrev pub heard : Gateway → ℕ → ℕ → ℤ
 heard w listener i = sum_of (part_of_mix w listener i) (numbers_of w)
 
 abbrev pub is_loopback : Mode → Bool
 is_loopback Loopback = true
 is_loopback _ = false
 
--- what a termination is sent as sample i: itself in a loopback, else all whose speech goes to it, limited once
-abbrev pub mix : World → ℕ → ℕ → ℤ
+-- what a termination is sent as sample i: itself in a loopback, else all whose speech goes to it,
+-- limited once
+abbrev pub mix : Gateway → ℕ → ℕ → ℤ
 mix w n i = if is_loopback (mode_of w n) then sample_of w n i else limited (heard w n i)
 
-abbrev pub mixed : World → ℕ → List ℤ
+abbrev pub mixed : Gateway → ℕ → List ℤ
 mixed w n = map (mix w n) (range_with_len 0 160)

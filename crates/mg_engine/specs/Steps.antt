@@ -2,8 +2,8 @@
 use Rattle.std.specs.Prelude.{ℕ, ℤ, ◌+◌, ◌-◌, ◌^◌, min, List, Option, Some, None}
 use Rattle.mg_playout.specs.Playout.{PlayList, with_depth}
 use Rattle.mg_rooms.specs.Settings.{depth_after}
-use Rattle.mg_engine.specs.declared.stats.Stats.{Stats}
-use Rattle.mg_engine.specs.World.{silence}
+use Rattle.mg_words.specs.declared.stats.Stats.{Stats}
+use Rattle.mg_engine.specs.Gateway.{silence}
 
 -- a command that names a depth sets that of the play list
 abbrev pub play_after : Option ℕ → PlayList → PlayList

@@ -1,6 +1,7 @@
--- What becomes of the world by a tick of 20 ms, and the packets that are sent in it (RFC 3550, section 5.1; RFC 3551,
--- sections 4.1 and 6).
-use Rattle.std.specs.Prelude.{ℕ, ◌+◌, ◌-◌, ◌*◌, ◌%◌, ◌^◌, Bool, true, false, not, List, ◌++◌, map, filter_map, Option, Some, None, is_some, if◌then◌else◌}
+-- What becomes of the world by a tick of 20 ms, and the packets that are sent in it (RFC 3550,
+-- section 5.1; RFC 3551, sections 4.1 and 6).
+use Rattle.std.specs.Prelude.{ℕ, ◌+◌, ◌-◌, ◌*◌, ◌%◌, ◌^◌, Bool, true, false, not, List, ◌++◌, map}
+use Rattle.std.specs.Prelude.{filter_map, Option, Some, None, is_some, if◌then◌else◌}
 use Rattle.std.specs.Option.{option_map}
 use Rattle.mg_g711.specs.declared.law.Law.{Law}
 use Rattle.mg_g711.specs.declared.law.Law.TheVariants.{Mu, A}
@@ -9,26 +10,27 @@ use Rattle.mg_rtp.specs.declared.header.Header.{Header}
 use Rattle.mg_rtp.specs.Header.{header_bytes, plain}
 use Rattle.mg_sdp.specs.declared.chosen.Chosen.{Chosen}
 use Rattle.mg_playout.specs.Playout as play_lists
-use Rattle.mg_rooms.specs.declared.mode.Mode.{Mode}
-use Rattle.mg_rooms.specs.declared.mode.Mode.TheVariants.{Inactive, SendOnly, ReceiveOnly, SendReceive, Loopback}
+use Rattle.mg_words.specs.declared.mode.Mode.{Mode}
+use Rattle.mg_words.specs.declared.mode.Mode.TheVariants.{Inactive, SendOnly, ReceiveOnly}
+use Rattle.mg_words.specs.declared.mode.Mode.TheVariants.{SendReceive, Loopback}
 use Rattle.mg_rooms.specs.declared.record.Record.{Record}
-use Rattle.mg_rooms.specs.Limits.{port_of}
-use Rattle.mg_rooms.specs.World as rooms
+use Rattle.mg_rooms.specs.Limits.{slot_port}
+use Rattle.mg_rooms.specs.Registry as rooms
 use Rattle.mg_engine.specs.declared.datagram.Datagram.{Datagram}
-use Rattle.mg_engine.specs.World.{World, Stream, stream_at}
+use Rattle.mg_engine.specs.Gateway.{Gateway, TerminationMedia, media_of}
 use Rattle.mg_engine.specs.Steps.{transmitted, frame_or_silence}
 use Rattle.mg_engine.specs.Mix.{mixed}
 
 -- ## Frames
 
 -- a play list ticks, and what it gives is the frame of this tick
-abbrev pub played : Stream → Stream
+abbrev pub played : TerminationMedia → TerminationMedia
 played s =
     let after = play_lists.ticked s.play in
     record s { play = after.0; frame = frame_or_silence after.1; ticks = s.ticks + 1 }
 
-abbrev pub all_played : World → World
-all_played w = record w { streams = map played w.streams }
+abbrev pub all_played : Gateway → Gateway
+all_played w = record w { media = map played w.media }
 
 -- ## Packets
 
@@ -48,9 +50,9 @@ abbrev pub type_of : Law → ℕ
 type_of Mu = 0
 type_of A = 8
 
--- The header of the next packet of a termination, in the tick of its life that its ticks count. The marker is set where
--- its last tick sent none.
-abbrev pub header_of : World → Chosen → Stream → Header
+-- The header of the next packet of a termination, in the tick of its life that its ticks count. The
+-- marker is set where its last tick sent none.
+abbrev pub header_of : Gateway → Chosen → TerminationMedia → Header
 header_of w to s = record {
   marker = not s.sent_last;
   payload_type = type_of to.law;
@@ -60,22 +62,22 @@ header_of w to s = record {
 }
 
 -- the packet of a termination to its peer: the encoding of what it is sent
-abbrev pub packet : World → Record → Chosen → Stream → Datagram
+abbrev pub packet : Gateway → Record → Chosen → TerminationMedia → Datagram
 packet w r to s = record {
-  from = port_of w.rooms.limits r.slot;
+  from = slot_port w.rooms.limits r.slot;
   to = record { address = to.address; port = to.port };
   bytes = header_bytes plain (header_of w to s) ++ map (byte_of to.law) (mixed w r.number);
 }
 
-abbrev pub packet_to : World → Record → Option Chosen → Option Datagram
+abbrev pub packet_to : Gateway → Record → Option Chosen → Option Datagram
 packet_to w r None = None
-packet_to w r (Some to) = option_map (packet w r to) (stream_at w r.number)
+packet_to w r (Some to) = option_map (packet w r to) (media_of w r.number)
 
-abbrev pub packet_of : World → Record → Option Datagram
+abbrev pub packet_of : Gateway → Record → Option Datagram
 packet_of w r = packet_to w r (sent_to r)
 
 -- the packets of a tick whose frames were played, by rising numbers of terminations
-abbrev pub packets : World → List Datagram
+abbrev pub packets : Gateway → List Datagram
 packets w = filter_map (packet_of w) w.rooms.terminations
 
 -- ## The end of a tick
@@ -84,21 +86,21 @@ abbrev pub is_sender : Option Record → Bool
 is_sender None = false
 is_sender (Some r) = is_some (sent_to r)
 
-abbrev pub sends_at : rooms.World → ℕ → Bool
+abbrev pub sends_at : rooms.Registry → ℕ → Bool
 sends_at w n = is_sender (rooms.record_at w n)
 
-abbrev pub sent : Bool → Stream → Stream
+abbrev pub sent : Bool → TerminationMedia → TerminationMedia
 sent true s = record s { stats = transmitted s.stats; packets = s.packets + 1; sent_last = true }
 sent false s = record s { sent_last = false }
 
 -- the world after a tick whose frames were played
-abbrev pub all_ended : World → World
-all_ended w = record w { streams = map (λ s. sent (sends_at w.rooms s.number) s) w.streams }
+abbrev pub all_ended : Gateway → Gateway
+all_ended w = record w { media = map (λ s. sent (sends_at w.rooms s.number) s) w.media }
 
 -- ## A tick
 
-abbrev pub after_tick : World → World
+abbrev pub after_tick : Gateway → Gateway
 after_tick w = all_ended (all_played w)
 
-abbrev pub sent_in_tick : World → List Datagram
+abbrev pub sent_in_tick : Gateway → List Datagram
 sent_in_tick w = packets (all_played w)

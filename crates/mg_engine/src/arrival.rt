@@ -6,7 +6,6 @@ ghost use Rattle.mg_rtp.specs.declared.rtp_fault.RtpFault.{RtpFault};
 ghost use Rattle.mg_rtp.specs.Reading.{reading_of};
 ghost use Rattle.mg_engine.specs.Arrival.{is_stray, law_for, decoded, frame_in};
 
-use crate::media::SAMPLES;
 use crate::peer::Peer;
 use crate::sending::payload_type;
 use crate::taken::DropCause;
@@ -14,6 +13,7 @@ use mg_g711::{Frame, Law, decode_frame};
 use mg_rooms::Record;
 use mg_rtp::{Header, Packet, RtpFault};
 use mg_sdp::Chosen;
+use mg_words::SAMPLES;
 
 /// Whether a datagram came from another address than that of the termination's Remote.
 fn is_stray(remote: Option<Chosen>, source: Peer) -> bool

@@ -48,12 +48,12 @@ impl Default for Config {
 }
 
 impl Config {
-    ghost use Rattle.mg_engine.specs.Config.{IsSound, HasControlPort, limits_of};
+    ghost use Rattle.mg_engine.specs.Config.{IsValidConfig, HasControlPort, limits_of};
 
     /// Whether a gateway can be started with it: the pool of media ports is not empty, even, and within the
     /// ports that there are, the control port is not one of them, and the first numbers are in range.
     pub fn is_sound(&self) -> bool
-        ensures value { IsTrue result ↔ IsSound self.now }
+        ensures value { IsTrue result ↔ IsValidConfig self.now }
     {
         self.limits().is_valid() && self.has_control_port()
     }
@@ -80,10 +80,10 @@ impl Config {
         if self.control_port < self.base_port {
             return true;
         }
-        let behind = self.control_port - self.base_port;
-        if behind % 2 == 1 {
+        let distance = self.control_port - self.base_port;
+        if distance % 2 == 1 {
             return true;
         }
-        behind / 2 >= self.slots
+        distance / 2 >= self.slots
     }
 }

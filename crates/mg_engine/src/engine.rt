@@ -1,31 +1,30 @@
 ghost use Rattle.std.specs.Prelude.{◌≡◌, ℕ, [], ◌∷◌, ◌<◌, ◌≤◌, ◌+◌, ◌++◌, ◌↔◌, ◌==◌, not, Err, Some, IfOk, IfSome, OnOk, OnErr, EachIndex, length, map, filter, replicate, slice_set, option_map, option_to_list};
 ghost use Rattle.mg_rooms.specs.declared.record.Record.{Record};
-ghost use Rattle.mg_rooms.specs.declared.limits.TheConstants.{TERMINATIONS};
-ghost use Rattle.mg_rooms.specs.World.{holder_of, record_at};
+ghost use Rattle.mg_words.specs.declared.limits.TheConstants.{TERMINATIONS};
+ghost use Rattle.mg_rooms.specs.Registry.{holder_of, record_at};
 ghost use Rattle.mg_rooms.specs.Outcome as rooms;
 ghost use Rattle.mg_engine.specs.Outcome.{outcome, done_with, added, modified, moved, subtracted};
-ghost use Rattle.mg_rooms.specs.Sound as Sound;
-ghost use Rattle.mg_engine.specs.Sending.{packet_now, packets_now, slot_sends, PlacedAt};
+ghost use Rattle.mg_rooms.specs.Consistent.{IsConsistent};
+ghost use Rattle.mg_engine.specs.aids.Sending.{packet_now, packets_now, slot_sends, PlacedAt};
 ghost use Rattle.mg_engine.specs.Tick.{sent_to, sent_in_tick, after_tick};
 ghost use Rattle.mg_rtp.specs.Reading.{reading_of};
 ghost use Rattle.mg_engine.specs.Arrival.{at_port, arrived, Takes};
 ghost use Rattle.mg_engine.specs.Flow.{flow};
 ghost use Rattle.mg_engine.specs.Mix.{total_at};
 ghost use Rattle.mg_engine.specs.Media.{idle, begun, played, ended, tuned as tuned_media};
-ghost use Rattle.mg_engine.specs.Config.{IsSound};
-ghost use Rattle.mg_engine.specs.World.{World, start_of, stats_of};
-ghost use Rattle.mg_engine.specs.Stands.{StandsFor, Leads, media_at};
+ghost use Rattle.mg_engine.specs.Config.{IsValidConfig};
+ghost use Rattle.mg_engine.specs.Gateway.{Gateway, start_of, stats_of};
+ghost use Rattle.mg_engine.specs.Stands.{StandsFor, IsOutcome, media_at};
 
 use crate::arrival::{frame_in, law_for};
 use crate::config::Config;
 use crate::datagram::{Datagram, Outbox};
 use crate::edit::Edit;
 use crate::fault::StartFault;
-use crate::media::{Media, SAMPLES};
+use crate::media::Media;
 use crate::peer::Peer;
 use crate::ports::Ports;
 use crate::sending::{flows, mix, payload_type, sent_to, sum_talking};
-use crate::stats::Stats;
 use crate::taken::{DropCause, Taken};
 use arrayvec::ArrayVec;
 use mg_g711::encode_frame;
@@ -33,9 +32,10 @@ use mg_rooms::laws::{
     each_is_found, gateways_are_sound, nothing_is_held_twice, others_are_left_alone,
     what_is_found_is_within_limits,
 };
-use mg_rooms::{Done, Record, Refusal, Rooms, Settings, TERMINATIONS, Target};
+use mg_rooms::{Done, ErrorNumber, Record, Rooms, Settings, TERMINATIONS, Target};
 use mg_rtp::{Packet, RtpFault, read, write};
 use mg_sdp::Chosen;
+use mg_words::{SAMPLES, Stats};
 use std::alloc::{AllocError, Global};
 use std::marker::Model;
 
@@ -52,10 +52,10 @@ pub struct Engine {
 }
 
 impl Model for Engine {
-    ghost use Rattle.mg_engine.specs.Stands.{Kept};
-    ghost use Rattle.mg_engine.specs.Whole.{IsWhole};
+    ghost use Rattle.mg_engine.specs.Stands.{EngineState};
+    ghost use Rattle.mg_engine.specs.aids.Whole.{IsWhole};
 
-    ghost Value = { Kept };
+    ghost Value = { EngineState };
 
     ghost view = { λ e. record { config = e.config; rooms = e.rooms; media = e.media.items } };
 
@@ -77,9 +77,9 @@ impl Engine {
     /// A gateway without terminations. It takes the memory for all that there can be, and no other call takes
     /// any.
     pub fn new(alloc: Global, config: Config) -> Result<Engine, StartFault>
-        ensures bad { (result ≡ Err StartFault.BadConfig) ↔ ¬ IsSound config }
+        ensures bad { (result ≡ Err StartFault.BadConfig) ↔ ¬ IsValidConfig config }
         ensures start { IfOk result (λ engine. StandsFor engine (start_of config)) }
-        ensures sound { OnOk result (IsSound config) }
+        ensures sound { OnOk result (IsValidConfig config) }
     {
         if !config.is_sound() {
             return Err(StartFault::BadConfig);
@@ -98,21 +98,21 @@ impl Engine {
 
     /// What the gateway was started with.
     pub fn config(&self) -> &Config
-        ensures value { (w : World) → StandsFor self.now w → result.now ≡ w.config }
+        ensures value { (w : Gateway) → StandsFor self.now w → result.now ≡ w.config }
     {
         &self.config
     }
 
     /// The terminations and contexts.
     pub fn rooms(&self) -> &Rooms
-        ensures value { (w : World) → StandsFor self.now w → result.now ≡ w.rooms }
+        ensures value { (w : Gateway) → StandsFor self.now w → result.now ≡ w.rooms }
     {
         &self.rooms
     }
 
     /// Does what a command asks, or refuses it, which changes nothing.
-    pub fn edit(&mut self, edit: &Edit) -> Result<Done, Refusal>
-        ensures outcome { (w : World) → StandsFor self.old w → Leads self.new result (outcome w edit.now) }
+    pub fn edit(&mut self, edit: &Edit) -> Result<Done, ErrorNumber>
+        ensures outcome { (w : Gateway) → StandsFor self.old w → IsOutcome self.new result (outcome w edit.now) }
         ensures refused { OnErr result (self.new ≡ self.old) }
     {
         match edit {
@@ -132,9 +132,9 @@ impl Engine {
     }
 
     /// Makes a termination.
-    fn add(&mut self, target: Target, settings: &Settings) -> Result<Done, Refusal>
-        ensures outcome { (w : World) → StandsFor self.old w →
-            Leads self.new result (done_with (added w settings.now) (rooms.add w.rooms target settings.now)) }
+    fn add(&mut self, target: Target, settings: &Settings) -> Result<Done, ErrorNumber>
+        ensures outcome { (w : Gateway) → StandsFor self.old w →
+            IsOutcome self.new result (done_with (added w settings.now) (rooms.add w.rooms target settings.now)) }
         ensures refused { OnErr result (self.new ≡ self.old) }
     {
         gateways_are_sound(&self.rooms);
@@ -152,9 +152,14 @@ impl Engine {
     }
 
     /// Changes a member of the action's context.
-    fn modify(&mut self, target: Target, number: u32, settings: &Settings) -> Result<Done, Refusal>
-        ensures outcome { (w : World) → StandsFor self.old w →
-            Leads self.new result (done_with (modified w settings.now) (rooms.modify w.rooms target number settings.now)) }
+    fn modify(
+        &mut self,
+        target: Target,
+        number: u32,
+        settings: &Settings,
+    ) -> Result<Done, ErrorNumber>
+        ensures outcome { (w : Gateway) → StandsFor self.old w →
+            IsOutcome self.new result (done_with (modified w settings.now) (rooms.modify w.rooms target number settings.now)) }
         ensures refused { OnErr result (self.new ≡ self.old) }
     {
         gateways_are_sound(&self.rooms);
@@ -168,9 +173,14 @@ impl Engine {
     }
 
     /// Takes a termination into another context.
-    fn move_to(&mut self, target: Target, number: u32, settings: &Settings) -> Result<Done, Refusal>
-        ensures outcome { (w : World) → StandsFor self.old w →
-            Leads self.new result (done_with (moved w settings.now) (rooms.move_to w.rooms target number settings.now)) }
+    fn move_to(
+        &mut self,
+        target: Target,
+        number: u32,
+        settings: &Settings,
+    ) -> Result<Done, ErrorNumber>
+        ensures outcome { (w : Gateway) → StandsFor self.old w →
+            IsOutcome self.new result (done_with (moved w settings.now) (rooms.move_to w.rooms target number settings.now)) }
         ensures refused { OnErr result (self.new ≡ self.old) }
     {
         gateways_are_sound(&self.rooms);
@@ -184,9 +194,9 @@ impl Engine {
     }
 
     /// Ends a member of the action's context.
-    fn subtract(&mut self, target: Target, number: u32) -> Result<Done, Refusal>
-        ensures outcome { (w : World) → StandsFor self.old w →
-            Leads self.new result (done_with (subtracted w) (rooms.subtract w.rooms target number)) }
+    fn subtract(&mut self, target: Target, number: u32) -> Result<Done, ErrorNumber>
+        ensures outcome { (w : Gateway) → StandsFor self.old w →
+            IsOutcome self.new result (done_with (subtracted w) (rooms.subtract w.rooms target number)) }
         ensures refused { OnErr result (self.new ≡ self.old) }
     {
         gateways_are_sound(&self.rooms);
@@ -239,7 +249,7 @@ impl Engine {
 
     /// Takes an RTP datagram that came to one of the media ports.
     pub fn media(&mut self, port: u16, source: Peer, bytes: &[u8]) -> Taken
-        ensures taken { (w : World) → StandsFor self.old w → (after : World)
+        ensures taken { (w : Gateway) → StandsFor self.old w → (after : Gateway)
             × Takes w port source.address bytes.now after result × StandsFor self.new after }
     {
         gateways_are_sound(&self.rooms);
@@ -255,7 +265,7 @@ impl Engine {
 
     /// Whether a talker's speech goes to a listener. It is false for a number that names no termination.
     pub fn flow(&self, talker: u32, listener: u32) -> bool
-        ensures value { (w : World) → StandsFor self.now w → result ≡ flow w talker listener }
+        ensures value { (w : Gateway) → StandsFor self.now w → result ≡ flow w talker listener }
     {
         let Some(first) = self.rooms.record(talker) else {
             return false;
@@ -269,7 +279,7 @@ impl Engine {
     /// The plain sum of a sample of this tick, the i-th of 160, over the members of a context that talk. There is none
     /// where the context isn't there, or where a frame has no such sample.
     pub fn total(&self, context: u32, i: usize) -> Option<i32>
-        ensures value { (w : World) → StandsFor self.now w → result ≡ total_at w context i }
+        ensures value { (w : Gateway) → StandsFor self.now w → result ≡ total_at w context i }
     {
         if i >= SAMPLES {
             return None;
@@ -293,7 +303,7 @@ impl Engine {
 
     /// The counters of a termination.
     pub fn stats(&self, number: u32) -> Option<Stats>
-        ensures value { (w : World) → StandsFor self.now w → result ≡ stats_of w number }
+        ensures value { (w : Gateway) → StandsFor self.now w → result ≡ stats_of w number }
     {
         match slot_of(&self.rooms, number) {
             Some(slot) => Some(stats_in(self.media.as_slice(), slot)),
@@ -304,8 +314,8 @@ impl Engine {
     /// Passes on by 20 ms: each play list gives its frame of this tick, and the outbox has the packets of all that
     /// send, in the order of their numbers.
     pub fn tick(&mut self, outbox: &mut Outbox)
-        ensures sent { (w : World) → StandsFor self.old w → outbox.new.items ≡ sent_in_tick w }
-        ensures after { (w : World) → StandsFor self.old w → StandsFor self.new (after_tick w) }
+        ensures sent { (w : Gateway) → StandsFor self.old w → outbox.new.items ≡ sent_in_tick w }
+        ensures after { (w : Gateway) → StandsFor self.old w → StandsFor self.new (after_tick w) }
     {
         gateways_are_sound(&self.rooms);
         each_is_found();
@@ -337,7 +347,7 @@ impl Engine {
         let address = to.address;
         let port = to.port;
         Datagram {
-            from: self.config.limits().port_of(sender.slot),
+            from: self.config.limits().slot_port(sender.slot),
             to: Peer { address, port },
             bytes,
         }
@@ -363,7 +373,7 @@ impl Engine {
 fn fill(engine: &Engine, slots: &[u8], outbox: &mut Outbox)
     requires slots { slots.now ≡ map (λ r. r.slot) engine.now.rooms.terminations }
     requires few { length slots.now ≤ TERMINATIONS }
-    requires sound { Sound.IsSound engine.now.rooms }
+    requires sound { IsConsistent engine.now.rooms }
     ensures value { outbox.new.items ≡ packets_now engine.now }
 {
     each_is_found();
@@ -422,12 +432,15 @@ fn slot_of(rooms: &Rooms, number: u32) -> Option<u8>
 }
 
 /// Sets the depth of a termination's play list, where a command names one.
-fn tune(rooms: &Rooms, media: &mut Vec<Media>, number: u32, depth: Option<u8>)
+fn tune(rooms: &Rooms, media: &mut Vec<Media>, number: u32, depth: Option<u16>)
     requires slots { rooms.now.limits.slots ≤ length media.old.items }
     ensures long { length media.new.items ≡ length media.old.items }
     ensures tuned { (r : Record) → record_at rooms.now number ≡ Some r →
         media.new.items ≡ slice_set media.old.items r.slot (tuned_media depth (media_at media.old.items r.slot)) }
 {
+    if depth.is_none() {
+        return;
+    }
     if let Some(slot) = slot_of(rooms, number) {
         media[usize::from(slot)].tune(depth);
     }
@@ -445,7 +458,7 @@ fn begin(rooms: &Rooms, media: &mut Vec<Media>, number: u32, config: &Config)
     }
 }
 
-/// Puts the slot of a termination that was made behind those that are held.
+/// Puts the slot of a termination that was made after those that are held.
 fn hold(rooms: &Rooms, held: &mut ArrayVec<u8, TERMINATIONS>, number: u32)
     requires room { length held.old.items < TERMINATIONS }
     ensures held { (r : Record) → record_at rooms.now number ≡ Some r → held.new.items ≡ held.old.items ++ r.slot ∷ [] }

@@ -1,7 +1,7 @@
 //! The state of a conference media gateway: its terminations and contexts, and what edits do to them.
 //!
 //! An [`Engine`] takes all its memory when it is made. A controller's commands come to it as [`Edit`]s, each of which
-//! is done or refused with a [`Refusal`](mg_rooms::Refusal), and a refused one changes nothing:
+//! is done or refused with a [`ErrorNumber`](mg_rooms::ErrorNumber), and a refused one changes nothing:
 //!
 //! ```rust
 //! let mut engine = Engine::new(alloc, Config::default())?;
@@ -11,7 +11,7 @@
 //! ```
 //!
 //! The engine keeps no history, and what it keeps may be shorter than what it stands for. So its contracts speak of
-//! each `World` (`specs/World.antt`) that it stood for before a call, and say which one it stands for afterwards
+//! each `Gateway` (`specs/Gateway.antt`) that it stood for before a call, and say which one it stands for afterwards
 //! (`StandsFor` in `specs/Stands.antt`).
 #![tactic(auto)]
 
@@ -27,7 +27,6 @@ pub mod mixing;
 mod peer;
 pub mod ports;
 pub mod sending;
-mod stats;
 mod taken;
 #[cfg(test)]
 mod tests;
@@ -38,9 +37,9 @@ pub use crate::edit::Edit;
 pub use crate::engine::Engine;
 pub use crate::fault::StartFault;
 pub use crate::peer::Peer;
-pub use crate::stats::Stats;
 pub use crate::taken::{DropCause, Taken};
 pub use mg_rooms::{
-    Done, Limits, MediaSetting, Mode, Record, Refusal, Rooms, Settings, Target, mode_listens,
+    Done, ErrorNumber, Limits, MediaSetting, Mode, Record, Rooms, Settings, Target, mode_listens,
     mode_talks,
 };
+pub use mg_words::Stats;

@@ -1,16 +1,14 @@
 ghost use Rattle.std.specs.Prelude.{◌≡◌, IfOk};
 ghost use Rattle.mg_g711.specs.Frame.{IsFrame};
 
-use crate::stats::Stats;
 use mg_g711::Frame;
 use mg_g711::theorems::frames_are_whole;
-use mg_playout::{MAX_DEPTH, MIN_DEPTH, Placed, Playout};
+use mg_playout::{Placed, Playout};
+use mg_rooms::depth_within;
 use mg_rtp::Header;
+use mg_words::{SAMPLES, Stats};
 use std::alloc::{AllocError, Global};
 use std::marker::Model;
-
-/// How many samples a frame has: 20 ms at 8,000 a second.
-pub const SAMPLES: usize = 160;
 
 /// The media of the termination that holds a slot.
 #[derive(Drop)]
@@ -27,9 +25,9 @@ pub struct Media {
 }
 
 impl Model for Media {
-    ghost use Rattle.mg_engine.specs.Media.{Kept};
+    ghost use Rattle.mg_engine.specs.Media.{SlotMedia};
 
-    ghost Value = { Kept };
+    ghost Value = { SlotMedia };
 
     ghost view = { λ m. record { play = m.play; frame = m.frame; stats = m.stats; timestamp = m.timestamp; sequence = m.sequence; is_sending = m.is_sending } };
 }
@@ -65,12 +63,11 @@ impl Media {
     }
 
     /// Sets the depth of the play list, where a command names one, within what a play list can have.
-    pub fn tune(&mut self, depth: Option<u8>)
+    pub fn tune(&mut self, depth: Option<u16>)
         ensures value { self.new ≡ tuned depth self.old }
     {
         if let Some(depth) = depth {
-            let depth = usize::from(depth).clamp(MIN_DEPTH, MAX_DEPTH);
-            self.play.set_depth(depth);
+            self.play.set_depth(usize::from(depth_within(depth)));
         }
     }
 

@@ -4,8 +4,8 @@ ghost use Rattle.std.specs.Prelude.{◌≡◌, ℕ, pos, ◌+ℤ◌, map, slice_
 ghost use Rattle.std.specs.Int.{w32};
 ghost use Rattle.mg_engine.specs.Mixing.{limited};
 
-use crate::media::SAMPLES;
 use mg_g711::Frame;
+use mg_words::SAMPLES;
 
 /// Adds a frame to a sum.
 pub fn add_frame(sum: &mut [i32; SAMPLES], frame: &Frame)

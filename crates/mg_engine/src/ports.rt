@@ -1,6 +1,6 @@
 ghost use Rattle.std.specs.Prelude.{◌≡◌, IfOk};
-ghost use Rattle.mg_rooms.specs.Limits.{IsValid};
-ghost use Rattle.mg_engine.specs.Ports.{slot_of};
+ghost use Rattle.mg_rooms.specs.Limits.{AreValidLimits};
+ghost use Rattle.mg_engine.specs.aids.Ports.{slot_of};
 
 use indexmap::IndexMap;
 use mg_rooms::Limits;
@@ -18,7 +18,7 @@ impl Model for Ports {
     ghost use Rattle.std.specs.Prelude.{◌≡◌, ℕ, nat_eq};
     ghost use Rattle.indexmap.specs.IndexMap.{get};
     ghost use Rattle.mg_rooms.specs.declared.limits.Limits.{Limits};
-    ghost use Rattle.mg_engine.specs.Ports.{slot_of};
+    ghost use Rattle.mg_engine.specs.aids.Ports.{slot_of};
 
     ghost Value = { Limits };
 
@@ -30,7 +30,7 @@ impl Model for Ports {
 impl Ports {
     /// The ports of the pool. It takes memory for each of them.
     pub fn new(alloc: Global, limits: Limits) -> Result<Ports, AllocError>
-        requires valid { IsValid limits }
+        requires valid { AreValidLimits limits }
         ensures value { IfOk result (λ ports. ports ≡ limits) }
     {
         let mut slots = IndexMap::new(alloc);

@@ -2,15 +2,15 @@
 
 ghost use Rattle.std.specs.Prelude.{◌≡◌, ℕ, ◌<◌, ◌≤◌, ◌+◌, ◌^◌, pos, ◌+ℤ◌, Some, map, length, unsigned_abs, slice_index_or, EachIndex};
 ghost use Rattle.std.specs.List.{range_with_len};
-ghost use Rattle.mg_rooms.specs.declared.limits.TheConstants.{MEMBERS, TERMINATIONS};
-ghost use Rattle.mg_rooms.specs.World.{holder_of, record_at};
+ghost use Rattle.mg_words.specs.declared.limits.TheConstants.{MEMBERS, TERMINATIONS};
+ghost use Rattle.mg_rooms.specs.Registry.{holder_of, record_at};
 ghost use Rattle.mg_engine.specs.Mix.{sum_of, is_loopback};
-ghost use Rattle.mg_engine.specs.Sending.{flows_now, sample_at, talking_now, part_now, heard_now, mixed_now, packet_now, packets_now};
+ghost use Rattle.mg_engine.specs.aids.Sending.{flows_now, sample_at, talking_now, part_now, heard_now, mixed_now, packet_now, packets_now};
 ghost use Rattle.mg_engine.specs.Tick.{sends, sent_to, type_of};
 
 use crate::config::Config;
 use crate::datagram::{Datagram, Outbox};
-use crate::media::{Media, SAMPLES};
+use crate::media::Media;
 use crate::mixing::{add_frame, limit};
 use crate::peer::Peer;
 use mg_g711::{Frame, Law, encode_frame};
@@ -18,6 +18,7 @@ use mg_rooms::laws::{each_is_found, gateways_are_sound};
 use mg_rooms::{MEMBERS, Mode, Record, Rooms, mode_listens, mode_talks};
 use mg_rtp::write;
 use mg_sdp::Chosen;
+use mg_words::SAMPLES;
 
 /// Whether a talker's speech goes to a listener. No triple was applied, so all members of a context hear each other.
 pub fn flows(talker: &Record, listener: &Record) -> bool

@@ -1,11 +1,12 @@
 -- The places of a gateway's members (this project's own).
 use Rattle.std.specs.Prelude.{ℕ, ◌<◌, Bool, not, ◌&&◌, ◌==◌}
+use Rattle.mg_words.specs.Limits.{context_limit}
 use Rattle.mg_topology.specs.Mask.{seat_limit}
 use Rattle.mg_flow.specs.declared.place.Place.{Place}
 
--- one of 64 rooms, and a seat in it
+-- a room for each of as many contexts as there can be, and a seat in it
 pub record IsWithinLimits (place : Place) : Type 0 where
-  pub room : place.room < 64
+  pub room : place.room < context_limit
   pub seat : place.seat < seat_limit
 
 -- whether they are one place

@@ -1,5 +1,6 @@
 -- What a flow table is seen as, and which lists of edits it stands for (this project's own).
-use Rattle.std.specs.Prelude.{◌≡◌, ◌≢◌, ℕ, Bool, not, ◌&&◌, ◌==◌, if◌then◌else◌, List, [], slice_index_or}
+use Rattle.std.specs.Prelude.{◌≡◌, ◌≢◌, ℕ, Bool, not, ◌&&◌, ◌==◌, if◌then◌else◌, List, []}
+use Rattle.std.specs.Prelude.{slice_index_or}
 use Rattle.mg_topology.specs.Mask.{has_seat}
 use Rattle.mg_topology.specs.Topology as topology
 use Rattle.mg_flow.specs.declared.place.Place.{Place}
@@ -8,7 +9,7 @@ use Rattle.mg_flow.specs.Edits.{Edit, edits_in, talks_in, listens_in}
 
 -- what is kept of a room: its topology, and the seats of those who talk and of those who listen
 pub record Room : Type 0 where
-  pub topology : topology.Kept
+  pub topology : topology.TopologyState
   pub talks : ℕ
   pub listens : ℕ
 

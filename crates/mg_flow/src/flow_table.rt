@@ -1,4 +1,5 @@
 ghost use Rattle.std.specs.Prelude.{◌≡◌, ℕ, ◌<◌, ◌∷◌, [], List, true, false, ◌↔◌, Any, IsTrue, IsFalse, IsErr, IfOk, OnOk, OnErr};
+ghost use Rattle.mg_words.specs.Limits.{context_limit};
 ghost use Rattle.mg_topology.specs.Mask.{has_seat};
 ghost use Rattle.mg_topology.specs.Triple.{Overlaps};
 ghost use Rattle.mg_flow.specs.Place.{IsWithinLimits, beside};
@@ -8,11 +9,9 @@ use crate::room::Room;
 use mg_topology::laws::masks_are_sets;
 use mg_topology::mask::{self, Mask};
 use mg_topology::{Overlap, Triple};
+use mg_words::CONTEXTS;
 use std::alloc::{AllocError, Global};
 use std::marker::Model;
-
-/// How many rooms a table has: a gateway has at most so many contexts.
-pub const ROOMS: usize = 64;
 
 /// Who hears whom in all rooms of a gateway, and for each listener the masks of its talkers.
 ///
@@ -52,8 +51,8 @@ impl FlowTable {
         ensures edits { IfOk result (λ table. StandsFor table []) }
     {
         masks_are_sets();
-        let mut rooms = Vec::with_capacity(alloc, ROOMS)?;
-        for _ in 0..ROOMS {
+        let mut rooms = Vec::with_capacity(alloc, CONTEXTS)?;
+        for _ in 0..CONTEXTS {
             rooms.push(Room::new())?;
         }
         Ok(FlowTable { rooms })
@@ -175,7 +174,7 @@ impl FlowTable {
     /// Applies all triples in the room, in order, so that of those that speak of a pair the last
     /// one counts, or none of them, where a Oneway triple has a seat in both of its sets.
     pub fn on_triples(&mut self, room: u8, triples: &[Triple]) -> Result<(), Overlap>
-        requires { room < 64 }
+        requires { room < context_limit }
         ensures overlap { IsErr result ↔ Any Overlaps triples.now }
         ensures ok { OnOk result ((es : List Edit) → StandsFor self.old es →
             StandsFor self.new (apply_all room triples.now es)) }

@@ -1,6 +1,6 @@
 //! For each listener of a gateway, the talkers that it hears and those that are silenced for it.
 //!
-//! A gateway has [`ROOMS`] rooms, one for each of its contexts, and a member of a context has a
+//! A gateway has [`CONTEXTS`] rooms, one for each of its contexts, and a member of a context has a
 //! [`Place`], which is the context's room and a seat in it. A [`FlowTable`] keeps a topology for
 //! each room, and for each place whether its member talks and whether it listens, which the stream
 //! modes say (RFC 3525, section 7.1.7). From these it keeps, for each listener, two sets of seats:
@@ -34,5 +34,6 @@ mod room;
 #[cfg(test)]
 mod tests;
 
-pub use flow_table::{FlowTable, ROOMS};
+pub use flow_table::FlowTable;
+pub use mg_words::CONTEXTS;
 pub use place::Place;

@@ -4,7 +4,7 @@
 /// context has ended or the member has left.
 #[derive(Clone, Copy, Debug, PartialEq, Eq, Hash)]
 pub struct Place {
-    /// The room, below [`ROOMS`](crate::ROOMS).
+    /// The room, below [`CONTEXTS`](crate::CONTEXTS).
     pub room: u8,
     /// The seat, below [`MEMBERS`](mg_topology::MEMBERS).
     pub seat: u8,

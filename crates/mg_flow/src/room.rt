@@ -22,15 +22,15 @@ pub(crate) struct Room {
 }
 
 impl Model for Room {
-    ghost use Rattle.mg_flow.specs.Table.{Room as Kept};
+    ghost use Rattle.mg_flow.specs.Table.{Room as RoomState};
     ghost use Rattle.mg_flow.specs.aids.Room.{AreMasks};
 
-    ghost Value = { Kept };
+    ghost Value = { RoomState };
 
     ghost view = { λ r. record { topology = r.topology; talks = r.talks; listens = r.listens } };
 
     ghost invariant = { λ r.
-        let kept : Kept = record { topology = r.topology; talks = r.talks; listens = r.listens } in
+        let kept : RoomState = record { topology = r.topology; talks = r.talks; listens = r.listens } in
         AreMasks kept r.masks.open r.masks.silenced };
 }
 

@@ -1,7 +1,10 @@
+pub mod Chunks
 pub mod Computed
+pub mod DecodedLanes
 pub mod Errors
 pub mod Frames
 pub mod Growing
+pub mod Lanes
 pub mod Levels
 pub mod Lines
 pub mod Quantized

@@ -8,8 +8,8 @@ use Rattle.mg_g711.specs.Law.{quantized_of}
 abbrev pub error_of : Law → ℤ → ℕ
 error_of law v = unsigned_abs (v -ℤ quantized_of law v)
 
--- half the width of a level: half the interval size of G.711's tables 2 and 1, times 4 by mu-law and
--- times 8 by A-law, whose first two exponents have one size
+-- half the width of a level: half the interval size of G.711's tables 2 and 1, times 4 by mu-law
+-- and times 8 by A-law, whose first two exponents have one size
 abbrev pub half_step_of : Law → ℕ → ℕ
 half_step_of Mu k = 2 ^ (k / 16 + 2)
 half_step_of A k = 2 ^ (max (k / 16) 1 + 2)

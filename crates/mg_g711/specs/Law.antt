@@ -1,12 +1,13 @@
--- The two laws of ITU-T G.711 on 16-bit samples. A level k is 16 times an exponent from 0 to 7 and a
--- mantissa from 0 to 15, `k / 16` and `k % 16`.
-use Rattle.std.specs.Prelude.{ℕ, ℤ, Bool, pos, neg_ℤ, ◌+◌, ◌-◌, ◌*◌, ◌/◌, ◌%◌, ◌^◌, ◌==◌, nat_lt, nat_le, int_lt, unsigned_abs, bit_xor, if◌then◌else◌, count_by}
+-- The two laws of ITU-T G.711 on 16-bit samples. A level k is 16 times an exponent from 0 to 7 and
+-- a mantissa from 0 to 15, `k / 16` and `k % 16`.
+use Rattle.std.specs.Prelude.{ℕ, ℤ, Bool, pos, neg_ℤ, ◌+◌, ◌-◌, ◌*◌, ◌/◌, ◌%◌, ◌^◌, ◌==◌, nat_lt}
+use Rattle.std.specs.Prelude.{nat_le, int_lt, unsigned_abs, bit_xor, if◌then◌else◌, count_by}
 use Rattle.std.specs.List.{range_with_len}
 use Rattle.mg_g711.specs.declared.law.Law.{Law}
 use Rattle.mg_g711.specs.declared.law.Law.TheVariants.{Mu, A}
 
--- the least magnitude in a level: the decision values of G.711's tables 2 and 1, times 4 by mu-law and
--- times 8 by A-law
+-- the least magnitude in a level: the decision values of G.711's tables 2 and 1, times 4 by mu-law
+-- and times 8 by A-law
 abbrev pub least_of : Law → ℕ → ℕ
 least_of Mu k = if k == 0 then 0 else (16 + k % 16) * 2 ^ (k / 16 + 3) - 132
 least_of A k = if nat_lt k 16 then 16 * k else (16 + k % 16) * 2 ^ (k / 16 + 3)
@@ -20,8 +21,8 @@ magnitude_of A k = if nat_lt k 16 then 16 * k + 8 else (16 * (k % 16) + 264) * 2
 unfoldable pub level_of : Law → ℕ → ℕ
 level_of law v = count_by (λ k. nat_le (least_of law k) v) (range_with_len 1 127)
 
--- the byte of a level and a sign: the character signals of the same tables, A-law's with every other
--- bit inverted
+-- the byte of a level and a sign: the character signals of the same tables, A-law's with every
+-- other bit inverted
 abbrev pub byte_at : Law → Bool → ℕ → ℕ
 byte_at Mu is_negative k = if is_negative then 127 - k else 255 - k
 byte_at A is_negative k = if is_negative then bit_xor k 0x55 else bit_xor (128 + k) 0x55

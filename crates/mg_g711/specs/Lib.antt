@@ -1,3 +1,4 @@
 pub mod Error
 pub mod Frame
 pub mod Law
+pub mod aids

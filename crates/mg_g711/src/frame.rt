@@ -2,8 +2,9 @@ ghost use Rattle.std.specs.Prelude.{◌≡◌, map};
 ghost use Rattle.mg_g711.specs.Law.{byte_of, sample_of};
 ghost use Rattle.mg_g711.specs.Frame.{IsFrame};
 
+use crate::decoding::{LANES, decode_chunk};
 use crate::law::Law;
-use crate::sample::{decode, encode};
+use crate::sample::encode;
 
 /// 20 ms of one channel: 160 samples at 8,000 a second, the earliest first (RFC 3551, sections 4.2
 /// and 6).
@@ -17,8 +18,9 @@ pub fn decode_frame(law: Law, bytes: &[u8; 160]) -> Frame
     ensures frame { IsFrame result }
 {
     let mut samples = [0; 160];
-    for i in 0..160 {
-        samples[i] = decode(law, bytes[i]);
+    let (chunks, _) = bytes.as_chunks::<LANES>();
+    for (i, chunk) in chunks.iter().enumerate() {
+        decode_chunk(law, chunk, &mut samples, LANES * i);
     }
     samples
 }

@@ -22,6 +22,7 @@
 //! that 160 zeros are a frame, stand in `proofs/Frames.antt`.
 #![tactic(auto)]
 
+mod decoding;
 mod frame;
 mod law;
 mod sample;

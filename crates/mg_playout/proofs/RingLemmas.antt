@@ -7,7 +7,7 @@ use Rattle.std.proofs.lemmas.List.Elements.{All-cons, All-replicate}
 use Rattle.circular_buffer.specs.Buffer.{Buffer, buffer}
 use Rattle.mg_g711.specs.Frame.{IsFrame}
 use Rattle.mg_playout.specs.Places.{ArePlaces, IsRingOfPlaces, empty_places, started_with}
-use Rattle.mg_playout.specs.declared.places.TheConstants.{MIN_DEPTH, MAX_DEPTH}
+use Rattle.mg_words.specs.declared.limits.TheConstants.{MIN_DEPTH, MAX_DEPTH}
 
 -- places that start with a whole frame
 pub started_is_ring : (ring : Buffer (Option (List ℤ))) (frame : List ℤ) (depth : ℕ) → MIN_DEPTH ≤ depth → depth ≤ MAX_DEPTH → IsFrame frame → ring ≡ buffer (started_with frame depth) MAX_DEPTH → IsRingOfPlaces ring

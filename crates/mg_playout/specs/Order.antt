@@ -7,7 +7,7 @@ use Rattle.mg_playout.specs.Sequence.{steps_between}
 use Rattle.mg_playout.specs.declared.source.Source.{Source}
 
 -- what holds of every play list
-pub record IsValid (list : PlayList) : Type 0 where
+pub record IsValidList (list : PlayList) : Type 0 where
   pub phase : HasTicksLeft list.phase
   pub places : ArePlaces list.places
   pub source : (source : Source) → list.source ≡ Some source → source.next < 65536

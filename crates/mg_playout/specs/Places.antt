@@ -1,6 +1,8 @@
 -- The places of a play list, of which each may have a frame (this project's own).
-use Rattle.std.specs.Prelude.{◌≡◌, ℕ, ◌-◌, ◌≤◌, min, ℤ, Bool, List, ◌∷◌, ◌++◌, length, take, drop, replicate, slice_index_or, Option, Some, None, is_none, All, IfSome}
+use Rattle.std.specs.Prelude.{◌≡◌, ℕ, ◌-◌, ◌≤◌, min, ℤ, Bool, List, ◌∷◌, ◌++◌, length, take, drop}
+use Rattle.std.specs.Prelude.{replicate, slice_index_or, Option, Some, None, is_none, All, IfSome}
 use Rattle.std.specs.List.{list_all}
+use Rattle.mg_words.specs.Limits.{least_depth, greatest_depth}
 use Rattle.circular_buffer.specs.Buffer.{Buffer}
 use Rattle.mg_g711.specs.Frame.{IsFrame}
 
@@ -34,11 +36,11 @@ resized places depth = take depth places ++ empty_places (depth - length places)
 
 -- what holds of the places of every play list: they are 2 to 16, and their frames are whole
 pub record ArePlaces (places : FramePlaces) : Type 0 where
-  pub at_least : 2 ≤ length places
-  pub at_most : length places ≤ 16
+  pub at_least : least_depth ≤ length places
+  pub at_most : length places ≤ greatest_depth
   pub frames : All (λ place. IfSome place IsFrame) places
 
 -- what holds of the ring that keeps them
 pub record IsRingOfPlaces (ring : Buffer (Option (List ℤ))) : Type 0 where
-  pub capacity : ring.capacity ≡ 16
+  pub capacity : ring.capacity ≡ greatest_depth
   pub items : ArePlaces ring.items

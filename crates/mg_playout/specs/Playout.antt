@@ -1,7 +1,11 @@
 -- What a play list is, and what each call does to it (this project's own).
-use Rattle.std.specs.Prelude.{ℕ, ◌+◌, ◌-◌, ◌/◌, ◌%◌, ℤ, pos, neg_ℤ, nat_abs, int_lt, int_le, ◌||◌, ◌==◌, ◌≤◌, nat_le, if◌then◌else◌, List, length, slice_set, Option, Some, None, is_some}
+use Rattle.std.specs.Prelude.{ℕ, ◌+◌, ◌-◌, ◌/◌, ◌%◌, ℤ, pos, neg_ℤ, nat_abs, int_lt, int_le, ◌||◌}
+use Rattle.std.specs.Prelude.{◌==◌, ◌≤◌, nat_le, if◌then◌else◌, List, length, slice_set, Option}
+use Rattle.std.specs.Prelude.{Some, None, is_some}
 use Rattle.std.specs.Option.{option_map}
-use Rattle.mg_playout.specs.Places.{FramePlaces, empty_places, started_with, frame_at, is_empty, fallen, resized}
+use Rattle.mg_words.specs.Limits.{first_depth}
+use Rattle.mg_playout.specs.Places.{FramePlaces, empty_places, started_with, frame_at, is_empty}
+use Rattle.mg_playout.specs.Places.{fallen, resized}
 use Rattle.mg_playout.specs.Sequence.{distance_of}
 use Rattle.mg_playout.specs.declared.phase.Phase.{Phase}
 use Rattle.mg_playout.specs.declared.phase.Phase.TheVariants.{Idle, Wait, Run}
@@ -11,8 +15,8 @@ use Rattle.mg_playout.specs.declared.source.Source.{Source}
 use Rattle.mg_playout.specs.declared.turn.Turn.{Turn}
 use Rattle.mg_playout.specs.declared.turn.Turn.TheVariants.{Start, Late, Again, At, Push}
 
--- a play list: whether it gives frames, whose, and the places of those that wait. Place i is that of
--- the source's next sequence number plus i, modulo 65536.
+-- a play list: whether it gives frames, whose, and the places of those that wait. Place i is that
+-- of the source's next sequence number plus i, modulo 65536.
 pub record PlayList : Type 0 where
   pub phase : Phase
   pub source : Option Source
@@ -29,7 +33,7 @@ depth_of list = length list.places
 
 -- what a play list begins as
 abbrev pub first_state : PlayList
-first_state = record { phase = Idle; source = None; places = empty_places 4 }
+first_state = record { phase = Idle; source = None; places = empty_places first_depth }
 
 -- a start: the frame's sequence number is the next one, and the wait is half of the depth in ticks
 abbrev pub started : PlayList → ℕ → ℕ → List ℤ → PlayList
@@ -94,7 +98,8 @@ placed list ssrc sequence frame = placed_at (turn_of list ssrc sequence) list ss
 -- a tick: the play list after it, and the frame that it gives
 abbrev pub ticked_in : Phase → PlayList → PlayList × Option (List ℤ)
 ticked_in Idle list = (list, None)
-ticked_in (Wait ticks) list = (record list { phase = if ticks == 1 then Run else Wait (ticks - 1) }, None)
+ticked_in (Wait ticks) list =
+    (record list { phase = if ticks == 1 then Run else Wait (ticks - 1) }, None)
 ticked_in Run list =
     if is_empty list.places then (record list { phase = Idle }, None)
     else (shifted list 1, frame_at list.places 0)
@@ -102,6 +107,7 @@ ticked_in Run list =
 abbrev pub ticked : PlayList → PlayList × Option (List ℤ)
 ticked list = ticked_in list.phase list
 
--- the play list at another depth. Its phase stays, so how long it waits changes with its next start.
+-- the play list at another depth. Its phase stays, so how long it waits changes with its next
+-- start.
 abbrev pub with_depth : PlayList → ℕ → PlayList
 with_depth list depth = record list { places = resized list.places depth }

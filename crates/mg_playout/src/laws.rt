@@ -4,7 +4,7 @@
 
 ghost use Rattle.std.specs.Prelude.{◌≡◌, ◌≢◌, ℕ, ◌+◌, ◌%◌, ◌<◌, ◌≤◌, ℤ, ◌+ℤ◌, pos, List, length, FitsSigned};
 ghost use Rattle.std.specs.Int.{w16, int_rem_euclid};
-ghost use Rattle.mg_playout.specs.Order.{IsValid, frame_under, given_after};
+ghost use Rattle.mg_playout.specs.Order.{IsValidList, frame_under, given_after};
 ghost use Rattle.mg_playout.specs.Places.{frame_at};
 ghost use Rattle.mg_playout.specs.Playout.{PlayList, depth_of, placed};
 ghost use Rattle.mg_playout.specs.Sequence.{distance_of, steps_between};
@@ -16,7 +16,7 @@ use crate::source::Source;
 
 /// Each play list has 2 to 16 places, each of its frames is whole, and no wait of it is over.
 pub fn play_lists_are_valid(list: &Playout)
-    ensures { IsValid list.now }
+    ensures { IsValidList list.now }
 {
     list.know();
 }
@@ -31,7 +31,7 @@ pub fn distances_lead_to_the_number()
 /// A frame that is taken in waits under its own sequence number, whenever it came.
 pub fn taken_frame_waits_under_its_number()
     ensures { (list : PlayList) (ssrc sequence : ℕ) (frame : List ℤ) →
-        IsValid list → sequence < 65536 →
+        IsValidList list → sequence < 65536 →
         (placed list ssrc sequence frame).1 ≢ Placed.Late →
         (placed list ssrc sequence frame).1 ≢ Placed.Again →
         frame_under (placed list ssrc sequence frame).0 sequence ≡ Some frame }
@@ -41,7 +41,7 @@ pub fn taken_frame_waits_under_its_number()
 /// them all.
 pub fn other_frames_keep_their_numbers()
     ensures stay { (list : PlayList) (ssrc sequence : ℕ) (frame : List ℤ) (after : Source) (other : ℕ) →
-        IsValid list → sequence < 65536 → other < 65536 → other ≢ sequence →
+        IsValidList list → sequence < 65536 → other < 65536 → other ≢ sequence →
         (placed list ssrc sequence frame).1 ≢ Placed.Started →
         (placed list ssrc sequence frame).0.source ≡ Some after →
         steps_between after.next other < depth_of list →
@@ -64,6 +64,6 @@ pub fn ticks_give_frames_in_order()
 
     // The frame at a place is the one under the next sequence number plus the place.
     ensures numbers { (list : PlayList) (source : Source) (place : ℕ) →
-        IsValid list → list.source ≡ Some source → place < 65536 →
+        IsValidList list → list.source ≡ Some source → place < 65536 →
         frame_at list.places place ≡ frame_under list ((source.next + place) % 65536) }
 {}

@@ -38,9 +38,9 @@ mod source;
 mod tests;
 mod turn;
 
+pub use mg_words::{FIRST_DEPTH, MAX_DEPTH, MIN_DEPTH};
 pub use phase::Phase;
 pub use placed::Placed;
-pub use places::{FIRST_DEPTH, MAX_DEPTH, MIN_DEPTH};
 // A crate can name a play list in a contract only if the types of its fields are exported.
 #[doc(hidden)]
 pub use places::Places;

@@ -6,17 +6,9 @@ ghost use Rattle.mg_playout.specs.Places.{empty_places, frame_at, is_empty, fall
 use circular_buffer::HeapCircularBuffer;
 use mg_g711::Frame;
 use mg_g711::theorems::frames_are_whole;
+use mg_words::{FIRST_DEPTH, MAX_DEPTH, MIN_DEPTH};
 use std::alloc::{AllocError, Global};
 use std::marker::Model;
-
-/// The least depth of a play list, in places.
-pub const MIN_DEPTH: usize = 2;
-
-/// The greatest depth of a play list, in places.
-pub const MAX_DEPTH: usize = 16;
-
-/// The depth that a play list begins with, in places.
-pub const FIRST_DEPTH: usize = 4;
 
 /// The frames that wait for their turn, by place. Place 0 is the next one to be played.
 ///

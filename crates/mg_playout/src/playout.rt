@@ -1,14 +1,15 @@
 ghost use Rattle.std.specs.Prelude.{◌≡◌, ◌<◌, ◌≤◌, IfOk, IfSome};
 ghost use Rattle.mg_g711.specs.Frame.{IsFrame};
-ghost use Rattle.mg_playout.specs.declared.places.TheConstants.{MIN_DEPTH, MAX_DEPTH};
+ghost use Rattle.mg_words.specs.declared.limits.TheConstants.{MIN_DEPTH, MAX_DEPTH};
 
 use crate::phase::Phase;
 use crate::placed::Placed;
-use crate::places::{MAX_DEPTH, MIN_DEPTH, Places};
+use crate::places::Places;
 use crate::sequence::{MAX_DROPOUT, MAX_MISORDER, distance};
 use crate::source::Source;
 use crate::turn::Turn;
 use mg_g711::Frame;
+use mg_words::{MAX_DEPTH, MIN_DEPTH};
 use std::alloc::{AllocError, Global};
 use std::marker::Model;
 
@@ -37,7 +38,7 @@ impl Model for Playout {
 impl Playout {
     ghost use Rattle.mg_playout.specs.Playout.{first_state, placed, ticked, with_depth, turn_of, turn_at, started, shifted};
     ghost use Rattle.mg_playout.specs.Places.{frame_at};
-    ghost use Rattle.mg_playout.specs.Order.{IsValid};
+    ghost use Rattle.mg_playout.specs.Order.{IsValidList};
 
     /// An idle play list without a source, with a depth of four places.
     ///
@@ -121,7 +122,7 @@ impl Playout {
 
     /// Shows what holds of every play list, and does nothing.
     pub(crate) fn know(&self)
-        ensures { IsValid self.now }
+        ensures { IsValidList self.now }
     {
         self.places.know();
         let _next = self.source.map(|source| source.next);

@@ -4,8 +4,8 @@ use Rattle.std.proofs.lemmas.List.{drop_more, drop_all, take_more, drop-append-l
 use Rattle.std.proofs.Math.ListN.{drop_of_length-le}
 use Rattle.mg_reply.specs.declared.item.Item.{Item}
 use Rattle.mg_reply.specs.declared.item.Item.TheVariants.{Triple, Command, Fault, Action}
-use Rattle.mg_reply.specs.declared.context_id.ContextId.{ContextId}
-use Rattle.mg_reply.specs.Draft.{Drafted, drafted}
+use Rattle.mg_words.specs.declared.context_id.ContextId.{ContextId}
+use Rattle.mg_reply.specs.aids.Draft.{Drafted, drafted}
 use Rattle.mg_reply.specs.Entries.{action_id}
 use Rattle.mg_reply.specs.Written.{action_text, actions_text}
 use Rattle.mg_reply.proofs.DraftLaws.{drafted-drafted}

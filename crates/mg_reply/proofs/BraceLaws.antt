@@ -3,31 +3,31 @@ use Rattle.std.proofs.Common.{◌≡◌, ℕ, ◌+◌, ◌/◌, ◌%◌, ◌<◌
 use Rattle.std.proofs.lemmas.Bool.{and_parts, and_from, ne_eqb, lt-ltb}
 use Rattle.std.specs.List.{list_all}
 use Rattle.std.specs.Fmt.{digits, digits_onto, digit_glyph}
-use Rattle.mg_scan.specs.Tokens.{is_word_byte}
+use Rattle.mg_words.specs.WordByte.{is_word_byte}
 use Rattle.mg_reply.specs.Listed.{listed, grouped}
 
--- what stands behind the brace that closes the first brace of a text, where so many are open
-abbrev pub behind : ℕ → List ℕ → Option (List ℕ)
-behind d [] = None
-behind d (c ∷ cs) =
+-- what stands after the brace that closes the first brace of a text, where so many are open
+abbrev pub after : ℕ → List ℕ → Option (List ℕ)
+after d [] = None
+after d (c ∷ cs) =
     elim (eqb c 123) [
-      | true ↦ behind (suc d) cs
+      | true ↦ after (suc d) cs
       | false ↦ elim (eqb c 125) [
-        | true ↦ elim d [ zero ↦ None | suc k ↦ elim k [ zero ↦ Some cs | suc j ↦ behind (suc j) cs ] ]
-        | false ↦ behind d cs
+        | true ↦ elim d [ zero ↦ None | suc k ↦ elim k [ zero ↦ Some cs | suc j ↦ after (suc j) cs ] ]
+        | false ↦ after d cs
       ]
     ]
 
 -- a part that is read over
 abbrev pub IsPassed : List ℕ → Type 0
-IsPassed p = (d : ℕ) (t : List ℕ) → behind (suc d) (p ++ t) ≡ behind (suc d) t
+IsPassed p = (d : ℕ) (t : List ℕ) → after (suc d) (p ++ t) ≡ after (suc d) t
 
 pub passed-append : (p q : List ℕ) → IsPassed p → IsPassed q → IsPassed (p ++ q)
-passed-append p q one two = λ d t. ap (behind (suc d)) (append_assoc p q t) ∙ one d (q ++ t) ∙ two d t
+passed-append p q one two = λ d t. ap (after (suc d)) (append_assoc p q t) ∙ one d (q ++ t) ∙ two d t
 
--- what stands in braces, behind the opening one
-pub passed_inside : (p : List ℕ) → IsPassed p → (d : ℕ) (t : List ℕ) → behind (suc (suc d)) ((p ++ codes "}") ++ t) ≡ behind (suc d) t
-passed_inside p one d t = ap (behind (suc (suc d))) (append_assoc p (codes "}") t) ∙ one (suc d) (codes "}" ++ t)
+-- what stands in braces, after the opening one
+pub passed_inside : (p : List ℕ) → IsPassed p → (d : ℕ) (t : List ℕ) → after (suc (suc d)) ((p ++ codes "}") ++ t) ≡ after (suc d) t
+passed_inside p one d t = ap (after (suc (suc d))) (append_assoc p (codes "}") t) ∙ one (suc d) (codes "}" ++ t)
 
 -- a byte that is no brace
 abbrev is_plain : ℕ → Bool
@@ -38,15 +38,15 @@ plain_by true b h k = absurd cc
 plain_by false true h k = absurd cc
 plain_by false false h k = refl
 
-plain_step : (d c : ℕ) (cs : List ℕ) → is_plain c ≡ true → behind d (c ∷ cs) ≡ behind d cs
+plain_step : (d c : ℕ) (cs : List ℕ) → is_plain c ≡ true → after d (c ∷ cs) ≡ after d cs
 plain_step d c cs h = by_tests (eqb c 123) (eqb c 125) h
   where
-    by_tests : (a b : Bool) → (not a && not b) ≡ true → elim a as (λ _. Option (List ℕ)) [ true ↦ behind (suc d) cs | false ↦ elim b as (λ _. Option (List ℕ)) [ true ↦ elim d as (λ _. Option (List ℕ)) [ zero ↦ None | suc k ↦ elim k as (λ _. Option (List ℕ)) [ zero ↦ Some cs | suc j ↦ behind (suc j) cs ] ] | false ↦ behind d cs ] ] ≡ behind d cs
+    by_tests : (a b : Bool) → (not a && not b) ≡ true → elim a as (λ _. Option (List ℕ)) [ true ↦ after (suc d) cs | false ↦ elim b as (λ _. Option (List ℕ)) [ true ↦ elim d as (λ _. Option (List ℕ)) [ zero ↦ None | suc k ↦ elim k as (λ _. Option (List ℕ)) [ zero ↦ Some cs | suc j ↦ after (suc j) cs ] ] | false ↦ after d cs ] ] ≡ after d cs
     by_tests true b e = absurd cc
     by_tests false true e = absurd cc
     by_tests false false e = refl
 
-pub plain_passed : (p : List ℕ) → list_all is_plain p ≡ true → (d : ℕ) (t : List ℕ) → behind d (p ++ t) ≡ behind d t
+pub plain_passed : (p : List ℕ) → list_all is_plain p ≡ true → (d : ℕ) (t : List ℕ) → after d (p ++ t) ≡ after d t
 plain_passed [] h d t = refl
 plain_passed (c ∷ cs) h d t =
     let parts = and_parts (is_plain c) (list_all is_plain cs) h in
@@ -74,7 +74,7 @@ decimal_plain : (n : ℕ) → list_all is_plain (decimal n) ≡ true
 unfolding digits
 decimal_plain n = digits_plain 64 n [] refl
 
-pub decimal_passed : (n d : ℕ) (t : List ℕ) → behind d (decimal n ++ t) ≡ behind d t
+pub decimal_passed : (n d : ℕ) (t : List ℕ) → after d (decimal n ++ t) ≡ after d t
 decimal_passed n = plain_passed (decimal n) (decimal_plain n)
 
 pub decimal_is_passed : (n : ℕ) → IsPassed (decimal n)

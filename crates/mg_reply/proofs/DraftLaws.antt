@@ -1,7 +1,7 @@
--- One part behind another in a draft.
+-- One part after another in a draft.
 use Rattle.std.proofs.Common.{◌≡◌, ℕ, ◌+◌, ◌-◌, ◌≤◌, leb, Bool, true, false, cond, List, [], ◌∷◌, ◌++◌, length, Option, Some, None, refl, sym, ap, ◌∙◌, append_assoc, length-append, arith}
 use Rattle.std.proofs.lemmas.Bool.{lt-leb, leb-false}
-use Rattle.mg_reply.specs.Draft.{Drafted, limited, grown, drafted}
+use Rattle.mg_reply.specs.aids.Draft.{Drafted, limited, grown, drafted}
 
 -- what is too long stays so
 grown-limited : (x b : List ℕ) (fits : Bool) → leb (length x) 16000 ≡ fits → grown (cond fits (Some x) None) b ≡ limited (x ++ b)
@@ -18,7 +18,7 @@ pub drafted-drafted : (d : Drafted) (a b : List ℕ) → drafted (drafted d a) b
 unfolding drafted
 drafted-drafted d a b = ap (λ (o : Option (List ℕ)). record { front = d.front; room = d.room; text = o }) (grown-grown d.text a b)
 
--- what was put behind a part is behind what that part is behind
+-- what was put after a part is after what that part is after
 pub then : (d e f : Drafted) (a b : List ℕ) → e ≡ drafted d a → f ≡ drafted e b → f ≡ drafted d (a ++ b)
 then d e f a b first second = second ∙ ap (λ (x : Drafted). drafted x b) first ∙ drafted-drafted d a b
 

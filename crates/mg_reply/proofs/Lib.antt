@@ -6,4 +6,4 @@ pub mod ReplyLaws
 pub mod WrittenLaws
 pub mod BraceLaws
 pub mod PrefixLaws
-pub mod TermLaws
+pub mod WideLaws

@@ -4,9 +4,9 @@ use Rattle.std.proofs.lemmas.List.{append-nil, drop_more, drop_all}
 use Rattle.std.specs.List.{filter}
 use Rattle.mg_reply.specs.declared.item.Item.{Item}
 use Rattle.mg_reply.specs.declared.entry_kind.EntryKind.{EntryKind}
-use Rattle.mg_reply.specs.Draft.{Drafted, drafted}
+use Rattle.mg_reply.specs.aids.Draft.{Drafted, drafted}
 use Rattle.mg_reply.specs.Listed.{listed, grouped}
-use Rattle.mg_reply.specs.Marks.{is_empty, mark_of, closing}
+use Rattle.mg_reply.specs.aids.Marks.{is_empty, mark_of, closing}
 use Rattle.mg_reply.specs.Entries.{is_of, item_text, texts_of, topology_entry}
 use Rattle.mg_reply.proofs.DraftLaws.{drafted-drafted}
 
@@ -17,7 +17,7 @@ listed-append (x ∷ xs) ys =
     ap (λ t. codes "," ++ (x ++ t)) (listed-append xs ys)
     ∙ sym (append_assoc (codes ",") (x ++ listed (codes ",") xs) (listed (codes ",") ys) ∙ ap (λ t. codes "," ++ t) (append_assoc x (listed (codes ",") xs) (listed (codes ",") ys)))
 
--- behind some parts the next is no longer the first
+-- after some parts the next is no longer the first
 pub listed-first-append : (opening : List ℕ) (first : Bool) (xs ys : List (List ℕ)) → listed (mark_of opening first) (xs ++ ys) ≡ listed (mark_of opening first) xs ++ listed (mark_of opening (first && is_empty xs)) ys
 unfolding listed
 listed-first-append opening true [] ys = refl

@@ -1,4 +1,4 @@
--- No reply goes on behind another: each ends with the brace that closes its first.
+-- No reply goes on after another: each ends with the brace that closes its first.
 use Rattle.std.proofs.Common.{◌≡◌, ℕ, ◌*◌, suc, Bool, true, false, ◌&&◌, not, cond, nat_le, eqb, List, [], ◌∷◌, ◌++◌, length, map, Option, Some, None, refl, sym, ap, ◌∙◌, append_assoc, codes, decimal, slice_index}
 use Rattle.std.proofs.lemmas.Bool.{and_parts, and_from}
 use Rattle.std.proofs.lemmas.List.{append-nil}
@@ -7,37 +7,42 @@ use Rattle.std.specs.List.{list_all, filter}
 use Rattle.mg_g711.specs.declared.law.Law.{Law}
 use Rattle.mg_g711.specs.declared.law.Law.TheVariants.{Mu, A}
 use Rattle.mg_sdp.specs.declared.chosen.Chosen.{Chosen}
-use Rattle.mg_sdp.specs.Written.{address_text, law_text, session_text}
-use Rattle.mg_scan.specs.Tokens.{is_word_byte}
-use Rattle.mg_reply.specs.declared.association.Association.{Association}
-use Rattle.mg_reply.specs.declared.association.Association.TheVariants.{Isolate, Oneway, Bothway}
-use Rattle.mg_reply.specs.declared.mode.Mode.{Mode}
-use Rattle.mg_reply.specs.declared.mode.Mode.TheVariants.{SendOnly, ReceiveOnly, SendReceive, Inactive, Loopback}
+use Rattle.mg_words.specs.Address.{address_text}
+use Rattle.mg_sdp.specs.Written.{law_text, session_text}
+use Rattle.mg_words.specs.WordByte.{is_word_byte}
+use Rattle.mg_words.specs.declared.association.Association.{Association}
+use Rattle.mg_words.specs.declared.association.Association.TheVariants.{Isolate, Oneway, Bothway}
+use Rattle.mg_words.specs.declared.mode.Mode.{Mode}
+use Rattle.mg_words.specs.declared.mode.Mode.TheVariants.{SendOnly, ReceiveOnly, SendReceive, Inactive, Loopback}
 use Rattle.mg_reply.specs.declared.control.Control.{Control}
 use Rattle.mg_reply.specs.declared.media.Media.{Media}
 use Rattle.mg_reply.specs.declared.media.Media.TheVariants.{Local, Whole}
-use Rattle.mg_reply.specs.declared.statistics.Statistics.{Statistics}
-use Rattle.mg_reply.specs.declared.command_word.CommandWord.{CommandWord}
-use Rattle.mg_reply.specs.declared.command_word.CommandWord.TheVariants.{Add, Modify, Move, Subtract, AuditValue, AuditCapability, Notify, ServiceChange}
-use Rattle.mg_reply.specs.declared.context_id.ContextId.{ContextId}
-use Rattle.mg_reply.specs.declared.context_id.ContextId.TheVariants.{Null, Choose, All, Number}
+use Rattle.mg_words.specs.declared.stats.Stats.{Stats}
+use Rattle.mg_words.specs.declared.command_word.CommandWord.{CommandWord}
+use Rattle.mg_words.specs.declared.command_word.CommandWord.TheVariants.{Add, Modify, Move, Subtract, AuditValue, AuditCapability, Notify, ServiceChange}
+use Rattle.mg_words.specs.declared.context_id.ContextId.{ContextId}
+use Rattle.mg_words.specs.declared.context_id.ContextId.TheVariants.{Null, Choose, All, Number}
 use Rattle.mg_reply.specs.declared.entry_kind.EntryKind.{EntryKind}
 use Rattle.mg_reply.specs.declared.entry_kind.EntryKind.TheVariants.{Triples, Commands, Faults}
-use Rattle.mg_reply.specs.declared.error_number.ErrorNumber.{ErrorNumber}
-use Rattle.mg_reply.specs.declared.error_number.ErrorNumber.TheVariants.{Syntax, Version, IdentifierNotAllowed, UnknownContext, NoContextLeft, IllegalCombination, UnknownTermination, WildcardMatchedNone, NoTerminationLeft, AlreadyInContext, ContextFull, NotInContext, DescriptorNotServed, PropertyNotServed, DescriptorTwice, NotServed, NoMedia, ReplyTooLong}
+use Rattle.mg_words.specs.declared.error_number.ErrorNumber.{ErrorNumber}
+use Rattle.mg_words.specs.declared.error_number.ErrorNumber.TheVariants.{Syntax, Version, IdentifierNotAllowed, UnknownContext, NoContextLeft, IllegalCombination, UnknownTermination, WildcardMatchedNone, NoTerminationLeft, AlreadyInContext, ContextFull, NotInContext, DescriptorNotServed, PropertyNotServed, DescriptorTwice, NotServed, NoMedia, ReplyTooLong}
 use Rattle.mg_reply.specs.declared.outcome.Parts.{Parts}
 use Rattle.mg_reply.specs.declared.outcome.Outcome.{Outcome}
 use Rattle.mg_reply.specs.declared.outcome.Outcome.TheVariants.{Failed, Done}
 use Rattle.mg_reply.specs.declared.item.Item.{Item}
 use Rattle.mg_reply.specs.declared.item.Item.TheVariants.{Triple, Command, Fault, Action}
-use Rattle.mg_reply.specs.ErrorNumber.{error_text}
-use Rattle.mg_reply.specs.Term.{is_term}
+use Rattle.mg_words.specs.ErrorNumber.{error_row, error_text}
+use Rattle.mg_words.specs.Term.{is_term}
 use Rattle.mg_reply.specs.Listed.{listed, grouped}
-use Rattle.mg_reply.specs.Media.{mode_text, control_text, local_text, remote_text, optional, stream_parts, media_text, statistics_text, parts_of}
-use Rattle.mg_reply.specs.Entries.{word_text, association_text, outcome_text, item_text, is_of, texts_of, topology_entry, entries_of}
-use Rattle.mg_reply.specs.Written.{context_text, action_text, actions_text, items_text, reply_text}
+use Rattle.mg_words.specs.Mode.{mode_text}
+use Rattle.mg_words.specs.Association.{association_text}
+use Rattle.mg_words.specs.CommandWord.{command_text}
+use Rattle.mg_words.specs.ContextId.{context_text}
+use Rattle.mg_reply.specs.Media.{control_text, local_text, remote_text, optional, stream_parts, media_text, statistics_text, parts_of}
+use Rattle.mg_reply.specs.Entries.{outcome_text, item_text, is_of, texts_of, topology_entry, entries_of}
+use Rattle.mg_reply.specs.Written.{action_text, actions_text, items_text, reply_text}
 use Rattle.mg_reply.specs.Theorems.{has_terms, NoProperPrefix}
-use Rattle.mg_reply.proofs.BraceLaws.{behind, IsPassed, passed-append, passed_inside, decimal_passed, decimal_is_passed, word_passed, ArePassed, are_passed-append, next_passed, grouped_passed}
+use Rattle.mg_reply.proofs.BraceLaws.{after, IsPassed, passed-append, passed_inside, decimal_passed, decimal_is_passed, word_passed, ArePassed, are_passed-append, next_passed, grouped_passed}
 
 -- words
 mode_passed : (m : Mode) → IsPassed (mode_text m)
@@ -54,8 +59,8 @@ association_passed Isolate = λ d t. refl
 association_passed Oneway = λ d t. refl
 association_passed Bothway = λ d t. refl
 
-command_passed : (w : CommandWord) → IsPassed (word_text w)
-unfolding word_text
+command_passed : (w : CommandWord) → IsPassed (command_text w)
+unfolding command_text
 command_passed Add = λ d t. refl
 command_passed Modify = λ d t. refl
 command_passed Move = λ d t. refl
@@ -65,26 +70,39 @@ command_passed AuditCapability = λ d t. refl
 command_passed Notify = λ d t. refl
 command_passed ServiceChange = λ d t. refl
 
+-- a number with a text after it
+number_then : (n : ℕ) (p : List ℕ) → IsPassed p → IsPassed (decimal n ++ p)
+number_then n p rest = passed-append (decimal n) p (decimal_is_passed n) rest
+
+error_text_passed : (e : ErrorNumber) → IsPassed (error_row e).1
+unfolding error_row
+error_text_passed Syntax = λ d t. refl
+error_text_passed Version = λ d t. refl
+error_text_passed IdentifierNotAllowed = λ d t. refl
+error_text_passed UnknownContext = λ d t. refl
+error_text_passed NoContextLeft = λ d t. refl
+error_text_passed IllegalCombination = λ d t. refl
+error_text_passed UnknownTermination = λ d t. refl
+error_text_passed WildcardMatchedNone = λ d t. refl
+error_text_passed NoTerminationLeft = λ d t. refl
+error_text_passed AlreadyInContext = λ d t. refl
+error_text_passed ContextFull = λ d t. refl
+error_text_passed NotInContext = λ d t. refl
+error_text_passed DescriptorNotServed = λ d t. refl
+error_text_passed PropertyNotServed = λ d t. refl
+error_text_passed DescriptorTwice = λ d t. refl
+error_text_passed NotServed = λ d t. refl
+error_text_passed NoMedia = λ d t. refl
+error_text_passed ReplyTooLong = λ d t. refl
+
+quoted_passed : (p : List ℕ) → IsPassed p → IsPassed (codes "{\"" ++ (p ++ codes "\"}"))
+quoted_passed p one = λ d t. ap (after (suc (suc d))) (append_assoc p (codes "\"}") t) ∙ one (suc d) (codes "\"}" ++ t)
+
 error_passed : (e : ErrorNumber) → IsPassed (error_text e)
 unfolding error_text
-error_passed Syntax = λ d t. refl
-error_passed Version = λ d t. refl
-error_passed IdentifierNotAllowed = λ d t. refl
-error_passed UnknownContext = λ d t. refl
-error_passed NoContextLeft = λ d t. refl
-error_passed IllegalCombination = λ d t. refl
-error_passed UnknownTermination = λ d t. refl
-error_passed WildcardMatchedNone = λ d t. refl
-error_passed NoTerminationLeft = λ d t. refl
-error_passed AlreadyInContext = λ d t. refl
-error_passed ContextFull = λ d t. refl
-error_passed NotInContext = λ d t. refl
-error_passed DescriptorNotServed = λ d t. refl
-error_passed PropertyNotServed = λ d t. refl
-error_passed DescriptorTwice = λ d t. refl
-error_passed NotServed = λ d t. refl
-error_passed NoMedia = λ d t. refl
-error_passed ReplyTooLong = λ d t. refl
+error_passed e =
+    let text = codes "{\"" ++ ((error_row e).1 ++ codes "\"}") in
+    passed-append (codes "Error=") (decimal (error_row e).0 ++ text) (λ d t. refl) (number_then (error_row e).0 text (quoted_passed (error_row e).1 (error_text_passed e)))
 
 context_passed : (id : ContextId) → IsPassed (context_text id)
 context_passed Null = λ d t. refl
@@ -99,10 +117,6 @@ term_passed t h = word_passed t (and_parts (not (eqb (length t) 0) && nat_le (le
 law_passed : (l : Law) → IsPassed (law_text l)
 law_passed Mu = λ d t. refl
 law_passed A = λ d t. refl
-
--- a number with a text behind it
-number_then : (n : ℕ) (p : List ℕ) → IsPassed p → IsPassed (decimal n ++ p)
-number_then n p rest = passed-append (decimal n) p (decimal_is_passed n) rest
 
 address_passed : (a : List ℕ) → IsPassed (address_text a)
 address_passed a =
@@ -125,7 +139,7 @@ unfolding control_text
 control_passed c =
     let depth = decimal (20 * c.depth) in
     λ d t.
-    ap (behind (suc (suc d))) (append_assoc (mode_text c.mode) (codes ",nt/jit=" ++ (depth ++ codes "}")) t)
+    ap (after (suc (suc d))) (append_assoc (mode_text c.mode) (codes ",nt/jit=" ++ (depth ++ codes "}")) t)
     ∙ mode_passed c.mode (suc d) ((codes ",nt/jit=" ++ (depth ++ codes "}")) ++ t)
     ∙ passed_inside depth (decimal_is_passed (20 * c.depth)) d t
 
@@ -150,21 +164,21 @@ media_passed : (m : Media) → IsPassed (media_text m)
 unfolding media_text
 media_passed m = passed_inside (grouped (stream_parts m)) (grouped_passed (stream_parts m) (stream_passed m))
 
-statistics_passed : (s : Statistics) → IsPassed (statistics_text s)
+statistics_passed : (s : Stats) → IsPassed (statistics_text s)
 unfolding statistics_text
 statistics_passed s =
     let close = codes "}" in
-    let fourth = decimal s.octets_received ++ close in
-    let third = decimal s.octets_sent ++ (codes ",nt/or=" ++ fourth) in
-    let second = decimal s.packets_received ++ (codes ",nt/os=" ++ third) in
+    let fourth = decimal s.or_ ++ close in
+    let third = decimal s.os ++ (codes ",nt/or=" ++ fourth) in
+    let second = decimal s.pr ++ (codes ",nt/os=" ++ third) in
     λ d t.
-    ap (behind (suc (suc d))) (append_assoc (decimal s.packets_sent) (codes ",rtp/pr=" ++ second) t)
-    ∙ decimal_passed s.packets_sent (suc (suc d)) ((codes ",rtp/pr=" ++ second) ++ t)
-    ∙ ap (behind (suc (suc d))) (append_assoc (decimal s.packets_received) (codes ",nt/os=" ++ third) t)
-    ∙ decimal_passed s.packets_received (suc (suc d)) ((codes ",nt/os=" ++ third) ++ t)
-    ∙ ap (behind (suc (suc d))) (append_assoc (decimal s.octets_sent) (codes ",nt/or=" ++ fourth) t)
-    ∙ decimal_passed s.octets_sent (suc (suc d)) ((codes ",nt/or=" ++ fourth) ++ t)
-    ∙ passed_inside (decimal s.octets_received) (decimal_is_passed s.octets_received) d t
+    ap (after (suc (suc d))) (append_assoc (decimal s.ps) (codes ",rtp/pr=" ++ second) t)
+    ∙ decimal_passed s.ps (suc (suc d)) ((codes ",rtp/pr=" ++ second) ++ t)
+    ∙ ap (after (suc (suc d))) (append_assoc (decimal s.pr) (codes ",nt/os=" ++ third) t)
+    ∙ decimal_passed s.pr (suc (suc d)) ((codes ",nt/os=" ++ third) ++ t)
+    ∙ ap (after (suc (suc d))) (append_assoc (decimal s.os) (codes ",nt/or=" ++ fourth) t)
+    ∙ decimal_passed s.os (suc (suc d)) ((codes ",nt/or=" ++ fourth) ++ t)
+    ∙ passed_inside (decimal s.or_) (decimal_is_passed s.or_) d t
 
 parts_passed : (p : Parts) → ArePassed (parts_of p)
 parts_passed p = are_passed-append (optional media_text p.media) (optional statistics_text p.statistics) (optional_passed media_text p.media media_passed) (optional_passed statistics_text p.statistics statistics_passed)
@@ -181,7 +195,7 @@ item_passed (Triple a b association) h =
     passed-append a (codes "," ++ (b ++ (codes "," ++ association_text association))) (term_passed a both.0) second
 item_passed (Command word term outcome) h =
     let named = passed-append term (outcome_text outcome) (term_passed term h) (outcome_passed outcome) in
-    passed-append (word_text word) (codes "=" ++ (term ++ outcome_text outcome)) (command_passed word) named
+    passed-append (command_text word) (codes "=" ++ (term ++ outcome_text outcome)) (command_passed word) named
 item_passed (Fault e) h = error_passed e
 item_passed (Action id) h = λ d t. refl
 
@@ -239,17 +253,17 @@ items_passed (Command word term outcome ∷ xs) h = actions_passed [] [] (Comman
 items_passed (Action id ∷ xs) h = actions_passed [] [] (Action id ∷ xs) (λ d t. refl) refl h
 
 -- replies
-pub behind_reply : (n : ℕ) (xs : List Item) (rest : List ℕ) → list_all has_terms xs ≡ true → behind 0 (reply_text n xs ++ rest) ≡ Some rest
-behind_reply n xs rest h =
+pub after_reply : (n : ℕ) (xs : List Item) (rest : List ℕ) → list_all has_terms xs ≡ true → after 0 (reply_text n xs ++ rest) ≡ Some rest
+after_reply n xs rest h =
     let inner = items_text xs ++ codes "}" in
-    ap (behind 0) (append_assoc (decimal n) (codes "{" ++ inner) rest)
+    ap (after 0) (append_assoc (decimal n) (codes "{" ++ inner) rest)
     ∙ decimal_passed n 0 ((codes "{" ++ inner) ++ rest)
-    ∙ ap (behind 1) (append_assoc (items_text xs) (codes "}") rest)
+    ∙ ap (after 1) (append_assoc (items_text xs) (codes "}") rest)
     ∙ items_passed xs h 0 (codes "}" ++ rest)
 
 pub no_proper_prefix : NoProperPrefix
 no_proper_prefix n m xs ys rest first second same =
-    let whole = behind_reply m ys [] second in
-    let longer = behind_reply n xs rest first in
-    let both : Some rest ≡ Some [] = sym longer ∙ ap (behind 0) (sym same ∙ sym (append-nil (reply_text m ys))) ∙ whole in
+    let whole = after_reply m ys [] second in
+    let longer = after_reply n xs rest first in
+    let both : Some rest ≡ Some [] = sym longer ∙ ap (after 0) (sym same ∙ sym (append-nil (reply_text m ys))) ∙ whole in
     cc

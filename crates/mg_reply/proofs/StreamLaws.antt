@@ -1,9 +1,9 @@
--- The parts of a whole stream, one behind another.
+-- The parts of a whole stream, one after another.
 use Rattle.std.proofs.Common.{◌≡◌, ℕ, List, ◌∷◌, ◌++◌, Option, ap, append_assoc, codes}
 use Rattle.mg_sdp.specs.declared.chosen.Chosen.{Chosen}
 use Rattle.mg_reply.specs.declared.control.Control.{Control}
 use Rattle.mg_reply.specs.declared.media.Media.TheVariants.{Whole}
-use Rattle.mg_reply.specs.Draft.{Drafted, drafted}
+use Rattle.mg_reply.specs.aids.Draft.{Drafted, drafted}
 use Rattle.mg_reply.specs.Listed.{listed, grouped}
 use Rattle.mg_reply.specs.Media.{control_text, local_text, remote_text, optional, stream_parts}
 use Rattle.mg_reply.proofs.DraftLaws.{drafted-drafted}

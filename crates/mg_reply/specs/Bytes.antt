@@ -6,7 +6,7 @@ pub record Written : Type 0 where
   pub text : List ℕ
   pub room : ℕ
 
--- the text with a part behind it
+-- the text with a part after it
 abbrev pub appended : Written → List ℕ → Written
 appended old part = record { text = old.text ++ part; room = old.room - length part }
 

@@ -1,47 +1,31 @@
 -- The entries of an action (RFC 3525, Annex B.2, actionReply).
-use Rattle.std.specs.Prelude.{ℕ, Bool, true, false, List, [], ◌∷◌, ◌++◌, map, Option, Some, None, codes}
+use Rattle.std.specs.Prelude.{ℕ, Bool, true, false, List, [], ◌∷◌, ◌++◌, map, Option, Some, None}
+use Rattle.std.specs.Prelude.{codes}
 use Rattle.std.specs.List.{filter}
-use Rattle.mg_reply.specs.declared.association.Association.{Association}
-use Rattle.mg_reply.specs.declared.association.Association.TheVariants.{Isolate, Oneway, Bothway}
-use Rattle.mg_reply.specs.declared.command_word.CommandWord.{CommandWord}
-use Rattle.mg_reply.specs.declared.command_word.CommandWord.TheVariants.{Add, Modify, Move, Subtract, AuditValue, AuditCapability, Notify, ServiceChange}
-use Rattle.mg_reply.specs.declared.context_id.ContextId.{ContextId}
+use Rattle.mg_words.specs.Association.{association_text}
+use Rattle.mg_words.specs.CommandWord.{command_text}
+use Rattle.mg_words.specs.declared.context_id.ContextId.{ContextId}
 use Rattle.mg_reply.specs.declared.entry_kind.EntryKind.{EntryKind}
 use Rattle.mg_reply.specs.declared.entry_kind.EntryKind.TheVariants.{Triples, Commands, Faults}
 use Rattle.mg_reply.specs.declared.outcome.Outcome.{Outcome}
 use Rattle.mg_reply.specs.declared.outcome.Outcome.TheVariants.{Failed, Done}
 use Rattle.mg_reply.specs.declared.item.Item.{Item}
 use Rattle.mg_reply.specs.declared.item.Item.TheVariants.{Triple, Command, Fault, Action}
-use Rattle.mg_reply.specs.ErrorNumber.{error_text}
+use Rattle.mg_words.specs.ErrorNumber.{error_text}
 use Rattle.mg_reply.specs.Listed.{listed, grouped}
 use Rattle.mg_reply.specs.Media.{parts_of}
 
--- the long word of a command
-unfoldable pub word_text : CommandWord → List ℕ
-word_text Add = codes "Add"
-word_text Modify = codes "Modify"
-word_text Move = codes "Move"
-word_text Subtract = codes "Subtract"
-word_text AuditValue = codes "AuditValue"
-word_text AuditCapability = codes "AuditCapability"
-word_text Notify = codes "Notify"
-word_text ServiceChange = codes "ServiceChange"
-
--- the long word of an association
-unfoldable pub association_text : Association → List ℕ
-association_text Isolate = codes "Isolate"
-association_text Oneway = codes "Oneway"
-association_text Bothway = codes "Bothway"
-
--- what stands behind the name of a command's termination: its error alone, or its parts
+-- what stands after the name of a command's termination: its error alone, or its parts
 abbrev pub outcome_text : Outcome → List ℕ
 outcome_text (Failed e) = grouped (error_text e ∷ [])
 outcome_text (Done parts) = grouped (parts_of parts)
 
 -- an item by itself: a triple, a command or an error
 abbrev pub item_text : Item → List ℕ
-item_text (Triple a b association) = a ++ (codes "," ++ (b ++ (codes "," ++ association_text association)))
-item_text (Command word term outcome) = word_text word ++ (codes "=" ++ (term ++ outcome_text outcome))
+item_text (Triple a b association) =
+    a ++ (codes "," ++ (b ++ (codes "," ++ association_text association)))
+item_text (Command word term outcome) =
+    command_text word ++ (codes "=" ++ (term ++ outcome_text outcome))
 item_text (Fault e) = error_text e
 item_text (Action id) = []
 
@@ -63,7 +47,8 @@ topology_entry (x ∷ xs) = (listed (codes "Topology{") (x ∷ xs) ++ codes "}")
 
 -- the topology, then the commands, then the errors
 abbrev pub entries_of : List Item → List (List ℕ)
-entries_of items = topology_entry (texts_of Triples items) ++ (texts_of Commands items ++ texts_of Faults items)
+entries_of items =
+    topology_entry (texts_of Triples items) ++ (texts_of Commands items ++ texts_of Faults items)
 
 -- the context of an action that ends with an item
 abbrev pub action_id : Item → Option ContextId

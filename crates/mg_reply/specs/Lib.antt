@@ -1,11 +1,8 @@
-pub mod ErrorNumber
 pub mod Bytes
-pub mod Draft
-pub mod Term
 pub mod Reply
 pub mod Listed
-pub mod Marks
 pub mod Media
 pub mod Entries
 pub mod Written
 pub mod Theorems
+pub mod aids

@@ -1,27 +1,21 @@
--- What a command tells of its termination (RFC 3525, Annex B.2, mediaDescriptor and statisticsDescriptor).
+-- What a command tells of its termination (RFC 3525, Annex B.2, mediaDescriptor and
+-- statisticsDescriptor).
 use Rattle.std.specs.Prelude.{ℕ, ◌*◌, List, [], ◌∷◌, ◌++◌, Option, Some, None, codes, decimal}
 use Rattle.mg_sdp.specs.declared.chosen.Chosen.{Chosen}
 use Rattle.mg_sdp.specs.Written.{session_text}
-use Rattle.mg_reply.specs.declared.mode.Mode.{Mode}
-use Rattle.mg_reply.specs.declared.mode.Mode.TheVariants.{SendOnly, ReceiveOnly, SendReceive, Inactive, Loopback}
+use Rattle.mg_words.specs.Mode.{mode_text}
 use Rattle.mg_reply.specs.declared.control.Control.{Control}
 use Rattle.mg_reply.specs.declared.media.Media.{Media}
 use Rattle.mg_reply.specs.declared.media.Media.TheVariants.{Local, Whole}
-use Rattle.mg_reply.specs.declared.statistics.Statistics.{Statistics}
+use Rattle.mg_words.specs.declared.stats.Stats.{Stats}
 use Rattle.mg_reply.specs.declared.outcome.Parts.{Parts}
 use Rattle.mg_reply.specs.Listed.{grouped}
 
--- the long word of a mode
-unfoldable pub mode_text : Mode → List ℕ
-mode_text SendOnly = codes "SendOnly"
-mode_text ReceiveOnly = codes "ReceiveOnly"
-mode_text SendReceive = codes "SendReceive"
-mode_text Inactive = codes "Inactive"
-mode_text Loopback = codes "Loopback"
-
 -- the mode, and the depth of the play-out buffer in milliseconds, at 20 a frame
 unfoldable pub control_text : Control → List ℕ
-control_text c = codes "LocalControl{Mode=" ++ (mode_text c.mode ++ (codes ",nt/jit=" ++ (decimal (20 * c.depth) ++ codes "}")))
+control_text c =
+    codes "LocalControl{Mode=" ++ (mode_text c.mode
+    ++ (codes ",nt/jit=" ++ (decimal (20 * c.depth) ++ codes "}")))
 
 unfoldable pub local_text : Chosen → List ℕ
 local_text chosen = codes "Local{" ++ (session_text chosen ++ codes "}")
@@ -37,15 +31,16 @@ optional text (Some a) = text a ∷ []
 -- the parts of the stream
 abbrev pub stream_parts : Media → List (List ℕ)
 stream_parts (Local chosen) = local_text chosen ∷ []
-stream_parts (Whole control local remote) = control_text control ∷ (optional local_text local ++ optional remote_text remote)
+stream_parts (Whole control local remote) =
+    control_text control ∷ (optional local_text local ++ optional remote_text remote)
 
 unfoldable pub media_text : Media → List ℕ
 media_text media = codes "Media{Stream=1" ++ (grouped (stream_parts media) ++ codes "}")
 
-unfoldable pub statistics_text : Statistics → List ℕ
+unfoldable pub statistics_text : Stats → List ℕ
 statistics_text s =
-    codes "Statistics{rtp/ps=" ++ (decimal s.packets_sent ++ (codes ",rtp/pr=" ++ (decimal s.packets_received
-    ++ (codes ",nt/os=" ++ (decimal s.octets_sent ++ (codes ",nt/or=" ++ (decimal s.octets_received ++ codes "}")))))))
+    codes "Statistics{rtp/ps=" ++ (decimal s.ps ++ (codes ",rtp/pr=" ++ (decimal s.pr
+    ++ (codes ",nt/os=" ++ (decimal s.os ++ (codes ",nt/or=" ++ (decimal s.or_ ++ codes "}")))))))
 
 -- what a command tells: its media, then its statistics
 abbrev pub parts_of : Parts → List (List ℕ)

@@ -1,10 +1,11 @@
 -- A reply by its items.
-use Rattle.std.specs.Prelude.{◌≡◌, ℕ, ◌+◌, ◌-◌, ◌*◌, ◌^◌, ◌<◌, ◌≤◌, Bool, true, false, ◌&&◌, ◌||◌, ◌==◌, not, List, [], ◌∷◌, ◌++◌, length, if◌then◌else◌}
+use Rattle.std.specs.Prelude.{◌≡◌, ℕ, ◌+◌, ◌-◌, ◌*◌, ◌^◌, ◌<◌, ◌≤◌, Bool, true, false, ◌&&◌, ◌||◌}
+use Rattle.std.specs.Prelude.{◌==◌, not, List, [], ◌∷◌, ◌++◌, length, if◌then◌else◌}
 use Rattle.mg_reply.specs.declared.item.Item.{Item}
 use Rattle.mg_reply.specs.declared.item.Item.TheVariants.{Triple, Command, Fault, Action}
 
--- The number of the transaction, the items so far, the room that is left, whether items wait for the end of their
--- action, and whether an item found no room.
+-- The number of the transaction, the items so far, the room that is left, whether items wait for
+-- the end of their action, and whether an item found no room.
 pub record Answered : Type 0 where
   pub number : ℕ
   pub items : List Item
@@ -31,7 +32,8 @@ abbrev pub is_refusal : List Item → Bool
 is_refusal (Fault e ∷ []) = true
 is_refusal _ = false
 
--- A reply that can be written, or is told to be too long: one error alone, or actions of which the last has ended.
+-- A reply that can be written, or is told to be too long: one error alone, or actions of which the
+-- last has ended.
 abbrev pub is_whole : Answered → Bool
 is_whole r = r.is_long || is_refusal r.items || last_is_action false r.items
 
@@ -39,22 +41,51 @@ abbrev pub IsWhole : Answered → Type 0
 IsWhole r = is_whole r ≡ true
 
 abbrev pub marked : Answered → Answered
-marked r = record { number = r.number; items = r.items; room = r.room; has_pending = r.has_pending; is_long = true }
+marked r =
+    record {
+      number = r.number;
+      items = r.items;
+      room = r.room;
+      has_pending = r.has_pending;
+      is_long = true;
+    }
 
 -- with an item more, which takes so much room
 abbrev pub with_item : Answered → Item → ℕ → Answered
-with_item r item size = record { number = r.number; items = r.items ++ item ∷ []; room = r.room - size; has_pending = not (is_action item); is_long = r.is_long }
+with_item r item size =
+    record {
+      number = r.number;
+      items = r.items ++ item ∷ [];
+      room = r.room - size;
+      has_pending = not (is_action item);
+      is_long = r.is_long;
+    }
 
--- The end of an action that has items takes no room, any other item takes one place, and where there is none it
--- marks the reply.
+-- The end of an action that has items takes no room, any other item takes one place, and where
+-- there is none it marks the reply.
 abbrev pub after_put : Answered → Item → Answered
 after_put r item =
     if is_action item && r.has_pending then with_item r item 0
     else (if r.room == 0 then marked r else with_item r item 1)
 
--- Which items wait is seen of the last, and there are twice as many places as there was room, so that each
--- item's action finds one
-pub record IsReply (number : ℕ) (items : List Item) (capacity room : ℕ) (has_pending : Bool) : Type 0 where
+-- the reply with items more, one after another
+abbrev pub after_all : Answered → List Item → Answered
+after_all r [] = r
+after_all r (x ∷ xs) = after_all (after_put r x) xs
+
+-- The room that items ask for, where some may wait for the end of their action: one place each, but
+-- none for the end of an action that has items.
+abbrev pub places_of : Bool → List Item → ℕ
+places_of waits [] = 0
+places_of waits (Triple a b association ∷ xs) = 1 + places_of true xs
+places_of waits (Command word term outcome ∷ xs) = 1 + places_of true xs
+places_of waits (Fault e ∷ xs) = 1 + places_of true xs
+places_of waits (Action id ∷ xs) = (if waits then 0 else 1) + places_of false xs
+
+-- Which items wait is seen of the last, and there are twice as many places as there was room, so
+-- that each item's action finds one
+pub record IsReply (number : ℕ) (items : List Item) (capacity room : ℕ)
+    (has_pending : Bool) : Type 0 where
   pub in_range : number < 2 ^ 32
   pub small : room ≤ 1600
   pub reserved : 3200 ≤ capacity

@@ -1,10 +1,14 @@
 -- What holds of replies as a whole.
-use Rattle.std.specs.Prelude.{◌≡◌, ℕ, Bool, true, ◌&&◌, List, [], ◌++◌}
+use Rattle.std.specs.Prelude.{◌≡◌, ℕ, Bool, true, false, ◌&&◌, ◌||◌, nat_le, nat_lt, List, [], ◌++◌}
+use Rattle.std.specs.Prelude.{length}
 use Rattle.std.specs.List.{list_all}
 use Rattle.mg_reply.specs.declared.item.Item.{Item}
 use Rattle.mg_reply.specs.declared.item.Item.TheVariants.{Triple, Command, Fault, Action}
-use Rattle.mg_reply.specs.Term.{is_term}
-use Rattle.mg_reply.specs.Written.{reply_text}
+use Rattle.mg_words.specs.Term.{is_term}
+use Rattle.mg_words.specs.Limits.{reply_limit}
+use Rattle.mg_reply.specs.Entries.{item_text}
+use Rattle.mg_reply.specs.Reply.{Answered, started, is_refusal, last_is_action, after_all}
+use Rattle.mg_reply.specs.Written.{action_text, reply_text}
 
 -- whether the names in an item are names of terminations, as they are in each that is made
 abbrev pub has_terms : Item → Bool
@@ -13,9 +17,34 @@ has_terms (Command word term outcome) = is_term term
 has_terms (Fault e) = true
 has_terms (Action id) = true
 
--- no reply's text goes on behind another reply's text
+-- no reply's text goes on after another reply's text
 abbrev pub NoProperPrefix : Type 0
 NoProperPrefix =
     (n m : ℕ) (xs ys : List Item) (rest : List ℕ)
     → list_all has_terms xs ≡ true → list_all has_terms ys ≡ true
     → reply_text m ys ≡ reply_text n xs ++ rest → rest ≡ []
+
+-- An item that has at least 10 bytes with its comma, as each has that a request leads to; of the
+-- end of an action, where it has no entries.
+abbrev pub is_wide : Item → Bool
+is_wide (Triple a b association) = nat_le 9 (length (item_text (Triple a b association)))
+is_wide (Command word term outcome) = nat_le 9 (length (item_text (Command word term outcome)))
+is_wide (Fault e) = nat_le 9 (length (item_text (Fault e)))
+is_wide (Action id) = nat_le 9 (length (action_text id []))
+
+-- a reply that tells that it is too long
+abbrev pub is_too_long : Answered → Bool
+is_too_long r = r.is_long || nat_lt reply_limit (length (reply_text r.number r.items))
+
+-- Whole items, put into a new reply, make it too long exactly where their text is longer than a
+-- reply may be, those that found no room among them. Where they don't, they are all there.
+abbrev pub TextAlone : Type 0
+TextAlone =
+    (n : ℕ) (xs : List Item) → list_all is_wide xs ≡ true
+    → (is_refusal xs || last_is_action false xs) ≡ true
+    → is_too_long (after_all (started n) xs) ≡ nat_lt reply_limit (length (reply_text n xs))
+
+abbrev pub AllThere : Type 0
+AllThere =
+    (n : ℕ) (xs : List Item) → (after_all (started n) xs).is_long ≡ false
+    → (after_all (started n) xs).items ≡ xs

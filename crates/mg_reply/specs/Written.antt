@@ -1,35 +1,34 @@
--- The text that a gateway writes (RFC 3525, Annex B.2, in its long forms; the layout is this gateway's own).
+-- The text that a gateway writes (RFC 3525, Annex B.2, in its long forms; the layout is this
+-- gateway's own).
 use Rattle.std.specs.Prelude.{ℕ, List, [], ◌∷◌, ◌++◌, codes, decimal}
-use Rattle.mg_sdp.specs.Written.{address_text}
-use Rattle.mg_reply.specs.declared.context_id.ContextId.{ContextId}
-use Rattle.mg_reply.specs.declared.context_id.ContextId.TheVariants.{Null, Choose, All, Number}
+use Rattle.mg_words.specs.Address.{address_text}
+use Rattle.mg_words.specs.declared.context_id.ContextId.{ContextId}
+use Rattle.mg_words.specs.ContextId.{context_text}
 use Rattle.mg_reply.specs.declared.item.Item.{Item}
 use Rattle.mg_reply.specs.declared.item.Item.TheVariants.{Triple, Command, Fault, Action}
-use Rattle.mg_reply.specs.ErrorNumber.{error_text}
+use Rattle.mg_words.specs.ErrorNumber.{error_text}
 use Rattle.mg_reply.specs.Listed.{grouped}
 use Rattle.mg_reply.specs.Entries.{entries_of}
 
 -- head = "MEGACO/1 [" address "]:" port LF
 abbrev pub head_text : List ℕ → ℕ → List ℕ
-head_text address port = codes "MEGACO/1 [" ++ (address_text address ++ (codes "]:" ++ (decimal port ++ codes "\n")))
-
-abbrev pub context_text : ContextId → List ℕ
-context_text Null = codes "-"
-context_text Choose = codes "$"
-context_text All = codes "*"
-context_text (Number n) = decimal n
+head_text address port =
+    codes "MEGACO/1 [" ++ (address_text address ++ (codes "]:" ++ (decimal port ++ codes "\n")))
 
 -- action = "Context=" id ["{" entry *("," entry) "}"]
 abbrev pub action_text : ContextId → List Item → List ℕ
 action_text id items = codes "Context=" ++ (context_text id ++ grouped (entries_of items))
 
--- Actions with a mark before each. An action has the items since the end of the action before it; those that wait
--- for their action's end stand in pending.
+-- Actions with a mark before each. An action has the items since the end of the action before it;
+-- those that wait for their action's end stand in pending.
 unfoldable pub actions_text : List ℕ → List Item → List Item → List ℕ
 actions_text mark pending [] = []
-actions_text mark pending (Action id ∷ xs) = mark ++ (action_text id pending ++ actions_text (codes ",") [] xs)
-actions_text mark pending (Triple a b association ∷ xs) = actions_text mark (pending ++ Triple a b association ∷ []) xs
-actions_text mark pending (Command word term outcome ∷ xs) = actions_text mark (pending ++ Command word term outcome ∷ []) xs
+actions_text mark pending (Action id ∷ xs) =
+    mark ++ (action_text id pending ++ actions_text (codes ",") [] xs)
+actions_text mark pending (Triple a b association ∷ xs) =
+    actions_text mark (pending ++ Triple a b association ∷ []) xs
+actions_text mark pending (Command word term outcome ∷ xs) =
+    actions_text mark (pending ++ Command word term outcome ∷ []) xs
 actions_text mark pending (Fault e ∷ xs) = actions_text mark (pending ++ Fault e ∷ []) xs
 
 -- an error alone, or actions with commas between them

@@ -1,19 +1,17 @@
 ghost use Rattle.std.specs.Prelude.{◌≡◌, ◌&&◌, ◌++◌, ◌∷◌, [], codes};
-ghost use Rattle.mg_reply.specs.Draft.{drafted};
+ghost use Rattle.mg_reply.specs.aids.Draft.{drafted};
 ghost use Rattle.mg_reply.specs.Listed.{listed, grouped};
-ghost use Rattle.mg_reply.specs.Marks.{is_empty, mark_of, closing};
+ghost use Rattle.mg_reply.specs.aids.Marks.{is_empty, mark_of, closing};
 ghost use Rattle.mg_reply.specs.Entries.{outcome_text, item_text, texts_of, topology_entry, entries_of};
-ghost use Rattle.mg_reply.specs.Written.{context_text, action_text, actions_text};
+ghost use Rattle.mg_words.specs.ContextId.{context_text};
+ghost use Rattle.mg_reply.specs.Written.{action_text, actions_text};
 
-use crate::association::Association;
-use crate::command_word::CommandWord;
-use crate::context_id::ContextId;
 use crate::draft::Draft;
 use crate::entry_kind::EntryKind;
 use crate::item::Item;
 use crate::outcome::Outcome;
 use crate::parts_writing::{put_number, put_parts};
-use crate::term::Term;
+use mg_words::{Association, CommandWord, ContextId, Term};
 
 fn put_context(draft: &mut Draft, id: ContextId)
     ensures value { draft.new ≡ drafted draft.old (context_text id) }
@@ -33,7 +31,7 @@ fn put_outcome(draft: &mut Draft, outcome: Outcome)
     match outcome {
         Outcome::Failed(number) => {
             draft.put(b"{");
-            draft.put(number.descriptor().as_bytes());
+            draft.put(number.descriptor().as_slice());
             draft.put(b"}");
         }
         Outcome::Done(parts) => put_parts(draft, parts),
@@ -68,7 +66,7 @@ fn put_item(draft: &mut Draft, item: &Item)
     match item {
         Item::Triple(a, b, association) => put_triple(draft, a, b, *association),
         Item::Command(word, term, outcome) => put_command(draft, *word, term, *outcome),
-        Item::Fault(number) => draft.put(number.descriptor().as_bytes()),
+        Item::Fault(number) => draft.put(number.descriptor().as_slice()),
         Item::Action(_) => draft.put(b""),
     }
 }

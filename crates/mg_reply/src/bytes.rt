@@ -8,19 +8,20 @@ use std::marker::Model;
 /// bytes.
 #[derive(Drop)]
 pub struct Bytes {
-    text: Vec<u8>,
-    size: usize,
+    /// As many bytes as there is room for in all, of which the first are the text.
+    bytes: Vec<u8>,
+    len: usize,
 }
 
 impl Model for Bytes {
-    ghost use Rattle.std.specs.Prelude.{◌-◌, ◌≤◌, vec_len, vec_capacity};
+    ghost use Rattle.std.specs.Prelude.{◌-◌, ◌≤◌, length, take};
     ghost use Rattle.mg_reply.specs.Bytes.{Written};
 
     ghost Value = { Written };
 
-    ghost view = { λ b. record { text = b.text.items; room = b.size - vec_len b.text } };
+    ghost view = { λ b. record { text = take b.len b.bytes.items; room = length b.bytes.items - b.len } };
 
-    ghost invariant = { λ b. (vec_len b.text ≤ b.size) × (b.size ≤ vec_capacity b.text) };
+    ghost invariant = { λ b. b.len ≤ length b.bytes.items };
 }
 
 impl Bytes {
@@ -29,8 +30,8 @@ impl Bytes {
         ensures value { IfOk result (λ bytes. bytes ≡ record { text = []; room = room }) }
     {
         Ok(Bytes {
-            text: Vec::with_capacity(alloc, room)?,
-            size: room,
+            bytes: Vec::from_elem(alloc, 0, room)?,
+            len: 0,
         })
     }
 
@@ -38,10 +39,10 @@ impl Bytes {
     pub(crate) fn none_like(other: &Bytes) -> Self
         ensures value { result ≡ record { text = []; room = 0 } }
     {
-        let alloc = *other.text.allocator();
+        let alloc = *other.bytes.allocator();
         Bytes {
-            text: Vec::new(alloc),
-            size: 0,
+            bytes: Vec::new(alloc),
+            len: 0,
         }
     }
 
@@ -49,29 +50,31 @@ impl Bytes {
     pub fn as_slice(&self) -> &[u8]
         ensures value { result.now ≡ self.now.text }
     {
-        self.text.as_slice()
+        &self.bytes[..self.len]
     }
 
     /// How many more bytes there is room for.
     pub fn room(&self) -> usize
         ensures value { result ≡ self.now.room }
     {
-        self.size - self.text.len()
+        self.bytes.len() - self.len
     }
 
-    /// Puts a part behind the text.
+    /// Puts a part after the text.
     pub fn push(&mut self, part: &[u8])
         requires fits { length part.now ≤ self.old.room }
         ensures value { self.new ≡ appended self.old part.now }
     {
-        self.text.extend_from_slice(part).unwrap();
+        let end = self.len + part.len();
+        self.bytes[self.len..end].copy_from_slice(part);
+        self.len = end;
     }
 
     /// Empties the text, and gives its room back.
     pub fn clear(&mut self)
         ensures value { self.new ≡ record { text = []; room = self.old.room + length self.old.text } }
     {
-        self.text.clear();
+        self.len = 0;
     }
 
     /// Takes the text back to its first bytes.
@@ -79,6 +82,6 @@ impl Bytes {
         requires within { len ≤ length self.old.text }
         ensures value { self.new ≡ cut_to len self.old }
     {
-        self.text.truncate(len);
+        self.len = len;
     }
 }

@@ -1,4 +1,4 @@
-use crate::mode::Mode;
+use mg_words::Mode;
 
 /// What a LocalControl descriptor tells of a stream (RFC 3525, section 7.1.7).
 #[derive(Clone, Copy, Debug, PartialEq, Eq)]

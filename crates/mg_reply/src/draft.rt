@@ -1,14 +1,13 @@
 ghost use Rattle.std.specs.Prelude.{◌≡◌, ◌≤◌, [], length, Some, ℕ, List};
-ghost use Rattle.mg_reply.specs.Draft.{drafted, closed};
+ghost use Rattle.mg_words.specs.Limits.{reply_limit};
+ghost use Rattle.mg_reply.specs.aids.Draft.{drafted, closed};
 
 use crate::bytes::Bytes;
+use mg_words::REPLY_LIMIT;
 use std::marker::Model;
 use std::mem;
 
-/// The bytes of the longest reply that is written.
-pub const REPLY_LIMIT: usize = 16000;
-
-/// A reply that is being written behind a text: its text so far, or that it grew too long.
+/// A reply that is being written after a text: its text so far, or that it grew too long.
 #[derive(Drop)]
 pub struct Draft {
     bytes: Bytes,
@@ -19,7 +18,7 @@ pub struct Draft {
 
 impl Model for Draft {
     ghost use Rattle.std.specs.Prelude.{◌+◌, ◌-◌, length, take, drop};
-    ghost use Rattle.mg_reply.specs.Draft.{Drafted, text_of, IsDraft};
+    ghost use Rattle.mg_reply.specs.aids.Draft.{Drafted, text_of, IsDraft};
 
     ghost Value = { Drafted };
 
@@ -29,9 +28,9 @@ impl Model for Draft {
 }
 
 impl Draft {
-    /// Begins a reply behind the text of some bytes, which the draft holds until it is closed.
+    /// Begins a reply after the text of some bytes, which the draft holds until it is closed.
     pub fn begin(bytes: &mut Bytes) -> Self
-        requires room { REPLY_LIMIT ≤ bytes.old.room }
+        requires room { reply_limit ≤ bytes.old.room }
         ensures value { result ≡ record { front = bytes.old.text; room = bytes.old.room; text = Some [] } }
     {
         let empty = Bytes::none_like(bytes);
@@ -45,8 +44,8 @@ impl Draft {
         }
     }
 
-    /// Puts a part behind the reply, unless it grows too long by it.
-    #[tactic(auto, unfolding(crate::specs::Draft::drafted))]
+    /// Puts a part after the reply, unless it grows too long by it.
+    #[tactic(auto, unfolding(crate::specs::aids::Draft::drafted))]
     pub fn put(&mut self, part: &[u8])
         ensures value { self.new ≡ drafted self.old part.now }
     {

@@ -1,13 +1,9 @@
 ghost use Rattle.std.specs.Prelude.{◌≡◌};
 ghost use Rattle.mg_reply.specs.Entries.{is_of, action_id};
 
-use crate::association::Association;
-use crate::command_word::CommandWord;
-use crate::context_id::ContextId;
 use crate::entry_kind::EntryKind;
-use crate::error_number::ErrorNumber;
 use crate::outcome::Outcome;
-use crate::term::Term;
+use mg_words::{Association, CommandWord, ContextId, ErrorNumber, Term};
 
 /// A part of a reply.
 #[derive(Drop)]

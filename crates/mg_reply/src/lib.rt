@@ -11,49 +11,37 @@
 //! assert!(rt; write_reply(&reply, &mut text).is_ok());
 //! ```
 //!
-//! The end of an action is put behind the items that it owns, in whatever order they come: they are written as the
+//! The end of an action is put after the items that it owns, in whatever order they come: they are written as the
 //! topology, the commands and the errors. A reply that is one [`Item::Fault`] alone refuses the whole request. One with
 //! more items than it has room for, and one whose text would be longer than 16,000 bytes, is told so by
 //! [`write_reply`], which then writes nothing. [`theorems`] has what holds of replies as a whole.
 #![tactic(auto)]
 
 mod action_writing;
-mod association;
 mod bytes;
-mod command_word;
-mod context_id;
 mod control;
 mod draft;
 mod entry_kind;
-mod error_number;
 mod item;
 mod media;
-mod mode;
 mod outcome;
 mod parts_writing;
 mod reply;
-mod statistics;
-mod term;
 #[cfg(test)]
 mod tests;
 pub mod theorems;
 mod writing;
 
-pub use crate::association::Association;
 pub use crate::bytes::Bytes;
-pub use crate::command_word::CommandWord;
-pub use crate::context_id::ContextId;
 pub use crate::control::Control;
-pub use crate::draft::REPLY_LIMIT;
-pub use crate::error_number::ErrorNumber;
 pub use crate::item::Item;
 pub use crate::media::Media;
-pub use crate::mode::Mode;
 pub use crate::outcome::{Outcome, Parts};
 pub use crate::reply::{ITEM_LIMIT, Reply};
-pub use crate::statistics::Statistics;
-pub use crate::term::{TERM_LIMIT, Term};
 pub use crate::writing::{
-    ERROR_LIMIT, HEAD_LIMIT, TooLong, write_address, write_error, write_head, write_port,
-    write_reply,
+    HEAD_LIMIT, TooLong, write_address, write_error, write_head, write_port, write_reply,
+};
+pub use mg_words::{
+    Association, CommandWord, ContextId, ERROR_LIMIT, ErrorNumber, Mode, REPLY_LIMIT, Stats,
+    TERM_LIMIT, Term,
 };

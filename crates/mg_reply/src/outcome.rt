@@ -1,12 +1,11 @@
-use crate::error_number::ErrorNumber;
 use crate::media::Media;
-use crate::statistics::Statistics;
+use mg_words::{ErrorNumber, Stats};
 
 /// What a command that was done tells of its termination. The default tells nothing.
 #[derive(Clone, Copy, Debug, Default, PartialEq, Eq)]
 pub struct Parts {
     pub media: Option<Media>,
-    pub statistics: Option<Statistics>,
+    pub statistics: Option<Stats>,
 }
 
 /// How a command came out.

@@ -1,5 +1,5 @@
 ghost use Rattle.std.specs.Prelude.{◌≡◌, codes, decimal};
-ghost use Rattle.mg_reply.specs.Draft.{drafted};
+ghost use Rattle.mg_reply.specs.aids.Draft.{drafted};
 ghost use Rattle.mg_reply.specs.Listed.{listed, grouped};
 ghost use Rattle.mg_reply.specs.Media.{control_text, local_text, remote_text, optional, media_text, statistics_text, parts_of, stream_parts};
 
@@ -7,9 +7,9 @@ use crate::control::Control;
 use crate::draft::Draft;
 use crate::media::Media;
 use crate::outcome::Parts;
-use crate::statistics::Statistics;
 use itoa::Buffer;
 use mg_sdp::{Chosen, write_local, write_remote};
+use mg_words::Stats;
 
 /// A number in plain decimal.
 pub(crate) fn put_number(draft: &mut Draft, n: u64)
@@ -49,7 +49,7 @@ fn put_remote(draft: &mut Draft, chosen: &Chosen)
     draft.put(b"}");
 }
 
-/// A Local behind another part, if it is there.
+/// A Local after another part, if it is there.
 #[tactic(auto, using(crate::proofs::DraftLaws::joins), unfolding(crate::specs::Listed::listed))]
 fn put_next_local(draft: &mut Draft, local: Option<Chosen>)
     ensures value { draft.new ≡ drafted draft.old (listed (codes ",") (optional local_text local)) }
@@ -63,7 +63,7 @@ fn put_next_local(draft: &mut Draft, local: Option<Chosen>)
     }
 }
 
-/// A Remote behind another part, if it is there.
+/// A Remote after another part, if it is there.
 #[tactic(auto, using(crate::proofs::DraftLaws::joins), unfolding(crate::specs::Listed::listed))]
 fn put_next_remote(draft: &mut Draft, remote: Option<Chosen>)
     ensures value { draft.new ≡ drafted draft.old (listed (codes ",") (optional remote_text remote)) }
@@ -118,17 +118,17 @@ fn put_media(draft: &mut Draft, media: Media)
 }
 
 #[tactic(auto, using(crate::proofs::DraftLaws::joins), unfolding(crate::specs::Media::statistics_text))]
-fn put_statistics(draft: &mut Draft, statistics: Statistics)
+fn put_statistics(draft: &mut Draft, statistics: Stats)
     ensures value { draft.new ≡ drafted draft.old (statistics_text statistics) }
 {
     draft.put(b"Statistics{rtp/ps=");
-    put_number(draft, statistics.packets_sent);
+    put_number(draft, statistics.ps);
     draft.put(b",rtp/pr=");
-    put_number(draft, statistics.packets_received);
+    put_number(draft, statistics.pr);
     draft.put(b",nt/os=");
-    put_number(draft, statistics.octets_sent);
+    put_number(draft, statistics.os);
     draft.put(b",nt/or=");
-    put_number(draft, statistics.octets_received);
+    put_number(draft, statistics.or_);
     draft.put(b"}");
 }
 

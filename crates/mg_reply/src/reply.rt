@@ -56,7 +56,7 @@ impl Reply {
         self.is_long = false;
     }
 
-    /// Puts an item behind the others. One that finds no room is dropped, and the reply is marked as too
+    /// Puts an item after the others. One that finds no room is dropped, and the reply is marked as too
     /// long.
     #[tactic(auto, using(crate::proofs::ReplyLaws::last_items))]
     pub fn put(&mut self, item: Item)

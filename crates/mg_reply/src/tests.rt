@@ -2,7 +2,7 @@ ghost use Rattle.std.specs.Prelude.{◌≤◌};
 
 use crate::{
     Association, Bytes, CommandWord, ContextId, Control, ErrorNumber, Item, Media, Mode, Outcome,
-    Parts, Reply, Statistics, Term, TooLong, write_error, write_head, write_reply,
+    Parts, Reply, Stats, Term, TooLong, write_error, write_head, write_reply,
 };
 use mg_g711::Law;
 use mg_sdp::Chosen;
@@ -57,11 +57,11 @@ fn writes_an_audit(rt: HostRuntime) -> Result<(), Fail> {
                 law: Law::A,
             }),
         }),
-        statistics: Some(Statistics {
-            packets_sent: 1,
-            packets_received: 2,
-            octets_sent: 160,
-            octets_received: u64::MAX,
+        statistics: Some(Stats {
+            ps: 1,
+            pr: 2,
+            os: 160,
+            or_: u64::MAX,
         }),
     };
     reply.put(Item::Command(
@@ -192,7 +192,7 @@ fn writes_up_to_the_limit(rt: HostRuntime) -> Result<(), Fail> {
 }
 
 #[test]
-fn writes_an_error_behind_a_head(rt: HostRuntime) -> Result<(), Fail> {
+fn writes_an_error_after_a_head(rt: HostRuntime) -> Result<(), Fail> {
     let mut text = Bytes::new(rt.alloc(), 97)?;
     write_head([10, 0, 0, 255], 2944, &mut text);
     write_error(ErrorNumber::Syntax, &mut text);

@@ -2,9 +2,16 @@
 //!
 //! The calls change nothing: their contracts are the theorems. A caller whose proof needs one makes the call.
 
-ghost use Rattle.mg_reply.specs.Theorems.{NoProperPrefix};
+ghost use Rattle.mg_reply.specs.Theorems.{NoProperPrefix, TextAlone, AllThere};
 
 /// No reply's text is a proper prefix of another reply's text.
 pub fn no_proper_prefix()
     ensures prefix { NoProperPrefix }
+{}
+
+/// A reply is too long by the text of all items that were put alone, whether or not they found room, where each of
+/// them has at least 10 bytes with its comma.
+pub fn too_long_by_text_alone()
+    ensures law { TextAlone }
+    ensures kept { AllThere }
 {}

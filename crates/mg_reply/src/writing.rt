@@ -1,19 +1,20 @@
 ghost use Rattle.std.specs.Prelude.{◌≡◌, ◌≤◌, ◌||◌, ◌++◌, nat_lt, length, OnOk, OnErr, is_err, codes, decimal};
-ghost use Rattle.mg_sdp.specs.Written.{address_text};
+ghost use Rattle.mg_words.specs.Address.{address_text};
+ghost use Rattle.mg_words.specs.Limits.{reply_limit};
 ghost use Rattle.mg_reply.specs.Bytes.{appended};
-ghost use Rattle.mg_reply.specs.Draft.{drafted};
-ghost use Rattle.mg_reply.specs.ErrorNumber.{error_text};
+ghost use Rattle.mg_reply.specs.aids.Draft.{drafted};
+ghost use Rattle.mg_words.specs.ErrorNumber.{error_text};
 ghost use Rattle.mg_reply.specs.Reply.{IsWhole};
 ghost use Rattle.mg_reply.specs.Written.{head_text, items_text, reply_text};
 
 use crate::action_writing::put_actions;
 use crate::bytes::Bytes;
-use crate::draft::{Draft, REPLY_LIMIT};
-use crate::error_number::ErrorNumber;
+use crate::draft::Draft;
 use crate::item::Item;
 use crate::parts_writing::put_number;
 use crate::reply::Reply;
 use itoa::Buffer;
+use mg_words::{ErrorNumber, address_text};
 
 /// A reply's text would be longer than 16,000 bytes.
 #[derive(Clone, Copy, Debug, PartialEq, Eq)]
@@ -22,18 +23,6 @@ pub struct TooLong;
 /// The bytes of the longest head.
 pub const HEAD_LIMIT: usize = 33;
 
-/// The bytes of the longest error.
-pub const ERROR_LIMIT: usize = 64;
-
-/// Writes a number in plain decimal.
-fn push_decimal(n: u16, out: &mut Bytes)
-    requires room { length (decimal n) ≤ out.old.room }
-    ensures value { out.new ≡ appended out.old (decimal n) }
-{
-    let mut buffer = Buffer::new();
-    out.push(buffer.format(n).as_bytes());
-}
-
 /// Writes a port in plain decimal, which takes at most 5 bytes.
 #[tactic(auto, using(crate::proofs::WrittenLaws::lengths))]
 pub fn write_port(port: u16, out: &mut Bytes)
@@ -41,32 +30,25 @@ pub fn write_port(port: u16, out: &mut Bytes)
     ensures value { out.new ≡ appended out.old (decimal port) }
     ensures short { length (decimal port) ≤ 5 }
 {
-    push_decimal(port, out);
+    let mut buffer = Buffer::new();
+    out.push(buffer.format(port).as_bytes());
 }
 
 /// Writes an IPv4 address in plain decimal, which takes at most 15 bytes.
-#[tactic(auto, using(crate::proofs::WrittenLaws::lengths))]
 pub fn write_address(address: [u8; 4], out: &mut Bytes)
     requires room { 15 ≤ out.old.room }
     ensures value { out.new ≡ appended out.old (address_text address) }
     ensures short { length (address_text address) ≤ 15 }
 {
-    let [a, b, c, d] = address;
-    push_decimal(u16::from(a), out);
-    out.push(b".");
-    push_decimal(u16::from(b), out);
-    out.push(b".");
-    push_decimal(u16::from(c), out);
-    out.push(b".");
-    push_decimal(u16::from(d), out);
+    out.push(address_text(address).as_slice());
 }
 
 /// Writes the head of a message from the gateway at this address and port, which takes at most 33 bytes.
 #[tactic(auto, using(crate::proofs::WrittenLaws::lengths))]
 pub fn write_head(address: [u8; 4], port: u16, out: &mut Bytes)
-    requires room { HEAD_LIMIT ≤ out.old.room }
+    requires room { 33 ≤ out.old.room }
     ensures value { out.new ≡ appended out.old (head_text address port) }
-    ensures short { length (head_text address port) ≤ HEAD_LIMIT }
+    ensures short { length (head_text address port) ≤ 33 }
 {
     out.push(b"MEGACO/1 [");
     write_address(address, out);
@@ -78,11 +60,11 @@ pub fn write_head(address: [u8; 4], port: u16, out: &mut Bytes)
 /// Writes an error: its number and its text, which take at most 64 bytes.
 #[tactic(auto, using(crate::proofs::WrittenLaws::lengths))]
 pub fn write_error(number: ErrorNumber, out: &mut Bytes)
-    requires room { ERROR_LIMIT ≤ out.old.room }
+    requires room { 64 ≤ out.old.room }
     ensures value { out.new ≡ appended out.old (error_text number) }
-    ensures short { length (error_text number) ≤ ERROR_LIMIT }
+    ensures short { length (error_text number) ≤ 64 }
 {
-    out.push(number.descriptor().as_bytes());
+    out.push(number.descriptor().as_slice());
 }
 
 #[tactic(auto, using(crate::proofs::DraftLaws::joins))]
@@ -90,7 +72,7 @@ fn put_items(draft: &mut Draft, items: &[Item])
     ensures value { draft.new ≡ drafted draft.old (items_text items.now) }
 {
     match items {
-        [Item::Fault(number)] => draft.put(number.descriptor().as_bytes()),
+        [Item::Fault(number)] => draft.put(number.descriptor().as_slice()),
         _ => put_actions(draft, items),
     }
 }
@@ -106,15 +88,15 @@ fn put_reply(draft: &mut Draft, number: u32, items: &[Item])
     draft.put(b"}");
 }
 
-/// Writes the text of a reply behind what stands in `out`. Where the reply was marked, or its text is longer
+/// Writes the text of a reply after what stands in `out`. Where the reply was marked, or its text is longer
 /// than 16,000 bytes, nothing is written.
-#[tactic(auto, unfolding(crate::specs::Draft::drafted))]
+#[tactic(auto, unfolding(crate::specs::aids::Draft::drafted))]
 pub fn write_reply(reply: &Reply, out: &mut Bytes) -> Result<(), TooLong>
-    requires room { REPLY_LIMIT ≤ out.old.room }
+    requires room { reply_limit ≤ out.old.room }
     requires whole { IsWhole reply.now }
     ensures ok { OnOk result (out.new ≡ appended out.old (reply_text reply.now.number reply.now.items)) }
     ensures too_long { is_err result ≡ (reply.now.is_long
-        || nat_lt REPLY_LIMIT (length (reply_text reply.now.number reply.now.items))) }
+        || nat_lt reply_limit (length (reply_text reply.now.number reply.now.items))) }
     ensures err { OnErr result (out.new ≡ out.old) }
 {
     if reply.is_long() {

@@ -5,16 +5,16 @@ use Rattle.std.proofs.lemmas.Option.{get_or_from_slice_get, slice_get_past, slic
 use Rattle.mg_rooms.specs.declared.tables.Tables.TheInside.{Inside}
 use Rattle.mg_rooms.specs.declared.record.Record.{Record}
 use Rattle.mg_rooms.specs.declared.context.Context.{Context}
-use Rattle.mg_rooms.specs.declared.refusal.Refusal.TheVariants.{NoContextLeft}
+use Rattle.mg_words.specs.declared.error_number.ErrorNumber.TheVariants.{NoContextLeft}
 use Rattle.std.proofs.lemmas.Bool.{cases_Bool, eqb-true, lt-ltb, le-ltb, le-leb, lt-leb}
-use Rattle.mg_rooms.specs.Order.{in_order, has_key, passes_at}
+use Rattle.mg_rooms.specs.aids.Order.{in_order, has_key, passes_at}
 use Rattle.mg_rooms.specs.Changes.{change, with_members}
-use Rattle.mg_rooms.specs.Entries.{entered_entry, left_entry}
+use Rattle.mg_rooms.specs.aids.Entries.{entered_entry, left_entry}
 use Rattle.mg_rooms.specs.Members.{without}
 use Rattle.mg_rooms.specs.Outcome.{new_context}
-use Rattle.mg_rooms.specs.declared.limits.TheConstants.{CONTEXTS, MEMBERS, LAST_CONTEXT}
-use Rattle.mg_rooms.specs.Tables.{IsKept, IsTable, world_of}
-use Rattle.mg_rooms.specs.World.{World, members_of, record_at, context_at, free_slot, free_room}
+use Rattle.mg_words.specs.declared.limits.TheConstants.{CONTEXTS, MEMBERS, LAST_CONTEXT}
+use Rattle.mg_rooms.specs.aids.Tables.{IsKept, IsTable, world_of}
+use Rattle.mg_rooms.specs.Registry.{Registry, members_of, record_at, context_at, free_slot, free_room}
 use Rattle.mg_rooms.proofs.OrderLaws.{any-in_order, KeepsKey, change_at, change_none, found_key, in_order-push, length-in_order_room, length-in_order_full, find-in_order, first_at_zero}
 use Rattle.mg_rooms.proofs.TableLaws.{lookup_some, lookup_none, free-in_order, find_spot, entry_at, empty_place, IsTable-set}
 
@@ -117,17 +117,17 @@ removed_is t n s found =
 pub removed_kept : (next size : ℕ) (t : List (Option Record)) (s : ℕ) → AreSlots next size t → AreSlots next size (set t s None)
 removed_kept next size t s h = IsTable-set (λ x. x.number) (λ x. x.slot) next next size t s None (omega arith) tt h
 
-abbrev pub with_terminations : World → List Record → World
+abbrev pub with_terminations : Registry → List Record → Registry
 with_terminations w rs = record w { terminations = rs }
 
-abbrev pub with_contexts : World → List Context → World
+abbrev pub with_contexts : Registry → List Context → Registry
 with_contexts w xs = record w { contexts = xs }
 
 -- with one more made
-abbrev pub with_more : World → List Record → World
+abbrev pub with_more : Registry → List Record → Registry
 with_more w rs = record w { terminations = rs; next_termination = w.next_termination + 1 }
 
-abbrev pub with_made : World → List Context → World
+abbrev pub with_made : Registry → List Context → Registry
 with_made w xs = record w { contexts = xs; next_context = w.next_context + 1 }
 
 pub unchanged_termination : (a : Inside) (n : ℕ) (f : Record → Option Record) → None ≡ position_from (has_key (λ r. r.number) n) 0 a.slots.items → world_of a ≡ record (world_of a) { terminations = change (λ r. r.number) n f ((world_of a).terminations) }

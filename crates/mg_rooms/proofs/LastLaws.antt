@@ -7,31 +7,31 @@ use Rattle.mg_rooms.specs.declared.place.Place.{Place}
 use Rattle.mg_rooms.specs.declared.done.Done.{Done}
 use Rattle.mg_rooms.specs.declared.settings.Settings.{Settings}
 use Rattle.mg_rooms.specs.declared.target.Target.{Target}
-use Rattle.mg_rooms.specs.declared.refusal.Refusal.{Refusal}
+use Rattle.mg_words.specs.declared.error_number.ErrorNumber.{ErrorNumber}
 use Rattle.mg_rooms.specs.Results.{passes}
 use Rattle.mg_rooms.specs.Record.{fresh, at_place, with_settings, done}
 use Rattle.mg_rooms.specs.Members.{without}
 use Rattle.mg_rooms.specs.Changes.{inserted, replaced, removed, entered_at, entered, left, with_members}
-use Rattle.mg_rooms.specs.World.{World, record_at, context_at}
+use Rattle.mg_rooms.specs.Registry.{Registry, record_at, context_at}
 use Rattle.mg_rooms.specs.Outcome.{named, may_enter, is_number, member, new_slot, new_place, add, modify, move_to, subtract}
-use Rattle.mg_rooms.specs.Sound.{IsTermination, AreContexts, IsSound}
+use Rattle.mg_rooms.specs.Consistent.{IsTermination, AreContexts, IsConsistent}
 use Rattle.mg_rooms.specs.Lasting.{Lasts, LeavesOthers}
 use Rattle.mg_rooms.proofs.OrderLaws.{KeepsKey}
 use Rattle.mg_rooms.proofs.CountLaws.{all-found, find-push_some, find-push_other, find-change_other, find-change_same}
-use Rattle.mg_rooms.proofs.SoundLaws.{context_there, other_context, ok_done, bind_ok, passes_ok, ok_or_ok, ok_world, found_number, member_found, HasSettings, with_settings_ok, IsOpen, new_place_ok, entered_ok}
+use Rattle.mg_rooms.proofs.ConsistentLaws.{context_there, other_context, ok_done, bind_ok, passes_ok, ok_or_ok, ok_world, found_number, member_found, HasSettings, with_settings_ok, IsOpen, new_place_ok, entered_ok}
 
 -- ## Terminations
 
-pub record_inserted : (w : World) (r : Record) (m : ℕ) → (r.number == m) ≡ false → record_at (inserted w r) m ≡ record_at w m
+pub record_inserted : (w : Registry) (r : Record) (m : ℕ) → (r.number == m) ≡ false → record_at (inserted w r) m ≡ record_at w m
 record_inserted w r m ne = find-push_other (λ x. x.number == m) w.terminations r ne
 
-pub record_replaced : (w : World) (r : Record) (m : ℕ) → (r.number == m) ≡ false → record_at (replaced w r) m ≡ record_at w m
+pub record_replaced : (w : Registry) (r : Record) (m : ℕ) → (r.number == m) ≡ false → record_at (replaced w r) m ≡ record_at w m
 record_replaced w r m ne = find-change_other (λ x. x.number) r.number m (λ _. Some r) w.terminations (λ x e. sym (eqb-true x.number r.number e)) ne
 
-pub record_removed : (w : World) (n m : ℕ) → (n == m) ≡ false → record_at (removed w n) m ≡ record_at w m
+pub record_removed : (w : Registry) (n m : ℕ) → (n == m) ≡ false → record_at (removed w n) m ≡ record_at w m
 record_removed w n m ne = find-change_other (λ x. x.number) n m (λ _. None) w.terminations (λ x e. tt) ne
 
-pub own_replaced : (w : World) (r old : Record) → IsSound w → record_at w r.number ≡ Some old → record_at (replaced w r) r.number ≡ Some r
+pub own_replaced : (w : Registry) (r old : Record) → IsConsistent w → record_at w r.number ≡ Some old → record_at (replaced w r) r.number ≡ Some r
 own_replaced w r old h found =
     find-change_same (λ x. x.number) r.number (λ _. Some r) w.terminations (λ x e. sym (eqb-true x.number r.number e)) (h.terminations.one_number r.number)
     ∙ ap (option_and_then (λ (_ : Record). Some r)) found
@@ -39,7 +39,7 @@ own_replaced w r old h found =
 abbrev nothing : Record → Option Record
 nothing r = None
 
-pub own_removed : (w : World) (n : ℕ) → IsSound w → record_at (removed w n) n ≡ None
+pub own_removed : (w : Registry) (n : ℕ) → IsConsistent w → record_at (removed w n) n ≡ None
 own_removed w n h =
     find-change_same (λ x. x.number) n (λ _. None) w.terminations (λ x e. tt) (h.terminations.one_number n)
     ∙ gone (record_at w n)
@@ -48,16 +48,16 @@ own_removed w n h =
     gone None = refl
     gone (Some x) = refl
 
-entered_terminations : (w : World) (place : Place) (n : ℕ) (made : Option ℕ) → (entered_at w place n made).terminations ≡ w.terminations
+entered_terminations : (w : Registry) (place : Place) (n : ℕ) (made : Option ℕ) → (entered_at w place n made).terminations ≡ w.terminations
 entered_terminations w place n None = refl
 entered_terminations w place n (Some room) = refl
 
-pub record_entered : (w : World) (place : Place) (n : ℕ) (made : Option ℕ) (m : ℕ) → record_at (entered_at w place n made) m ≡ record_at w m
+pub record_entered : (w : Registry) (place : Place) (n : ℕ) (made : Option ℕ) (m : ℕ) → record_at (entered_at w place n made) m ≡ record_at w m
 record_entered w place n made m = ap (λ (rs : List Record). find (λ x. x.number == m) rs) (entered_terminations w place n made)
 
 -- ## Contexts
 
-pub context_entered : (w : World) (place : Place) (n : ℕ) (made : Option ℕ) (c : ℕ) → (place.context == c) ≡ false → context_at (entered_at w place n made) c ≡ context_at w c
+pub context_entered : (w : Registry) (place : Place) (n : ℕ) (made : Option ℕ) (c : ℕ) → (place.context == c) ≡ false → context_at (entered_at w place n made) c ≡ context_at w c
 context_entered w place n None c ne = find-change_other (λ x. x.number) place.context c (λ x. Some (record x { members = x.members ++ (n ∷ []) })) w.contexts (λ x e. refl) ne
 context_entered w place n (Some room) c ne = find-push_other (λ x. x.number == c) w.contexts (record { number = place.context; room = room; members = n ∷ [] }) ne
 
@@ -68,11 +68,11 @@ left_keeps c n = λ x e. at x (without n x.members)
     at x [] = tt
     at x (m ∷ ms) = refl
 
-pub context_left : (w : World) (d n c : ℕ) → (d == c) ≡ false → context_at (left w d n) c ≡ context_at w c
+pub context_left : (w : Registry) (d n c : ℕ) → (d == c) ≡ false → context_at (left w d n) c ≡ context_at w c
 context_left w d n c ne = find-change_other (λ x. x.number) d c (λ x. with_members x (without n x.members)) w.contexts (left_keeps d n) ne
 
 -- a context that is there stays so when a termination enters, with its room
-pub room_entered : (w : World) (place : Place) (n : ℕ) (made : Option ℕ) (c : ℕ) (x : Context) → AreContexts w.limits w.next_context w.contexts → IsOpen w place.context made → context_at w c ≡ Some x → (y : Context) × (context_at (entered_at w place n made) c ≡ Some y) × (y.room ≡ x.room)
+pub room_entered : (w : Registry) (place : Place) (n : ℕ) (made : Option ℕ) (c : ℕ) (x : Context) → AreContexts w.limits w.next_context w.contexts → IsOpen w place.context made → context_at w c ≡ Some x → (y : Context) × (context_at (entered_at w place n made) c ≡ Some y) × (y.room ≡ x.room)
 room_entered w place n (Some room) c x h opens found = (x, find-push_some (λ y. y.number == c) w.contexts (record { number = place.context; room = room; members = n ∷ [] }) x found, refl)
 room_entered w place n None c x h opens found =
     elim (cases_Bool (place.context == c)) [
@@ -86,7 +86,7 @@ room_entered w place n None c x h opens found =
     ]
 
 -- a context keeps its room when a termination leaves
-pub room_left : (w : World) (d n c : ℕ) (x y : Context) → AreContexts w.limits w.next_context w.contexts → context_at w c ≡ Some x → context_at (left w d n) c ≡ Some y → y.room ≡ x.room
+pub room_left : (w : Registry) (d n c : ℕ) (x y : Context) → AreContexts w.limits w.next_context w.contexts → context_at w c ≡ Some x → context_at (left w d n) c ≡ Some y → y.room ≡ x.room
 room_left w d n c x y h found after =
     elim (cases_Bool (d == c)) [
       | inl e ↦
@@ -106,19 +106,19 @@ room_left w d n c x y h found after =
     at [] both = absurd (cc)
     at (m ∷ ms) both = let same : record x { members = m ∷ ms } ≡ y = cc in ap (λ (z : Context). z.room) (sym same)
 
-same_room : (w after : World) (c : ℕ) (x y : Context) → context_at after c ≡ context_at w c → context_at w c ≡ Some x → context_at after c ≡ Some y → y.room ≡ x.room
+same_room : (w after : Registry) (c : ℕ) (x y : Context) → context_at after c ≡ context_at w c → context_at w c ≡ Some x → context_at after c ≡ Some y → y.room ≡ x.room
 same_room w after c x y is found later =
     let both : Some x ≡ Some y = sym found ∙ sym is ∙ later in
     let same : x ≡ y = cc in
     ap (λ (z : Context). z.room) (sym same)
 
-same_record : (w after : World) (n : ℕ) (r s : Record) → record_at after n ≡ record_at w n → record_at w n ≡ Some r → record_at after n ≡ Some s → s ≡ r
+same_record : (w after : Registry) (n : ℕ) (r s : Record) → record_at after n ≡ record_at w n → record_at w n ≡ Some r → record_at after n ≡ Some s → s ≡ r
 same_record w after n r s is found later =
     let both : Some r ≡ Some s = sym found ∙ sym is ∙ later in
     let same : r ≡ s = cc in
     sym same
 
-pub nothing_done : (w : World) → Lasts w w
+pub nothing_done : (w : Registry) → Lasts w w
 nothing_done w = record {
   slot = λ n r s a b. ap (λ (x : Record). x.slot) (same_record w w n r s refl a b);
   seat = λ n r s a b _. ap (λ (x : Record). x.seat) (same_record w w n r s refl a b);
@@ -128,14 +128,14 @@ nothing_done w = record {
 -- ## Outcomes
 
 -- what is there has another number than what is made next
-old_number : (w : World) (n : ℕ) (r : Record) → IsSound w → record_at w n ≡ Some r → (w.next_termination == n) ≡ false
+old_number : (w : Registry) (n : ℕ) (r : Record) → IsConsistent w → record_at w n ≡ Some r → (w.next_termination == n) ≡ false
 old_number w n r h found =
     let is = all-found (IsTermination w.limits w.next_termination) (λ x. x.number == n) w.terminations r h.terminations.each found in
     let below = is.below in
     let number = found_number w n r found in
     ne_eqb w.next_termination n (λ q. omega arith)
 
-pub add_lasts : (w after : World) (target : Target) (settings : Settings) (d : Done) → IsSound w → add w target settings ≡ Ok (after, d) → Lasts w after × LeavesOthers w after d.termination d.context d.context
+pub add_lasts : (w after : Registry) (target : Target) (settings : Settings) (d : Done) → IsConsistent w → add w target settings ≡ Ok (after, d) → Lasts w after × LeavesOthers w after d.termination d.context d.context
 unfolding add
 add_lasts w after target settings d h outcome =
     let (u, may, later) = bind_ok (may_enter w target) _ (after, d) outcome in
@@ -146,7 +146,7 @@ add_lasts w after target settings d h outcome =
     let made = ok_done (entered (inserted w r) place r.number, done r) (after, d) last in
     let has = with_settings_ok w.limits settings (fresh w.next_termination slot place) r set in
     let opens = (new_place_ok w target u place may free).0 in
-    subst (λ (p : World × Done). Lasts w p.0 × LeavesOthers w p.0 p.1.termination p.1.context p.1.context) made (lasts r place has opens, leaves r place has)
+    subst (λ (p : Registry × Done). Lasts w p.0 × LeavesOthers w p.0 p.1.termination p.1.context p.1.context) made (lasts r place has opens, leaves r place has)
   where
     same : (r : Record) (place : Place) (m : ℕ) → (r.number == m) ≡ false → record_at (entered (inserted w r) place r.number) m ≡ record_at w m
     same r place m ne = record_entered (inserted w r) place r.number place.made m ∙ record_inserted w r m ne
@@ -168,7 +168,7 @@ add_lasts w after target settings d h outcome =
       context = λ e ne _. context_entered (inserted w r) place r.number place.made e (ne_eqb place.context e (λ q. ne (sym q ∙ sym has.context)));
     }
 
-pub modify_lasts : (w after : World) (target : Target) (n : ℕ) (settings : Settings) (d : Done) → IsSound w → modify w target n settings ≡ Ok (after, d) → Lasts w after × LeavesOthers w after n d.context d.context
+pub modify_lasts : (w after : Registry) (target : Target) (n : ℕ) (settings : Settings) (d : Done) → IsConsistent w → modify w target n settings ≡ Ok (after, d) → Lasts w after × LeavesOthers w after n d.context d.context
 unfolding modify
 modify_lasts w after target n settings d h outcome =
     let (old, found, later) = bind_ok (member w target n) _ (after, d) outcome in
@@ -176,7 +176,7 @@ modify_lasts w after target n settings d h outcome =
     let is = ok_world (replaced w r) after (done r) d last in
     let at = member_found w target n old found in
     let has = with_settings_ok w.limits settings old r set in
-    subst (λ (v : World). Lasts w v × LeavesOthers w v n d.context d.context) is (lasts old r at has, leaves old r at has)
+    subst (λ (v : Registry). Lasts w v × LeavesOthers w v n d.context d.context) is (lasts old r at has, leaves old r at has)
   where
     number : (old r : Record) → record_at w n ≡ Some old → HasSettings old r → r.number ≡ n
     number old r at has = has.number ∙ found_number w n old at
@@ -213,13 +213,13 @@ modify_lasts w after target n settings d h outcome =
       context = λ e a b. refl;
     }
 
-pub subtract_lasts : (w after : World) (target : Target) (n : ℕ) (d : Done) → IsSound w → subtract w target n ≡ Ok (after, d) → Lasts w after × LeavesOthers w after n d.context d.context
+pub subtract_lasts : (w after : Registry) (target : Target) (n : ℕ) (d : Done) → IsConsistent w → subtract w target n ≡ Ok (after, d) → Lasts w after × LeavesOthers w after n d.context d.context
 unfolding subtract
 subtract_lasts w after target n d h outcome =
     let (old, found, last) = bind_ok (member w target n) _ (after, d) outcome in
     let made = ok_done (left (removed w old.number) old.context old.number, done old) (after, d) last in
     let at = member_found w target n old found in
-    subst (λ (p : World × Done). Lasts w p.0 × LeavesOthers w p.0 n p.1.context p.1.context) made (lasts old at, leaves old at)
+    subst (λ (p : Registry × Done). Lasts w p.0 × LeavesOthers w p.0 n p.1.context p.1.context) made (lasts old at, leaves old at)
   where
     gone : (old : Record) → record_at w n ≡ Some old → record_at (removed w old.number) n ≡ None
     gone old at = subst (λ (k : ℕ). record_at (removed w old.number) k ≡ None) (found_number w n old at) (own_removed w old.number h)
@@ -250,24 +250,24 @@ subtract_lasts w after target n d h outcome =
       context = λ e ne _. context_left (removed w old.number) old.context old.number e (ne_eqb old.context e (λ q. ne (sym q)));
     }
 
-pub move_lasts : (w after : World) (target : Target) (n : ℕ) (settings : Settings) (d : Done) (old : Record) → IsSound w → record_at w n ≡ Some old → move_to w target n settings ≡ Ok (after, d) → Lasts w after × LeavesOthers w after n old.context d.context
+pub move_lasts : (w after : Registry) (target : Target) (n : ℕ) (settings : Settings) (d : Done) (old : Record) → IsConsistent w → record_at w n ≡ Some old → move_to w target n settings ≡ Ok (after, d) → Lasts w after × LeavesOthers w after n old.context d.context
 unfolding move_to
 move_lasts w after target n settings d from h at outcome =
     let (old, found, later) = bind_ok (named w n) _ (after, d) outcome in
-    let (v, other, some) = bind_ok (passes (not (is_number target old.context)) Refusal.AlreadyInContext) _ (after, d) later in
+    let (v, other, some) = bind_ok (passes (not (is_number target old.context)) ErrorNumber.AlreadyInContext) _ (after, d) later in
     let (u, may, more) = bind_ok (may_enter w target) _ (after, d) some in
     let (place, free, rest) = bind_ok (new_place w target) _ (after, d) more in
     let (r, set, last) = bind_ok (with_settings w.limits settings (at_place old place)) _ (after, d) rest in
     let made = ok_done (left (entered (replaced w r) place r.number) old.context r.number, done r) (after, d) last in
     let has = with_settings_ok w.limits settings (at_place old place) r set in
     let opens = (new_place_ok w target u place may free).0 in
-    let there = ok_or_ok (record_at w n) Refusal.UnknownTermination old found in
-    let elsewhere : is_number target old.context ≡ false = not-true (is_number target old.context) (passes_ok (not (is_number target old.context)) Refusal.AlreadyInContext v other) in
+    let there = ok_or_ok (record_at w n) ErrorNumber.UnknownTermination old found in
+    let elsewhere : is_number target old.context ≡ false = not-true (is_number target old.context) (passes_ok (not (is_number target old.context)) ErrorNumber.AlreadyInContext v other) in
     let differ = other_context w target place old.context free (context_there w n old h there) elsewhere in
     let both : Some old ≡ Some from = sym there ∙ at in
     let is : old ≡ from = cc in
     subst (λ (x : Record). Lasts w after × LeavesOthers w after n x.context d.context) is
-    (subst (λ (p : World × Done). Lasts w p.0 × LeavesOthers w p.0 n old.context p.1.context) made (lasts old place r there has opens differ, leaves old place r there has))
+    (subst (λ (p : Registry × Done). Lasts w p.0 × LeavesOthers w p.0 n old.context p.1.context) made (lasts old place r there has opens differ, leaves old place r there has))
   where
     number : (old : Record) (place : Place) (r : Record) → record_at w n ≡ Some old → HasSettings (at_place old place) r → r.number ≡ n
     number old place r there has = has.number ∙ found_number w n old there
@@ -318,13 +318,13 @@ move_lasts w after target n settings d from h at outcome =
           ∙ context_entered (replaced w r) place r.number place.made e (ne_eqb place.context e (λ q. not_new (sym q ∙ sym has.context)));
     }
 
-moved_there : (w after : World) (target : Target) (n : ℕ) (settings : Settings) (d : Done) → move_to w target n settings ≡ Ok (after, d) → (old : Record) × (record_at w n ≡ Some old)
+moved_there : (w after : Registry) (target : Target) (n : ℕ) (settings : Settings) (d : Done) → move_to w target n settings ≡ Ok (after, d) → (old : Record) × (record_at w n ≡ Some old)
 unfolding move_to
 moved_there w after target n settings d outcome =
     let (old, found, later) = bind_ok (named w n) _ (after, d) outcome in
-    (old, ok_or_ok (record_at w n) Refusal.UnknownTermination old found)
+    (old, ok_or_ok (record_at w n) ErrorNumber.UnknownTermination old found)
 
-pub move_keeps : (w after : World) (target : Target) (n : ℕ) (settings : Settings) (d : Done) → IsSound w → move_to w target n settings ≡ Ok (after, d) → Lasts w after
+pub move_keeps : (w after : Registry) (target : Target) (n : ℕ) (settings : Settings) (d : Done) → IsConsistent w → move_to w target n settings ≡ Ok (after, d) → Lasts w after
 move_keeps w after target n settings d h outcome =
     let (old, there) = moved_there w after target n settings d outcome in
     (move_lasts w after target n settings d old h there outcome).0

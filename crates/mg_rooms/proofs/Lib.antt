@@ -1,8 +1,9 @@
 pub mod OrderLaws
 pub mod TableLaws
+pub mod HeldLaws
 pub mod MemberLaws
 pub mod CallLaws
-pub mod WorldLaws
+pub mod RegistryLaws
 pub mod SeatLaws
 pub mod SettingsLaws
 pub mod CountLaws
@@ -12,4 +13,4 @@ pub mod LastLaws
 pub mod StateLaws
 pub mod RoomsLaws
 pub mod Rows
-pub mod SoundLaws
+pub mod ConsistentLaws

@@ -6,8 +6,8 @@ use Rattle.mg_rooms.specs.declared.record.Record.{Record}
 use Rattle.mg_rooms.specs.declared.context.Context.{Context}
 use Rattle.mg_rooms.specs.declared.limits.Limits.{Limits}
 use Rattle.mg_rooms.specs.Changes.{change}
-use Rattle.mg_rooms.specs.World.{members_of}
-use Rattle.mg_rooms.specs.Sound.{IsTermination, AreTerminations, IsContext, AreContexts}
+use Rattle.mg_rooms.specs.Registry.{members_of}
+use Rattle.mg_rooms.specs.Consistent.{IsTermination, AreTerminations, IsContext, AreContexts}
 use Rattle.mg_rooms.proofs.OrderLaws.{found_key, KeepsKey, change_none}
 use Rattle.mg_rooms.proofs.CountLaws.{one, one-false, one-le, count-cons, count-push, count-zero, count-change, count-change_some, count-change_none, all-push, all-map, all-change, all-found, find-push_some, find-push_none, find-change_other, find-change_same}
 

@@ -2,29 +2,29 @@
 use Rattle.std.specs.Prelude.{◌≡◌, ℕ, List, [], ◌∷◌, ◌++◌, Option, Some, None, Result, Ok, Err, refl, replicate}
 use Rattle.mg_rooms.specs.declared.target.Target.{Target}
 use Rattle.mg_rooms.specs.declared.target.Target.TheVariants.{Null, New, Number}
-use Rattle.mg_rooms.specs.declared.refusal.Refusal.{Refusal}
-use Rattle.mg_rooms.specs.declared.refusal.Refusal.TheVariants.{UnknownContext, NoContextLeft, UnknownTermination, NoTerminationLeft, AlreadyInContext, ContextFull, NotInContext, NoMedia}
-use Rattle.mg_rooms.specs.declared.mode.Mode.TheVariants.{SendOnly}
+use Rattle.mg_words.specs.declared.error_number.ErrorNumber.{ErrorNumber}
+use Rattle.mg_words.specs.declared.error_number.ErrorNumber.TheVariants.{UnknownContext, NoContextLeft, UnknownTermination, NoTerminationLeft, AlreadyInContext, ContextFull, NotInContext, NoMedia}
+use Rattle.mg_words.specs.declared.mode.Mode.TheVariants.{SendOnly}
 use Rattle.mg_rooms.specs.declared.media_setting.MediaSetting.TheVariants.{Offer as Offered}
 use Rattle.mg_rooms.specs.declared.settings.Settings.{Settings}
 use Rattle.mg_rooms.specs.declared.limits.Limits.{Limits}
 use Rattle.mg_rooms.specs.declared.record.Record.{Record}
 use Rattle.mg_rooms.specs.declared.done.Done.{Done}
-use Rattle.mg_rooms.specs.World.{World, start_of, record_at, context_at, members_at}
+use Rattle.mg_rooms.specs.Registry.{Registry, start_of, record_at, context_at, members_at}
 use Rattle.mg_rooms.specs.Outcome.{add, modify, move_to, subtract}
 
 abbrev limits : ℕ → ℕ → ℕ → Limits
 limits slots first_termination first_context = record { address = 127 ∷ 0 ∷ 0 ∷ 1 ∷ []; base_port = 30000; slots = slots; first_termination = first_termination; first_context = first_context }
 
 -- a gateway with so many slots
-abbrev with_slots : ℕ → World
+abbrev with_slots : ℕ → Registry
 with_slots slots = start_of (limits slots 1 1)
 
 abbrev no_settings : Settings
 no_settings = record { mode = None; depth = None; local = None; remote = None }
 
 abbrev Command : Type 0
-Command = World → Result (World × Done) Refusal
+Command = Registry → Result (Registry × Done) ErrorNumber
 
 abbrev adds : Target → Command
 adds target w = add w target no_settings
@@ -38,21 +38,21 @@ moves target n w = move_to w target n no_settings
 abbrev subtracts : Target → ℕ → Command
 subtracts target n w = subtract w target n
 
-abbrev after : World → Result (World × Done) Refusal → World
+abbrev after : Registry → Result (Registry × Done) ErrorNumber → Registry
 after w (Ok (next, done)) = next
 after w (Err refusal) = w
 
 -- the world after commands, of which each that is refused changes nothing
-abbrev run : List Command → World → World
+abbrev run : List Command → Registry → Registry
 run [] w = w
 run (command ∷ commands) w = run commands (after w (command w))
 
-abbrev answer_of : Result (World × Done) Refusal → Result (ℕ × ℕ) Refusal
+abbrev answer_of : Result (Registry × Done) ErrorNumber → Result (ℕ × ℕ) ErrorNumber
 answer_of (Ok (next, done)) = Ok (done.context, done.termination)
 answer_of (Err refusal) = Err refusal
 
 -- the context and the termination, or the refusal, of each command
-abbrev answers : List Command → World → List (Result (ℕ × ℕ) Refusal)
+abbrev answers : List Command → Registry → List (Result (ℕ × ℕ) ErrorNumber)
 answers [] w = []
 answers (command ∷ commands) w = answer_of (command w) ∷ answers commands (after w (command w))
 

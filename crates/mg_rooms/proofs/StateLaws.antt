@@ -4,27 +4,27 @@ use Rattle.std.specs.List.{count_by, list_any}
 use Rattle.std.proofs.lemmas.Bool.{cases_Bool, eqb-true, eq-eqb, and_parts, and_from, or_right, or_left, cases_lt, lt-ltb, le-ltb, le-leb, lt-leb, leb-false}
 use Rattle.mg_rooms.specs.declared.record.Record.{Record}
 use Rattle.mg_rooms.specs.declared.context.Context.{Context}
-use Rattle.mg_rooms.specs.declared.limits.TheConstants.{CONTEXTS, MEMBERS, LAST_TERMINATION, LAST_CONTEXT}
-use Rattle.mg_rooms.specs.declared.refusal.Refusal.TheVariants.{ContextFull, NoContextLeft, NoTerminationLeft}
+use Rattle.mg_words.specs.declared.limits.TheConstants.{CONTEXTS, MEMBERS, LAST_TERMINATION, LAST_CONTEXT}
+use Rattle.mg_words.specs.declared.error_number.ErrorNumber.TheVariants.{ContextFull, NoContextLeft, NoTerminationLeft}
 use Rattle.mg_rooms.specs.Outcome.{new_slot, new_seat, new_context}
 use Rattle.mg_rooms.specs.declared.place.Place.{Place}
-use Rattle.mg_rooms.specs.declared.refusal.Refusal.{Refusal}
-use Rattle.mg_rooms.specs.World.{World, record_at, context_at, members_of, members_at, free_seat, free_room, IsMember, free_slot}
-use Rattle.mg_rooms.specs.Sound.{IsTermination, IsContext, IsSound}
+use Rattle.mg_words.specs.declared.error_number.ErrorNumber.{ErrorNumber}
+use Rattle.mg_rooms.specs.Registry.{Registry, record_at, context_at, members_of, members_at, free_seat, free_room, IsMember, free_slot}
+use Rattle.mg_rooms.specs.Consistent.{IsTermination, IsContext, IsConsistent}
 use Rattle.mg_rooms.proofs.OrderLaws.{found_key}
 use Rattle.mg_rooms.proofs.CountLaws.{one-true, one-false, count-cons, count-found, count-weaker, same_found, all-found}
-use Rattle.mg_rooms.proofs.SoundLaws.{found_number}
+use Rattle.mg_rooms.proofs.ConsistentLaws.{found_number}
 use Rattle.mg_rooms.proofs.SeatLaws.{seat_left}
 
-found_context : (w : World) (c : ℕ) (x : Context) → context_at w c ≡ Some x → x.number ≡ c
+found_context : (w : Registry) (c : ℕ) (x : Context) → context_at w c ≡ Some x → x.number ≡ c
 found_context w c x h = eqb-true x.number c (found_key (λ y. y.number == c) w.contexts x h)
 
-pub same_slot : (w : World) (a b : ℕ) (r s : Record) → IsSound w → record_at w a ≡ Some r → record_at w b ≡ Some s → r.slot ≡ s.slot → a ≡ b
+pub same_slot : (w : Registry) (a b : ℕ) (r s : Record) → IsConsistent w → record_at w a ≡ Some r → record_at w b ≡ Some s → r.slot ≡ s.slot → a ≡ b
 same_slot w a b r s h at_a at_b slot =
     let same = same_found (λ x. x.slot == s.slot) (λ x. x.number == a) (λ x. x.number == b) w.terminations r s at_a at_b (eq-eqb r.slot s.slot slot) (eq-eqb s.slot s.slot refl) (h.terminations.one_slot s.slot) in
     sym (found_number w a r at_a) ∙ ap (λ (x : Record). x.number) same ∙ found_number w b s at_b
 
-pub same_seat : (w : World) (a b : ℕ) (r s : Record) → IsSound w → record_at w a ≡ Some r → record_at w b ≡ Some s → r.context ≡ s.context → r.seat ≡ s.seat → a ≡ b
+pub same_seat : (w : Registry) (a b : ℕ) (r s : Record) → IsConsistent w → record_at w a ≡ Some r → record_at w b ≡ Some s → r.context ≡ s.context → r.seat ≡ s.seat → a ≡ b
 same_seat w a b r s h at_a at_b context seat =
     let same = same_found (λ x. (x.context == s.context) && (x.seat == s.seat)) (λ x. x.number == a) (λ x. x.number == b) w.terminations r s at_a at_b
     (and_from (r.context == s.context) (r.seat == s.seat) (eq-eqb r.context s.context context) (eq-eqb r.seat s.seat seat))
@@ -32,15 +32,15 @@ same_seat w a b r s h at_a at_b context seat =
     (h.terminations.one_seat s.context s.seat) in
     sym (found_number w a r at_a) ∙ ap (λ (x : Record). x.number) same ∙ found_number w b s at_b
 
-pub same_room : (w : World) (c d : ℕ) (x y : Context) → IsSound w → context_at w c ≡ Some x → context_at w d ≡ Some y → x.room ≡ y.room → c ≡ d
+pub same_room : (w : Registry) (c d : ℕ) (x y : Context) → IsConsistent w → context_at w c ≡ Some x → context_at w d ≡ Some y → x.room ≡ y.room → c ≡ d
 same_room w c d x y h at_c at_d room =
     let same = same_found (λ z. z.room == y.room) (λ z. z.number == c) (λ z. z.number == d) w.contexts x y at_c at_d (eq-eqb x.room y.room room) (eq-eqb y.room y.room refl) (h.contexts.one_room y.room) in
     sym (found_context w c x at_c) ∙ ap (λ (z : Context). z.number) same ∙ found_context w d y at_d
 
-pub termination_within : (w : World) (n : ℕ) (r : Record) → IsSound w → record_at w n ≡ Some r → (r.number ≡ n) × IsTermination w.limits w.next_termination r
+pub termination_within : (w : Registry) (n : ℕ) (r : Record) → IsConsistent w → record_at w n ≡ Some r → (r.number ≡ n) × IsTermination w.limits w.next_termination r
 termination_within w n r h found = (found_number w n r found, all-found (IsTermination w.limits w.next_termination) (λ x. x.number == n) w.terminations r h.terminations.each found)
 
-pub context_within : (w : World) (c : ℕ) (x : Context) → IsSound w → context_at w c ≡ Some x → (x.number ≡ c) × IsContext w.limits w.next_context x
+pub context_within : (w : Registry) (c : ℕ) (x : Context) → IsConsistent w → context_at w c ≡ Some x → (x.number ≡ c) × IsContext w.limits w.next_context x
 context_within w c x h found = (found_context w c x found, all-found (IsContext w.limits w.next_context) (λ y. y.number == c) w.contexts x h.contexts.each found)
 
 -- what is counted is found
@@ -79,7 +79,7 @@ counted_any p (x ∷ xs) h =
       | inr e ↦ let later : list_any p xs ≡ true = rw e at h in let rest = counted_any p xs later in omega arith
     ]
 
-pub members_in : (w : World) (c n : ℕ) → IsSound w → IsTrue (list_any (λ m. m == n) (members_at w c)) ↔ IsMember w c n
+pub members_in : (w : Registry) (c n : ℕ) → IsConsistent w → IsTrue (list_any (λ m. m == n) (members_at w c)) ↔ IsMember w c n
 members_in w c n h = (λ any. there (counted_any (λ m. m == n) (members_at w c) any), λ (r, found, is). listed r found is)
   where
     there : 1 ≤ count_by (λ m. m == n) (members_at w c) → IsMember w c n
@@ -98,14 +98,14 @@ members_in w c n h = (λ any. there (counted_any (λ m. m == n) (members_at w c)
         let more = count-found (λ (x : Record). (x.context == c) && (x.number == n)) (λ x. x.number == n) w.terminations r found (and_from (r.context == c) (r.number == n) (eq-eqb r.context c is) (eq-eqb r.number n (found_number w n r found))) in
         any_counted (λ m. m == n) (members_at w c) (omega arith)
 
-pub members_once : (w : World) (c n : ℕ) → IsSound w → count_by (λ m. m == n) (members_at w c) ≤ 1
+pub members_once : (w : Registry) (c n : ℕ) → IsConsistent w → count_by (λ m. m == n) (members_at w c) ≤ 1
 members_once w c n h =
     let same = h.agree.same c n in
     let few = count-weaker (λ (x : Record). (x.context == c) && (x.number == n)) (λ x. x.number == n) w.terminations (λ x e. (and_parts (x.context == c) (x.number == n) e).1) in
     let one_at_most = h.terminations.one_number n in
     omega arith
 
-pub is_in_a_context : (w : World) (n : ℕ) (r : Record) → IsSound w → record_at w n ≡ Some r → IsSome (context_at w r.context)
+pub is_in_a_context : (w : Registry) (n : ℕ) (r : Record) → IsConsistent w → record_at w n ≡ Some r → IsSome (context_at w r.context)
 is_in_a_context w n r h found =
     at (context_at w r.context) refl (h.agree.as_many r.context) (count-found (λ x. x.context == r.context) (λ x. x.number == n) w.terminations r found (eq-eqb r.context r.context refl))
   where
@@ -116,7 +116,7 @@ is_in_a_context w n r h found =
         absurd (omega arith)
     at (Some x) is many more = rw is refl
 
-pub seat_is_free : (w : World) (c : ℕ) → IsSound w → length (members_at w c) < MEMBERS → IsSome (free_seat w c)
+pub seat_is_free : (w : Registry) (c : ℕ) → IsConsistent w → length (members_at w c) < MEMBERS → IsSome (free_seat w c)
 seat_is_free w c h few =
     let many = h.agree.as_many c in
     seat_left (λ r. r.context == c) (λ r. r.seat) MEMBERS w.terminations (omega arith)
@@ -125,7 +125,7 @@ count_all : {A : Type 0} (xs : List A) → count_by (λ _. true) xs ≡ length x
 count_all [] = refl
 count_all (x ∷ xs) = let step = count-cons (λ _. true) x xs in let rest = count_all xs in omega arith
 
-pub room_is_free : (w : World) → IsSound w → length w.contexts < CONTEXTS → IsSome (free_room w)
+pub room_is_free : (w : Registry) → IsConsistent w → length w.contexts < CONTEXTS → IsSome (free_room w)
 room_is_free w h few =
     let many = count_all w.contexts in
     seat_left (λ _. true) (λ x. x.room) CONTEXTS w.contexts (omega arith)
@@ -133,14 +133,14 @@ room_is_free w h few =
 -- ## What is used up
 
 -- two answers are the same
-abbrev Is : Result Place Refusal → Result Place Refusal → Type 0
+abbrev Is : Result Place ErrorNumber → Result Place ErrorNumber → Type 0
 Is a b = a ≡ b
 
 -- a place is no refusal
-apart : (place : Place) (refusal : Refusal) → Is (Ok place) (Err refusal) → ⊥
+apart : (place : Place) (refusal : ErrorNumber) → Is (Ok place) (Err refusal) → ⊥
 apart place refusal h = absurd (cc)
 
-pub slot_used_up : (w : World) → (new_slot w ≡ Err NoTerminationLeft) ↔ ((free_slot w ≡ None) ⊎ (LAST_TERMINATION < w.next_termination))
+pub slot_used_up : (w : Registry) → (new_slot w ≡ Err NoTerminationLeft) ↔ ((free_slot w ≡ None) ⊎ (LAST_TERMINATION < w.next_termination))
 slot_used_up w = (told, λ why. elim why [ inl none ↦ no_slot none | inr late ↦ no_number late ])
   where
     none_left : (o : Option ℕ) → ok_or o NoTerminationLeft ≡ Err NoTerminationLeft → o ≡ None
@@ -166,7 +166,7 @@ slot_used_up w = (told, λ why. elim why [ inl none ↦ no_slot none | inr late 
     no_number : LAST_TERMINATION < w.next_termination → new_slot w ≡ Err NoTerminationLeft
     no_number late = let is : nat_le w.next_termination LAST_TERMINATION ≡ false = lt-leb w.next_termination LAST_TERMINATION late in rw is refl
 
-pub seat_used_up : (w : World) (c : ℕ) → IsSound w → (new_seat w c ≡ Err ContextFull) ↔ (MEMBERS ≤ length (members_at w c))
+pub seat_used_up : (w : Registry) (c : ℕ) → IsConsistent w → (new_seat w c ≡ Err ContextFull) ↔ (MEMBERS ≤ length (members_at w c))
 seat_used_up w c h = (told, full)
   where
     given : (o : Option ℕ) → free_seat w c ≡ o → IsSome o → nat_lt (length (members_at w c)) MEMBERS ≡ true → new_seat w c ≡ Err ContextFull → ⊥
@@ -185,7 +185,7 @@ seat_used_up w c h = (told, full)
     full : MEMBERS ≤ length (members_at w c) → new_seat w c ≡ Err ContextFull
     full many = let is : nat_lt (length (members_at w c)) MEMBERS ≡ false = le-ltb (length (members_at w c)) MEMBERS many in rw is refl
 
-pub context_used_up : (w : World) → IsSound w → (new_context w ≡ Err NoContextLeft) ↔ ((CONTEXTS ≤ length w.contexts) ⊎ (LAST_CONTEXT < w.next_context))
+pub context_used_up : (w : Registry) → IsConsistent w → (new_context w ≡ Err NoContextLeft) ↔ ((CONTEXTS ≤ length w.contexts) ⊎ (LAST_CONTEXT < w.next_context))
 context_used_up w h = (told, λ why. elim why [ inl many ↦ full many | inr late ↦ no_number late ])
   where
     given : (o : Option ℕ) → free_room w ≡ o → IsSome o → nat_lt (length w.contexts) CONTEXTS ≡ true → nat_le w.next_context LAST_CONTEXT ≡ true → new_context w ≡ Err NoContextLeft → ⊥

@@ -2,12 +2,12 @@
 use Rattle.std.proofs.Common.{◌≡◌, ℕ, nat_le, get_or, zero, suc, ◌+◌, ◌<◌, ◌≤◌, ◌⊎◌, Bool, true, false, not, cond, List, [], ◌∷◌, length, Option, Some, None, refl, sym, ◌∙◌, ap, subst, arith, inl, inr, set, replicate, ◌==◌, slice_get, find, is_none, IfSome}
 use Rattle.std.proofs.lemmas.Bool.{cases_Bool, eq-eqb, ne_eqb, true≢false}
 use Rattle.std.specs.List.{list_any, position_from, range_with_len}
-use Rattle.mg_rooms.specs.Order.{in_order, has_key, passes_at}
-use Rattle.mg_rooms.specs.Tables.{IsTable}
+use Rattle.mg_rooms.specs.aids.Order.{in_order, has_key, passes_at}
+use Rattle.mg_rooms.specs.aids.Tables.{IsTable}
 use Rattle.std.proofs.lemmas.Bool.{or_parts}
 use Rattle.std.proofs.lemmas.List.{length-replicate, length-set}
 use Rattle.std.proofs.lemmas.Option.{get_or_from_slice_get}
-use Rattle.mg_rooms.specs.Order.{place}
+use Rattle.mg_rooms.specs.aids.Order.{place}
 use Rattle.mg_rooms.proofs.OrderLaws.{any-in_order, find-in_order, find-in_order_none, first_at_zero, length-in_order_room}
 
 -- a place of a table holds an entry

@@ -1,10 +1,11 @@
 -- How a command changes the terminations and contexts.
-use Rattle.std.specs.Prelude.{ℕ, ◌+◌, List, [], ◌∷◌, ◌++◌, Option, Some, None, ◌==◌, if◌then◌else◌, option_to_list}
+use Rattle.std.specs.Prelude.{ℕ, ◌+◌, List, [], ◌∷◌, ◌++◌, Option, Some, None, ◌==◌, if◌then◌else◌}
+use Rattle.std.specs.Prelude.{option_to_list}
 use Rattle.mg_rooms.specs.declared.record.Record.{Record}
 use Rattle.mg_rooms.specs.declared.context.Context.{Context}
 use Rattle.mg_rooms.specs.declared.place.Place.{Place}
 use Rattle.mg_rooms.specs.Members.{without}
-use Rattle.mg_rooms.specs.World.{World}
+use Rattle.mg_rooms.specs.Registry.{Registry}
 
 -- the first with the key n becomes f of it, or goes
 abbrev pub change : {A : Type 0} → (A → ℕ) → ℕ → (A → Option A) → List A → List A
@@ -14,33 +15,43 @@ change key n f (x ∷ xs) = if key x == n then option_to_list (f x) ++ xs else x
 -- ## Terminations
 
 -- r is made, and the next number is above its own
-abbrev pub inserted : World → Record → World
-inserted w r = record w { terminations = w.terminations ++ r ∷ []; next_termination = w.next_termination + 1 }
+abbrev pub inserted : Registry → Record → Registry
+inserted w r =
+    record w { terminations = w.terminations ++ r ∷ []; next_termination = w.next_termination + 1 }
 
 -- the termination with the number of r is r from now on
-abbrev pub replaced : World → Record → World
-replaced w r = record w { terminations = change (λ x. x.number) r.number (λ _. Some r) w.terminations }
+abbrev pub replaced : Registry → Record → Registry
+replaced w r =
+    record w { terminations = change (λ x. x.number) r.number (λ _. Some r) w.terminations }
 
 -- n is there no longer
-abbrev pub removed : World → ℕ → World
+abbrev pub removed : Registry → ℕ → Registry
 removed w n = record w { terminations = change (λ x. x.number) n (λ _. None) w.terminations }
 
 -- ## Contexts
 
 -- a context is made in a room, with its first member
-abbrev pub made : World → ℕ → ℕ → ℕ → World
-made w c room n = record w { contexts = w.contexts ++ record { number = c; room = room; members = n ∷ [] } ∷ []; next_context = w.next_context + 1 }
+abbrev pub made : Registry → ℕ → ℕ → ℕ → Registry
+made w c room n =
+    record w {
+      contexts = w.contexts ++ record { number = c; room = room; members = n ∷ [] } ∷ [];
+      next_context = w.next_context + 1;
+    }
 
--- n enters the context c, behind the other members
-abbrev pub joined : World → ℕ → ℕ → World
-joined w c n = record w { contexts = change (λ x. x.number) c (λ x. Some (record x { members = x.members ++ n ∷ [] })) w.contexts }
+-- n enters the context c, after the other members
+abbrev pub joined : Registry → ℕ → ℕ → Registry
+joined w c n =
+    record w {
+      contexts = change (λ x. x.number) c
+          (λ x. Some (record x { members = x.members ++ n ∷ [] })) w.contexts;
+    }
 
 -- n enters, into a context that is made for it or one that is there
-abbrev pub entered_at : World → Place → ℕ → Option ℕ → World
+abbrev pub entered_at : Registry → Place → ℕ → Option ℕ → Registry
 entered_at w place n (Some room) = made w place.context room n
 entered_at w place n None = joined w place.context n
 
-abbrev pub entered : World → Place → ℕ → World
+abbrev pub entered : Registry → Place → ℕ → Registry
 entered w place n = entered_at w place n place.made
 
 -- a context with these members, where there is one
@@ -49,5 +60,9 @@ with_members x [] = None
 with_members x (m ∷ ms) = Some (record x { members = m ∷ ms })
 
 -- n leaves the context c, which ends with its last member
-abbrev pub left : World → ℕ → ℕ → World
-left w c n = record w { contexts = change (λ x. x.number) c (λ x. with_members x (without n x.members)) w.contexts }
+abbrev pub left : Registry → ℕ → ℕ → Registry
+left w c n =
+    record w {
+      contexts = change (λ x. x.number) c
+          (λ x. with_members x (without n x.members)) w.contexts;
+    }

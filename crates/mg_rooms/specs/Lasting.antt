@@ -2,15 +2,19 @@
 use Rattle.std.specs.Prelude.{◌≡◌, ◌≢◌, ℕ, Some}
 use Rattle.mg_rooms.specs.declared.record.Record.{Record}
 use Rattle.mg_rooms.specs.declared.context.Context.{Context}
-use Rattle.mg_rooms.specs.World.{World, record_at, context_at}
+use Rattle.mg_rooms.specs.Registry.{Registry, record_at, context_at}
 
--- a termination keeps its slot, a member its seat and a context its room, for as long as each is there
-pub record Lasts (w after : World) : Type 0 where
-  pub slot : (n : ℕ) (r s : Record) → record_at w n ≡ Some r → record_at after n ≡ Some s → s.slot ≡ r.slot
-  pub seat : (n : ℕ) (r s : Record) → record_at w n ≡ Some r → record_at after n ≡ Some s → s.context ≡ r.context → s.seat ≡ r.seat
-  pub room : (c : ℕ) (x y : Context) → context_at w c ≡ Some x → context_at after c ≡ Some y → y.room ≡ x.room
+-- a termination keeps its slot, a member its seat and a context its room, for as long as each is
+-- there
+pub record Lasts (w after : Registry) : Type 0 where
+  pub slot : (n : ℕ) (r s : Record) → record_at w n ≡ Some r → record_at after n ≡ Some s → s.slot
+      ≡ r.slot
+  pub seat : (n : ℕ) (r s : Record) → record_at w n ≡ Some r → record_at after n ≡ Some s
+      → s.context ≡ r.context → s.seat ≡ r.seat
+  pub room : (c : ℕ) (x y : Context) → context_at w c ≡ Some x → context_at after c ≡ Some y
+      → y.room ≡ x.room
 
 -- no termination but n changes, and no context but c and d, its members and their order included
-pub record LeavesOthers (w after : World) (n c d : ℕ) : Type 0 where
+pub record LeavesOthers (w after : Registry) (n c d : ℕ) : Type 0 where
   pub termination : (m : ℕ) → m ≢ n → record_at after m ≡ record_at w m
   pub context : (e : ℕ) → e ≢ c → e ≢ d → context_at after e ≡ context_at w e

@@ -1,38 +1,42 @@
--- The outcome of a command on one termination (RFC 3525, sections 7.2.1 to 7.2.4): the refusal of the first check that
--- fails, or the world after the command with what it was done on. The order of the checks is this project's own:
--- the termination, the action's context, what is used up, the media.
-use Rattle.std.specs.Prelude.{◌≡◌, ℕ, Bool, false, not, ◌&&◌, length, Some, None, Result, Ok, Err, ◌==◌, nat_lt, ok_or}
+-- The outcome of a command on one termination (RFC 3525, sections 7.2.1 to 7.2.4): the refusal of
+-- the first check that fails, or the world after the command with what it was done on. The order of
+-- the checks is this project's own: the termination, the action's context, what is used up, the
+-- media.
+use Rattle.std.specs.Prelude.{◌≡◌, ℕ, Bool, false, not, ◌&&◌, length, Some, None, Result, Ok, Err}
+use Rattle.std.specs.Prelude.{◌==◌, nat_lt, ok_or}
 use Rattle.mg_rooms.specs.declared.record.Record.{Record}
 use Rattle.mg_rooms.specs.declared.place.Place.{Place}
 use Rattle.mg_rooms.specs.declared.done.Done.{Done}
 use Rattle.mg_rooms.specs.declared.settings.Settings.{Settings}
 use Rattle.mg_rooms.specs.declared.target.Target.{Target}
 use Rattle.mg_rooms.specs.declared.target.Target.TheVariants as targets
-use Rattle.mg_rooms.specs.declared.refusal.Refusal.{Refusal}
-use Rattle.mg_rooms.specs.declared.refusal.Refusal.TheVariants as refusals
-use Rattle.mg_rooms.specs.Limits.{most_contexts, most_members}
-use Rattle.mg_rooms.specs.Results.{◌>>=◌, passes}
-use Rattle.mg_rooms.specs.World.{World, record_at, context_at, members_at, free_slot, free_room, free_seat, has_termination_left, has_context_left}
+use Rattle.mg_words.specs.declared.error_number.ErrorNumber.{ErrorNumber}
+use Rattle.mg_words.specs.declared.error_number.ErrorNumber.TheVariants as refusals
+use Rattle.mg_words.specs.Limits.{context_limit, member_limit}
+use Rattle.mg_words.specs.ResultSteps.{◌>>=◌}
+use Rattle.mg_rooms.specs.Results.{passes}
+use Rattle.mg_rooms.specs.Registry.{Registry, record_at, context_at, members_at, free_slot}
+use Rattle.mg_rooms.specs.Registry.{free_room, free_seat, has_termination_left, has_context_left}
 use Rattle.mg_rooms.specs.Record.{fresh, at_place, with_settings, done}
 use Rattle.mg_rooms.specs.Changes.{inserted, replaced, removed, entered, left}
 
 -- ## Checks
 
 -- the termination that a command names
-abbrev pub named : World → ℕ → Result Record Refusal
+abbrev pub named : Registry → ℕ → Result Record ErrorNumber
 named w n = ok_or (record_at w n) refusals.UnknownTermination
 
-abbrev pub there : World → ℕ → Result (Unit {0}) Refusal
+abbrev pub there : Registry → ℕ → Result (Unit {0}) ErrorNumber
 there w c = elim (context_at w c) [ Some x ↦ Ok tt | None ↦ Err refusals.UnknownContext ]
 
 -- a termination may enter a context that is there, or one to be made
-abbrev pub may_enter : World → Target → Result (Unit {0}) Refusal
+abbrev pub may_enter : Registry → Target → Result (Unit {0}) ErrorNumber
 may_enter w targets.Null = Err refusals.UnknownContext
 may_enter w targets.New = Ok tt
 may_enter w (targets.Number c) = there w c
 
 -- a termination may be in a context that is there
-abbrev pub may_have_members : World → Target → Result (Unit {0}) Refusal
+abbrev pub may_have_members : Registry → Target → Result (Unit {0}) ErrorNumber
 may_have_members w targets.Null = Err refusals.NotInContext
 may_have_members w targets.New = Err refusals.UnknownContext
 may_have_members w (targets.Number c) = there w c
@@ -44,7 +48,7 @@ is_number targets.New n = false
 is_number (targets.Number c) n = c == n
 
 -- a member of the action's context
-abbrev pub member : World → Target → ℕ → Result Record Refusal
+abbrev pub member : Registry → Target → ℕ → Result Record ErrorNumber
 member w target n = do
   r ← named w n
   _ ← may_have_members w target
@@ -54,34 +58,34 @@ member w target n = do
 -- ## What may be used up
 
 -- a slot for one more termination
-abbrev pub new_slot : World → Result ℕ Refusal
+abbrev pub new_slot : Registry → Result ℕ ErrorNumber
 new_slot w = do
   _ ← passes (has_termination_left w) refusals.NoTerminationLeft
   ok_or (free_slot w) refusals.NoTerminationLeft
 
 -- a seat in a context that is there; one is free where it has not as many members as it can have
-abbrev pub new_seat : World → ℕ → Result Place Refusal
+abbrev pub new_seat : Registry → ℕ → Result Place ErrorNumber
 new_seat w c = do
-  _ ← passes (nat_lt (length (members_at w c)) most_members) refusals.ContextFull
+  _ ← passes (nat_lt (length (members_at w c)) member_limit) refusals.ContextFull
   seat ← ok_or (free_seat w c) refusals.ContextFull
   Ok (record { context = c; seat = seat; made = None })
 
 -- the first seat of one more context; a room is free where there are not as many as there can be
-abbrev pub new_context : World → Result Place Refusal
+abbrev pub new_context : Registry → Result Place ErrorNumber
 new_context w = do
-  _ ← passes (nat_lt (length w.contexts) most_contexts && has_context_left w) refusals.NoContextLeft
+  _ ← passes (nat_lt (length w.contexts) context_limit && has_context_left w) refusals.NoContextLeft
   room ← ok_or (free_room w) refusals.NoContextLeft
   Ok (record { context = w.next_context; seat = 0; made = Some room })
 
 -- where a termination enters that may enter
-abbrev pub new_place : World → Target → Result Place Refusal
+abbrev pub new_place : Registry → Target → Result Place ErrorNumber
 new_place w targets.Null = Err refusals.UnknownContext
 new_place w targets.New = new_context w
 new_place w (targets.Number c) = new_seat w c
 
 -- ## Outcomes
 
-unfoldable pub add : World → Target → Settings → Result (World × Done) Refusal
+unfoldable pub add : Registry → Target → Settings → Result (Registry × Done) ErrorNumber
 add w target settings = do
   _ ← may_enter w target
   slot ← new_slot w
@@ -89,13 +93,13 @@ add w target settings = do
   r ← with_settings w.limits settings (fresh w.next_termination slot place)
   Ok (entered (inserted w r) place r.number, done r)
 
-unfoldable pub modify : World → Target → ℕ → Settings → Result (World × Done) Refusal
+unfoldable pub modify : Registry → Target → ℕ → Settings → Result (Registry × Done) ErrorNumber
 modify w target n settings = do
   old ← member w target n
   r ← with_settings w.limits settings old
   Ok (replaced w r, done r)
 
-unfoldable pub move_to : World → Target → ℕ → Settings → Result (World × Done) Refusal
+unfoldable pub move_to : Registry → Target → ℕ → Settings → Result (Registry × Done) ErrorNumber
 move_to w target n settings = do
   old ← named w n
   _ ← passes (not (is_number target old.context)) refusals.AlreadyInContext
@@ -104,12 +108,13 @@ move_to w target n settings = do
   r ← with_settings w.limits settings (at_place old place)
   Ok (left (entered (replaced w r) place r.number) old.context r.number, done r)
 
-unfoldable pub subtract : World → Target → ℕ → Result (World × Done) Refusal
+unfoldable pub subtract : Registry → Target → ℕ → Result (Registry × Done) ErrorNumber
 subtract w target n = do
   r ← member w target n
   Ok (left (removed w r.number) r.context r.number, done r)
 
 -- what a call returned and left is the outcome. A refused call changes nothing
-abbrev pub Gives : World → World → Result Done Refusal → Result (World × Done) Refusal → Type 0
+abbrev pub Gives : Registry → Registry → Result Done ErrorNumber
+    → Result (Registry × Done) ErrorNumber → Type 0
 Gives old new (Ok d) outcome = outcome ≡ Ok (new, d)
 Gives old new (Err e) outcome = (outcome ≡ Err e) × (new ≡ old)

@@ -1,30 +1,46 @@
 -- One termination (RFC 3525, section 6.2).
 use Rattle.std.specs.Prelude.{ℕ, None, Result, Ok}
-use Rattle.mg_rooms.specs.declared.mode.Mode.TheVariants.{Inactive}
-use Rattle.mg_rooms.specs.declared.refusal.Refusal.{Refusal}
+use Rattle.mg_words.specs.declared.mode.Mode.TheVariants.{Inactive}
+use Rattle.mg_words.specs.declared.error_number.ErrorNumber.{ErrorNumber}
 use Rattle.mg_rooms.specs.declared.settings.Settings.{Settings}
 use Rattle.mg_rooms.specs.declared.limits.Limits.{Limits}
 use Rattle.mg_rooms.specs.declared.record.Record.{Record}
 use Rattle.mg_rooms.specs.declared.place.Place.{Place}
 use Rattle.mg_rooms.specs.declared.done.Done.{Done}
-use Rattle.mg_rooms.specs.Limits.{port_of}
-use Rattle.mg_rooms.specs.Results.{◌>>=◌}
+use Rattle.mg_rooms.specs.Limits.{slot_port}
+use Rattle.mg_words.specs.Limits.{first_depth}
+use Rattle.mg_words.specs.ResultSteps.{◌>>=◌}
 use Rattle.mg_rooms.specs.Settings.{mode_after, depth_after, local_after, remote_after}
 
 -- as it is made
 abbrev pub fresh : ℕ → ℕ → Place → Record
-fresh number slot place = record { number = number; context = place.context; slot = slot; seat = place.seat; mode = Inactive; depth = 4; local = None; remote = None }
+fresh number slot place =
+    record {
+      number = number;
+      context = place.context;
+      slot = slot;
+      seat = place.seat;
+      mode = Inactive;
+      depth = first_depth;
+      local = None;
+      remote = None;
+    }
 
 -- at another place; all else goes with it
 abbrev pub at_place : Record → Place → Record
 at_place old place = record old { context = place.context; seat = place.seat }
 
 -- with the settings that a command names, or the refusal of its media
-abbrev pub with_settings : Limits → Settings → Record → Result Record Refusal
+abbrev pub with_settings : Limits → Settings → Record → Result Record ErrorNumber
 with_settings limits settings old = do
-  local ← local_after limits.address (port_of limits old.slot) settings.local old.local
+  local ← local_after limits.address (slot_port limits old.slot) settings.local old.local
   remote ← remote_after settings.remote old.remote
-  Ok (record old { mode = mode_after settings.mode old.mode; depth = depth_after settings.depth old.depth; local = local; remote = remote })
+  Ok (record old {
+    mode = mode_after settings.mode old.mode;
+    depth = depth_after settings.depth old.depth;
+    local = local;
+    remote = remote;
+  })
 
 abbrev pub done : Record → Done
 done r = record { context = r.context; termination = r.number }

@@ -1,17 +1,17 @@
 //! What a command changes of terminations and contexts, each step by itself.
 
 ghost use Rattle.std.specs.Prelude.{◌≡◌, ◌<◌, IfSome, Some, true, length};
-ghost use Rattle.mg_rooms.specs.World.{record_at, members_at, free_slot, has_termination_left};
+ghost use Rattle.mg_rooms.specs.Registry.{record_at, members_at, free_slot, has_termination_left};
 ghost use Rattle.mg_rooms.specs.Changes.{inserted, replaced, removed, made, joined, entered, left};
-ghost use Rattle.mg_rooms.specs.Entering.{CanEnter, CanEnterAt};
+ghost use Rattle.mg_rooms.specs.aids.Entering.{CanEnter, CanEnterAt};
 
 use crate::context::Context;
-use crate::entries::{enter_entry, leave_entry, room_of, slot_of};
-use crate::limits::MEMBERS;
+use crate::entries::{enter_entry, leave_entry, room_of, slot_held, slot_of};
 use crate::members::Members;
 use crate::place::Place;
 use crate::record::Record;
 use crate::tables::Tables;
+use mg_words::MEMBERS;
 
 impl Tables {
     /// The number of the termination that is made next.
@@ -37,7 +37,7 @@ impl Tables {
         requires slot { IfSome (record_at self.old changed.number) (λ r. r.slot ≡ changed.slot) }
         ensures value { self.new ≡ replaced self.old changed }
     {
-        if let Some(slot) = slot_of(&self.slots, changed.number) {
+        if let Some(slot) = slot_held(&self.slots, changed.slot, changed.number) {
             self.slots[slot] = Some(changed);
         }
     }

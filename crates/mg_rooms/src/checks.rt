@@ -1,19 +1,18 @@
 //! What a command needs of terminations and contexts. Nothing is changed here.
 
 ghost use Rattle.std.specs.Prelude.{◌≡◌, ◌<◌, true, IfOk, Some};
-ghost use Rattle.mg_rooms.specs.World.{record_at, free_slot, has_termination_left};
+ghost use Rattle.mg_rooms.specs.Registry.{record_at, free_slot, has_termination_left};
 ghost use Rattle.mg_rooms.specs.Record.{with_settings};
 ghost use Rattle.mg_rooms.specs.Outcome.{named, there, may_enter, may_have_members, is_number, member, new_slot, new_seat, new_context, new_place};
-ghost use Rattle.mg_rooms.specs.Entering.{CanEnter};
+ghost use Rattle.mg_rooms.specs.aids.Entering.{CanEnter};
 
 use crate::entries::empty_place;
-use crate::limits::{LAST_CONTEXT, LAST_TERMINATION, MEMBERS};
 use crate::place::Place;
 use crate::record::Record;
-use crate::refusal::Refusal;
 use crate::settings::Settings;
 use crate::tables::Tables;
 use crate::target::Target;
+use mg_words::{ErrorNumber, LAST_CONTEXT, LAST_TERMINATION, MEMBERS};
 
 impl Target {
     /// Whether it is the context with this number.
@@ -29,46 +28,46 @@ impl Target {
 
 impl Tables {
     /// The termination that a command names.
-    pub(crate) fn named(&self, number: u32) -> Result<Record, Refusal>
+    pub(crate) fn named(&self, number: u32) -> Result<Record, ErrorNumber>
         ensures value { result ≡ named self.now number }
         ensures there { IfOk result (λ r. record_at self.now r.number ≡ Some r) }
         ensures slot { IfOk result (λ r. r.slot < self.now.limits.slots) }
     {
-        self.record(number).ok_or(Refusal::UnknownTermination)
+        self.record(number).ok_or(ErrorNumber::UnknownTermination)
     }
 
-    fn there(&self, context: u32) -> Result<(), Refusal>
+    fn there(&self, context: u32) -> Result<(), ErrorNumber>
         ensures value { result ≡ there self.now context }
     {
         match self.room(context) {
             Some(_) => Ok(()),
-            None => Err(Refusal::UnknownContext),
+            None => Err(ErrorNumber::UnknownContext),
         }
     }
 
     /// That a termination may enter the action's context.
-    pub(crate) fn may_enter(&self, target: Target) -> Result<(), Refusal>
+    pub(crate) fn may_enter(&self, target: Target) -> Result<(), ErrorNumber>
         ensures value { result ≡ may_enter self.now target }
     {
         match target {
-            Target::Null => Err(Refusal::UnknownContext),
+            Target::Null => Err(ErrorNumber::UnknownContext),
             Target::New => Ok(()),
             Target::Number(context) => self.there(context),
         }
     }
 
-    fn may_have_members(&self, target: Target) -> Result<(), Refusal>
+    fn may_have_members(&self, target: Target) -> Result<(), ErrorNumber>
         ensures value { result ≡ may_have_members self.now target }
     {
         match target {
-            Target::Null => Err(Refusal::NotInContext),
-            Target::New => Err(Refusal::UnknownContext),
+            Target::Null => Err(ErrorNumber::NotInContext),
+            Target::New => Err(ErrorNumber::UnknownContext),
             Target::Number(context) => self.there(context),
         }
     }
 
     /// A member of the action's context.
-    pub(crate) fn member(&self, target: Target, number: u32) -> Result<Record, Refusal>
+    pub(crate) fn member(&self, target: Target, number: u32) -> Result<Record, ErrorNumber>
         ensures value { result ≡ member self.now target number }
         ensures there { IfOk result (λ r. record_at self.now r.number ≡ Some r) }
         ensures slot { IfOk result (λ r. r.slot < self.now.limits.slots) }
@@ -78,32 +77,32 @@ impl Tables {
         if target.is_number(record.context) {
             Ok(record)
         } else {
-            Err(Refusal::NotInContext)
+            Err(ErrorNumber::NotInContext)
         }
     }
 
     /// The slot of one more termination.
-    pub(crate) fn new_slot(&self) -> Result<u8, Refusal>
+    pub(crate) fn new_slot(&self) -> Result<u8, ErrorNumber>
         ensures value { result ≡ new_slot self.now }
         ensures free { IfOk result (λ slot. free_slot self.now ≡ Some slot) }
         ensures below { IfOk result (λ slot. slot < self.now.limits.slots) }
         ensures left { IfOk result (λ _. has_termination_left self.now ≡ true) }
     {
         if self.next_termination <= u64::from(LAST_TERMINATION) {
-            self.free_slot().ok_or(Refusal::NoTerminationLeft)
+            self.free_slot().ok_or(ErrorNumber::NoTerminationLeft)
         } else {
-            Err(Refusal::NoTerminationLeft)
+            Err(ErrorNumber::NoTerminationLeft)
         }
     }
 
-    fn new_seat(&self, context: u32) -> Result<Place, Refusal>
+    fn new_seat(&self, context: u32) -> Result<Place, ErrorNumber>
         ensures value { result ≡ new_seat self.now context }
         ensures can { IfOk result (CanEnter self.now) }
     {
         if self.members(context).len() >= MEMBERS {
-            return Err(Refusal::ContextFull);
+            return Err(ErrorNumber::ContextFull);
         }
-        let seat = self.free_seat(context).ok_or(Refusal::ContextFull)?;
+        let seat = self.free_seat(context).ok_or(ErrorNumber::ContextFull)?;
         Ok(Place {
             context,
             seat,
@@ -111,7 +110,7 @@ impl Tables {
         })
     }
 
-    fn new_context(&self) -> Result<Place, Refusal>
+    fn new_context(&self) -> Result<Place, ErrorNumber>
         ensures value { result ≡ new_context self.now }
         ensures can { IfOk result (CanEnter self.now) }
     {
@@ -121,29 +120,33 @@ impl Tables {
                 seat: 0,
                 made: Some(room as u8),
             }),
-            _ => Err(Refusal::NoContextLeft),
+            _ => Err(ErrorNumber::NoContextLeft),
         }
     }
 
     /// Where a termination enters the action's context.
-    pub(crate) fn new_place(&self, target: Target) -> Result<Place, Refusal>
+    pub(crate) fn new_place(&self, target: Target) -> Result<Place, ErrorNumber>
         ensures value { result ≡ new_place self.now target }
         ensures can { IfOk result (CanEnter self.now) }
     {
         match target {
-            Target::Null => Err(Refusal::UnknownContext),
+            Target::Null => Err(ErrorNumber::UnknownContext),
             Target::New => self.new_context(),
             Target::Number(context) => self.new_seat(context),
         }
     }
 
     /// A termination with the settings that a command names.
-    pub(crate) fn with_settings(&self, settings: &Settings, old: Record) -> Result<Record, Refusal>
+    pub(crate) fn with_settings(
+        &self,
+        settings: &Settings,
+        old: Record,
+    ) -> Result<Record, ErrorNumber>
         requires slot { old.slot < self.now.limits.slots }
         ensures value { result ≡ with_settings self.now.limits settings.now old }
         ensures same { IfOk result (λ r. (r.number ≡ old.number) × (r.slot ≡ old.slot)) }
     {
-        let port = self.limits.port_of(old.slot);
+        let port = self.limits.slot_port(old.slot);
         let local = settings.local_after(old.local, self.limits.address, port)?;
         let remote = settings.remote_after(old.remote)?;
         Ok(Record {

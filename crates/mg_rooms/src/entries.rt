@@ -1,13 +1,14 @@
 //! Searches in tables by slot and by room, and what changes in one entry of them.
 
-ghost use Rattle.std.specs.Prelude.{◌≡◌, ◌<◌, ◌==◌, ◌&&◌, length, replicate, None, is_none, IfOk, IfSome};
+ghost use Rattle.std.specs.Prelude.{◌≡◌, ◌<◌, ◌==◌, ◌&&◌, length, replicate, None, is_none, IfOk, IfSome, find};
 ghost use Rattle.std.specs.List.{position_from, list_any};
-ghost use Rattle.mg_rooms.specs.Order.{has_key, passes_at};
-ghost use Rattle.mg_rooms.specs.Entries.{left_entry, entered_entry};
+ghost use Rattle.mg_rooms.specs.aids.Order.{has_key, passes_at, in_order};
+ghost use Rattle.mg_rooms.specs.aids.Tables.{NamePlaces};
+ghost use Rattle.mg_rooms.specs.aids.Entries.{left_entry, entered_entry};
 
 use crate::context::Context;
-use crate::limits::MEMBERS;
 use crate::record::Record;
+use mg_words::MEMBERS;
 use std::alloc::{AllocError, Global};
 
 /// A table with nothing in it.
@@ -36,6 +37,30 @@ pub fn slot_of(slots: &[Option<Record>], number: u32) -> Option<usize>
     ensures in_range { IfSome result (λ slot. slot < length slots.now) }
 {
     slots.iter().position(|entry| entry.is_some_and(|record| record.number == number))
+}
+
+/// The slot of a termination that holds this one, if it is there: no search is needed.
+pub fn slot_held(slots: &[Option<Record>], slot: u8, number: u32) -> Option<usize>
+    requires places { NamePlaces (λ r. r.slot) slots.now }
+    requires held { IfSome (find (λ r. r.number == number) (in_order (λ r. r.number) slots.now)) (λ r. r.slot ≡ slot) }
+    ensures value { result ≡ position_from (has_key (λ r. r.number) number) 0 slots.now }
+    ensures in_range { IfSome result (λ place. place < length slots.now) }
+{
+    let slot = usize::from(slot);
+    if slot >= slots.len() {
+        return None;
+    }
+    let entry = slots[slot];
+    match entry {
+        Some(record) => {
+            if record.number == number {
+                Some(slot)
+            } else {
+                None
+            }
+        }
+        None => None,
+    }
 }
 
 /// The room of a context.

@@ -13,12 +13,12 @@
 //! let mut rooms = Rooms::new(alloc, limits)?;
 //! let done = rooms.add(Target::New, &Settings::default())?;
 //! assert_eq!(rt; rooms.members(done.context), [done.termination].as_slice());
-//! assert_eq!(rt; rooms.subtract(Target::Null, done.termination), Err(Refusal::NotInContext));
+//! assert_eq!(rt; rooms.subtract(Target::Null, done.termination), Err(ErrorNumber::NotInContext));
 //! ```
 //!
 //! [`Rooms::new`] takes the memory for all that there can be, and no other call takes any.
 //!
-//! Contracts see a world: the terminations and contexts in the order of their numbers (`specs/World.antt`).
+//! Contracts see a world: the terminations and contexts in the order of their numbers (`specs/Registry.antt`).
 //! Each call's contract is the outcome of its command on that world (`specs/Outcome.antt`). [`laws`] has
 //! what holds of each world that a gateway comes to, and what a command leaves as it was.
 #![tactic(auto)]
@@ -32,11 +32,9 @@ pub mod laws;
 mod limits;
 mod media_setting;
 mod members;
-mod mode;
 mod outcomes;
 mod place;
 mod record;
-mod refusal;
 mod rooms;
 mod settings;
 mod tables;
@@ -44,14 +42,16 @@ mod target;
 #[cfg(test)]
 mod tests;
 
+pub use crate::settings::{Settings, depth_within};
 pub use done::Done;
-pub use limits::{CONTEXTS, LAST_CONTEXT, LAST_TERMINATION, Limits, MEMBERS, TERMINATIONS};
+pub use limits::Limits;
 pub use media_setting::MediaSetting;
-pub use mode::{Mode, mode_listens, mode_talks};
+pub use mg_words::{
+    CONTEXTS, ErrorNumber, FIRST_DEPTH, LAST_CONTEXT, LAST_TERMINATION, MAX_DEPTH, MEMBERS,
+    MIN_DEPTH, Mode, TERMINATIONS, mode_listens, mode_talks,
+};
 pub use record::Record;
-pub use refusal::Refusal;
 pub use rooms::Rooms;
-pub use settings::{FIRST_DEPTH, MAX_DEPTH, MIN_DEPTH, Settings};
 pub use target::Target;
 // A crate can name a gateway's terminations and contexts in a contract only if the types of their fields
 // are exported.

@@ -1,21 +1,7 @@
 ghost use Rattle.std.specs.Prelude.{◌≡◌, ◌<◌, ◌↔◌, IsTrue};
-ghost use Rattle.mg_rooms.specs.Limits.{port_of, IsValid, HasPool, HasFirstNumbers};
+ghost use Rattle.mg_rooms.specs.Limits.{slot_port, AreValidLimits, HasPool, HasFirstNumbers};
 
-/// The most terminations of a gateway.
-pub const TERMINATIONS: usize = 128;
-
-/// The most contexts of a gateway.
-pub const CONTEXTS: usize = 64;
-
-/// The most members of a context.
-pub const MEMBERS: usize = 32;
-
-/// The greatest number of a termination.
-pub const LAST_TERMINATION: u32 = 4294967295;
-
-/// The greatest number of a context. The two above it stand for `$` and `*` (RFC 3525,
-/// section 8.1.2 and Annex A).
-pub const LAST_CONTEXT: u32 = 4294967293;
+use mg_words::{LAST_CONTEXT, TERMINATIONS};
 
 /// What the terminations and contexts of a gateway are made within.
 #[derive(Clone, Copy, Debug, PartialEq, Eq)]
@@ -36,16 +22,16 @@ impl Limits {
     /// Whether a gateway can be made within them: there is a slot and not too many, each slot has an
     /// even UDP port, and the first numbers are in range.
     pub fn is_valid(&self) -> bool
-        ensures value { IsTrue result ↔ IsValid self.now }
+        ensures value { IsTrue result ↔ AreValidLimits self.now }
     {
         self.has_pool() && self.has_first_numbers()
     }
 
     /// The UDP port of a slot.
-    pub fn port_of(&self, slot: u8) -> u16
-        requires valid { IsValid self.now }
+    pub fn slot_port(&self, slot: u8) -> u16
+        requires valid { AreValidLimits self.now }
         requires slot { slot < self.now.slots }
-        ensures value { result ≡ port_of self.now slot }
+        ensures value { result ≡ slot_port self.now slot }
     {
         self.base_port + 2 * u16::from(slot)
     }

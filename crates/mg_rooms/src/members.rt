@@ -2,8 +2,8 @@ ghost use Rattle.std.specs.Prelude.{◌≡◌, ◌<◌, ◌≤◌, ◌==◌, [],
 ghost use Rattle.std.specs.List.{position_from};
 ghost use Rattle.mg_rooms.specs.Members.{without};
 
-use crate::limits::MEMBERS;
 use arrayvec::ArrayVec;
+use mg_words::MEMBERS;
 use std::marker::Model;
 
 /// The numbers of a context's members in the order of their entry, at most [`MEMBERS`].
@@ -43,7 +43,7 @@ impl Members {
         self.numbers.is_empty()
     }
 
-    /// Lets a member enter, behind the others.
+    /// Lets a member enter, after the others.
     pub(crate) fn enter(&mut self, number: u32)
         requires room { length self.old < MEMBERS }
         ensures value { self.new ≡ self.old ++ number ∷ [] }

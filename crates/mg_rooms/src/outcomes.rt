@@ -4,15 +4,15 @@ ghost use Rattle.mg_rooms.specs.Outcome.{Gives, add, modify, move_to, subtract};
 
 use crate::done::Done;
 use crate::record::Record;
-use crate::refusal::Refusal;
 use crate::settings::Settings;
 use crate::tables::Tables;
 use crate::target::Target;
+use mg_words::ErrorNumber;
 
 impl Tables {
     /// Makes a termination in the action's context.
     #[tactic(auto, unfolding(crate::specs::Outcome::add))]
-    pub(crate) fn add(&mut self, target: Target, settings: &Settings) -> Result<Done, Refusal>
+    pub(crate) fn add(&mut self, target: Target, settings: &Settings) -> Result<Done, ErrorNumber>
         ensures outcome { Gives self.old self.new result (add self.old target settings.now) }
     {
         self.may_enter(target)?;
@@ -32,7 +32,7 @@ impl Tables {
         target: Target,
         number: u32,
         settings: &Settings,
-    ) -> Result<Done, Refusal>
+    ) -> Result<Done, ErrorNumber>
         ensures outcome { Gives self.old self.new result (modify self.old target number settings.now) }
     {
         let old = self.member(target, number)?;
@@ -48,12 +48,12 @@ impl Tables {
         target: Target,
         number: u32,
         settings: &Settings,
-    ) -> Result<Done, Refusal>
+    ) -> Result<Done, ErrorNumber>
         ensures outcome { Gives self.old self.new result (move_to self.old target number settings.now) }
     {
         let old = self.named(number)?;
         if target.is_number(old.context) {
-            return Err(Refusal::AlreadyInContext);
+            return Err(ErrorNumber::AlreadyInContext);
         }
         self.may_enter(target)?;
         let place = self.new_place(target)?;
@@ -66,7 +66,7 @@ impl Tables {
 
     /// Takes a member out of the action's context, and ends it.
     #[tactic(auto, unfolding(crate::specs::Outcome::subtract))]
-    pub(crate) fn subtract(&mut self, target: Target, number: u32) -> Result<Done, Refusal>
+    pub(crate) fn subtract(&mut self, target: Target, number: u32) -> Result<Done, ErrorNumber>
         ensures outcome { Gives self.old self.new result (subtract self.old target number) }
     {
         let old = self.member(target, number)?;

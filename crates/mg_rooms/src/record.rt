@@ -2,10 +2,9 @@ ghost use Rattle.std.specs.Prelude.{◌≡◌};
 ghost use Rattle.mg_rooms.specs.Record.{fresh, at_place, done};
 
 use crate::done::Done;
-use crate::mode::Mode;
 use crate::place::Place;
-use crate::settings::FIRST_DEPTH;
 use mg_sdp::Chosen;
+use mg_words::{FIRST_DEPTH, Mode};
 
 /// A termination.
 #[derive(Clone, Copy, Debug, PartialEq, Eq)]
@@ -39,7 +38,7 @@ impl Record {
             slot,
             seat: place.seat,
             mode: Mode::Inactive,
-            depth: FIRST_DEPTH,
+            depth: FIRST_DEPTH as u8,
             local: None,
             remote: None,
         }

@@ -1,47 +1,47 @@
 ghost use Rattle.std.specs.Prelude.{◌≡◌, ◌<◌, ◌≤◌, IfOk, IfSome, OnErr, length, option_map};
-ghost use Rattle.mg_rooms.specs.Limits.{IsValid};
-ghost use Rattle.mg_rooms.specs.World.{start_of, record_at, context_at, members_at, holder_of};
+ghost use Rattle.mg_rooms.specs.Limits.{AreValidLimits};
+ghost use Rattle.mg_rooms.specs.Registry.{start_of, record_at, context_at, members_at, holder_of};
 ghost use Rattle.mg_rooms.specs.Lasting.{Lasts};
 ghost use Rattle.mg_rooms.specs.Outcome.{Gives, member, add, modify, move_to, subtract};
 
 use crate::done::Done;
-use crate::limits::{Limits, MEMBERS};
+use crate::limits::Limits;
 use crate::record::Record;
-use crate::refusal::Refusal;
 use crate::settings::Settings;
 use crate::tables::Tables;
 use crate::target::Target;
+use mg_words::{ErrorNumber, MEMBERS};
 use std::alloc::{AllocError, Global};
 use std::marker::Model;
 
 /// The terminations and contexts of a gateway.
 ///
 /// Contracts see the terminations and the contexts in the order of their numbers, and the numbers of the
-/// next ones (`specs/World.antt`). [`laws`](crate::laws) has what holds of them after any commands.
+/// next ones (`specs/Registry.antt`). [`laws`](crate::laws) has what holds of them after any commands.
 #[derive(Drop)]
 pub struct Rooms {
     tables: Tables,
 }
 
 impl Model for Rooms {
-    ghost use Rattle.mg_rooms.specs.World.{World};
+    ghost use Rattle.mg_rooms.specs.Registry.{Registry};
 
-    ghost Value = { World };
+    ghost Value = { Registry };
 
-    ghost use Rattle.mg_rooms.specs.Sound.{IsSound};
+    ghost use Rattle.mg_rooms.specs.Consistent.{IsConsistent};
 
     ghost view = { λ a. a.tables };
 
-    ghost invariant = { λ a. IsSound a.tables };
+    ghost invariant = { λ a. IsConsistent a.tables };
 }
 
 impl Rooms {
-    ghost use Rattle.mg_rooms.specs.Sound.{IsSound};
+    ghost use Rattle.mg_rooms.specs.Consistent.{IsConsistent};
 
     /// A gateway without terminations and contexts. It takes the memory for all that there can be, and
     /// no other call takes any.
     pub fn new(alloc: Global, limits: Limits) -> Result<Rooms, AllocError>
-        requires valid { IsValid limits }
+        requires valid { AreValidLimits limits }
         ensures start { IfOk result (λ rooms. rooms ≡ start_of limits) }
     {
         let tables = Tables::new(alloc, limits)?;
@@ -90,7 +90,7 @@ impl Rooms {
     }
 
     /// A member of the action's context, as a command that names it finds it.
-    pub fn find(&self, target: Target, number: u32) -> Result<Record, Refusal>
+    pub fn find(&self, target: Target, number: u32) -> Result<Record, ErrorNumber>
         ensures value { result ≡ member self.now target number }
     {
         self.tables.member(target, number)
@@ -99,7 +99,7 @@ impl Rooms {
     /// Makes a termination in the action's context, and the context too where it is new (RFC 3525,
     /// section 7.2.1).
     #[tactic(auto, using(crate::proofs::RoomsLaws::laws))]
-    pub fn add(&mut self, target: Target, settings: &Settings) -> Result<Done, Refusal>
+    pub fn add(&mut self, target: Target, settings: &Settings) -> Result<Done, ErrorNumber>
         ensures outcome { Gives self.old self.new result (add self.old target settings.now) }
         ensures refused { OnErr result (self.new ≡ self.old) }
         ensures lasts { Lasts self.old self.new }
@@ -114,7 +114,7 @@ impl Rooms {
         target: Target,
         number: u32,
         settings: &Settings,
-    ) -> Result<Done, Refusal>
+    ) -> Result<Done, ErrorNumber>
         ensures outcome { Gives self.old self.new result (modify self.old target number settings.now) }
         ensures refused { OnErr result (self.new ≡ self.old) }
         ensures lasts { Lasts self.old self.new }
@@ -130,7 +130,7 @@ impl Rooms {
         target: Target,
         number: u32,
         settings: &Settings,
-    ) -> Result<Done, Refusal>
+    ) -> Result<Done, ErrorNumber>
         ensures outcome { Gives self.old self.new result (move_to self.old target number settings.now) }
         ensures refused { OnErr result (self.new ≡ self.old) }
         ensures lasts { Lasts self.old self.new }
@@ -141,7 +141,7 @@ impl Rooms {
     /// Takes a member out of the action's context and ends it. The context ends with its last member
     /// (RFC 3525, section 7.2.3).
     #[tactic(auto, using(crate::proofs::RoomsLaws::laws))]
-    pub fn subtract(&mut self, target: Target, number: u32) -> Result<Done, Refusal>
+    pub fn subtract(&mut self, target: Target, number: u32) -> Result<Done, ErrorNumber>
         ensures outcome { Gives self.old self.new result (subtract self.old target number) }
         ensures refused { OnErr result (self.new ≡ self.old) }
         ensures lasts { Lasts self.old self.new }
@@ -151,7 +151,7 @@ impl Rooms {
 
     /// What holds of each gateway.
     pub(crate) fn know(&self)
-        ensures sound { IsSound self.now }
+        ensures sound { IsConsistent self.now }
         ensures few { length self.now.terminations ≤ self.now.limits.slots }
     {
         self.tables.know_few();

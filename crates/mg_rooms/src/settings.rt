@@ -1,32 +1,33 @@
-ghost use Rattle.std.specs.Prelude.{◌≡◌};
+ghost use Rattle.std.specs.Prelude.{◌≡◌, ◌≤◌, Some};
+ghost use Rattle.mg_words.specs.declared.limits.TheConstants.{MIN_DEPTH, MAX_DEPTH};
 ghost use Rattle.mg_rooms.specs.Settings.{offered, local_after, remote_after, depth_after, mode_after};
 ghost use Rattle.mg_sdp.specs.Choice.{local_choice, remote_choice};
 
 use crate::media_setting::MediaSetting;
-use crate::mode::Mode;
-use crate::refusal::Refusal;
 use mg_sdp::{Chosen, Sessions, choose, choose_remote};
-
-/// The least depth of a termination's play list, in packets of 20 ms.
-pub const MIN_DEPTH: u8 = 2;
-
-/// The greatest depth of a termination's play list, in packets of 20 ms.
-pub const MAX_DEPTH: u8 = 16;
-
-/// The depth that a new termination begins with, in packets of 20 ms.
-pub const FIRST_DEPTH: u8 = 4;
+use mg_words::{ErrorNumber, MAX_DEPTH, MIN_DEPTH, Mode};
 
 /// What a command names of a termination. What it doesn't name stays.
 #[derive(Debug, Default, Drop)]
 pub struct Settings {
     /// The mode of the stream.
     pub mode: Option<Mode>,
-    /// The depth of the play list in packets of 20 ms, taken within [`MIN_DEPTH`] to [`MAX_DEPTH`].
-    pub depth: Option<u8>,
+    /// The depth of the play list in packets of 20 ms, which is taken to 2 to 16 (see [`depth_within`]).
+    pub depth: Option<u16>,
     /// What the gateway is to receive.
     pub local: Option<MediaSetting>,
     /// What the gateway is to send.
     pub remote: Option<MediaSetting>,
+}
+
+/// The depth of a play list that comes nearest to one that is asked for, in packets of 20 ms: from [`MIN_DEPTH`] to
+/// [`MAX_DEPTH`].
+pub fn depth_within(depth: u16) -> u8
+    ensures value { result ≡ depth_after (Some depth) depth }
+    ensures at_least { MIN_DEPTH ≤ result }
+    ensures at_most { result ≤ MAX_DEPTH }
+{
+    depth.max(MIN_DEPTH as u16).min(MAX_DEPTH as u16) as u8
 }
 
 impl Settings {
@@ -42,7 +43,7 @@ impl Settings {
         ensures value { result ≡ depth_after self.now.depth old }
     {
         match self.depth {
-            Some(depth) => depth.max(MIN_DEPTH).min(MAX_DEPTH),
+            Some(depth) => depth_within(depth),
             None => old,
         }
     }
@@ -53,50 +54,54 @@ impl Settings {
         old: Option<Chosen>,
         address: [u8; 4],
         port: u16,
-    ) -> Result<Option<Chosen>, Refusal>
+    ) -> Result<Option<Chosen>, ErrorNumber>
         ensures value { result ≡ local_after address port self.now.local old }
     {
         match &self.local {
             None => Ok(old),
             Some(MediaSetting::Clear) => Ok(None),
             Some(MediaSetting::Offer(sessions)) => chosen_local(sessions, address, port),
-            Some(MediaSetting::Unreadable) => Err(Refusal::NoMedia),
+            Some(MediaSetting::Unreadable) => Err(ErrorNumber::NoMedia),
         }
     }
 
     /// The Remote of a termination that had the old one.
-    pub(crate) fn remote_after(&self, old: Option<Chosen>) -> Result<Option<Chosen>, Refusal>
+    pub(crate) fn remote_after(&self, old: Option<Chosen>) -> Result<Option<Chosen>, ErrorNumber>
         ensures value { result ≡ remote_after self.now.remote old }
     {
         match &self.remote {
             None => Ok(old),
             Some(MediaSetting::Clear) => Ok(None),
             Some(MediaSetting::Offer(sessions)) => chosen_remote(sessions),
-            Some(MediaSetting::Unreadable) => Err(Refusal::NoMedia),
+            Some(MediaSetting::Unreadable) => Err(ErrorNumber::NoMedia),
         }
     }
 }
 
 /// What is chosen of a Local's alternatives, where it has any.
 #[tactic(auto, using(crate::proofs::SettingsLaws::laws))]
-fn chosen_local(sessions: &Sessions, address: [u8; 4], port: u16) -> Result<Option<Chosen>, Refusal>
+fn chosen_local(
+    sessions: &Sessions,
+    address: [u8; 4],
+    port: u16,
+) -> Result<Option<Chosen>, ErrorNumber>
     ensures value { result ≡ offered (local_choice address port) sessions.now }
 {
     if sessions.is_blank() {
         return Ok(None);
     }
-    let chosen = choose(sessions, address, port).ok_or(Refusal::NoMedia)?;
+    let chosen = choose(sessions, address, port).ok_or(ErrorNumber::NoMedia)?;
     Ok(Some(chosen))
 }
 
 /// What is chosen of a Remote's alternatives, where it has any.
 #[tactic(auto, using(crate::proofs::SettingsLaws::laws))]
-fn chosen_remote(sessions: &Sessions) -> Result<Option<Chosen>, Refusal>
+fn chosen_remote(sessions: &Sessions) -> Result<Option<Chosen>, ErrorNumber>
     ensures value { result ≡ offered remote_choice sessions.now }
 {
     if sessions.is_blank() {
         return Ok(None);
     }
-    let chosen = choose_remote(sessions).ok_or(Refusal::NoMedia)?;
+    let chosen = choose_remote(sessions).ok_or(ErrorNumber::NoMedia)?;
     Ok(Some(chosen))
 }

@@ -1,12 +1,13 @@
 ghost use Rattle.std.specs.Prelude.{◌≡◌, ◌<◌, ◌≤◌, ◌==◌, ◌&&◌, IfOk, IfSome, length, find, option_map};
 ghost use Rattle.std.specs.List.{list_any};
-ghost use Rattle.mg_rooms.specs.Limits.{IsValid};
-ghost use Rattle.mg_rooms.specs.World.{start_of, record_at, context_at, members_at, holder_of, free_slot, free_seat};
+ghost use Rattle.mg_rooms.specs.Limits.{AreValidLimits};
+ghost use Rattle.mg_rooms.specs.Registry.{start_of, record_at, context_at, members_at, holder_of, free_slot, free_seat};
 
 use crate::context::Context;
 use crate::entries::{self, empty_place, empty_table, room_of, slot_of};
-use crate::limits::{CONTEXTS, Limits, MEMBERS};
+use crate::limits::Limits;
 use crate::record::Record;
+use mg_words::{CONTEXTS, MEMBERS};
 use std::alloc::{AllocError, Global};
 use std::marker::Model;
 
@@ -24,11 +25,11 @@ pub struct Tables {
 }
 
 impl Model for Tables {
-    ghost use Rattle.mg_rooms.specs.World.{World};
+    ghost use Rattle.mg_rooms.specs.Registry.{Registry};
 
-    ghost Value = { World };
+    ghost Value = { Registry };
 
-    ghost use Rattle.mg_rooms.specs.Tables.{world_of, IsKept};
+    ghost use Rattle.mg_rooms.specs.aids.Tables.{world_of, IsKept};
 
     ghost view = { world_of };
 
@@ -38,7 +39,7 @@ impl Model for Tables {
 impl Tables {
     /// Tables without terminations.
     pub(crate) fn new(alloc: Global, limits: Limits) -> Result<Tables, AllocError>
-        requires valid { IsValid limits }
+        requires valid { AreValidLimits limits }
         ensures value { IfOk result (λ tables. tables ≡ start_of limits) }
     {
         let slots = empty_table(alloc, usize::from(limits.slots))?;

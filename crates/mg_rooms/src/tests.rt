@@ -1,5 +1,5 @@
 use crate::{
-    Done, Limits, MediaSetting, Mode, Record, Refusal, Rooms, Settings, Target, mode_listens,
+    Done, ErrorNumber, Limits, MediaSetting, Mode, Record, Rooms, Settings, Target, mode_listens,
     mode_talks,
 };
 use mg_g711::Law;
@@ -41,7 +41,7 @@ fn slots_and_contexts_fill_up(rt: HostRuntime) -> Result<(), Fail> {
     let settings = Settings::default();
     assert_eq!(rt;
         rooms.add(Target::Number(1), &settings),
-        Err(Refusal::NoTerminationLeft)
+        Err(ErrorNumber::NoTerminationLeft)
     );
 
     let gone = rooms.subtract(Target::Number(2), 40);
@@ -55,7 +55,7 @@ fn slots_and_contexts_fill_up(rt: HostRuntime) -> Result<(), Fail> {
     assert_eq!(rt; rooms.at_slot(39), None);
     assert_eq!(rt;
         rooms.add(Target::Number(1), &settings),
-        Err(Refusal::ContextFull)
+        Err(ErrorNumber::ContextFull)
     );
 
     let added = rooms.add(Target::Number(2), &settings);
@@ -68,7 +68,7 @@ fn slots_and_contexts_fill_up(rt: HostRuntime) -> Result<(), Fail> {
     );
     assert_eq!(rt; rooms.at_slot(39), Some(129));
     assert_eq!(rt; rooms.members(2).last().copied(), Some(129));
-    assert_eq!(rt; LIMITS.port_of(39), 30078);
+    assert_eq!(rt; LIMITS.slot_port(39), 30078);
     Ok(())
 }
 
@@ -103,7 +103,7 @@ fn settings_are_set_and_refused(rt: HostRuntime) -> Result<(), Fail> {
     };
     assert_eq!(rt;
         rooms.modify(Target::Number(1), 1, &unserved),
-        Err(Refusal::NoMedia)
+        Err(ErrorNumber::NoMedia)
     );
     assert_eq!(rt; rooms.record(1), Some(fresh));
 
@@ -161,15 +161,15 @@ fn terminations_move(rt: HostRuntime) -> Result<(), Fail> {
     let _ = rooms.add(Target::Number(1), &settings);
     assert_eq!(rt;
         rooms.move_to(Target::Null, 1, &settings),
-        Err(Refusal::UnknownContext)
+        Err(ErrorNumber::UnknownContext)
     );
     assert_eq!(rt;
         rooms.move_to(Target::Number(1), 1, &settings),
-        Err(Refusal::AlreadyInContext)
+        Err(ErrorNumber::AlreadyInContext)
     );
     assert_eq!(rt;
         rooms.move_to(Target::New, 3, &settings),
-        Err(Refusal::UnknownTermination)
+        Err(ErrorNumber::UnknownTermination)
     );
 
     let moved = rooms.move_to(Target::New, 1, &settings);
@@ -182,7 +182,10 @@ fn terminations_move(rt: HostRuntime) -> Result<(), Fail> {
     );
     assert_eq!(rt; rooms.room(1), Some(0));
     assert_eq!(rt; rooms.room(2), Some(1));
-    assert_eq!(rt; rooms.find(Target::New, 1), Err(Refusal::UnknownContext));
+    assert_eq!(rt;
+        rooms.find(Target::New, 1),
+        Err(ErrorNumber::UnknownContext)
+    );
 
     let back = rooms.move_to(Target::Number(1), 1, &settings);
     assert_eq!(rt;
@@ -216,7 +219,7 @@ fn numbers_end(rt: HostRuntime) -> Result<(), Fail> {
     );
     assert_eq!(rt;
         rooms.add(Target::New, &settings),
-        Err(Refusal::NoContextLeft)
+        Err(ErrorNumber::NoContextLeft)
     );
     let last = rooms.add(Target::Number(4294967293), &settings);
     assert_eq!(rt;
@@ -227,7 +230,7 @@ fn numbers_end(rt: HostRuntime) -> Result<(), Fail> {
         })
     );
     let none = rooms.add(Target::Number(4294967293), &settings);
-    assert_eq!(rt; none, Err(Refusal::NoTerminationLeft));
+    assert_eq!(rt; none, Err(ErrorNumber::NoTerminationLeft));
     assert_eq!(rt; none.map_err(|refusal| refusal.number()), Err(432));
     Ok(())
 }

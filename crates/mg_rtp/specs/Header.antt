@@ -10,7 +10,7 @@ pub record IsHeader (h : Header) : Type 0 where
   pub timestamp : h.timestamp < 2 ^ 32
   pub ssrc : h.ssrc < 2 ^ 32
 
--- which parts stand behind the twelve bytes, besides the payload
+-- which parts stand after the twelve bytes, besides the payload
 pub record Layout : Type 0 where
   pub is_padded : Bool
   pub is_extended : Bool
@@ -34,9 +34,10 @@ first_byte l = 2 * 64 + bit l.is_padded * 32 + bit l.is_extended * 16 + l.source
 abbrev pub second_byte : Header → ℕ
 second_byte h = bit h.marker * 128 + h.payload_type
 
--- the eleven bytes behind the first, each number with its highest byte first
+-- the eleven bytes after the first, each number with its highest byte first
 abbrev pub field_bytes : Header → List ℕ
-field_bytes h = second_byte h ∷ big_bytes 2 h.sequence ++ big_bytes 4 h.timestamp ++ big_bytes 4 h.ssrc
+field_bytes h =
+    second_byte h ∷ big_bytes 2 h.sequence ++ big_bytes 4 h.timestamp ++ big_bytes 4 h.ssrc
 
 -- all twelve
 abbrev pub header_bytes : Layout → Header → List ℕ

@@ -1,11 +1,13 @@
 -- Which bytes are a packet: how the parts of RFC 3550, section 5.1, are joined.
-use Rattle.std.specs.Prelude.{◌≡◌, ℕ, ◌+◌, ◌*◌, ◌^◌, ◌<◌, Bool, true, false, List, [], ◌∷◌, ◌++◌, length}
+use Rattle.std.specs.Prelude.{◌≡◌, ℕ, ◌+◌, ◌*◌, ◌^◌, ◌<◌, Bool, true, false, List, [], ◌∷◌, ◌++◌}
+use Rattle.std.specs.Prelude.{length}
 use Rattle.byteorder.specs.Endian.{big_bytes}
 use Rattle.mg_rtp.specs.declared.header.Header.{Header}
 use Rattle.mg_rtp.specs.Header.{IsHeader, Layout, header_bytes}
 
 -- the bytes are those of a header, and then the rest
-pub record Begins (bytes : List ℕ) (layout : Layout) (header : Header) (rest : List ℕ) : Type 0 where
+pub record Begins (bytes : List ℕ) (layout : Layout) (header : Header)
+    (rest : List ℕ) : Type 0 where
   pub joined : bytes ≡ header_bytes layout header ++ rest
   pub in_range : IsHeader header
   pub few_sources : layout.source_count < 2 ^ 4

@@ -1,6 +1,7 @@
--- Why bytes are not a packet: the parts of RFC 3550, section 5.1, from the front. The faults and their
--- order are this project's own. Each is about the first part that is not as it has to be.
-use Rattle.std.specs.Prelude.{◌≡◌, ◌≢◌, ℕ, ◌+◌, ◌-◌, ◌*◌, ◌/◌, ◌<◌, ◌≤◌, IsTrue, List, [], ◌++◌, length, drop, slice_index, codes, ◌⊎◌}
+-- Why bytes are not a packet: the parts of RFC 3550, section 5.1, from the front. The faults and
+-- their order are this project's own. Each is about the first part that is not as it has to be.
+use Rattle.std.specs.Prelude.{◌≡◌, ◌≢◌, ℕ, ◌+◌, ◌-◌, ◌*◌, ◌/◌, ◌<◌, ◌≤◌, IsTrue, List, [], ◌++◌}
+use Rattle.std.specs.Prelude.{length, drop, slice_index, codes, ◌⊎◌}
 use Rattle.byteorder.specs.Endian.{big_number}
 use Rattle.mg_rtp.specs.declared.header.Header.{Header}
 use Rattle.mg_rtp.specs.declared.rtp_fault.RtpFault.{RtpFault}

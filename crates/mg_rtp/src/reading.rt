@@ -27,7 +27,7 @@ const MARKER: u8 = 0x80;
 
 /// The packet that a datagram is, whatever its length.
 ///
-/// The payload is the part of the datagram behind the header, the contributing sources and the
+/// The payload is the part of the datagram after the header, the contributing sources and the
 /// extension, which are passed over, and before the padding.
 pub fn read(bytes: &[u8]) -> Result<Packet<'_>, RtpFault>
     // What is read is the packet.
@@ -68,7 +68,7 @@ fn header_of(head: &[u8]) -> Header
     }
 }
 
-/// What is behind the contributing sources, of which there are to be `count`.
+/// What is after the contributing sources, of which there are to be `count`.
 fn without_sources(rest: &[u8], count: u8) -> Result<&[u8], RtpFault>
     ensures ok { IfOk result (λ after. (sources : List ℕ) × AreSources count sources
         × (rest.now ≡ sources ++ after.now)) }
@@ -81,7 +81,7 @@ fn without_sources(rest: &[u8], count: u8) -> Result<&[u8], RtpFault>
     Ok(&rest[len..])
 }
 
-/// What is behind the extension, if there is to be one.
+/// What is after the extension, if there is to be one.
 fn without_extension(rest: &[u8], extended: bool) -> Result<&[u8], RtpFault>
     ensures ok { IfOk result (λ after. (extension : List ℕ) × IsExtension extended extension
         × (rest.now ≡ extension ++ after.now)) }

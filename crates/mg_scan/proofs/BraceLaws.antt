@@ -19,7 +19,7 @@ abbrev pub escaped_at : Bool → List ℕ → ℕ → Bool
 escaped_at escaped bs zero = escaped
 escaped_at escaped bs (suc n) = get_or bs n 0 == 92
 
--- at a brace the content ends, or goes on behind it
+-- at a brace the content ends, or goes on after it
 abbrev pub at_brace : Bool → List ℕ → ℕ → Option ℕ
 at_brace false bs n = Some n
 at_brace true bs n = moved (n + 1) (content_len false (drop (n + 1) bs))
@@ -70,8 +70,8 @@ module _ (bytes : List ℕ) (from : ℕ) (rest : List ℕ) (is_rest : rest ≡ d
 
   pub passes : (n next : ℕ) → IsFirstByte (is_byte 125) rest (Some n) → escaped_at false rest n ≡ true → next ≡ from + (n + 1) → moved from (content_len false (drop from bytes)) ≡ moved next (content_len false (drop next bytes))
   passes n next first is e =
-      let behind : drop (n + 1) rest ≡ drop next bytes = ap (drop (n + 1)) is_rest ∙ drop-drop (n + 1) from bytes ∙ ap (λ (i : ℕ). drop i bytes) (sym e) in
-      ap (moved from) (found-cases true n first is ∙ ap (λ (l : List ℕ). moved (n + 1) (content_len false l)) behind) ∙ twice from (n + 1) next (content_len false (drop next bytes)) e
+      let after : drop (n + 1) rest ≡ drop next bytes = ap (drop (n + 1)) is_rest ∙ drop-drop (n + 1) from bytes ∙ ap (λ (i : ℕ). drop i bytes) (sym e) in
+      ap (moved from) (found-cases true n first is ∙ ap (λ (l : List ℕ). moved (n + 1) (content_len false l)) after) ∙ twice from (n + 1) next (content_len false (drop next bytes)) e
     where
       twice : (i j k : ℕ) (o : Option ℕ) → k ≡ i + j → moved i (moved j o) ≡ moved k o
       twice i j k None e = refl

@@ -6,14 +6,15 @@ use Rattle.std.specs.List.{prefix_len, position_or_len}
 use Rattle.std.specs.Option.{option_map}
 use Rattle.mg_scan.specs.declared.kind.TokenKind.{TokenKind}
 use Rattle.mg_scan.specs.declared.kind.TokenKind.TheVariants.{Word, Open, Close, Comma, Equals, Quoted, Octets}
-use Rattle.mg_scan.specs.Tokens.{is_line_end, is_blank, is_word_byte, is_quote_end, after_white, Taken, taken, closed_at, token_at, content_len, has_null, octets_closed, token_behind, first_token, spelled}
+use Rattle.mg_words.specs.WordByte.{is_word_byte}
+use Rattle.mg_scan.specs.Tokens.{is_line_end, is_blank, is_quote_end, after_white, Taken, taken, closed_at, token_at, content_len, has_null, octets_closed, token_after, first_token, spelled}
 use Rattle.mg_scan.specs.White.{IsWhite, nothing, blank, semicolon, comment, line_end}
 
 pub chosen : {A : Type 0} (b : Bool) (x y z : A) → cond b x y ≡ z → ((b ≡ true) × (x ≡ z)) ⊎ ((b ≡ false) × (y ≡ z))
 chosen true x y z e = inl (refl, e)
 chosen false x y z e = inr (refl, e)
 
--- what stands behind white space is the end of the bytes
+-- what stands after white space is the end of the bytes
 abbrev HasFront : Bool → List ℕ → List ℕ → Type 0
 HasFront inside bs rest = (white : List ℕ) × IsWhite inside white × (bs ≡ white ++ rest)
 
@@ -97,28 +98,28 @@ token_joins (b ∷ bs) x e =
       ]
     ]
 
--- a closing brace stands behind a session description
+-- a closing brace stands after a session description
 some_is : (o : Option ℕ) (n : ℕ) → option_map (λ k. 1 + k) o ≡ Some n → (k : ℕ) × (o ≡ Some k) × (n ≡ 1 + k)
 some_is None n e = absurd cc
 some_is (Some k) n e = (k, refl, cc)
 
-one_behind : (b : ℕ) (bs : List ℕ) (n k : ℕ) → n ≡ 1 + k → drop k bs ≡ 125 ∷ drop (k + 1) bs → drop n (b ∷ bs) ≡ 125 ∷ drop (n + 1) (b ∷ bs)
-one_behind b bs n k e h =
+one_after : (b : ℕ) (bs : List ℕ) (n k : ℕ) → n ≡ 1 + k → drop k bs ≡ 125 ∷ drop (k + 1) bs → drop n (b ∷ bs) ≡ 125 ∷ drop (n + 1) (b ∷ bs)
+one_after b bs n k e h =
     let one : n ≡ suc k = omega arith in
     let two : n + 1 ≡ suc (k + 1) = omega arith in
     rw (two, one) h
 
-brace_behind : (escaped : Bool) (bs : List ℕ) (n : ℕ) → content_len escaped bs ≡ Some n → drop n bs ≡ 125 ∷ drop (n + 1) bs
+brace_after : (escaped : Bool) (bs : List ℕ) (n : ℕ) → content_len escaped bs ≡ Some n → drop n bs ≡ 125 ∷ drop (n + 1) bs
 unfolding content_len
-brace_behind escaped [] n e = absurd cc
-brace_behind escaped (b ∷ bs) n e =
+brace_after escaped [] n e = absurd cc
+brace_after escaped (b ∷ bs) n e =
     elim (chosen (eqb b 125 && not escaped) _ _ _ e) [
       | inl here ↦
           let zero_is : 0 ≡ n = cc here.1 in
           rw (← zero_is) (ap (λ (c : ℕ). c ∷ bs) (eqb-true _ _ (and_parts _ _ here.0).0))
       | inr later ↦
           let k = some_is (content_len (eqb b 92) bs) n later.1 in
-          one_behind b bs n k.0 k.2 (brace_behind (eqb b 92) bs k.0 k.1)
+          one_after b bs n k.0 k.2 (brace_after (eqb b 92) bs k.0 k.1)
     ]
 
 octets_join : (bs : List ℕ) (o : Option ℕ) (x : Taken) → content_len false bs ≡ o → octets_closed bs o ≡ Some (Ok x) → Joins (123 ∷ bs) x
@@ -128,21 +129,21 @@ octets_join bs (Some n) x is e =
     elim (chosen (has_null (take n bs)) _ _ _ e) [
       | inl bad ↦ absurd (cc bad.1)
       | inr good ↦
-          let parts : bs ≡ take n bs ++ (125 ∷ drop (n + 1) bs) = sym (take-append-drop n bs) ∙ ap (λ (l : List ℕ). take n bs ++ l) (brace_behind false bs n is) in
+          let parts : bs ≡ take n bs ++ (125 ∷ drop (n + 1) bs) = sym (take-append-drop n bs) ∙ ap (λ (l : List ℕ). take n bs ++ l) (brace_after false bs n is) in
           done _ Octets (take n bs) (drop (n + 1) bs) x (ap (λ (l : List ℕ). 123 ∷ l) (parts ∙ sym (append_assoc (take n bs) (125 ∷ []) (drop (n + 1) bs)))) good.1
     ]
 
-behind_joins : (named : Bool) (bs : List ℕ) (x : Taken) → token_behind named bs ≡ Some (Ok x) → Joins bs x
-unfolding token_behind
-behind_joins named [] x e = absurd cc
-behind_joins named (b ∷ bs) x e =
+after_joins : (named : Bool) (bs : List ℕ) (x : Taken) → token_after named bs ≡ Some (Ok x) → Joins bs x
+unfolding token_after
+after_joins named [] x e = absurd cc
+after_joins named (b ∷ bs) x e =
     elim (chosen (named && eqb b 123) _ _ _ e) [
       | inl octets ↦ ap (λ (c : ℕ). c ∷ bs) (eqb-true _ _ (and_parts _ _ octets.0).1) ∙ octets_join bs (content_len false bs) x refl octets.1
       | inr other ↦ token_joins (b ∷ bs) x other.1
     ]
 
--- The bytes are white space, the first token, and what stands behind it.
+-- The bytes are white space, the first token, and what stands after it.
 pub first_joins : (named : Bool) (bytes : List ℕ) (x : Taken) → first_token named bytes ≡ Some (Ok x) → (white : List ℕ) × IsWhite false white × (bytes ≡ white ++ (spelled x.piece.kind x.piece.text ++ x.rest))
 first_joins named bytes x e =
     let front = white_front false bytes in
-    (front.0, front.1, front.2 ∙ ap (λ (l : List ℕ). front.0 ++ l) (behind_joins named (after_white false bytes) x e))
+    (front.0, front.1, front.2 ∙ ap (λ (l : List ℕ). front.0 ++ l) (after_joins named (after_white false bytes) x e))

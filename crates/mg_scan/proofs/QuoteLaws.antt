@@ -7,7 +7,8 @@ use Rattle.std.specs.List.{position_or_len}
 use Rattle.memchr.specs.Find.{IsFirstByte, is_byte3}
 use Rattle.mg_scan.specs.declared.kind.TokenKind.TheVariants.{Quoted}
 use Rattle.mg_scan.specs.declared.fault.ScanFault.TheVariants.{OpenQuote}
-use Rattle.mg_scan.specs.Tokens.{is_quote_end, Places, quoted_at, taken}
+use Rattle.mg_scan.specs.Tokens.{is_quote_end, quoted_at, taken}
+use Rattle.mg_scan.specs.aids.Places.{Places}
 
 place : (tail : List ℕ) (n : ℕ) → IsFirstByte (is_byte3 34 13 10) tail (Some n) → (position_or_len is_quote_end tail ≡ n) × (n < length tail)
 place tail n h =

@@ -1,4 +1,4 @@
--- White space, and what stands behind it.
+-- White space, and what stands after it.
 use Rattle.std.proofs.Common.{◌≡◌, ℕ, ◌+◌, ◌<◌, ◌≤◌, Bool, true, false, cond, List, [], ◌∷◌, length, get_or, drop, refl, sym, ap, ◌∙◌, one-add, ◌≢◌, ◌==◌, not}
 use Rattle.std.proofs.lemmas.List.{drop-drop, drop_more, drop_all}
 use Rattle.std.proofs.lemmas.Bool.{or_parts, ne_eqb}

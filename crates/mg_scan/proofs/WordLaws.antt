@@ -4,7 +4,9 @@ use Rattle.std.specs.List.{prefix_len}
 use Rattle.std.proofs.lemmas.List.Sums.{prefix_len-le-length}
 use Rattle.std.proofs.lemmas.Bool.{cond-true}
 use Rattle.mg_scan.specs.declared.kind.TokenKind.TheVariants.{Word}
-use Rattle.mg_scan.specs.Tokens.{is_word_byte, Places, token_at}
+use Rattle.mg_words.specs.WordByte.{is_word_byte}
+use Rattle.mg_scan.specs.Tokens.{token_at}
+use Rattle.mg_scan.specs.aids.Places.{Places}
 
 pub word_token : (bytes : List ℕ) (n : ℕ) → 0 < length bytes → is_word_byte (get_or bytes 0 0) ≡ true → n ≡ prefix_len is_word_byte bytes → Places bytes (token_at bytes) (record { kind = Word; start = 0; end = n; next = n })
 unfolding token_at

@@ -1,5 +1,6 @@
 -- How far the scanning of a source has come, and one step of it.
-use Rattle.std.specs.Prelude.{◌≡◌, ℕ, Bool, ◌+◌, ◌<◌, ◌≤◌, List, [], drop, length, Option, Some, None, Result, Ok, Err}
+use Rattle.std.specs.Prelude.{◌≡◌, ℕ, Bool, ◌+◌, ◌<◌, ◌≤◌, List, [], drop, length, Option, Some}
+use Rattle.std.specs.Prelude.{None, Result, Ok, Err}
 use Rattle.mg_scan.specs.declared.token.Token.{Token}
 use Rattle.mg_scan.specs.declared.fault.ScanFault.{ScanFault}
 use Rattle.mg_scan.specs.Span.{text_of}
@@ -15,19 +16,21 @@ pub record Scanning : Type 0 where
 abbrev pub rest_of : Scanning → List ℕ
 rest_of s = drop s.at s.source
 
--- A token that lies behind the old place and before the new one, and is the first of the rest. Its text is the
--- part of the source that its span names.
-pub record Gives (old : Scanning) (token : Token) (new : Scanning) : Type 0 where
+-- A token that lies after the old place and before the new one, and is the first of the rest. Its
+-- text is the part of the source that its span names.
+pub record IsNext (old : Scanning) (token : Token) (new : Scanning) : Type 0 where
   pub start : old.at ≤ token.span.start
   pub span : token.span.start ≤ token.span.end
   pub end : token.span.end + closing token.kind ≡ new.at
   pub progress : old.at < new.at
   pub within : new.at ≤ length old.source
   pub named : new.named ≡ names_octets token.kind (text_of old.source token.span)
-  pub is : first_token old.named (rest_of old) ≡ taken token.kind (text_of old.source token.span) (rest_of new)
+  pub is : first_token old.named (rest_of old)
+      ≡ taken token.kind (text_of old.source token.span) (rest_of new)
 
--- One step: a token, a fault, or the end. Behind a fault and at the end there is nothing left.
-abbrev pub Answers : Scanning → Option (Result Token ScanFault) → Scanning → Type 0
-Answers old None new = (first_token old.named (rest_of old) ≡ None) × (rest_of new ≡ [])
-Answers old (Some (Err f)) new = (first_token old.named (rest_of old) ≡ Some (Err f)) × (rest_of new ≡ [])
-Answers old (Some (Ok token)) new = Gives old token new
+-- One step: a token, a fault, or the end. After a fault and at the end there is nothing left.
+abbrev pub IsStep : Scanning → Option (Result Token ScanFault) → Scanning → Type 0
+IsStep old None new = (first_token old.named (rest_of old) ≡ None) × (rest_of new ≡ [])
+IsStep old (Some (Err f)) new =
+    (first_token old.named (rest_of old) ≡ Some (Err f)) × (rest_of new ≡ [])
+IsStep old (Some (Ok token)) new = IsNext old token new

@@ -1,13 +1,16 @@
--- The tokens of a text, by its bytes (RFC 3525, Annex B.2; which words and white space there are is the profile of this gateway).
-use Rattle.std.specs.Prelude.{◌≡◌, ℕ, ◌+◌, ◌<◌, ◌≤◌, Bool, true, false, ◌||◌, ◌&&◌, ◌==◌, not, nat_le, List, [], ◌∷◌, ◌++◌, length, take, drop, Option, Some, None, Result, Ok, Err, codes, if◌then◌else◌}
-use Rattle.std.specs.List.{prefix_len, position_or_len, slice_range, list_any}
+-- The tokens of a text, by its bytes (RFC 3525, Annex B.2; which words and white space there are is
+-- the profile of this gateway).
+use Rattle.std.specs.Prelude.{ℕ, ◌+◌, Bool, true, false, ◌||◌, ◌&&◌, ◌==◌, not, List, [], ◌∷◌, ◌++◌}
+use Rattle.std.specs.Prelude.{take, drop, Option, Some, None, Result, Ok, Err, codes, if◌then◌else◌}
+use Rattle.std.specs.List.{prefix_len, position_or_len, list_any}
 use Rattle.std.specs.Option.{option_map}
 use Rattle.std.specs.Str.{str_eq_ignore_ascii_case}
+use Rattle.mg_words.specs.WordByte.{is_word_byte}
 use Rattle.mg_scan.specs.declared.kind.TokenKind.{TokenKind}
-use Rattle.mg_scan.specs.declared.kind.TokenKind.TheVariants.{Word, Open, Close, Comma, Equals, Quoted, Octets}
+use Rattle.mg_scan.specs.declared.kind.TokenKind.TheVariants.{Word, Open, Close, Comma, Equals}
+use Rattle.mg_scan.specs.declared.kind.TokenKind.TheVariants.{Quoted, Octets}
 use Rattle.mg_scan.specs.declared.fault.ScanFault.{ScanFault}
 use Rattle.mg_scan.specs.declared.fault.ScanFault.TheVariants.{BadByte, OpenQuote, OpenOctets}
-use Rattle.mg_scan.specs.declared.found.Found.{Found}
 
 -- carriage return or line feed
 abbrev pub is_line_end : ℕ → Bool
@@ -16,14 +19,6 @@ is_line_end b = b == 13 || b == 10
 -- space, tab or line end
 abbrev pub is_blank : ℕ → Bool
 is_blank b = b == 32 || b == 9 || is_line_end b
-
--- one of { } , = ; "
-abbrev pub is_mark : ℕ → Bool
-is_mark b = b == 123 || b == 125 || b == 44 || b == 61 || b == 59 || b == 34
-
--- a visible ASCII byte that is no mark
-abbrev pub is_word_byte : ℕ → Bool
-is_word_byte b = nat_le 33 b && nat_le b 126 && not (is_mark b)
 
 -- a byte at which a quoted text ends, well or not
 abbrev pub is_quote_end : ℕ → Bool
@@ -50,14 +45,15 @@ pub record Taken : Type 0 where
   pub rest : List ℕ
 
 abbrev pub taken : TokenKind → List ℕ → List ℕ → Option (Result Taken ScanFault)
-taken kind text rest = Some (Ok (record { piece = record { kind = kind; text = text }; rest = rest }))
+taken kind text rest =
+    Some (Ok (record { piece = record { kind = kind; text = text }; rest = rest }))
 
 -- the end of a quoted text and what follows it
 abbrev pub closed_at : List ℕ → List ℕ → Option (Result Taken ScanFault)
 closed_at text [] = Some (Err OpenQuote)
 closed_at text (b ∷ bs) = if b == 34 then taken Quoted text bs else Some (Err OpenQuote)
 
--- the text behind an opening quote
+-- the text after an opening quote
 abbrev pub quoted_at : List ℕ → Option (Result Taken ScanFault)
 quoted_at bs = let n = position_or_len is_quote_end bs in closed_at (take n bs) (drop n bs)
 
@@ -65,7 +61,8 @@ quoted_at bs = let n = position_or_len is_quote_end bs in closed_at (take n bs) 
 unfoldable pub token_at : List ℕ → Option (Result Taken ScanFault)
 token_at [] = None
 token_at (b ∷ bs) =
-    if is_word_byte b then (let n = prefix_len is_word_byte (b ∷ bs) in taken Word (take n (b ∷ bs)) (drop n (b ∷ bs)))
+    if is_word_byte b then (let n = prefix_len is_word_byte (b ∷ bs) in taken Word
+    (take n (b ∷ bs)) (drop n (b ∷ bs)))
     else (if b == 123 then taken Open (b ∷ []) bs
     else (if b == 125 then taken Close (b ∷ []) bs
     else (if b == 44 then taken Comma (b ∷ []) bs
@@ -73,11 +70,12 @@ token_at (b ∷ bs) =
     else (if b == 34 then quoted_at bs
     else Some (Err BadByte))))))
 
--- How many bytes stand before the brace that closes a session description: the first without a backslash before
--- it. The byte before the first one may be a backslash.
+-- How many bytes stand before the brace that closes a session description: the first without a
+-- backslash before it. The byte before the first one may be a backslash.
 unfoldable pub content_len : Bool → List ℕ → Option ℕ
 content_len escaped [] = None
-content_len escaped (b ∷ bs) = if b == 125 && not escaped then Some 0 else option_map (λ n. 1 + n) (content_len (b == 92) bs)
+content_len escaped (b ∷ bs) =
+    if b == 125 && not escaped then Some 0 else option_map (λ n. 1 + n) (content_len (b == 92) bs)
 
 -- a byte 0 stands among the bytes
 abbrev pub has_null : List ℕ → Bool
@@ -86,25 +84,28 @@ has_null bs = list_any (λ b. b == 0) bs
 -- a session description of so many bytes, if it is closed
 abbrev pub octets_closed : List ℕ → Option ℕ → Option (Result Taken ScanFault)
 octets_closed bs None = if has_null bs then Some (Err BadByte) else Some (Err OpenOctets)
-octets_closed bs (Some n) = if has_null (take n bs) then Some (Err BadByte) else taken Octets (take n bs) (drop (n + 1) bs)
+octets_closed bs (Some n) =
+    if has_null (take n bs) then Some (Err BadByte) else taken Octets (take n bs) (drop (n + 1) bs)
 
--- the session description behind an opening brace
+-- the session description after an opening brace
 abbrev pub octets_at : List ℕ → Option (Result Taken ScanFault)
 octets_at bs = octets_closed bs (content_len false bs)
 
 -- the token that begins with the first byte, where the token before may name a session description
-unfoldable pub token_behind : Bool → List ℕ → Option (Result Taken ScanFault)
-token_behind named [] = None
-token_behind named (b ∷ bs) = if named && b == 123 then octets_at bs else token_at (b ∷ bs)
+unfoldable pub token_after : Bool → List ℕ → Option (Result Taken ScanFault)
+token_after named [] = None
+token_after named (b ∷ bs) = if named && b == 123 then octets_at bs else token_at (b ∷ bs)
 
 -- whether a session description follows a token
 unfoldable pub names_octets : TokenKind → List ℕ → Bool
-names_octets Word text = str_eq_ignore_ascii_case text (codes "Local") || str_eq_ignore_ascii_case text (codes "L") || str_eq_ignore_ascii_case text (codes "Remote") || str_eq_ignore_ascii_case text (codes "R")
+names_octets Word text =
+    str_eq_ignore_ascii_case text (codes "Local") || str_eq_ignore_ascii_case text (codes "L")
+    || str_eq_ignore_ascii_case text (codes "Remote") || str_eq_ignore_ascii_case text (codes "R")
 names_octets _ text = false
 
--- the first token behind white space
+-- the first token after white space
 abbrev pub first_token : Bool → List ℕ → Option (Result Taken ScanFault)
-first_token named bytes = token_behind named (after_white false bytes)
+first_token named bytes = token_after named (after_white false bytes)
 
 -- a token as it stands in its source
 abbrev pub spelled : TokenKind → List ℕ → List ℕ
@@ -112,22 +113,8 @@ spelled Quoted text = 34 ∷ (text ++ 34 ∷ [])
 spelled Octets text = 123 ∷ (text ++ 125 ∷ [])
 spelled _ text = text
 
--- how many bytes close a token behind its text
+-- how many bytes close a token after its text
 abbrev pub closing : TokenKind → ℕ
 closing Quoted = 1
 closing Octets = 1
 closing _ = 0
-
--- what was found, by its places among the bytes
-pub record Places (bytes : List ℕ) (want : Option (Result Taken ScanFault)) (x : Found) : Type 0 where
-  pub start : x.start ≤ x.end
-  pub end : x.end + closing x.kind ≡ x.next
-  pub some : 0 < x.next
-  pub next : x.next ≤ length bytes
-  pub is : want ≡ taken x.kind (slice_range bytes x.start x.end) (drop x.next bytes)
-
--- an answer of the code is the wanted one
-abbrev pub FindsAs : List ℕ → Option (Result Taken ScanFault) → Option (Result Found ScanFault) → Type 0
-FindsAs bytes want None = want ≡ None
-FindsAs bytes want (Some (Err f)) = want ≡ Some (Err f)
-FindsAs bytes want (Some (Ok x)) = Places bytes want x

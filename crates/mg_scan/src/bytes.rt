@@ -1,6 +1,9 @@
 ghost use Rattle.std.specs.Prelude.{◌≡◌, ◌≤◌, false, length, drop};
 ghost use Rattle.std.specs.List.{prefix_len, position_or_len};
-ghost use Rattle.mg_scan.specs.Tokens.{is_line_end, is_blank, is_word_byte, after_white};
+ghost use Rattle.mg_words.specs.WordByte.{is_word_byte};
+ghost use Rattle.mg_scan.specs.Tokens.{is_line_end, is_blank, after_white};
+
+use mg_words::is_word_byte;
 
 /// Whether a byte ends a line: CR or LF.
 fn is_line_end(b: u8) -> bool
@@ -14,13 +17,6 @@ fn is_blank(b: u8) -> bool
     ensures { result ≡ is_blank b }
 {
     b == b' ' || b == b'\t' || is_line_end(b)
-}
-
-/// Whether a byte may stand in a word.
-pub fn is_word_byte(b: u8) -> bool
-    ensures { result ≡ is_word_byte b }
-{
-    matches!(b, 0x21..=0x7E) && !matches!(b, b'{' | b'}' | b',' | b'=' | b';' | b'"')
 }
 
 /// How many bytes the word at the front has.

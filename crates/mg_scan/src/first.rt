@@ -1,14 +1,16 @@
 ghost use Rattle.std.specs.Prelude.{◌≡◌, ◌<◌, drop, length};
-ghost use Rattle.mg_scan.specs.Tokens.{quoted_at, token_at, octets_at, token_behind, names_octets, FindsAs};
+ghost use Rattle.mg_scan.specs.Tokens.{quoted_at, token_at, octets_at, token_after, names_octets};
+ghost use Rattle.mg_scan.specs.aids.Places.{FindsAs};
 
-use crate::bytes::{is_word_byte, word_len};
+use crate::bytes::word_len;
 use crate::fault::ScanFault;
 use crate::found::Found;
 use crate::kind::TokenKind;
 use crate::octets::content_len;
 use memchr::memchr3;
+use mg_words::is_word_byte;
 
-/// The text behind an opening quotation mark, which is the first of the bytes.
+/// The text after an opening quotation mark, which is the first of the bytes.
 fn quoted_at(bytes: &[u8]) -> Option<Result<Found, ScanFault>>
     requires { 0 < length bytes.now }
     ensures { FindsAs bytes.now (quoted_at (drop 1 bytes.now)) result }
@@ -50,7 +52,7 @@ fn token_at(bytes: &[u8]) -> Option<Result<Found, ScanFault>>
     }
 }
 
-/// The session description behind an opening brace, which is the first of the bytes.
+/// The session description after an opening brace, which is the first of the bytes.
 fn octets_at(bytes: &[u8]) -> Option<Result<Found, ScanFault>>
     requires { 0 < length bytes.now }
     ensures { FindsAs bytes.now (octets_at (drop 1 bytes.now)) result }
@@ -77,9 +79,9 @@ fn octets_at(bytes: &[u8]) -> Option<Result<Found, ScanFault>>
 }
 
 /// The token at the front, where the token before it may be a word that a session description follows.
-#[tactic(auto, unfolding(crate::specs::Tokens::token_behind))]
-pub fn token_behind(named: bool, bytes: &[u8]) -> Option<Result<Found, ScanFault>>
-    ensures { FindsAs bytes.now (token_behind named bytes.now) result }
+#[tactic(auto, unfolding(crate::specs::Tokens::token_after))]
+pub fn token_after(named: bool, bytes: &[u8]) -> Option<Result<Found, ScanFault>>
+    ensures { FindsAs bytes.now (token_after named bytes.now) result }
 {
     match bytes {
         [] => None,

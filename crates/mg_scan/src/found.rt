@@ -1,6 +1,6 @@
 use crate::kind::TokenKind;
 
-/// A token at the front of some bytes: where its text begins and ends, and where the bytes behind it begin.
+/// A token at the front of some bytes: where its text begins and ends, and where the bytes after it begin.
 #[derive(Clone, Copy)]
 pub struct Found {
     pub kind: TokenKind,

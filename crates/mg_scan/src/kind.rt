@@ -11,7 +11,7 @@ pub enum TokenKind {
     Equals,
     /// A text between quotation marks, on one line. Its span leaves the marks out.
     Quoted,
-    /// The session description between the braces behind `Local` or `Remote`. Its span leaves the
+    /// The session description between the braces after `Local` or `Remote`. Its span leaves the
     /// braces out. A closing brace in it has a backslash before it.
     Octets,
 }

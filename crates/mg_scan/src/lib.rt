@@ -8,9 +8,9 @@
 //! assert_eq!(rt; scanner.next(), Some(Ok(Token { kind: TokenKind::Word, span: Span { start: 0, end: 7 } })));
 //! ```
 //!
-//! A token's text is the part of the source that its [`Span`] names. Behind the words `Local` and `Remote`
+//! A token's text is the part of the source that its [`Span`] names. After the words `Local` and `Remote`
 //! a brace opens a session description, which is one token up to its closing brace. A byte that begins no
-//! token, or a closing mark that is missing, is a [`ScanFault`], and behind a fault there is no token.
+//! token, or a closing mark that is missing, is a [`ScanFault`], and after a fault there is no token.
 #![tactic(auto)]
 
 mod bytes;
@@ -25,7 +25,6 @@ mod span;
 mod tests;
 mod token;
 
-pub use crate::bytes::is_word_byte;
 pub use crate::fault::ScanFault;
 pub use crate::kind::TokenKind;
 pub use crate::scanner::{Scanner, parts_join};

@@ -3,7 +3,7 @@ ghost use Rattle.mg_scan.specs.Tokens.{content_len};
 
 use memchr::memchr;
 
-/// The byte that takes its meaning from a closing brace behind it.
+/// The byte that takes its meaning from a closing brace after it.
 const ESCAPE: u8 = b'\\';
 
 /// How many bytes stand before the brace that closes a session description, if one does: the first brace

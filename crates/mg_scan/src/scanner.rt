@@ -1,16 +1,16 @@
 ghost use Rattle.std.specs.Prelude.{◌≡◌, ◌++◌, ℕ, Bool, List, Some, Ok, false};
 ghost use Rattle.mg_scan.specs.Tokens.{Taken, first_token, spelled};
 ghost use Rattle.mg_scan.specs.White.{IsWhite};
-ghost use Rattle.mg_scan.specs.Scanner.{Answers};
+ghost use Rattle.mg_scan.specs.Scanner.{IsStep};
 
 use crate::bytes::white_len;
 use crate::fault::ScanFault;
-use crate::first::{names_octets, token_behind};
+use crate::first::{names_octets, token_after};
 use crate::span::Span;
 use crate::token::Token;
 use std::marker::Model;
 
-/// Gives the tokens of a source, one after the other.
+/// IsNext the tokens of a source, one after the other.
 #[derive(Drop)]
 pub struct Scanner<'a> {
     source: &'a [u8],
@@ -41,15 +41,15 @@ impl<'a> Scanner<'a> {
         }
     }
 
-    /// The next token, or the fault that stands in its place. At the end, and behind a fault, there is
+    /// The next token, or the fault that stands in its place. At the end, and after a fault, there is
     /// none.
     pub fn next(&mut self) -> Option<Result<Token, ScanFault>>
         ensures source { self.new.source ≡ self.old.source }
-        ensures answer { Answers self.old result self.new }
+        ensures answer { IsStep self.old result self.new }
     {
         let rest = &self.source[self.at..];
         let start = self.at + white_len(rest);
-        match token_behind(self.named, &self.source[start..]) {
+        match token_after(self.named, &self.source[start..]) {
             Some(Ok(found)) => {
                 let span = Span {
                     start: start + found.start,
@@ -75,7 +75,7 @@ impl<'a> Scanner<'a> {
 }
 
 /// How the parts of a text join: where a first token is found, the bytes are white space, that token as it
-/// is spelled, and the bytes behind it.
+/// is spelled, and the bytes after it.
 pub fn parts_join()
     ensures { (named : Bool) (bytes : List ℕ) (x : Taken) → first_token named bytes ≡ Some (Ok x) →
         (white : List ℕ) × IsWhite false white × (bytes ≡ white ++ (spelled x.piece.kind x.piece.text ++ x.rest)) }

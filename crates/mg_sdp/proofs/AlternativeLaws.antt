@@ -5,7 +5,7 @@ use Rattle.std.proofs.lemmas.List.Elements.{filter_map-append}
 use Rattle.std.proofs.lemmas.List.Folds.{list_all-append}
 use Rattle.std.proofs.lemmas.Bool.{eqb-true}
 use Rattle.std.specs.List.{list_all, last_or, cons_option}
-use Rattle.mg_numbers.specs.Address.{◌>>=◌}
+use Rattle.mg_words.specs.OptionSteps.{◌>>=◌}
 use Rattle.mg_sdp.specs.declared.media.Media.{Media}
 use Rattle.mg_sdp.specs.declared.part.Part.{Part}
 use Rattle.mg_sdp.specs.declared.part.Part.TheVariants.{Missing, Faulty}
@@ -15,7 +15,7 @@ use Rattle.mg_sdp.specs.Fields.{fields_of}
 use Rattle.mg_sdp.specs.Media.{media_in}
 use Rattle.mg_sdp.specs.Connection.{connection_in}
 use Rattle.mg_sdp.specs.Offer.{is_served_version, is_served_attribute, media_of, address_by, offer_with, offer_of}
-use Rattle.mg_sdp.specs.Reader.{part_of, no_lines, with_line, media_with_line, offer_at, offer_from, offer_by}
+use Rattle.mg_sdp.specs.aids.Reader.{part_of, no_lines, with_line, media_with_line, offer_at, offer_from, offer_by}
 
 abbrev media_part : List (List ℕ) → Part Media
 media_part [] = Missing

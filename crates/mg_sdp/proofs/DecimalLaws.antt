@@ -7,7 +7,7 @@ use Rattle.std.proofs.lemmas.Bool.{leb-true, le-leb, ne_eqb, and_parts, and_from
 use Rattle.std.specs.List.{list_all}
 use Rattle.std.specs.Char.{is_ascii_digit}
 use Rattle.std.specs.Str.{all_ascii_digits}
-use Rattle.mg_numbers.specs.Numbers.{value_of, decimal_of, port_of, part_of}
+use Rattle.mg_words.specs.Numbers.{value_of, decimal_of, port_of, part_of}
 use Rattle.mg_sdp.proofs.WrittenLaws.{byte_short, port_short}
 
 -- the digits of a number, the last of them apart

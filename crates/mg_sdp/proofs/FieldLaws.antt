@@ -8,8 +8,8 @@ use Rattle.mg_sdp.proofs.SplitLaws.{split_first, front_fails, one_more}
 abbrev pub front : List ℕ → List ℕ
 front text = take (position_or_len is_blank text) text
 
-abbrev pub behind : List ℕ → List ℕ
-behind text = drop (position_or_len is_blank text) text
+abbrev pub after : List ℕ → List ℕ
+after text = drop (position_or_len is_blank text) text
 
 blank_step : (b : ℕ) (text : List ℕ) (blank : Bool) → is_blank b ≡ blank → fields_of (drop (prefix_len is_blank text) text) ≡ fields_of text → fields_of (drop (prefix_len is_blank (b ∷ text)) (b ∷ text)) ≡ fields_of (b ∷ text)
 unfolding fields_of
@@ -17,32 +17,32 @@ blank_step b text true e h = rw (e, one_more (prefix_len is_blank text)) h
 blank_step b text false e h = rw e (rw e refl)
 
 -- blanks at the front hold no field
-pub fields_behind : (text : List ℕ) → fields_of (drop (prefix_len is_blank text) text) ≡ fields_of text
-fields_behind [] = refl
-fields_behind (b ∷ text) = blank_step b text (is_blank b) refl (fields_behind text)
+pub fields_after : (text : List ℕ) → fields_of (drop (prefix_len is_blank text) text) ≡ fields_of text
+fields_after [] = refl
+fields_after (b ∷ text) = blank_step b text (is_blank b) refl (fields_after text)
 
-field_first : (x : ℕ) (xs : List ℕ) → is_blank x ≡ false → fields_of (x ∷ xs) ≡ front (x ∷ xs) ∷ fields_of (behind (x ∷ xs))
+field_first : (x : ℕ) (xs : List ℕ) → is_blank x ≡ false → fields_of (x ∷ xs) ≡ front (x ∷ xs) ∷ fields_of (after (x ∷ xs))
 unfolding fields_of
 field_first x xs e =
     let first = split_first is_blank (x ∷ xs) in
     let begins : front (x ∷ xs) ≡ x ∷ front xs = rw (e, one_more (position_or_len is_blank xs)) refl in
     let parts : slice_split is_blank (x ∷ xs) ≡ (x ∷ front xs) ∷ first.others = first.parts ∙ ap (λ (part : List ℕ). part ∷ first.others) begins in
-    ap (filter is_filled) parts ∙ sym (rw (begins, first.behind) refl)
+    ap (filter is_filled) parts ∙ sym (rw (begins, first.after) refl)
 
-behind_blanks : (rest text : List ℕ) → text ≡ drop (prefix_len is_blank rest) rest → 0 < length text → fields_of text ≡ front text ∷ fields_of (behind text)
-behind_blanks rest [] same some = absurd (omega arith)
-behind_blanks rest (x ∷ xs) same some = field_first x xs (front_fails is_blank rest x xs (sym same))
+after_blanks : (rest text : List ℕ) → text ≡ drop (prefix_len is_blank rest) rest → 0 < length text → fields_of text ≡ front text ∷ fields_of (after text)
+after_blanks rest [] same some = absurd (omega arith)
+after_blanks rest (x ∷ xs) same some = field_first x xs (front_fails is_blank rest x xs (sym same))
 
 pub fields_none : fields_of [] ≡ []
 unfolding fields_of
 fields_none = refl
 
 -- the next field, where the blanks before it end before the value does
-pub next_field : (rest text : List ℕ) → text ≡ drop (prefix_len is_blank rest) rest → 0 < length text → fields_of rest ≡ front text ∷ fields_of (behind text)
-next_field rest text same some = sym (fields_behind rest) ∙ ap fields_of (sym same) ∙ behind_blanks rest text same some
+pub next_field : (rest text : List ℕ) → text ≡ drop (prefix_len is_blank rest) rest → 0 < length text → fields_of rest ≡ front text ∷ fields_of (after text)
+next_field rest text same some = sym (fields_after rest) ∙ ap fields_of (sym same) ∙ after_blanks rest text same some
 
 pub no_field : (rest text : List ℕ) (white : ℕ) → white ≡ prefix_len is_blank rest → text ≡ drop white rest → length text ≡ 0 → fields_of rest ≡ []
-no_field rest [] white w same none = sym (fields_behind rest) ∙ ap (λ (k : ℕ). fields_of (drop k rest)) (sym w) ∙ ap fields_of (sym same) ∙ fields_none
+no_field rest [] white w same none = sym (fields_after rest) ∙ ap (λ (k : ℕ). fields_of (drop k rest)) (sym w) ∙ ap fields_of (sym same) ∙ fields_none
 no_field rest (x ∷ xs) white w same none = absurd (omega arith)
 
 -- the same, step by step
@@ -51,5 +51,5 @@ pub field_step : (rest text field next : List ℕ) (blanks len : ℕ) → blanks
 field_step rest text field next blanks len w t some l f n =
     let same : text ≡ drop (prefix_len is_blank rest) rest = t ∙ ap (λ (k : ℕ). drop k rest) w in
     let taken : field ≡ front text = f ∙ ap (λ (k : ℕ). take k text) l in
-    let left : next ≡ behind text = n ∙ ap (λ (k : ℕ). drop k text) l in
+    let left : next ≡ after text = n ∙ ap (λ (k : ℕ). drop k text) l in
     rw (taken, left) (next_field rest text same some)

@@ -30,9 +30,9 @@ white_step b text true e h = rw (e, one_more (prefix_len is_white text)) (h ∙ 
 white_step b text false e h = rw e refl
 
 -- white space at the front holds no line
-pub lines_behind : (text : List ℕ) → lines_of (drop (prefix_len is_white text) text) ≡ lines_of text
-lines_behind [] = refl
-lines_behind (b ∷ text) = white_step b text (is_white b) refl (lines_behind text)
+pub lines_after : (text : List ℕ) → lines_of (drop (prefix_len is_white text) text) ≡ lines_of text
+lines_after [] = refl
+lines_after (b ∷ text) = white_step b text (is_white b) refl (lines_after text)
 
 -- a filled part stays when it is filtered
 filled_stays : (b : Bool) (part : List ℕ) (parts : List (List ℕ)) → is_filled part ≡ b → b ≡ true → cond (is_filled part) (part ∷ parts) parts ≡ part ∷ parts
@@ -52,33 +52,33 @@ end_filled x xs e = taken_filled (length (x ∷ xs) - suffix_len is_blank (x ∷
 abbrev pub front : List ℕ → List ℕ
 front text = take (position_or_len is_line_end text) text
 
-abbrev pub behind : List ℕ → List ℕ
-behind text = drop (position_or_len is_line_end text) text
+abbrev pub after : List ℕ → List ℕ
+after text = drop (position_or_len is_line_end text) text
 
-lines_of_parts : (text : List ℕ) → lines_of text ≡ cond (is_filled (trimmed (front text))) (trimmed (front text) ∷ lines_of (behind text)) (lines_of (behind text))
+lines_of_parts : (text : List ℕ) → lines_of text ≡ cond (is_filled (trimmed (front text))) (trimmed (front text) ∷ lines_of (after text)) (lines_of (after text))
 unfolding lines_of
 lines_of_parts text =
     let first = split_first is_line_end text in
-    rw (first.parts, first.behind) refl
+    rw (first.parts, first.after) refl
 
 front-cons : (x : ℕ) (xs : List ℕ) → is_line_end x ≡ false → front (x ∷ xs) ≡ x ∷ front xs
 front-cons x xs e = rw (e, one_more (position_or_len is_line_end xs)) refl
 
-line_first : (x : ℕ) (xs : List ℕ) → is_line_end x ≡ false → is_blank x ≡ false → lines_of (x ∷ xs) ≡ trimmed_end (front (x ∷ xs)) ∷ lines_of (behind (x ∷ xs))
+line_first : (x : ℕ) (xs : List ℕ) → is_line_end x ≡ false → is_blank x ≡ false → lines_of (x ∷ xs) ≡ trimmed_end (front (x ∷ xs)) ∷ lines_of (after (x ∷ xs))
 line_first x xs no_end no_blank =
     let begins = front-cons x xs no_end in
     let same : trimmed (front (x ∷ xs)) ≡ trimmed_end (front (x ∷ xs)) = rw begins (trimmed_first x (front xs) no_blank) in
     let some : is_filled (trimmed (front (x ∷ xs))) ≡ true = rw (same, begins) (end_filled x (front xs) no_blank) in
-    lines_of_parts (x ∷ xs) ∙ filled_stays true _ _ some refl ∙ ap (λ (line : List ℕ). line ∷ lines_of (behind (x ∷ xs))) same
+    lines_of_parts (x ∷ xs) ∙ filled_stays true _ _ some refl ∙ ap (λ (line : List ℕ). line ∷ lines_of (after (x ∷ xs))) same
 
 not_white : (x : ℕ) (blank ends : Bool) → is_blank x ≡ blank → is_line_end x ≡ ends → (blank || ends) ≡ false → (is_line_end x ≡ false) × (is_blank x ≡ false)
 not_white x false false e f h = (f, e)
 not_white x true ends e f h = cc
 not_white x false true e f h = cc
 
-behind_white : (rest text : List ℕ) → text ≡ drop (prefix_len is_white rest) rest → 0 < length text → lines_of text ≡ trimmed_end (front text) ∷ lines_of (behind text)
-behind_white rest [] same some = absurd (omega arith)
-behind_white rest (x ∷ xs) same some =
+after_white : (rest text : List ℕ) → text ≡ drop (prefix_len is_white rest) rest → 0 < length text → lines_of text ≡ trimmed_end (front text) ∷ lines_of (after text)
+after_white rest [] same some = absurd (omega arith)
+after_white rest (x ∷ xs) same some =
     let fails = front_fails is_white rest x xs (sym same) in
     let plain = not_white x (is_blank x) (is_line_end x) refl refl fails in
     line_first x xs plain.0 plain.1
@@ -88,11 +88,11 @@ unfolding lines_of
 lines_none = refl
 
 -- the next line, where the white space before it ends before the content does
-pub next_line : (rest text : List ℕ) → text ≡ drop (prefix_len is_white rest) rest → 0 < length text → lines_of rest ≡ trimmed_end (front text) ∷ lines_of (behind text)
-next_line rest text same some = sym (lines_behind rest) ∙ ap lines_of (sym same) ∙ behind_white rest text same some
+pub next_line : (rest text : List ℕ) → text ≡ drop (prefix_len is_white rest) rest → 0 < length text → lines_of rest ≡ trimmed_end (front text) ∷ lines_of (after text)
+next_line rest text same some = sym (lines_after rest) ∙ ap lines_of (sym same) ∙ after_white rest text same some
 
 pub no_line : (rest text : List ℕ) (white : ℕ) → white ≡ prefix_len is_white rest → text ≡ drop white rest → length text ≡ 0 → lines_of rest ≡ []
-no_line rest [] white w same none = sym (lines_behind rest) ∙ ap (λ (k : ℕ). lines_of (drop k rest)) (sym w) ∙ ap lines_of (sym same) ∙ lines_none
+no_line rest [] white w same none = sym (lines_after rest) ∙ ap (λ (k : ℕ). lines_of (drop k rest)) (sym w) ∙ ap lines_of (sym same) ∙ lines_none
 no_line rest (x ∷ xs) white w same none = absurd (omega arith)
 
 -- the same, step by step
@@ -101,5 +101,5 @@ pub line_step : (rest text line next : List ℕ) (white len blanks : ℕ) → wh
 line_step rest text line next white len blanks w t some l f n b =
     let same : text ≡ drop (prefix_len is_white rest) rest = t ∙ ap (λ (k : ℕ). drop k rest) w in
     let taken : line ≡ front text = f ∙ ap (λ (k : ℕ). take k text) l in
-    let left : next ≡ behind text = n ∙ ap (λ (k : ℕ). drop k text) l in
+    let left : next ≡ after text = n ∙ ap (λ (k : ℕ). drop k text) l in
     rw (b, taken, left) (next_line rest text same some)

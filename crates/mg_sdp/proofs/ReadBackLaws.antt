@@ -6,8 +6,8 @@ use Rattle.std.proofs.Math.Seq.{take-append_seam, take-length}
 use Rattle.std.specs.List.{list_all, position_or_len, slice_split}
 use Rattle.std.specs.Char.{is_ascii_digit}
 use Rattle.std.specs.Str.{all_ascii_digits, bytes_eq}
-use Rattle.mg_numbers.specs.Cut.{cut}
-use Rattle.mg_numbers.specs.Address.{address_of}
+use Rattle.mg_words.specs.Cut.{cut}
+use Rattle.mg_words.specs.Address.{address_of}
 use Rattle.mg_g711.specs.declared.law.Law.{Law}
 use Rattle.mg_g711.specs.declared.law.Law.TheVariants.{Mu, A}
 use Rattle.mg_sdp.specs.declared.media.Media.{Media}

@@ -11,9 +11,9 @@ use Rattle.mg_sdp.specs.declared.alternative.Alternative.{Alternative}
 use Rattle.mg_sdp.specs.Lines.{parts_of, is_line, lines_of}
 use Rattle.mg_sdp.specs.Offer.{offer_of}
 use Rattle.mg_sdp.specs.Alternatives.{is_version, IsReading}
-use Rattle.mg_sdp.specs.Sessions.{closing, alternatives_behind, sessions_of}
-use Rattle.mg_sdp.specs.Progress.{Progress}
-use Rattle.mg_sdp.specs.Reader.{with_line, start, ended, continued, line_read, closed, finished}
+use Rattle.mg_sdp.specs.Sessions.{closing, alternatives_after, sessions_of}
+use Rattle.mg_sdp.specs.aids.Progress.{Progress}
+use Rattle.mg_sdp.specs.aids.Reader.{with_line, start, ended, continued, line_read, closed, finished}
 use Rattle.mg_sdp.proofs.GroupLaws.{are_alternatives}
 use Rattle.mg_sdp.proofs.AlternativeLaws.{state_of, state_of-nil, state_of-push, offer_by-state_of}
 
@@ -34,7 +34,7 @@ paused_same xs ys a b e f = rw (e, f) refl
 mapped_push : (done : List (List (List ℕ))) (lines : List (List ℕ)) → map offer_of (done ++ lines ∷ []) ≡ map offer_of done ++ offer_of lines ∷ []
 mapped_push done lines = map-append offer_of done (lines ∷ [])
 
--- an alternative ends: within the first eight, or behind them
+-- an alternative ends: within the first eight, or after them
 end_within : (done : List (List (List ℕ))) (lines : List (List ℕ)) (over : Bool) → length done < 8 → ltb 8 (length done) ≡ over → paused (take 8 (map offer_of done) ++ offer_of lines ∷ []) over ≡ progress_of (done ++ lines ∷ []) []
 end_within done lines over small f =
     let len = length-map done offer_of in
@@ -46,8 +46,8 @@ end_within done lines over small f =
     let is : ltb 8 (length (done ++ lines ∷ [])) ≡ false = le-ltb 8 (length (done ++ lines ∷ [])) (omega arith) in
     paused_same _ _ _ _ (rw (mapped_push done lines, all, some) refl) (sym f ∙ was ∙ sym is)
 
-end_behind : (done : List (List (List ℕ))) (lines : List (List ℕ)) → 8 ≤ length done → paused (take 8 (map offer_of done)) true ≡ progress_of (done ++ lines ∷ []) []
-end_behind done lines large =
+end_after : (done : List (List (List ℕ))) (lines : List (List ℕ)) → 8 ≤ length done → paused (take 8 (map offer_of done)) true ≡ progress_of (done ++ lines ∷ []) []
+end_after done lines large =
     let len = length-map done offer_of in
     let more = length-append done (lines ∷ []) in
     let first : take 8 (map offer_of done ++ offer_of lines ∷ []) ≡ take 8 (map offer_of done) = take-append-le 8 (map offer_of done) (offer_of lines ∷ []) (omega arith) in
@@ -57,7 +57,7 @@ end_behind done lines large =
 end_one : (done : List (List (List ℕ))) (lines : List (List ℕ)) (small over : Bool) → ltb (length (take 8 (map offer_of done))) 8 ≡ small → ltb 8 (length done) ≡ over
     → cond small (paused (take 8 (map offer_of done) ++ offer_of lines ∷ []) over) (paused (take 8 (map offer_of done)) true) ≡ progress_of (done ++ lines ∷ []) []
 end_one done lines true over f g = end_within done lines over (omega (arith, ltb-true _ _ f, length-take 8 (map offer_of done), length-map done offer_of)) g
-end_one done lines false over f g = end_behind done lines (omega (arith, ltb-false _ _ f, length-take 8 (map offer_of done), length-map done offer_of))
+end_one done lines false over f g = end_after done lines (omega (arith, ltb-false _ _ f, length-take 8 (map offer_of done), length-map done offer_of))
 
 pub ended-progress_of : (done : List (List (List ℕ))) (current : List (List ℕ)) → ended (progress_of done current) ≡ progress_of (done ++ closing current) []
 ended-progress_of done [] = rw (append-nil done) refl
@@ -105,22 +105,22 @@ line_read-progress_of : (done : List (List (List ℕ))) (current : List (List �
 unfolding line_read
 line_read-progress_of done current line letter value e = rw (e, some_if (eqb letter 118) value) (line_step done current line letter value (eqb letter 118) e refl)
 
--- reading the lines behind those that were read
+-- reading the lines after those that were read
 read_step : (done : List (List (List ℕ))) (current : List (List ℕ)) (line : List ℕ) (lines : List (List ℕ)) (version : Bool) → is_version line ≡ version
-    → ((done' : List (List (List ℕ))) (current' : List (List ℕ)) → read_on (progress_of done' current') lines ≡ given (list_all is_line lines) (done' ++ alternatives_behind current' lines))
-    → read_on (cond (is_version line) (progress_of (done ++ closing current) (line ∷ [])) (progress_of done (current ++ line ∷ []))) lines ≡ given (list_all is_line lines) (done ++ alternatives_behind current (line ∷ lines))
-read_step done current line lines true e others = rw e (others (done ++ closing current) (line ∷ []) ∙ ap (given (list_all is_line lines)) (append_assoc done (closing current) (alternatives_behind (line ∷ []) lines)))
+    → ((done' : List (List (List ℕ))) (current' : List (List ℕ)) → read_on (progress_of done' current') lines ≡ given (list_all is_line lines) (done' ++ alternatives_after current' lines))
+    → read_on (cond (is_version line) (progress_of (done ++ closing current) (line ∷ [])) (progress_of done (current ++ line ∷ []))) lines ≡ given (list_all is_line lines) (done ++ alternatives_after current (line ∷ lines))
+read_step done current line lines true e others = rw e (others (done ++ closing current) (line ∷ []) ∙ ap (given (list_all is_line lines)) (append_assoc done (closing current) (alternatives_after (line ∷ []) lines)))
 read_step done current line lines false e others = rw e (others done (current ++ line ∷ []))
 
 read_line : (done : List (List (List ℕ))) (current : List (List ℕ)) (line : List ℕ) (lines : List (List ℕ)) (o : Option (ℕ × List ℕ)) → parts_of line ≡ o
-    → ((done' : List (List (List ℕ))) (current' : List (List ℕ)) → read_on (progress_of done' current') lines ≡ given (list_all is_line lines) (done' ++ alternatives_behind current' lines))
-    → read_on (progress_of done current) (line ∷ lines) ≡ given (list_all is_line (line ∷ lines)) (done ++ alternatives_behind current (line ∷ lines))
+    → ((done' : List (List (List ℕ))) (current' : List (List ℕ)) → read_on (progress_of done' current') lines ≡ given (list_all is_line lines) (done' ++ alternatives_after current' lines))
+    → read_on (progress_of done current) (line ∷ lines) ≡ given (list_all is_line (line ∷ lines)) (done ++ alternatives_after current (line ∷ lines))
 read_line done current line lines None e others = let fault : is_line line ≡ false = rw e refl in rw fault refl
 read_line done current line lines (Some parts) e others =
     let lined : is_line line ≡ true = rw e refl in
     rw lined (ap (λ (p : Progress). read_on p lines) (line_read-progress_of done current line parts.0 parts.1 e) ∙ read_step done current line lines (is_version line) refl others)
 
-pub read_on-progress_of : (lines : List (List ℕ)) (done : List (List (List ℕ))) (current : List (List ℕ)) → read_on (progress_of done current) lines ≡ given (list_all is_line lines) (done ++ alternatives_behind current lines)
+pub read_on-progress_of : (lines : List (List ℕ)) (done : List (List (List ℕ))) (current : List (List ℕ)) → read_on (progress_of done current) lines ≡ given (list_all is_line lines) (done ++ alternatives_after current lines)
 read_on-progress_of [] done current = finished-progress_of done current
 read_on-progress_of (line ∷ lines) done current = read_line done current line lines (parts_of line) refl (λ done' current'. read_on-progress_of lines done' current')
 
@@ -131,7 +131,7 @@ content_read content = read_on-progress_of (lines_of content) [] []
 
 pub sessions_read : (content : List ℕ) (result : Result (List (Option Offer)) SdpFault) → result ≡ sessions_of content → IsReading content result
 unfolding sessions_of
-sessions_read content result e = (alternatives_behind [] (lines_of content), are_alternatives (lines_of content), e)
+sessions_read content result e = (alternatives_after [] (lines_of content), are_alternatives (lines_of content), e)
 
 pub line_fault : (p : Progress) (line : List ℕ) (lines : List (List ℕ)) → is_line line ≡ false → read_on p (line ∷ lines) ≡ Err Line
 line_fault p line lines e = rw e refl
@@ -148,5 +148,5 @@ line_told false over offers = (λ e. refl, λ e. refl)
 pub sessions_fault : (content : List ℕ) (result : Result (List (Option Offer)) SdpFault) → result ≡ sessions_of content → (result ≡ Err Line) ↔ (list_all is_line (lines_of content) ≡ false)
 unfolding sessions_of
 sessions_fault content result e =
-    let alternatives = alternatives_behind [] (lines_of content) in
+    let alternatives = alternatives_after [] (lines_of content) in
     rw e (line_told (list_all is_line (lines_of content)) (ltb 8 (length alternatives)) (map offer_of alternatives))

@@ -10,22 +10,22 @@ one_more n = omega arith
 pub record BeginsWith (p : ℕ → Bool) (xs front rest : List ℕ) : Type 0 where
   pub others : List (List ℕ)
   pub parts : slice_split p xs ≡ front ∷ others
-  pub behind : slice_split p rest ≡ [] ∷ others
+  pub after : slice_split p rest ≡ [] ∷ others
 
 split_step : (p : ℕ → Bool) (x : ℕ) (xs : List ℕ) (b : Bool) → p x ≡ b → BeginsWith p xs (take (position_or_len p xs) xs) (drop (position_or_len p xs) xs)
     → BeginsWith p (x ∷ xs) (take (position_or_len p (x ∷ xs)) (x ∷ xs)) (drop (position_or_len p (x ∷ xs)) (x ∷ xs))
-split_step p x xs true e h = record { others = slice_split p xs; parts = rw e refl; behind = rw e (rw e refl) }
+split_step p x xs true e h = record { others = slice_split p xs; parts = rw e refl; after = rw e (rw e refl) }
 split_step p x xs false e h = record {
   others = h.others;
   parts = rw e (rw (one_more (position_or_len p xs), h.parts) refl);
-  behind = rw e (rw (one_more (position_or_len p xs)) h.behind);
+  after = rw e (rw (one_more (position_or_len p xs)) h.after);
 }
 
 pub split_first : (p : ℕ → Bool) (xs : List ℕ) → BeginsWith p xs (take (position_or_len p xs) xs) (drop (position_or_len p xs) xs)
-split_first p [] = record { others = []; parts = refl; behind = refl }
+split_first p [] = record { others = []; parts = refl; after = refl }
 split_first p (x ∷ xs) = split_step p x xs (p x) refl (split_first p xs)
 
--- what stands behind the longest front that passes begins with an element that doesn't
+-- what stands after the longest front that passes begins with an element that doesn't
 fails_step : (p : ℕ → Bool) (x : ℕ) (xs : List ℕ) (b : Bool) → p x ≡ b → ((y : ℕ) (ys : List ℕ) → drop (prefix_len p xs) xs ≡ y ∷ ys → p y ≡ false)
     → (y : ℕ) (ys : List ℕ) → drop (prefix_len p (x ∷ xs)) (x ∷ xs) ≡ y ∷ ys → p y ≡ false
 fails_step p x xs true e h y ys same = h y ys (rw (e, one_more (prefix_len p xs)) at same)

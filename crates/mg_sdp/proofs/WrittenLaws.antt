@@ -1,7 +1,8 @@
 -- How long the written parts are.
 use Rattle.std.proofs.Common.{codes, [], ◌≡◌, ℕ, ◌+◌, ◌^◌, ◌<◌, ◌≤◌, List, ◌++◌, length, length-append, append_assoc, arith, decimal}
 use Rattle.std.proofs.lemmas.Fmt.{length-decimal-le}
-use Rattle.mg_sdp.specs.Written.{address_text, law_text, session_text}
+use Rattle.mg_words.specs.Address.{address_text}
+use Rattle.mg_sdp.specs.Written.{law_text, session_text}
 use Rattle.mg_sdp.specs.declared.chosen.Chosen.{Chosen}
 
 pub byte_short : (n : ℕ) → n < 256 → length (decimal n) ≤ 3
@@ -12,6 +13,6 @@ port_short n h = length-decimal-le 5 n (omega arith) (omega arith) (omega arith)
 
 pub ruleset lengths = (byte_short, port_short, append_assoc)
 
--- the parts of the text, one behind another
+-- the parts of the text, one after another
 pub parts_joined : (chosen : Chosen) → (((((([] ++ codes "v=0\r\nc=IN IP4 ") ++ address_text chosen.address) ++ codes "\r\nm=audio ") ++ decimal chosen.port) ++ codes " RTP/AVP ") ++ law_text chosen.law) ++ codes "\r\na=ptime:20\r\n" ≡ session_text chosen
 parts_joined chosen = simp append_assoc

@@ -1,7 +1,10 @@
--- The alternatives of a content (RFC 3525, section 7.1.8: descriptions one behind another, each from its v= line on).
-use Rattle.std.specs.Prelude.{◌≡◌, ℕ, not, nat_lt, Bool, List, [], ◌∷◌, IsTrue, Option, is_some, Result, Ok, Err, map, length, drop, if◌then◌else◌}
+-- The alternatives of a content (RFC 3525, section 7.1.8: descriptions one after another, each from
+-- its v= line on).
+use Rattle.std.specs.Prelude.{◌≡◌, ℕ, not, nat_lt, Bool, List, [], ◌∷◌, IsTrue, Option, is_some}
+use Rattle.std.specs.Prelude.{Result, Ok, Err, map, length, drop, if◌then◌else◌}
 use Rattle.std.specs.List.{list_all, flat_map, AllByRecursion}
 use Rattle.std.specs.Str.{byte}
+use Rattle.mg_words.specs.Limits.{alternative_limit}
 use Rattle.mg_sdp.specs.declared.fault.SdpFault.{SdpFault}
 use Rattle.mg_sdp.specs.declared.fault.SdpFault.TheVariants.{Line, TooMany}
 use Rattle.mg_sdp.specs.declared.offer.Offer.{Offer}
@@ -12,7 +15,7 @@ use Rattle.mg_sdp.specs.Offer.{offer_of}
 abbrev pub is_version : List ℕ → Bool
 is_version line = is_some (value_of (byte "v") line)
 
--- an alternative is a line, and behind it lines that are no v= lines
+-- an alternative is a line, and after it lines that are no v= lines
 abbrev pub IsAlternative : List (List ℕ) → Type 0
 IsAlternative [] = ⊥
 IsAlternative (line ∷ lines) = IsTrue (list_all (λ l. not (is_version l)) lines)
@@ -21,9 +24,10 @@ abbrev pub BeginsWithVersion : List (List ℕ) → Type 0
 BeginsWithVersion [] = ⊥
 BeginsWithVersion (line ∷ lines) = IsTrue (is_version line)
 
--- The lines are those of the alternatives, one behind another, and each alternative but the first begins with its
--- v= line.
-pub record AreAlternatives (lines : List (List ℕ)) (alternatives : List (List (List ℕ))) : Type 0 where
+-- The lines are those of the alternatives, one after another, and each alternative but the first
+-- begins with its v= line.
+pub record AreAlternatives (lines : List (List ℕ))
+    (alternatives : List (List (List ℕ))) : Type 0 where
   pub joined : flat_map (λ alternative. alternative) alternatives ≡ lines
   pub each : AllByRecursion IsAlternative alternatives
   pub later : AllByRecursion BeginsWithVersion (drop 1 alternatives)
@@ -32,9 +36,11 @@ pub record AreAlternatives (lines : List (List ℕ)) (alternatives : List (List 
 abbrev pub reading_of : List (List ℕ) → List (List (List ℕ)) → Result (List (Option Offer)) SdpFault
 reading_of lines alternatives =
     if not (list_all is_line lines) then Err Line
-    else (if nat_lt 8 (length alternatives) then Err TooMany
+    else (if nat_lt alternative_limit (length alternatives) then Err TooMany
     else Ok (map offer_of alternatives))
 
 -- a result of reading a content
 abbrev pub IsReading : List ℕ → Result (List (Option Offer)) SdpFault → Type 0
-IsReading content result = (alternatives : List (List (List ℕ))) × AreAlternatives (lines_of content) alternatives × (result ≡ reading_of (lines_of content) alternatives)
+IsReading content result =
+    (alternatives : List (List (List ℕ))) × AreAlternatives (lines_of content) alternatives
+    × (result ≡ reading_of (lines_of content) alternatives)

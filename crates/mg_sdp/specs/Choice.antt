@@ -1,9 +1,10 @@
 -- Which alternative is chosen (RFC 3525, section 7.1.8): the first that can be served.
-use Rattle.std.specs.Prelude.{ℕ, ◌==◌, ◌&&◌, not, Bool, true, false, List, Option, Some, None, is_some, unwrap_or, find}
+use Rattle.std.specs.Prelude.{ℕ, ◌==◌, ◌&&◌, not, Bool, true, false, List, Option, Some, None}
+use Rattle.std.specs.Prelude.{is_some, unwrap_or, find}
 use Rattle.std.specs.List.{filter_map}
 use Rattle.std.specs.Str.{bytes_eq}
 use Rattle.std.specs.Option.{option_map, option_and_then}
-use Rattle.mg_numbers.specs.Address.{◌>>=◌}
+use Rattle.mg_words.specs.OptionSteps.{◌>>=◌}
 use Rattle.mg_g711.specs.declared.law.Law.TheVariants.{Mu}
 use Rattle.mg_sdp.specs.declared.offer.Offer.{Offer}
 use Rattle.mg_sdp.specs.declared.chosen.Chosen.{Chosen}
@@ -24,7 +25,8 @@ is_open_port (Some port) = not (port == 0)
 
 -- the gateway itself can serve it at its own address and port
 abbrev pub is_served_local : List ℕ → ℕ → Offer → Bool
-is_served_local address port offer = is_own_address address offer.address && is_own_port port offer.port
+is_served_local address port offer =
+    is_own_address address offer.address && is_own_port port offer.port
 
 -- it says where packets go, and by which law
 abbrev pub is_served_remote : Offer → Bool
@@ -35,11 +37,14 @@ abbrev pub offers_of : List (Option Offer) → List Offer
 offers_of alternatives = filter_map (λ offer. offer) alternatives
 
 abbrev pub local_of : List ℕ → ℕ → Offer → Chosen
-local_of address port offer = record { address = address; port = port; law = unwrap_or offer.law Mu }
+local_of address port offer =
+    record { address = address; port = port; law = unwrap_or offer.law Mu }
 
 -- the first that the gateway can serve itself, by mu-law where the law is left to it
 abbrev pub local_choice : List ℕ → ℕ → List (Option Offer) → Option Chosen
-local_choice address port alternatives = option_map (local_of address port) (find (is_served_local address port) (offers_of alternatives))
+local_choice address port alternatives =
+    option_map (local_of address port)
+    (find (is_served_local address port) (offers_of alternatives))
 
 abbrev pub remote_of : Offer → Option Chosen
 remote_of offer = do
@@ -50,4 +55,5 @@ remote_of offer = do
 
 -- the first that packets can be sent to
 abbrev pub remote_choice : List (Option Offer) → Option Chosen
-remote_choice alternatives = option_and_then remote_of (find is_served_remote (offers_of alternatives))
+remote_choice alternatives =
+    option_and_then remote_of (find is_served_remote (offers_of alternatives))

@@ -1,4 +1,5 @@
--- The parts of a line's value (RFC 4566, sections 5.7 and 5.14, where one space stands between two).
+-- The parts of a line's value (RFC 4566, sections 5.7 and 5.14, where one space stands between
+-- two).
 use Rattle.std.specs.Prelude.{ℕ, List, filter}
 use Rattle.std.specs.List.{slice_split}
 use Rattle.mg_sdp.specs.Lines.{is_blank, is_filled}

@@ -7,7 +7,4 @@ pub mod Alternatives
 pub mod Sessions
 pub mod Choice
 pub mod Written
-pub mod LinesLeft
-pub mod FieldsLeft
-pub mod Progress
-pub mod Reader
+pub mod aids

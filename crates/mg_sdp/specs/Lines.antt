@@ -1,6 +1,7 @@
--- The lines of a session description (RFC 4566, section 5). That spaces and tabs at their ends count for nothing,
--- and empty lines neither, is this project's own.
-use Rattle.std.specs.Prelude.{ℕ, ◌==◌, ◌-◌, ◌||◌, ◌&&◌, Bool, true, false, List, [], ◌∷◌, length, map, filter, take, drop, Option, Some, None, is_some, if◌then◌else◌}
+-- The lines of a session description (RFC 4566, section 5). That spaces and tabs at their ends
+-- count for nothing, and empty lines neither, is this project's own.
+use Rattle.std.specs.Prelude.{ℕ, ◌==◌, ◌-◌, ◌||◌, ◌&&◌, Bool, true, false, List, [], ◌∷◌, length}
+use Rattle.std.specs.Prelude.{map, filter, take, drop, Option, Some, None, is_some, if◌then◌else◌}
 use Rattle.std.specs.List.{prefix_len, suffix_len, slice_split, filter_map}
 use Rattle.std.specs.Char.{is_ascii_alphabetic}
 use Rattle.std.specs.Str.{byte}
@@ -33,7 +34,8 @@ lines_of content = filter is_filled (map trimmed (slice_split is_line_end conten
 unfoldable pub parts_of : List ℕ → Option (ℕ × List ℕ)
 parts_of [] = None
 parts_of (letter ∷ []) = None
-parts_of (letter ∷ equals ∷ value) = if is_ascii_alphabetic letter && equals == byte "=" then Some (letter, value) else None
+parts_of (letter ∷ equals ∷ value) =
+    if is_ascii_alphabetic letter && equals == byte "=" then Some (letter, value) else None
 
 abbrev pub is_line : List ℕ → Bool
 is_line line = is_some (parts_of line)

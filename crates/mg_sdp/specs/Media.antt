@@ -1,11 +1,12 @@
--- Media lines (RFC 4566, section 5.14) of G.711 over RTP (RFC 3551, section 6: payload types 0 and 8). A $ is a
--- choice that is left to the gateway (RFC 3525, section 7.1.8).
-use Rattle.std.specs.Prelude.{ℕ, ◌&&◌, List, ◌∷◌, Option, Some, None, codes, slice_get, if◌then◌else◌}
+-- Media lines (RFC 4566, section 5.14) of G.711 over RTP (RFC 3551, section 6: payload types 0 and
+-- 8). A $ is a choice that is left to the gateway (RFC 3525, section 7.1.8).
+use Rattle.std.specs.Prelude.{ℕ, ◌&&◌, List, ◌∷◌, Option, Some, None, codes, slice_get}
+use Rattle.std.specs.Prelude.{if◌then◌else◌}
 use Rattle.std.specs.Str.{bytes_eq, str_eq_ignore_ascii_case}
 use Rattle.std.specs.List.{filter_map}
 use Rattle.std.specs.Option.{option_map}
-use Rattle.mg_numbers.specs.Numbers.{port_of}
-use Rattle.mg_numbers.specs.Address.{◌>>=◌}
+use Rattle.mg_words.specs.Numbers.{port_of}
+use Rattle.mg_words.specs.OptionSteps.{◌>>=◌}
 use Rattle.mg_g711.specs.declared.law.Law.{Law}
 use Rattle.mg_g711.specs.declared.law.Law.TheVariants.{Mu, A}
 use Rattle.mg_sdp.specs.declared.media.Media.{Media}
@@ -38,6 +39,7 @@ media_with port law = do
 -- media = "audio" port "RTP/AVP" 1*format, letters' case ignored
 unfoldable pub media_in : List (List ℕ) → Option Media
 media_in (kind ∷ port ∷ protocol ∷ formats) =
-    if str_eq_ignore_ascii_case kind (codes "audio") && str_eq_ignore_ascii_case protocol (codes "RTP/AVP")
+    if str_eq_ignore_ascii_case kind (codes "audio")
+    && str_eq_ignore_ascii_case protocol (codes "RTP/AVP")
     then media_with (port_asked port) (first_law formats) else None
 media_in _ = None

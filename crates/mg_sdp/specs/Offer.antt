@@ -1,9 +1,10 @@
--- What an alternative offers, by its lines. Which lines are served is this project's profile of RFC 4566, sections
--- 5.1 (v=), 5.7 (c=), 5.14 (m=) and 6 (a=ptime); all other lines are passed over.
-use Rattle.std.specs.Prelude.{ℕ, ◌&&◌, ◌||◌, not, nat_eq, Bool, List, [], ◌∷◌, Option, Some, None, codes, if◌then◌else◌}
+-- What an alternative offers, by its lines. Which lines are served is this project's profile of RFC
+-- 4566, sections 5.1 (v=), 5.7 (c=), 5.14 (m=) and 6 (a=ptime); all other lines are passed over.
+use Rattle.std.specs.Prelude.{ℕ, ◌&&◌, ◌||◌, not, nat_eq, Bool, List, [], ◌∷◌, Option, Some, None}
+use Rattle.std.specs.Prelude.{codes, if◌then◌else◌}
 use Rattle.std.specs.Str.{byte, bytes_eq}
 use Rattle.std.specs.List.{list_all, last_or, starts_with}
-use Rattle.mg_numbers.specs.Address.{◌>>=◌}
+use Rattle.mg_words.specs.OptionSteps.{◌>>=◌}
 use Rattle.mg_sdp.specs.Lines.{values_of}
 use Rattle.mg_sdp.specs.Fields.{fields_of}
 use Rattle.mg_sdp.specs.declared.media.Media.{Media}
@@ -17,7 +18,8 @@ is_served_version value = bytes_eq value (codes "0")
 
 -- a packet time is 20 ms; all other attributes are passed over
 abbrev pub is_served_attribute : List ℕ → Bool
-is_served_attribute value = not (starts_with nat_eq value (codes "ptime:")) || bytes_eq value (codes "ptime:20")
+is_served_attribute value =
+    not (starts_with nat_eq value (codes "ptime:")) || bytes_eq value (codes "ptime:20")
 
 -- what the only media line asks for
 abbrev pub media_of : List (List ℕ) → Option Media
@@ -38,5 +40,6 @@ unfoldable pub offer_of : List (List ℕ) → Option Offer
 offer_of lines = do
   address ← address_by (last_or None (values_of (byte "c") lines))
   media ← media_of (values_of (byte "m") lines)
-  if list_all is_served_version (values_of (byte "v") lines) && list_all is_served_attribute (values_of (byte "a") lines)
+  if list_all is_served_version (values_of (byte "v") lines)
+      && list_all is_served_attribute (values_of (byte "a") lines)
       then Some (offer_with media address) else None

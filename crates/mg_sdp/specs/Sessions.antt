@@ -1,5 +1,5 @@
--- The result of reading as a function, for the definitions of those who read contents. That it is the one result of
--- reading, as Alternatives defines it, is in the contract of read_sessions.
+-- The result of reading as a function, for the definitions of those who read contents. That it is
+-- the one result of reading, as Alternatives defines it, is in the contract of read_sessions.
 use Rattle.std.specs.Prelude.{ℕ, List, [], ◌∷◌, ◌++◌, Option, Result, if◌then◌else◌}
 use Rattle.mg_sdp.specs.declared.fault.SdpFault.{SdpFault}
 use Rattle.mg_sdp.specs.declared.offer.Offer.{Offer}
@@ -11,12 +11,12 @@ abbrev pub closing : List (List ℕ) → List (List (List ℕ))
 closing [] = []
 closing (line ∷ lines) = (line ∷ lines) ∷ []
 
--- the alternatives of lines that stand behind the first lines of one
-abbrev pub alternatives_behind : List (List ℕ) → List (List ℕ) → List (List (List ℕ))
-alternatives_behind current [] = closing current
-alternatives_behind current (line ∷ lines) =
-    if is_version line then closing current ++ alternatives_behind (line ∷ []) lines
-    else alternatives_behind (current ++ line ∷ []) lines
+-- the alternatives of lines that stand after the first lines of one
+abbrev pub alternatives_after : List (List ℕ) → List (List ℕ) → List (List (List ℕ))
+alternatives_after current [] = closing current
+alternatives_after current (line ∷ lines) =
+    if is_version line then closing current ++ alternatives_after (line ∷ []) lines
+    else alternatives_after (current ++ line ∷ []) lines
 
 unfoldable pub sessions_of : List ℕ → Result (List (Option Offer)) SdpFault
-sessions_of content = reading_of (lines_of content) (alternatives_behind [] (lines_of content))
+sessions_of content = reading_of (lines_of content) (alternatives_after [] (lines_of content))

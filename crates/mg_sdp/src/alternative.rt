@@ -1,6 +1,6 @@
 ghost use Rattle.std.specs.Prelude.{◌≡◌};
 ghost use Rattle.mg_sdp.specs.Offer.{is_served_attribute};
-ghost use Rattle.mg_sdp.specs.Reader.{no_lines, with_line, media_with_line, connection_with_line, offer_by};
+ghost use Rattle.mg_sdp.specs.aids.Reader.{no_lines, with_line, media_with_line, connection_with_line, offer_by};
 
 use crate::connection::connection_of;
 use crate::media::{Media, media_of};

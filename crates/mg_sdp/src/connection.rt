@@ -3,7 +3,7 @@ ghost use Rattle.mg_sdp.specs.Fields.{fields_of};
 ghost use Rattle.mg_sdp.specs.Connection.{address_asked, connection_in};
 
 use crate::fields::Fields;
-use mg_numbers::address_of;
+use mg_words::address_of;
 
 /// The address that a field asks for.
 fn address_asked(field: &[u8]) -> Option<Option<[u8; 4]>>

@@ -28,7 +28,7 @@ pub struct Fields<'a> {
 
 impl<'a> Fields<'a> {
     ghost use Rattle.mg_sdp.specs.Fields.{fields_of};
-    ghost use Rattle.mg_sdp.specs.FieldsLeft.{fields_left};
+    ghost use Rattle.mg_sdp.specs.aids.FieldsLeft.{fields_left};
 
     /// The fields of this value.
     pub fn new(value: &'a [u8]) -> Self
@@ -40,7 +40,7 @@ impl<'a> Fields<'a> {
 
 impl<'a> Iterator for Fields<'a> {
     ghost use Rattle.std.specs.Iterator.{YieldsFirstBy, item_count};
-    ghost use Rattle.mg_sdp.specs.FieldsLeft.{fields_left};
+    ghost use Rattle.mg_sdp.specs.aids.FieldsLeft.{fields_left};
 
     type Item = &'a [u8];
 

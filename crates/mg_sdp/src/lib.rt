@@ -1,7 +1,7 @@
 //! Session descriptions (SDP, RFC 4566) as a controller sends them in Local and Remote descriptors
 //! (RFC 3525, section 7.1.8): read, chosen from, and written.
 //!
-//! A content has alternatives, one behind another. [`read_sessions`] keeps what each of them offers, at
+//! A content has alternatives, one after another. [`read_sessions`] keeps what each of them offers, at
 //! most eight of them, without memory of its own. [`choose`] and [`choose_remote`] take the first offer
 //! that the gateway can serve: G.711 (RFC 3551, payload types 0 and 8) in packets of 20 ms over RTP.
 //! [`write_local`] and [`write_remote`] give the text of what was chosen:
@@ -37,5 +37,6 @@ pub use crate::chosen::{Chosen, choose, choose_remote};
 pub use crate::fault::SdpFault;
 pub use crate::offer::Offer;
 pub use crate::reader::read_sessions;
-pub use crate::sessions::{ALTERNATIVE_LIMIT, Sessions};
+pub use crate::sessions::Sessions;
 pub use crate::writing::{TEXT_LIMIT, write_local, write_remote};
+pub use mg_words::ALTERNATIVE_LIMIT;

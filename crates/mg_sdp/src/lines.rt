@@ -50,7 +50,7 @@ pub struct Lines<'a> {
 
 impl<'a> Lines<'a> {
     ghost use Rattle.mg_sdp.specs.Lines.{lines_of};
-    ghost use Rattle.mg_sdp.specs.LinesLeft.{lines_left};
+    ghost use Rattle.mg_sdp.specs.aids.LinesLeft.{lines_left};
 
     /// The lines of this content.
     pub fn new(content: &'a [u8]) -> Self
@@ -62,7 +62,7 @@ impl<'a> Lines<'a> {
 
 impl<'a> Iterator for Lines<'a> {
     ghost use Rattle.std.specs.Iterator.{YieldsFirstBy, item_count};
-    ghost use Rattle.mg_sdp.specs.LinesLeft.{lines_left};
+    ghost use Rattle.mg_sdp.specs.aids.LinesLeft.{lines_left};
 
     type Item = &'a [u8];
 
@@ -83,7 +83,7 @@ impl<'a> Iterator for Lines<'a> {
     }
 }
 
-/// The letter of a line and what stands behind its `=`, or `None` where it is no such line.
+/// The letter of a line and what stands after its `=`, or `None` where it is no such line.
 #[tactic(auto, unfolding(crate::specs::Lines::parts_of))]
 pub fn parts_of(line: &[u8]) -> Option<(u8, &[u8])>
     ensures value { MatchOption result (parts_of line.now ≡ None)

@@ -1,11 +1,11 @@
 ghost use Rattle.std.specs.Prelude.{◌≡◌};
 ghost use Rattle.mg_sdp.specs.Fields.{fields_of};
-ghost use Rattle.mg_sdp.specs.FieldsLeft.{fields_left};
+ghost use Rattle.mg_sdp.specs.aids.FieldsLeft.{fields_left};
 ghost use Rattle.mg_sdp.specs.Media.{law_of, first_law, port_asked, media_in};
 
 use crate::fields::Fields;
 use mg_g711::Law;
-use mg_numbers::port_of;
+use mg_words::port_of;
 
 /// What the media line of an alternative asks for: a port and a law, each `None` where the gateway is to
 /// choose it.

@@ -1,7 +1,7 @@
 ghost use Rattle.std.specs.Prelude.{◌≡◌, ◌↔◌, Err, false, OnOk, IfErr, IsOk, IsTrue};
 ghost use Rattle.std.specs.List.{list_all};
 ghost use Rattle.mg_sdp.specs.Lines.{lines_of, is_line};
-ghost use Rattle.mg_sdp.specs.Reader.{start, ended, line_read, finished};
+ghost use Rattle.mg_sdp.specs.aids.Reader.{start, ended, line_read, finished};
 ghost use Rattle.mg_sdp.specs.Alternatives.{IsReading};
 ghost use Rattle.mg_sdp.specs.Sessions.{sessions_of};
 
@@ -9,8 +9,9 @@ use crate::alternative::Alternative;
 use crate::fault::SdpFault;
 use crate::lines::{Lines, parts_of};
 use crate::offer::Offer;
-use crate::sessions::{ALTERNATIVE_LIMIT, Sessions};
+use crate::sessions::Sessions;
 use arrayvec::ArrayVec;
+use mg_words::ALTERNATIVE_LIMIT;
 use std::marker::Model;
 
 /// The alternatives of a content, as far as its lines were read.
@@ -25,7 +26,7 @@ struct Reader {
 }
 
 impl Model for Reader {
-    ghost use Rattle.mg_sdp.specs.Progress.{Progress};
+    ghost use Rattle.mg_sdp.specs.aids.Progress.{Progress};
 
     ghost Value = { Progress };
 
@@ -56,7 +57,7 @@ impl Reader {
     }
 
     /// Reads one line.
-    #[tactic(auto, unfolding(crate::specs::Reader::line_read))]
+    #[tactic(auto, unfolding(crate::specs::aids::Reader::line_read))]
     fn read(&mut self, line: &[u8]) -> Result<(), SdpFault>
         ensures ok { OnOk result (self.new ≡ line_read self.old line.now) }
         ensures line { IsOk result ↔ IsTrue (is_line line.now) }
@@ -72,7 +73,7 @@ impl Reader {
     }
 
     /// The alternatives, after the last line.
-    #[tactic(auto, unfolding(crate::specs::Reader::finished))]
+    #[tactic(auto, unfolding(crate::specs::aids::Reader::finished))]
     fn finish(mut self) -> Result<Sessions, SdpFault>
         ensures value { result ≡ finished self }
     {

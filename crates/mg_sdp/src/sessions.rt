@@ -2,10 +2,8 @@ ghost use Rattle.std.specs.Prelude.{◌≡◌, [], IsTrue, ◌↔◌};
 
 use crate::offer::Offer;
 use arrayvec::ArrayVec;
+use mg_words::ALTERNATIVE_LIMIT;
 use std::marker::Model;
-
-/// The most alternatives of one content.
-pub const ALTERNATIVE_LIMIT: usize = 8;
 
 /// What the alternatives of a content offer. Contracts see the list of the alternatives in order, each as
 /// what it offers, or `None` where its lines are not served.

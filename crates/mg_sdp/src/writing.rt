@@ -1,10 +1,11 @@
 ghost use Rattle.std.specs.Prelude.{◌≡◌, ◌+◌, ◌≤◌, ◌++◌, length, decimal};
-ghost use Rattle.mg_sdp.specs.Written.{session_text, address_text, law_text};
+ghost use Rattle.mg_sdp.specs.Written.{session_text, law_text};
 
 use crate::chosen::Chosen;
 use arrayvec::ArrayVec;
 use itoa::Buffer;
 use mg_g711::Law;
+use mg_words::address_text;
 
 /// The bytes of the longest text.
 pub const TEXT_LIMIT: usize = 68;
@@ -26,22 +27,6 @@ fn push_number(out: &mut ArrayVec<u8, TEXT_LIMIT>, n: u16)
     push(out, buffer.format(n).as_bytes());
 }
 
-#[tactic(auto, using(crate::proofs::WrittenLaws::lengths))]
-fn push_address(out: &mut ArrayVec<u8, TEXT_LIMIT>, address: [u8; 4])
-    requires room { length out.old.items + 15 ≤ TEXT_LIMIT }
-    ensures value { out.new.items ≡ out.old.items ++ address_text address }
-    ensures len { length out.new.items ≤ length out.old.items + 15 }
-{
-    let [a, b, c, d] = address;
-    push_number(out, u16::from(a));
-    push(out, b".");
-    push_number(out, u16::from(b));
-    push(out, b".");
-    push_number(out, u16::from(c));
-    push(out, b".");
-    push_number(out, u16::from(d));
-}
-
 /// The payload type of a law (RFC 3551, section 6).
 fn payload_type(law: Law) -> &'static str
     ensures value { result.now ≡ law_text law }
@@ -61,7 +46,7 @@ pub fn write_local(chosen: &Chosen) -> ArrayVec<u8, TEXT_LIMIT>
 {
     let mut out = ArrayVec::new();
     push(&mut out, b"v=0\r\nc=IN IP4 ");
-    push_address(&mut out, chosen.address);
+    push(&mut out, address_text(chosen.address).as_slice());
     push(&mut out, b"\r\nm=audio ");
     push_number(&mut out, chosen.port);
     push(&mut out, b" RTP/AVP ");

@@ -1,4 +1,4 @@
--- What is in the grammar is read: marks, words, groups and lists. Each part also has no more tokens behind it than
+-- What is in the grammar is read: marks, words, groups and lists. Each part also has no more tokens after it than
 -- before it, which bounds the length of a list.
 use Rattle.std.proofs.Common.{◌≡◌, ℕ, zero, suc, ◌-◌, ◌+◌, ◌<◌, ◌≤◌, eqb, Bool, true, false, List, [], ◌∷◌, length, Option, Some, None, Result, Ok, refl, inl, inr, ap, ◌∙◌, arith}
 use Rattle.std.proofs.lemmas.Bool.{ne_eqb}
@@ -7,7 +7,7 @@ use Rattle.mg_scan.specs.declared.kind.TokenKind.TheVariants.{Word, Open, Close,
 use Rattle.mg_scan.specs.declared.span.Span.{Span}
 use Rattle.mg_scan.specs.declared.token.Token.{Token}
 use Rattle.mg_text.specs.declared.keyword.Keyword.{Keyword}
-use Rattle.mg_text.specs.Reading.{is_kind, mark_at, after_mark, span_at, word_at, named_at, worded_at, term_at, after_group, group_at, filled_at, list_at, items_at, braced_at, any_braced_at, optional_braced_at}
+use Rattle.mg_text.specs.aids.Reading.{is_kind, mark_at, after_mark, span_at, word_at, named_at, meaning_at, term_at, after_group, group_at, filled_at, list_at, items_at, braced_at, any_braced_at, optional_braced_at}
 use Rattle.mg_text.specs.Grammar.{IsMark, IsSpan, IsWord, IsNamed, IsWorded, IsMore, IsListed, IsBraced, IsOptionalBraced, IsAnyBraced, IsPlain, IsBalanced, nothing, plain, nested, IsGroup, IsContent, IsTermName}
 use Rattle.mg_text.proofs.Sound.{balanced_shorter}
 
@@ -33,7 +33,7 @@ pub after_other : (kind other : TokenKind) (ts rest : List Token) → is_kind ki
 unfolding after_mark
 after_other kind other ts rest apart m = rw (m.front, m.kind_is, apart) refl
 
--- behind a part no opening brace and no equals sign stands, so that nothing more belongs to it
+-- after a part no opening brace and no equals sign stands, so that nothing more belongs to it
 pub record Stops (rest : List Token) : Type 0 where
   pub «open» : after_mark Open rest ≡ None
   pub equals : after_mark Equals rest ≡ None
@@ -60,8 +60,8 @@ pub named_read : (source : List ℕ) (keyword : Keyword) (ts rest : List Token) 
 unfolding named_at
 named_read source keyword ts rest m = rw (word_read source m.word ts rest m.is, m.named) refl
 
-pub worded_read : {X : Type 0} (meaning : List ℕ → Option X) (source : List ℕ) (x : X) (ts rest : List Token) → IsWorded meaning source x ts rest → worded_at meaning source ts ≡ Ok (x, rest)
-unfolding worded_at
+pub worded_read : {X : Type 0} (meaning : List ℕ → Option X) (source : List ℕ) (x : X) (ts rest : List Token) → IsWorded meaning source x ts rest → meaning_at meaning source ts ≡ Ok (x, rest)
+unfolding meaning_at
 worded_read meaning source x ts rest m = rw (word_read source m.word ts rest m.is, m.means) refl
 
 plain_not : (k : TokenKind) → IsPlain k → (is_kind k Open ≡ false) × (is_kind k Close ≡ false)
@@ -80,19 +80,19 @@ balanced_read source depth _ _ (nothing ts) = refl
 balanced_read source depth _ _ (plain t ts rest p inside) =
     let k = plain_not t.kind p in
     rw (k.0, k.1) (balanced_read source depth ts rest inside)
-balanced_read source depth _ _ (nested o c ts a rest opens closes inside behind) =
+balanced_read source depth _ _ (nested o c ts a rest opens closes inside after) =
     let one : suc depth - 1 ≡ depth = omega arith in
     let more : eqb (suc depth) 0 ≡ false = ne_eqb (suc depth) 0 (λ q. absurd (omega arith)) in
     let back : after_group source (suc depth) (c ∷ a) ≡ after_group source depth a = rw (closes, more, one) refl in
-    rw opens (balanced_read source (suc depth) ts (c ∷ a) inside ∙ back ∙ balanced_read source depth a rest behind)
+    rw opens (balanced_read source (suc depth) ts (c ∷ a) inside ∙ back ∙ balanced_read source depth a rest after)
 
-pub behind_read : (source : List ℕ) (ts rest : List Token) (m : IsGroup ts rest) → after_group source 0 m.a ≡ Ok rest
+pub inside_read : (source : List ℕ) (ts rest : List Token) (m : IsGroup ts rest) → after_group source 0 m.a ≡ Ok rest
 unfolding after_group
-behind_read source ts rest m = balanced_read source 0 m.a m.b m.inside ∙ (rw (m.close.front, m.close.kind_is) refl)
+inside_read source ts rest m = balanced_read source 0 m.a m.b m.inside ∙ (rw (m.close.front, m.close.kind_is) refl)
 
 pub group_read : (source : List ℕ) (ts rest : List Token) → IsGroup ts rest → group_at source ts ≡ Ok rest
 unfolding group_at
-group_read source ts rest m = rw (mark_read source Open ts m.a m.«open») (behind_read source ts rest m)
+group_read source ts rest m = rw (mark_read source Open ts m.a m.«open») (inside_read source ts rest m)
 
 pub term_read : (source : List ℕ) (w : Span) (ts rest : List Token) → IsTermName source w ts rest → term_at source ts ≡ Ok (w, rest)
 unfolding term_at
@@ -103,13 +103,13 @@ not_close : (ts b : List Token) → length b < length ts → IsBalanced ts b →
 unfolding after_mark
 not_close _ _ filled (nothing ts) = absurd (omega arith)
 not_close _ b filled (plain t ts b' p inside) = let k = plain_not t.kind p in rw k.1 refl
-not_close _ b filled (nested o c ts a b' opens closes inside behind) = rw opens refl
+not_close _ b filled (nested o c ts a b' opens closes inside after) = rw opens refl
 
 pub filled_read : (source : List ℕ) (b : Bool) (ts rest : List Token) → after_mark Open rest ≡ None → IsContent b ts rest → filled_at source ts ≡ Ok (b, rest)
 unfolding filled_at
 filled_read source true ts rest stops m =
     let g = m.group in
-    rw (after_read Open ts g.a g.«open», not_close g.a g.b m.filled g.inside, behind_read source ts rest g) refl
+    rw (after_read Open ts g.a g.«open», not_close g.a g.b m.filled g.inside, inside_read source ts rest g) refl
 filled_read source false ts rest stops (inl none) = rw (none, stops) refl
 filled_read source false ts rest stops (inr empty) = rw (after_read Open ts empty.a empty.«open», after_read Close empty.a rest empty.close) refl
 
@@ -183,7 +183,7 @@ module _ {X : Type 0} (source : List ℕ) (read : List Token → Result (X × Li
 
 -- words that stand for values, as items of a list
 module _ {X : Type 0} (meaning : List ℕ → Option X) (source : List ℕ) where
-  pub each_word_read : (ts : List Token) (x : X) (rest : List Token) → Stops rest → IsWorded meaning source x ts rest → worded_at meaning source ts ≡ Ok (x, rest)
+  pub each_word_read : (ts : List Token) (x : X) (rest : List Token) → Stops rest → IsWorded meaning source x ts rest → meaning_at meaning source ts ≡ Ok (x, rest)
   each_word_read ts x rest stops m = worded_read meaning source x ts rest m
 
   pub each_word_shorter : (ts : List Token) (x : X) (rest : List Token) → IsWorded meaning source x ts rest → length rest ≤ length ts

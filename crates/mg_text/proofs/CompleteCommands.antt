@@ -8,27 +8,27 @@ use Rattle.mg_text.specs.declared.descriptor.OtherWord.{OtherWord}
 use Rattle.mg_text.specs.declared.descriptor.OtherWord.TheVariants as others
 use Rattle.mg_text.specs.declared.descriptor.Descriptor.{Descriptor}
 use Rattle.mg_text.specs.declared.descriptor.Descriptor.TheVariants as descriptors
-use Rattle.mg_reply.specs.declared.command_word.CommandWord.{CommandWord}
-use Rattle.mg_reply.specs.declared.command_word.CommandWord.TheVariants as commands
+use Rattle.mg_words.specs.declared.command_word.CommandWord.{CommandWord}
+use Rattle.mg_words.specs.declared.command_word.CommandWord.TheVariants as commands
 use Rattle.mg_text.specs.declared.command.Command.{Command}
 use Rattle.mg_text.specs.Keyword.{keyword_of}
 use Rattle.mg_text.specs.Words.{audit_word_of, command_of}
-use Rattle.mg_text.specs.Reading.{after_mark, worded_at}
-use Rattle.mg_text.specs.Media.{media_part_at}
-use Rattle.mg_text.specs.Commands.{audit_words_at, assigned_at, content_at, other_at, descriptor_named, descriptor_at, audit_at, optional_audit_at, skipped_at, descriptors_at, command_at}
+use Rattle.mg_text.specs.aids.Reading.{after_mark, meaning_at}
+use Rattle.mg_text.specs.aids.Media.{media_part_at}
+use Rattle.mg_text.specs.aids.Commands.{audit_words_at, assigned_at, content_at, other_at, descriptor_named, descriptor_at, audit_at, optional_audit_at, skipped_at, descriptors_at, command_at}
 use Rattle.mg_text.specs.Grammar.{IsWorded, IsAnyBraced, IsGroup, IsContent, IsWordAndGroup, IsOtherContent, keyword_for, IsMediaPart, IsAudit, IsDescriptor, IsAuditBraced, IsOptionalAudit, IsSkipped, IsDescribed, head_of, IsCommand}
-use Rattle.mg_text.proofs.Complete.{Stops, mark_read, after_read, after_other, word_read, span_other, worded_read, behind_read, term_read, filled_read, mark_shorter, span_shorter, worded_shorter, group_shorter, content_shorter, braced_read, braced_shorter, optional_braced_read, optional_braced_shorter, any_braced_read, any_braced_shorter, each_word_read, each_word_shorter, each_word_begins}
+use Rattle.mg_text.proofs.Complete.{Stops, mark_read, after_read, after_other, word_read, span_other, worded_read, inside_read, term_read, filled_read, mark_shorter, span_shorter, worded_shorter, group_shorter, content_shorter, braced_read, braced_shorter, optional_braced_read, optional_braced_shorter, any_braced_read, any_braced_shorter, each_word_read, each_word_shorter, each_word_begins}
 use Rattle.mg_text.proofs.CompleteMedia.{media_part_read, media_part_shorter}
 
 audit_words_read : (source : List ℕ) (xs : List AuditWord) (ts rest : List Token) → IsAnyBraced (IsWorded audit_word_of source) xs ts rest → audit_words_at source ts ≡ Ok (xs, rest)
-audit_words_read source xs ts rest m = any_braced_read source (worded_at audit_word_of source) (IsWorded audit_word_of source) (each_word_read audit_word_of source) (each_word_shorter audit_word_of source) (each_word_begins audit_word_of source) xs ts rest m
+audit_words_read source xs ts rest m = any_braced_read source (meaning_at audit_word_of source) (IsWorded audit_word_of source) (each_word_read audit_word_of source) (each_word_shorter audit_word_of source) (each_word_begins audit_word_of source) xs ts rest m
 
 audit_words_shorter : (source : List ℕ) (xs : List AuditWord) (ts rest : List Token) → IsAnyBraced (IsWorded audit_word_of source) xs ts rest → length rest < length ts
-audit_words_shorter source xs ts rest m = any_braced_shorter source (worded_at audit_word_of source) (IsWorded audit_word_of source) (each_word_read audit_word_of source) (each_word_shorter audit_word_of source) (each_word_begins audit_word_of source) xs ts rest m
+audit_words_shorter source xs ts rest m = any_braced_shorter source (meaning_at audit_word_of source) (IsWorded audit_word_of source) (each_word_read audit_word_of source) (each_word_shorter audit_word_of source) (each_word_begins audit_word_of source) xs ts rest m
 
 assigned_read : (source : List ℕ) (ts rest : List Token) → after_mark Open rest ≡ None → IsGroup ts rest ⊎ IsWordAndGroup ts rest → assigned_at source ts ≡ Ok rest
 unfolding assigned_at
-assigned_read source ts rest stops (inl m) = rw (after_read Open ts m.a m.«open», behind_read source ts rest m) refl
+assigned_read source ts rest stops (inl m) = rw (after_read Open ts m.a m.«open», inside_read source ts rest m) refl
 assigned_read source ts rest stops (inr m) = rw (span_other Word Open m.word ts m.a refl m.is, word_read source m.word ts m.a m.is, filled_read source m.group.0 m.a rest stops m.group.1) refl
 
 assigned_shorter : (ts rest : List Token) → IsGroup ts rest ⊎ IsWordAndGroup ts rest → length rest < length ts

@@ -5,46 +5,48 @@ use Rattle.mg_scan.specs.declared.kind.TokenKind.TheVariants.{Word, Open, Close,
 use Rattle.mg_scan.specs.declared.span.Span.{Span}
 use Rattle.mg_scan.specs.declared.token.Token.{Token}
 use Rattle.mg_scan.specs.Span.{text_of}
-use Rattle.mg_numbers.specs.Numbers.{number_of}
+use Rattle.mg_words.specs.Numbers.{number_of}
 use Rattle.mg_text.specs.declared.keyword.Keyword.{Keyword}
 use Rattle.mg_text.specs.declared.keyword.Keyword.TheVariants as keywords
-use Rattle.mg_text.specs.declared.property.Triple.{Triple}
-use Rattle.mg_text.specs.declared.property.Property.{Property}
-use Rattle.mg_text.specs.declared.property.Property.TheVariants as properties
+use Rattle.mg_text.specs.declared.context_property.Triple.{Triple}
+use Rattle.mg_text.specs.declared.context_property.ContextProperty.{ContextProperty}
+use Rattle.mg_text.specs.declared.context_property.ContextProperty.TheVariants as properties
 use Rattle.mg_text.specs.declared.command.Command.{Command}
 use Rattle.mg_text.specs.declared.actions.ActionParts.{ActionParts}
 use Rattle.mg_text.specs.declared.request.Action.{Action}
 use Rattle.mg_text.specs.declared.body.Body.{Body}
 use Rattle.mg_text.specs.declared.body.MessageItem.{MessageItem}
 use Rattle.mg_text.specs.declared.body.MessageItem.TheVariants as items
-use Rattle.mg_text.specs.declared.command.CommandHead.{CommandHead}
+use Rattle.mg_text.specs.declared.command_head.CommandHead.{CommandHead}
 use Rattle.mg_text.specs.declared.message.Message.{Message}
 use Rattle.mg_text.specs.Keyword.{keyword_of}
-use Rattle.mg_text.specs.Words.{context_of, association_of, context_word_of, range_of, command_for, command_of}
+use Rattle.mg_words.specs.ContextId.{context_of}
+use Rattle.mg_text.specs.Words.{association_of, context_word_of, range_of, command_for, command_of}
 use Rattle.mg_text.specs.Head.{version_of}
-use Rattle.mg_text.specs.Reading.{◌>>=◌, worded_at}
-use Rattle.mg_text.specs.Commands.{command_at}
-use Rattle.mg_text.specs.Requests.{triple_at, priority_at, emergency_at, property_at, is_property, begins_property, parts_at, action_at, request_at, ranges_at, answer_at, item_at, sequence_at, error_at, body_at}
-use Rattle.mg_text.specs.Text.{version_at, sender_at, text_at}
-use Rattle.mg_text.specs.Grammar.{IsWorded, IsListed, head_of, IsCommand, IsTriple, IsProperty, IsParts, IsAction, IsAnswer, IsItem, IsSequence, kept, body_of, IsItems, IsBody, IsSender, IsText}
+use Rattle.mg_words.specs.ResultSteps.{◌>>=◌}
+use Rattle.mg_text.specs.aids.Reading.{meaning_at}
+use Rattle.mg_text.specs.aids.Commands.{command_at}
+use Rattle.mg_text.specs.aids.Requests.{triple_at, priority_at, emergency_at, property_at, is_property, begins_property, parts_at, action_at, request_at, ranges_at, answer_at, item_at, sequence_at, error_at, body_at}
+use Rattle.mg_text.specs.aids.Text.{version_at, sender_at, text_at}
+use Rattle.mg_text.specs.Grammar.{IsWorded, IsListed, head_of, IsCommand, IsTriple, IsContextProperty, IsParts, IsAction, IsAnswer, IsItem, IsSequence, kept, body_of, IsItems, IsBody, IsSender, IsText}
 use Rattle.mg_text.proofs.Complete.{Stops, at_comma, at_close, mark_read, after_read, after_other, word_read, named_read, worded_read, group_read, term_read, mark_shorter, span_shorter, worded_shorter, group_shorter, items_shorter, items_read, braced_read, braced_shorter, each_word_read, each_word_shorter}
 use Rattle.mg_text.proofs.CompleteCommands.{command_read, command_shorter}
 
 triple_read : (source : List ℕ) (ts : List Token) (x : Triple) (rest : List Token) → Stops rest → IsTriple source x ts rest → triple_at source ts ≡ Ok (x, rest)
 unfolding triple_at
 triple_read source ts x rest stops m =
-    rw (term_read source x.first ts m.a m.first, mark_read source Comma m.a m.b m.comma, term_read source x.second m.b m.d m.second, mark_read source Comma m.d m.e m.comma_behind, worded_read association_of source x.association m.e rest m.association) refl
+    rw (term_read source x.first ts m.a m.first, mark_read source Comma m.a m.b m.comma, term_read source x.second m.b m.d m.second, mark_read source Comma m.d m.e m.comma_after, worded_read association_of source x.association m.e rest m.association) refl
 
 triple_shorter : (source : List ℕ) (ts : List Token) (x : Triple) (rest : List Token) → IsTriple source x ts rest → length rest ≤ length ts
 triple_shorter source ts x rest m =
-    omega (arith, span_shorter Word x.first ts m.a m.first.is, mark_shorter Comma m.a m.b m.comma, span_shorter Word x.second m.b m.d m.second.is, mark_shorter Comma m.d m.e m.comma_behind, worded_shorter association_of source x.association m.e rest m.association)
+    omega (arith, span_shorter Word x.first ts m.a m.first.is, mark_shorter Comma m.a m.b m.comma, span_shorter Word x.second m.b m.d m.second.is, mark_shorter Comma m.d m.e m.comma_after, worded_shorter association_of source x.association m.e rest m.association)
 
-property_read : (source : List ℕ) (x : Property) (ts rest : List Token) → Stops rest → IsProperty source x ts rest → property_at source ts ≡ Ok (x, rest)
+property_read : (source : List ℕ) (x : ContextProperty) (ts rest : List Token) → Stops rest → IsContextProperty source x ts rest → property_at source ts ≡ Ok (x, rest)
 unfolding property_at priority_at emergency_at
 property_read source (properties.Topology xs) ts rest stops m =
     rw (worded_read keyword_of source keywords.Topology ts m.a m.name, braced_read source (triple_at source) (IsTriple source) (triple_read source) (triple_shorter source) xs m.a rest m.is) refl
 property_read source (properties.ContextAudit xs) ts rest stops m =
-    rw (worded_read keyword_of source keywords.ContextAudit ts m.a m.name, braced_read source (worded_at context_word_of source) (IsWorded context_word_of source) (each_word_read context_word_of source) (each_word_shorter context_word_of source) xs m.a rest m.is) refl
+    rw (worded_read keyword_of source keywords.ContextAudit ts m.a m.name, braced_read source (meaning_at context_word_of source) (IsWorded context_word_of source) (each_word_read context_word_of source) (each_word_shorter context_word_of source) xs m.a rest m.is) refl
 property_read source (properties.Priority w) ts rest stops m =
     rw (worded_read keyword_of source keywords.Priority ts m.a m.name, mark_read source Equals m.a m.is.a m.is.equals, word_read source w m.is.a rest m.is.is) refl
 property_read source (properties.Emergency None) ts rest stops m =
@@ -52,11 +54,11 @@ property_read source (properties.Emergency None) ts rest stops m =
 property_read source (properties.Emergency (Some w)) ts rest stops m =
     rw (worded_read keyword_of source keywords.Emergency ts m.a m.name, after_read Equals m.a m.is.a m.is.equals, word_read source w m.is.a rest m.is.is) refl
 
-property_shorter : (source : List ℕ) (x : Property) (ts rest : List Token) → IsProperty source x ts rest → length rest < length ts
+property_shorter : (source : List ℕ) (x : ContextProperty) (ts rest : List Token) → IsContextProperty source x ts rest → length rest < length ts
 property_shorter source (properties.Topology xs) ts rest m =
     omega (arith, worded_shorter keyword_of source keywords.Topology ts m.a m.name, braced_shorter source (triple_at source) (IsTriple source) (triple_read source) (triple_shorter source) xs m.a rest m.is)
 property_shorter source (properties.ContextAudit xs) ts rest m =
-    omega (arith, worded_shorter keyword_of source keywords.ContextAudit ts m.a m.name, braced_shorter source (worded_at context_word_of source) (IsWorded context_word_of source) (each_word_read context_word_of source) (each_word_shorter context_word_of source) xs m.a rest m.is)
+    omega (arith, worded_shorter keyword_of source keywords.ContextAudit ts m.a m.name, braced_shorter source (meaning_at context_word_of source) (IsWorded context_word_of source) (each_word_read context_word_of source) (each_word_shorter context_word_of source) xs m.a rest m.is)
 property_shorter source (properties.Priority w) ts rest m = omega (arith, worded_shorter keyword_of source keywords.Priority ts m.a m.name, mark_shorter Equals m.a m.is.a m.is.equals, span_shorter Word w m.is.a rest m.is.is)
 property_shorter source (properties.Emergency None) ts rest m = omega (arith, worded_shorter keyword_of source keywords.Emergency ts m.a m.name, ap length m.is)
 property_shorter source (properties.Emergency (Some w)) ts rest m = omega (arith, worded_shorter keyword_of source keywords.Emergency ts m.a m.name, mark_shorter Equals m.a m.is.a m.is.equals, span_shorter Word w m.is.a rest m.is.is)
@@ -66,7 +68,7 @@ begins_with : (source : List ℕ) (k : Keyword) (ts rest : List Token) → is_pr
 unfolding begins_property
 begins_with source k ts rest e m = rw (m.is.front, m.is.span_is, m.means) e
 
-property_begins : (source : List ℕ) (x : Property) (ts rest : List Token) → IsProperty source x ts rest → begins_property source ts ≡ true
+property_begins : (source : List ℕ) (x : ContextProperty) (ts rest : List Token) → IsContextProperty source x ts rest → begins_property source ts ≡ true
 property_begins source (properties.Topology xs) ts rest m = begins_with source keywords.Topology ts m.a refl m.name
 property_begins source (properties.ContextAudit xs) ts rest m = begins_with source keywords.ContextAudit ts m.a refl m.name
 property_begins source (properties.Priority w) ts rest m = begins_with source keywords.Priority ts m.a refl m.name
@@ -87,16 +89,16 @@ commands_begin : (source : List ℕ) (xs : List Command) (ts rest : List Token) 
 commands_begin source [] ts rest h = absurd h
 commands_begin source (x ∷ xs) ts rest h = command_begins source (head_of x) ts h.1.a h.1.head
 
-abbrev parts_of : List Property → List Command → ActionParts
+abbrev parts_of : List ContextProperty → List Command → ActionParts
 parts_of properties commands = record { properties = properties; commands = commands }
 
-parts_shorter : (source : List ℕ) (ps : List Property) (xs : List Command) (ts rest : List Token) → IsParts source ps xs ts rest → length ps + length rest ≤ length ts
+parts_shorter : (source : List ℕ) (ps : List ContextProperty) (xs : List Command) (ts rest : List Token) → IsParts source ps xs ts rest → length ps + length rest ≤ length ts
 parts_shorter source [] xs ts rest m = omega (arith, items_shorter source (command_at source) (IsCommand source) (command_read source) (command_shorter source) xs ts rest m)
 parts_shorter source (p ∷ []) [] ts rest m = omega (arith, property_shorter source p ts m.0 m.1, mark_shorter Close m.0 rest m.2)
 parts_shorter source (p ∷ []) (x ∷ xs) ts rest m = omega (arith, property_shorter source p ts m.0 m.2, mark_shorter Comma m.0 m.1 m.3, parts_shorter source [] (x ∷ xs) m.1 rest m.4)
 parts_shorter source (p ∷ q ∷ qs) xs ts rest m = omega (arith, property_shorter source p ts m.0 m.2, mark_shorter Comma m.0 m.1 m.3, parts_shorter source (q ∷ qs) xs m.1 rest m.4)
 
-parts_read : (source : List ℕ) (n : ℕ) (ps : List Property) (xs : List Command) (ts rest : List Token) → length ps < n → IsParts source ps xs ts rest → parts_at source n ts ≡ Ok (parts_of ps xs, rest)
+parts_read : (source : List ℕ) (n : ℕ) (ps : List ContextProperty) (xs : List Command) (ts rest : List Token) → length ps < n → IsParts source ps xs ts rest → parts_at source n ts ≡ Ok (parts_of ps xs, rest)
 unfolding parts_at
 parts_read source zero ps xs ts rest lt m = absurd (omega arith)
 parts_read source (suc n) [] xs ts rest lt m =
@@ -109,7 +111,7 @@ parts_read source (suc n) (p ∷ q ∷ qs) xs ts rest lt m =
     rw (property_begins source p ts m.0 m.2, property_read source p ts m.0 (at_comma m.0 m.1 m.3) m.2, after_read Comma m.0 m.1 m.3, parts_read source n (q ∷ qs) xs m.1 rest (omega arith) m.4) refl
 
 -- an action has a part, which has a token
-parts_some : (source : List ℕ) (ps : List Property) (xs : List Command) (ts rest : List Token) → IsParts source ps xs ts rest → length ps < length ts
+parts_some : (source : List ℕ) (ps : List ContextProperty) (xs : List Command) (ts rest : List Token) → IsParts source ps xs ts rest → length ps < length ts
 parts_some source [] [] ts rest m = absurd m
 parts_some source [] (x ∷ xs) ts rest m = omega (arith, worded_shorter command_of source (head_of x) ts m.1.a m.1.head)
 parts_some source (p ∷ []) [] ts rest m = omega (arith, property_shorter source p ts m.0 m.1, mark_shorter Close m.0 rest m.2)
@@ -134,7 +136,7 @@ unfolding item_at request_at ranges_at
 item_read source (Some (items.Request x)) ts rest m =
     rw (worded_read keyword_of source keywords.Transaction ts m.a m.name, mark_read source Equals m.a m.b m.equals, worded_read number_of source x.number m.b m.d m.number, braced_read source (action_at source) (IsAction source) (action_read source) (action_shorter source) x.actions m.d rest m.actions) refl
 item_read source (Some (items.Acknowledgement xs)) ts rest m =
-    rw (worded_read keyword_of source keywords.TransactionResponseAck ts m.a m.name, braced_read source (worded_at range_of source) (IsWorded range_of source) (each_word_read range_of source) (each_word_shorter range_of source) xs m.a rest m.is) refl
+    rw (worded_read keyword_of source keywords.TransactionResponseAck ts m.a m.name, braced_read source (meaning_at range_of source) (IsWorded range_of source) (each_word_read range_of source) (each_word_shorter range_of source) xs m.a rest m.is) refl
 item_read source None ts rest m = elim m.name [
   | inl name ↦ rw (worded_read keyword_of source keywords.Reply ts m.a name) (answer_read source ts rest m)
   | inr name ↦ rw (worded_read keyword_of source keywords.Pending ts m.a name) (answer_read source ts rest m)
@@ -148,7 +150,7 @@ item_shorter : (source : List ℕ) (x : Option MessageItem) (ts rest : List Toke
 item_shorter source (Some (items.Request x)) ts rest m =
     omega (arith, worded_shorter keyword_of source keywords.Transaction ts m.a m.name, mark_shorter Equals m.a m.b m.equals, worded_shorter number_of source x.number m.b m.d m.number, braced_shorter source (action_at source) (IsAction source) (action_read source) (action_shorter source) x.actions m.d rest m.actions)
 item_shorter source (Some (items.Acknowledgement xs)) ts rest m =
-    omega (arith, worded_shorter keyword_of source keywords.TransactionResponseAck ts m.a m.name, braced_shorter source (worded_at range_of source) (IsWorded range_of source) (each_word_read range_of source) (each_word_shorter range_of source) xs m.a rest m.is)
+    omega (arith, worded_shorter keyword_of source keywords.TransactionResponseAck ts m.a m.name, braced_shorter source (meaning_at range_of source) (IsWorded range_of source) (each_word_read range_of source) (each_word_shorter range_of source) xs m.a rest m.is)
 item_shorter source None ts rest m =
     omega (arith, name_shorter source ts m.a m.name, mark_shorter Equals m.a m.b m.equals, worded_shorter number_of source m.number m.b m.d m.number_is, group_shorter m.d rest m.group)
 
@@ -196,7 +198,7 @@ sender_read : (source : List ℕ) (s : Span) (ts rest : List Token) → IsSender
 unfolding sender_at
 sender_read source s ts rest m = rw (word_read source s ts rest m.is, m.named) refl
 
--- the head of a message, and the text behind it
+-- the head of a message, and the text after it
 pub head_read : (source : List ℕ) (n : ℕ) (ts rest : List Token) → IsWorded version_of source n ts rest → version_at source ts ≡ Ok (n, rest)
 head_read source n ts rest m = worded_read version_of source n ts rest m
 

@@ -4,7 +4,7 @@ use Rattle.mg_scan.specs.declared.kind.TokenKind.TheVariants.{Word, Equals, Quot
 use Rattle.mg_scan.specs.declared.span.Span.{Span}
 use Rattle.mg_scan.specs.declared.token.Token.{Token}
 use Rattle.mg_scan.specs.Span.{text_of}
-use Rattle.mg_numbers.specs.Numbers.{number_of}
+use Rattle.mg_words.specs.Numbers.{number_of}
 use Rattle.mg_text.specs.declared.keyword.Keyword.{Keyword}
 use Rattle.mg_text.specs.declared.keyword.Keyword.TheVariants as keywords
 use Rattle.mg_text.specs.declared.media.PropertyValue.{PropertyValue}
@@ -17,16 +17,16 @@ use Rattle.mg_text.specs.declared.media.MediaPart.{MediaPart}
 use Rattle.mg_text.specs.declared.media.MediaPart.TheVariants as parts
 use Rattle.mg_text.specs.Keyword.{keyword_of}
 use Rattle.mg_text.specs.Words.{mode_of, switch_of}
-use Rattle.mg_text.specs.Reading.{after_mark}
-use Rattle.mg_text.specs.Media.{value_at, optional_value_at, switched_at, mode_part_at, package_part_at, control_named, control_at, stream_part_at, numbered_at, media_part_at}
+use Rattle.mg_text.specs.aids.Reading.{after_mark}
+use Rattle.mg_text.specs.aids.Media.{value_at, optional_value_at, switched_at, mode_part_at, package_part_at, control_named, control_at, stream_part_at, numbered_at, media_part_at}
 use Rattle.mg_text.specs.Grammar.{IsWorded, IsHeaded, IsAssigned, IsOptionalAssigned, IsValue, is_control, IsPackagePart, IsControlPart, IsStreamPart, IsMediaPart}
-use Rattle.mg_text.proofs.Complete.{Stops, mark_read, after_read, span_read, word_read, worded_read, behind_read, filled_read, mark_shorter, span_shorter, worded_shorter, group_shorter, content_shorter, braced_read, braced_shorter}
+use Rattle.mg_text.proofs.Complete.{Stops, mark_read, after_read, span_read, word_read, worded_read, inside_read, filled_read, mark_shorter, span_shorter, worded_shorter, group_shorter, content_shorter, braced_read, braced_shorter}
 
 value_read : (source : List ℕ) (v : PropertyValue) (ts rest : List Token) → IsValue v ts rest → value_at source ts ≡ Ok (v, rest)
 unfolding value_at
 value_read source (values.Word w) ts rest m = rw (m.front, m.kind_is, m.span_is) refl
 value_read source (values.Quoted w) ts rest m = rw (m.front, m.kind_is, m.span_is) refl
-value_read source values.Group ts rest m = rw (m.«open».front, m.«open».kind_is, behind_read source ts rest m) refl
+value_read source values.Group ts rest m = rw (m.«open».front, m.«open».kind_is, inside_read source ts rest m) refl
 
 value_shorter : (v : PropertyValue) (ts rest : List Token) → IsValue v ts rest → length rest < length ts
 value_shorter (values.Word w) ts rest m = span_shorter Word w ts rest m

@@ -15,3 +15,4 @@ pub mod CountSteps
 pub mod ReadLaws
 pub mod OneReading
 pub mod ProperLaws
+pub mod KeywordLaws

@@ -4,7 +4,8 @@ use Rattle.mg_scan.specs.declared.kind.TokenKind.TheVariants.{Close, Comma}
 use Rattle.mg_scan.specs.declared.token.Token.{Token}
 use Rattle.mg_text.specs.declared.fault.ReadFault.{ReadFault}
 use Rattle.mg_text.specs.declared.fault.ReadFault.TheVariants.{NoMemory, Syntax, Version, TooMany}
-use Rattle.mg_text.specs.Reading.{◌>>=◌, Fails, after_mark, mark_at, list_at, place_of}
+use Rattle.mg_words.specs.ResultSteps.{◌>>=◌}
+use Rattle.mg_text.specs.aids.Reading.{Fails, after_mark, mark_at, list_at, place_of}
 
 -- what was read before, and what is still read
 abbrev pub with_front : {X : Type 0} → List X → Result (List X × List Token) ℕ → Result (List X × List Token) ℕ

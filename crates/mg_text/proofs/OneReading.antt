@@ -6,7 +6,7 @@ use Rattle.mg_scan.specs.declared.fault.ScanFault.{ScanFault}
 use Rattle.mg_scan.specs.declared.token.Token.{Token}
 use Rattle.mg_text.specs.declared.message.Message.{Message}
 use Rattle.mg_text.specs.Head.{version_of}
-use Rattle.mg_text.specs.Text.{version_at, text_at, is_within}
+use Rattle.mg_text.specs.aids.Text.{version_at, text_at, is_within}
 use Rattle.mg_text.specs.Message.{AreTokens, IsTree, IsMessage, AsksTooMuch, IsTooMany, HasOtherVersion, requests_in, commands_in, items_of}
 use Rattle.mg_text.specs.MessageReading.{MessageReading, Read, TooMany, OtherVersion, NoMessage, IsNoMessage, IsReading}
 use Rattle.mg_text.proofs.ScanLaws.{one_scan}
@@ -133,8 +133,8 @@ module _ (source : List ℕ) (ts : List Token) (f : Option ScanFault) (short : l
     none : fault_in g ≡ None → ⊥
     none e = cc e
 
-  no_tree_behind : (rest : List Token) (place : ℕ) → version_at source ts ≡ headed 1 rest → text_at source rest ≡ no_text place → (m : Message) → IsTree source m → ⊥
-  no_tree_behind rest place head none m h =
+  no_tree_after : (rest : List Token) (place : ℕ) → version_at source ts ≡ headed 1 rest → text_at source rest ≡ no_text place → (m : Message) → IsTree source m → ⊥
+  no_tree_after rest place head none m h =
       let same = one_scan source ts h.tokens f None are h.are in
       let rests : h.is.a ≡ rest = ap (λ (p : ℕ × List Token). p.1) (ok_is (1, h.is.a) (1, rest) (sym (tree_head m h) ∙ head)) in
       neither (sym (text_read source m h.tokens h.is) ∙ ap (text_at source) rests ∙ none) where
@@ -145,8 +145,8 @@ module _ (source : List ℕ) (ts : List Token) (f : Option ScanFault) (short : l
   served m true is tree = let counts = served_counts (items_of m.body) is in (Read m, record { tree = tree; requests = counts.0; commands = counts.1 })
   served m false is tree = (TooMany, inr (m, tree, refused_counts (items_of m.body) is))
 
-  behind_head : (rest : List Token) (text : Result Message ℕ) → f ≡ None → version_at source ts ≡ headed 1 rest → text_at source rest ≡ text → Readable source
-  behind_head rest (Ok m) clean head is =
+  after_head : (rest : List Token) (text : Result Message ℕ) → f ≡ None → version_at source ts ≡ headed 1 rest → text_at source rest ≡ text → Readable source
+  after_head rest (Ok m) clean head is =
       let tree : IsTree source m = record {
         short = short;
         tokens = ts;
@@ -154,17 +154,17 @@ module _ (source : List ℕ) (ts : List Token) (f : Option ScanFault) (short : l
         is = text_found source ts rest m (worded_found version_of source ts (1, rest) head) is;
       } in
       served m (is_within 4 64 (items_of m.body)) refl tree
-  behind_head rest (Err place) clean head is = (
+  after_head rest (Err place) clean head is = (
     NoMessage,
     record {
       short = short;
       no_version = no_other rest head;
-      no_tree = no_tree_behind rest place head is;
+      no_tree = no_tree_after rest place head is;
     },
   )
 
   versioned : (g : Option ScanFault) (rest : List Token) → f ≡ g → version_at source ts ≡ headed 1 rest → Readable source
-  versioned None rest is head = behind_head rest (text_at source rest) is head refl
+  versioned None rest is head = after_head rest (text_at source rest) is head refl
   versioned (Some g) rest is head = faulty g rest is head
 
   by_head : (n : ℕ) (rest : List Token) (b : Bool) → eqb n 1 ≡ b → version_at source ts ≡ headed n rest → Readable source

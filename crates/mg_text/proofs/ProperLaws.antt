@@ -4,15 +4,15 @@ use Rattle.std.proofs.lemmas.Bool.{ne_eqb}
 use Rattle.std.specs.List.{list_all}
 use Rattle.mg_scan.specs.declared.token.Token.{Token}
 use Rattle.mg_text.specs.declared.command.Command.{Command}
-use Rattle.mg_text.specs.declared.property.Triple.{Triple}
-use Rattle.mg_text.specs.declared.property.Property.{Property}
-use Rattle.mg_text.specs.declared.property.Property.TheVariants.{Topology, ContextAudit, Priority, Emergency}
+use Rattle.mg_text.specs.declared.context_property.Triple.{Triple}
+use Rattle.mg_text.specs.declared.context_property.ContextProperty.{ContextProperty}
+use Rattle.mg_text.specs.declared.context_property.ContextProperty.TheVariants.{Topology, ContextAudit, Priority, Emergency}
 use Rattle.mg_text.specs.declared.request.Action.{Action}
 use Rattle.mg_text.specs.declared.request.Request.{Request}
 use Rattle.mg_text.specs.declared.body.Body.{Body}
 use Rattle.mg_text.specs.declared.body.MessageItem.{MessageItem}
 use Rattle.mg_text.specs.declared.body.MessageItem.TheVariants as items
-use Rattle.mg_text.specs.Grammar.{IsListed, IsMore, IsCommand, IsTriple, IsProperty, IsParts, IsAction, IsRequest, IsItem, IsSequence, IsBody, kept, kept_before, body_of}
+use Rattle.mg_text.specs.Grammar.{IsListed, IsMore, IsCommand, IsTriple, IsContextProperty, IsParts, IsAction, IsRequest, IsItem, IsSequence, IsBody, kept, kept_before, body_of}
 use Rattle.mg_text.specs.Message.{items_of}
 use Rattle.mg_text.specs.Proper.{command_is_proper, triple_is_proper, property_is_proper, action_is_proper, request_is_proper, are_proper}
 
@@ -39,19 +39,19 @@ command_proper source x ts rest h = h.term.named
 triple_proper : (source : List ℕ) (x : Triple) (ts rest : List Token) → IsTriple source x ts rest → triple_is_proper source x ≡ true
 triple_proper source x ts rest h = both _ _ h.first.named h.second.named
 
-property_proper : (source : List ℕ) (x : Property) (ts rest : List Token) → IsProperty source x ts rest → property_is_proper source x ≡ true
+property_proper : (source : List ℕ) (x : ContextProperty) (ts rest : List Token) → IsContextProperty source x ts rest → property_is_proper source x ≡ true
 property_proper source (Topology xs) ts rest h = listed_all (IsTriple source) (triple_is_proper source) (triple_proper source) xs h.is.a rest h.is.are
 property_proper source (ContextAudit xs) ts rest h = refl
 property_proper source (Priority word) ts rest h = refl
 property_proper source (Emergency word) ts rest h = refl
 
-abbrev parts_are_proper : List ℕ → List Property → List Command → Bool
+abbrev parts_are_proper : List ℕ → List ContextProperty → List Command → Bool
 parts_are_proper source ps xs = list_all (property_is_proper source) ps && list_all (command_is_proper source) xs
 
-parts_more : (source : List ℕ) (p : Property) (ps : List Property) (xs : List Command) → property_is_proper source p ≡ true → parts_are_proper source ps xs ≡ true → parts_are_proper source (p ∷ ps) xs ≡ true
+parts_more : (source : List ℕ) (p : ContextProperty) (ps : List ContextProperty) (xs : List Command) → property_is_proper source p ≡ true → parts_are_proper source ps xs ≡ true → parts_are_proper source (p ∷ ps) xs ≡ true
 parts_more source p ps xs e f = rw e f
 
-parts_proper : (source : List ℕ) (ps : List Property) (xs : List Command) (ts rest : List Token) → IsParts source ps xs ts rest → parts_are_proper source ps xs ≡ true
+parts_proper : (source : List ℕ) (ps : List ContextProperty) (xs : List Command) (ts rest : List Token) → IsParts source ps xs ts rest → parts_are_proper source ps xs ≡ true
 parts_proper source [] xs ts rest h = listed_all (IsCommand source) (command_is_proper source) (command_proper source) xs ts rest h
 parts_proper source (p ∷ []) [] ts rest h = parts_more source p [] [] (property_proper source p ts h.0 h.1) refl
 parts_proper source (p ∷ []) (x ∷ xs) ts rest h = parts_more source p [] (x ∷ xs) (property_proper source p ts h.0 h.2) (parts_proper source [] (x ∷ xs) h.1 rest h.4)

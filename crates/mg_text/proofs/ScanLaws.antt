@@ -6,13 +6,13 @@ use Rattle.mg_scan.specs.declared.kind.TokenKind.{TokenKind}
 use Rattle.mg_scan.specs.declared.fault.ScanFault.{ScanFault}
 use Rattle.mg_scan.specs.Scanner.{Scanning, rest_of}
 use Rattle.mg_scan.specs.Tokens.{first_token, taken, Taken, closing, names_octets}
-use Rattle.mg_scan.specs.Scanner.{Gives}
+use Rattle.mg_scan.specs.Scanner.{IsNext}
 use Rattle.mg_scan.specs.Span.{text_of}
 use Rattle.mg_text.specs.Message.{Reaches, ending, AreTokens, start_of}
 
 -- one token more
-pub Reaches-push : (ts : List Token) (old mid new : Scanning) (t : Token) → Reaches old ts mid → new.source ≡ mid.source → Gives mid t new → Reaches old (ts ++ t ∷ []) new
-Reaches-push [] old mid new t way same gives = (new, same ∙ ap (λ (s : Scanning). s.source) (sym way), subst (λ (s : Scanning). Gives s t new) (sym way) gives, refl)
+pub Reaches-push : (ts : List Token) (old mid new : Scanning) (t : Token) → Reaches old ts mid → new.source ≡ mid.source → IsNext mid t new → Reaches old (ts ++ t ∷ []) new
+Reaches-push [] old mid new t way same gives = (new, same ∙ ap (λ (s : Scanning). s.source) (sym way), subst (λ (s : Scanning). IsNext s t new) (sym way) gives, refl)
 Reaches-push (x ∷ ts) old mid new t way same gives = (way.0, way.1, way.2, Reaches-push ts way.0 mid new t way.3 same gives)
 
 abbrev read_as : TokenKind → List ℕ → List ℕ → Taken
@@ -31,9 +31,9 @@ length_text source span le within = omega (arith, length-take (span.end - span.s
 length_rest : (s : Scanning) (source : List ℕ) → s.source ≡ source → length (rest_of s) ≡ length source - s.at
 length_rest s source e = length-drop s.at s.source ∙ ap (λ (l : List ℕ). length l - s.at) e
 
--- a place has one next token, and one place behind it
-Gives-same : (old a b : Scanning) (t u : Token) → a.source ≡ old.source → b.source ≡ old.source → Gives old t a → Gives old u b → (t ≡ u) × (a ≡ b)
-Gives-same old a b t u ea eb g h =
+-- a place has one next token, and one place after it
+IsNext-same : (old a b : Scanning) (t u : Token) → a.source ≡ old.source → b.source ≡ old.source → IsNext old t a → IsNext old u b → (t ≡ u) × (a ≡ b)
+IsNext-same old a b t u ea eb g h =
     let e = taken_is _ _ _ _ _ _ (sym g.is ∙ h.is) in
     let kind : t.kind ≡ u.kind = ap (λ (x : Taken). x.piece.kind) e in
     let text = ap (λ (x : Taken). length x.piece.text) e in
@@ -59,7 +59,7 @@ one_way [] (u ∷ us) old x y f g way end way' end' =
 one_way (t ∷ ts) [] old x y f g way end way' end' =
     absurd (never g t.kind _ _ (sym end' ∙ ap (λ (s : Scanning). first_token s.named (rest_of s)) (sym way') ∙ way.2.is))
 one_way (t ∷ ts) (u ∷ us) old x y f g way end way' end' =
-    let same = Gives-same old way.0 way'.0 t u way.1 way'.1 way.2 way'.2 in
+    let same = IsNext-same old way.0 way'.0 t u way.1 way'.1 way.2 way'.2 in
     let others = one_way ts us way.0 x y f g way.3 end (subst (λ (s : Scanning). Reaches s us y) (sym same.1) way'.3) end' in
     (λ i. same.0 i ∷ others.0 i, others.1)
 

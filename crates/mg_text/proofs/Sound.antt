@@ -7,9 +7,10 @@ use Rattle.mg_scan.specs.declared.span.Span.{Span}
 use Rattle.mg_scan.specs.declared.token.Token.{Token}
 use Rattle.mg_scan.specs.Span.{text_of}
 use Rattle.mg_text.specs.declared.keyword.Keyword.{Keyword}
-use Rattle.mg_reply.specs.Term.{is_term}
+use Rattle.mg_words.specs.Term.{is_term}
 use Rattle.mg_text.specs.Keyword.{is_named}
-use Rattle.mg_text.specs.Reading.{◌>>=◌, if_some, is_kind, mark_at, after_mark, span_at, word_at, named_at, worded_at, term_at, after_group, group_at, filled_at, list_at, items_at, braced_at, any_braced_at, optional_braced_at}
+use Rattle.mg_words.specs.ResultSteps.{◌>>=◌}
+use Rattle.mg_text.specs.aids.Reading.{if_some, is_kind, mark_at, after_mark, span_at, word_at, named_at, meaning_at, term_at, after_group, group_at, filled_at, list_at, items_at, braced_at, any_braced_at, optional_braced_at}
 use Rattle.mg_text.specs.Grammar.{IsMark, IsSpan, IsWord, IsNamed, IsWorded, IsMore, IsListed, IsBraced, IsOptionalBraced, IsAnyBraced, IsPlain, IsBalanced, nothing, plain, nested, IsGroup, IsContent, IsTermName}
 
 -- the value of a step that did not fail
@@ -81,8 +82,8 @@ worded-cases : {X : Type 0} (o : Option X) (rest : List Token) (place : ℕ) (x 
 worded-cases None rest place x e = absurd cc
 worded-cases {X} (Some v) rest place x e = (ap (λ (p : X × List Token). Some p.0) (ok_is (v, rest) x e), ap (λ (p : X × List Token). p.1) (ok_is (v, rest) x e))
 
-pub worded_found : {X : Type 0} (meaning : List ℕ → Option X) (source : List ℕ) (ts : List Token) (x : X × List Token) → worded_at meaning source ts ≡ Ok x → IsWorded meaning source x.0 ts x.1
-unfolding worded_at
+pub worded_found : {X : Type 0} (meaning : List ℕ → Option X) (source : List ℕ) (ts : List Token) (x : X × List Token) → meaning_at meaning source ts ≡ Ok x → IsWorded meaning source x.0 ts x.1
+unfolding meaning_at
 worded_found meaning source ts x e =
     let w = bind_ok (word_at source ts) _ x e in
     let g = worded-cases (meaning (text_of source w.0.0)) w.0.1 w.0.0.start x w.2 in
@@ -158,7 +159,7 @@ term_found source ts x e =
 pub balanced_shorter : (ts rest : List Token) → IsBalanced ts rest → length rest ≤ length ts
 balanced_shorter _ _ (nothing ts) = omega arith
 balanced_shorter _ _ (plain t ts rest p inside) = omega (arith, balanced_shorter ts rest inside)
-balanced_shorter _ _ (nested o c ts a rest opens closes inside behind) = omega (arith, balanced_shorter ts (c ∷ a) inside, balanced_shorter a rest behind)
+balanced_shorter _ _ (nested o c ts a rest opens closes inside after) = omega (arith, balanced_shorter ts (c ∷ a) inside, balanced_shorter a rest after)
 
 closes_there : (ts rest : List Token) → IsMark Close ts rest → after_mark Close ts ≡ Some rest
 unfolding after_mark
@@ -172,7 +173,7 @@ not_close : (ts b rest : List Token) → after_mark Close ts ≡ None → IsBala
 unfolding after_mark
 not_close _ _ rest none (nothing ts) close = absurd (never ts rest none (closes_there ts rest close))
 not_close _ b rest none (plain t ts b' p inside) close = omega (arith, balanced_shorter ts b inside)
-not_close _ b rest none (nested o c ts a b' opens closes inside behind) close = omega (arith, balanced_shorter ts (c ∷ a) inside, balanced_shorter a b behind)
+not_close _ b rest none (nested o c ts a b' opens closes inside after) close = omega (arith, balanced_shorter ts (c ∷ a) inside, balanced_shorter a b after)
 
 pub filled_found : (source : List ℕ) (ts : List Token) (x : Bool × List Token) → filled_at source ts ≡ Ok x → IsContent x.0 ts x.1
 unfolding filled_at

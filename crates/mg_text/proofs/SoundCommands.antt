@@ -8,20 +8,20 @@ use Rattle.mg_text.specs.declared.descriptor.AuditWord.{AuditWord}
 use Rattle.mg_text.specs.declared.descriptor.OtherWord.{OtherWord}
 use Rattle.mg_text.specs.declared.descriptor.OtherWord.TheVariants as others
 use Rattle.mg_text.specs.declared.descriptor.Descriptor.{Descriptor}
-use Rattle.mg_reply.specs.declared.command_word.CommandWord.{CommandWord}
-use Rattle.mg_reply.specs.declared.command_word.CommandWord.TheVariants as commands
+use Rattle.mg_words.specs.declared.command_word.CommandWord.{CommandWord}
+use Rattle.mg_words.specs.declared.command_word.CommandWord.TheVariants as commands
 use Rattle.mg_text.specs.declared.command.Command.{Command}
 use Rattle.mg_text.specs.Keyword.{keyword_of}
 use Rattle.mg_text.specs.Words.{audit_word_of, command_of}
-use Rattle.mg_text.specs.Reading.{mark_at, after_mark, word_at, worded_at, keyword_at, term_at, filled_at, braced_at, place_of}
-use Rattle.mg_text.specs.Media.{media_part_at}
-use Rattle.mg_text.specs.Commands.{audit_words_at, assigned_at, content_at, other_at, descriptor_named, descriptor_at, audit_named, audit_at, optional_audit_at, skipped_at, descriptors_at, command_at}
+use Rattle.mg_text.specs.aids.Reading.{mark_at, after_mark, word_at, meaning_at, keyword_at, term_at, filled_at, braced_at, place_of}
+use Rattle.mg_text.specs.aids.Media.{media_part_at}
+use Rattle.mg_text.specs.aids.Commands.{audit_words_at, assigned_at, content_at, other_at, descriptor_named, descriptor_at, audit_named, audit_at, optional_audit_at, skipped_at, descriptors_at, command_at}
 use Rattle.mg_text.specs.Grammar.{IsMark, IsWorded, IsAnyBraced, IsGroup, IsContent, IsWordAndGroup, IsOtherContent, keyword_for, IsMediaPart, IsAudit, IsDescriptor, IsOptionalAudit, IsSkipped, IsDescribed, IsCommand}
 use Rattle.mg_text.proofs.Sound.{bind_ok, ok_is, mark_found, after_found, if_some_ok, word_found, worded_found, term_found, group_found, filled_found, braced_found, any_braced_found, optional_braced_found, IsSpelled}
 use Rattle.mg_text.proofs.SoundMedia.{media_part_found}
 
 audit_words_found : (source : List ℕ) (ts : List Token) (x : List AuditWord × List Token) → audit_words_at source ts ≡ Ok x → IsAnyBraced (IsWorded audit_word_of source) x.0 ts x.1
-audit_words_found source ts x e = any_braced_found source (worded_at audit_word_of source) (IsWorded audit_word_of source) (worded_found audit_word_of source) ts x e
+audit_words_found source ts x e = any_braced_found source (meaning_at audit_word_of source) (IsWorded audit_word_of source) (worded_found audit_word_of source) ts x e
 
 abbrev IsAssignedContent : List Token → List Token → Type 0
 IsAssignedContent ts rest = IsGroup ts rest ⊎ IsWordAndGroup ts rest
@@ -36,8 +36,8 @@ assigned_found source ts a rest equals e =
       | inr none ↦
           let word = bind_ok (word_at source a) _ rest none.1 in
           let group = bind_ok (filled_at source word.0.1) _ rest word.2 in
-          let behind = filled_found source word.0.1 group.0 group.1 in
-          inr (record { a = word.0.1; word = word.0.0; is = word_found source a word.0 word.1; group = (group.0.0, subst (λ (r : List Token). IsContent group.0.0 word.0.1 r) (ok_is _ rest group.2) behind) })
+          let after = filled_found source word.0.1 group.0 group.1 in
+          inr (record { a = word.0.1; word = word.0.0; is = word_found source a word.0 word.1; group = (group.0.0, subst (λ (r : List Token). IsContent group.0.0 word.0.1 r) (ok_is _ rest group.2) after) })
     ]
 
 plain_content : (b : Bool) (ts rest : List Token) → IsContent b ts rest → IsOtherContent b ts rest
@@ -122,7 +122,7 @@ described_found source commands.ServiceChange ts x e = skipped_found source ts x
 pub command_found : (source : List ℕ) (ts : List Token) (x : Command × List Token) → command_at source ts ≡ Ok x → IsCommand source x.0 ts x.1
 unfolding command_at
 command_found source ts x e =
-    let head = bind_ok (worded_at command_of source ts) _ x e in
+    let head = bind_ok (meaning_at command_of source ts) _ x e in
     let b = bind_ok (mark_at source Equals head.0.1) _ x head.2 in
     let term = bind_ok (term_at source b.0) _ x b.2 in
     let items = bind_ok (descriptors_at source head.0.0.word term.0.1) _ x term.2 in

@@ -6,11 +6,11 @@ use Rattle.mg_scan.specs.declared.kind.TokenKind.TheVariants.{Open, Close, Comma
 use Rattle.mg_scan.specs.declared.span.Span.{Span}
 use Rattle.mg_scan.specs.declared.token.Token.{Token}
 use Rattle.mg_scan.specs.Span.{text_of}
-use Rattle.mg_numbers.specs.Numbers.{number_of}
+use Rattle.mg_words.specs.Numbers.{number_of}
 use Rattle.mg_text.specs.declared.keyword.Keyword.{Keyword}
 use Rattle.mg_text.specs.declared.keyword.Keyword.TheVariants as keywords
-use Rattle.mg_text.specs.declared.property.Triple.{Triple}
-use Rattle.mg_text.specs.declared.property.Property.{Property}
+use Rattle.mg_text.specs.declared.context_property.Triple.{Triple}
+use Rattle.mg_text.specs.declared.context_property.ContextProperty.{ContextProperty}
 use Rattle.mg_text.specs.declared.command.Command.{Command}
 use Rattle.mg_text.specs.declared.actions.ActionParts.{ActionParts}
 use Rattle.mg_text.specs.declared.request.Action.{Action}
@@ -18,14 +18,16 @@ use Rattle.mg_text.specs.declared.body.Body.{Body}
 use Rattle.mg_text.specs.declared.body.MessageItem.{MessageItem}
 use Rattle.mg_text.specs.declared.message.Message.{Message}
 use Rattle.mg_text.specs.Keyword.{keyword_of}
-use Rattle.mg_text.specs.Words.{context_of, association_of, context_word_of, range_of}
+use Rattle.mg_words.specs.ContextId.{context_of}
+use Rattle.mg_text.specs.Words.{association_of, context_word_of, range_of}
 use Rattle.mg_text.specs.Head.{version_of}
 use Rattle.mg_text.specs.Sender.{is_sender}
-use Rattle.mg_text.specs.Reading.{◌>>=◌, mark_at, after_mark, word_at, named_at, worded_at, keyword_at, number_at, context_at, term_at, group_at, items_at, braced_at, place_of}
-use Rattle.mg_text.specs.Commands.{command_at}
-use Rattle.mg_text.specs.Requests.{triple_at, priority_at, emergency_at, property_named, property_at, begins_property, parts_at, action_at, request_at, ranges_at, answer_at, item_named, item_at, sequence_at, error_at, body_named, body_at}
-use Rattle.mg_text.specs.Text.{sender_at, text_at}
-use Rattle.mg_text.specs.Grammar.{IsMark, IsWorded, IsGroup, IsCommand, IsTriple, IsProperty, IsParts, IsAction, IsItem, IsSequence, kept_before, kept, body_of, IsBody, IsSender, IsText}
+use Rattle.mg_words.specs.ResultSteps.{◌>>=◌}
+use Rattle.mg_text.specs.aids.Reading.{mark_at, after_mark, word_at, named_at, meaning_at, keyword_at, number_at, context_at, term_at, group_at, items_at, braced_at, place_of}
+use Rattle.mg_text.specs.aids.Commands.{command_at}
+use Rattle.mg_text.specs.aids.Requests.{triple_at, priority_at, emergency_at, property_named, property_at, begins_property, parts_at, action_at, request_at, ranges_at, answer_at, item_named, item_at, sequence_at, error_at, body_named, body_at}
+use Rattle.mg_text.specs.aids.Text.{sender_at, text_at}
+use Rattle.mg_text.specs.Grammar.{IsMark, IsWorded, IsGroup, IsCommand, IsTriple, IsContextProperty, IsParts, IsAction, IsItem, IsSequence, kept_before, kept, body_of, IsBody, IsSender, IsText}
 use Rattle.mg_text.proofs.Sound.{bind_ok, guard_ok, ok_is, mark_found, after_found, if_some_ok, chosen, word_found, named_found, worded_found, term_found, group_at_found, items_found, braced_found, IsSpelled}
 use Rattle.mg_text.proofs.SoundCommands.{command_found}
 
@@ -36,7 +38,7 @@ triple_found source ts x e =
     let b = bind_ok (mark_at source Comma first.0.1) _ x first.2 in
     let second = bind_ok (term_at source b.0) _ x b.2 in
     let f = bind_ok (mark_at source Comma second.0.1) _ x second.2 in
-    let association = bind_ok (worded_at association_of source f.0) _ x f.2 in
+    let association = bind_ok (meaning_at association_of source f.0) _ x f.2 in
     subst (IsSpelled (IsTriple source) ts) (ok_is _ x association.2) (record {
       a = first.0.1;
       b = b.0;
@@ -45,39 +47,39 @@ triple_found source ts x e =
       first = term_found source ts first.0 first.1;
       comma = mark_found source Comma first.0.1 b.0 b.1;
       second = term_found source b.0 second.0 second.1;
-      comma_behind = mark_found source Comma second.0.1 f.0 f.1;
+      comma_after = mark_found source Comma second.0.1 f.0 f.1;
       association = worded_found association_of source f.0 association.0 association.1;
     })
 
-priority_found : (source : List ℕ) (ts a : List Token) (x : Property × List Token) → IsWorded keyword_of source keywords.Priority ts a → priority_at source a ≡ Ok x → IsProperty source x.0 ts x.1
+priority_found : (source : List ℕ) (ts a : List Token) (x : ContextProperty × List Token) → IsWorded keyword_of source keywords.Priority ts a → priority_at source a ≡ Ok x → IsContextProperty source x.0 ts x.1
 unfolding priority_at
 priority_found source ts a x name e =
     let b = bind_ok (mark_at source Equals a) _ x e in
     let word = bind_ok (word_at source b.0) _ x b.2 in
-    subst (IsSpelled (IsProperty source) ts) (ok_is _ x word.2) (record { a = a; name = name; is = record { a = b.0; equals = mark_found source Equals a b.0 b.1; is = word_found source b.0 word.0 word.1 } })
+    subst (IsSpelled (IsContextProperty source) ts) (ok_is _ x word.2) (record { a = a; name = name; is = record { a = b.0; equals = mark_found source Equals a b.0 b.1; is = word_found source b.0 word.0 word.1 } })
 
-emergency_found : (source : List ℕ) (ts a : List Token) (x : Property × List Token) → IsWorded keyword_of source keywords.Emergency ts a → emergency_at source a ≡ Ok x → IsProperty source x.0 ts x.1
+emergency_found : (source : List ℕ) (ts a : List Token) (x : ContextProperty × List Token) → IsWorded keyword_of source keywords.Emergency ts a → emergency_at source a ≡ Ok x → IsContextProperty source x.0 ts x.1
 unfolding emergency_at
 emergency_found source ts a x name e =
     elim (if_some_ok (after_mark Equals a) _ _ x e) [
       | inl some ↦
           let word = bind_ok (word_at source some.0) _ x some.2 in
-          subst (IsSpelled (IsProperty source) ts) (ok_is _ x word.2) (record { a = a; name = name; is = record { a = some.0; equals = after_found Equals a some.0 some.1; is = word_found source some.0 word.0 word.1 } })
-      | inr none ↦ subst (IsSpelled (IsProperty source) ts) (ok_is _ x none.1) (record { a = a; name = name; is = refl })
+          subst (IsSpelled (IsContextProperty source) ts) (ok_is _ x word.2) (record { a = a; name = name; is = record { a = some.0; equals = after_found Equals a some.0 some.1; is = word_found source some.0 word.0 word.1 } })
+      | inr none ↦ subst (IsSpelled (IsContextProperty source) ts) (ok_is _ x none.1) (record { a = a; name = name; is = refl })
     ]
 
-property_named_found : (source : List ℕ) (k : Keyword) (place : ℕ) (ts a : List Token) (x : Property × List Token) → IsWorded keyword_of source k ts a → property_named source k place a ≡ Ok x → IsProperty source x.0 ts x.1
+property_named_found : (source : List ℕ) (k : Keyword) (place : ℕ) (ts a : List Token) (x : ContextProperty × List Token) → IsWorded keyword_of source k ts a → property_named source k place a ≡ Ok x → IsContextProperty source x.0 ts x.1
 property_named_found source keywords.Topology place ts a x name e =
     let xs = bind_ok (braced_at source _ a) _ x e in
-    subst (IsSpelled (IsProperty source) ts) (ok_is _ x xs.2) (record { a = a; name = name; is = braced_found source (triple_at source) (IsTriple source) (triple_found source) a xs.0 xs.1 })
+    subst (IsSpelled (IsContextProperty source) ts) (ok_is _ x xs.2) (record { a = a; name = name; is = braced_found source (triple_at source) (IsTriple source) (triple_found source) a xs.0 xs.1 })
 property_named_found source keywords.ContextAudit place ts a x name e =
     let xs = bind_ok (braced_at source _ a) _ x e in
-    subst (IsSpelled (IsProperty source) ts) (ok_is _ x xs.2) (record { a = a; name = name; is = braced_found source (worded_at context_word_of source) (IsWorded context_word_of source) (worded_found context_word_of source) a xs.0 xs.1 })
+    subst (IsSpelled (IsContextProperty source) ts) (ok_is _ x xs.2) (record { a = a; name = name; is = braced_found source (meaning_at context_word_of source) (IsWorded context_word_of source) (worded_found context_word_of source) a xs.0 xs.1 })
 property_named_found source keywords.Priority place ts a x name e = priority_found source ts a x name e
 property_named_found source keywords.Emergency place ts a x name e = emergency_found source ts a x name e
 property_named_found source _ place ts a x name e = absurd cc
 
-property_found : (source : List ℕ) (ts : List Token) (x : Property × List Token) → property_at source ts ≡ Ok x → IsProperty source x.0 ts x.1
+property_found : (source : List ℕ) (ts : List Token) (x : ContextProperty × List Token) → property_at source ts ≡ Ok x → IsContextProperty source x.0 ts x.1
 unfolding property_at
 property_found source ts x e =
     let name = bind_ok (keyword_at source ts) _ x e in
@@ -86,7 +88,7 @@ property_found source ts x e =
 abbrev ArePartsOf : List ℕ → ActionParts → List Token → List Token → Type 0
 ArePartsOf source x ts rest = IsParts source x.properties x.commands ts rest
 
-more_parts : (source : List ℕ) (p : Property) (ps : List Property) (xs : List Command) (ts a b rest : List Token) → IsProperty source p ts a → IsMark Comma a b → IsParts source ps xs b rest → IsParts source (p ∷ ps) xs ts rest
+more_parts : (source : List ℕ) (p : ContextProperty) (ps : List ContextProperty) (xs : List Command) (ts a b rest : List Token) → IsContextProperty source p ts a → IsMark Comma a b → IsParts source ps xs b rest → IsParts source (p ∷ ps) xs ts rest
 more_parts source p [] [] ts a b rest h comma parts = absurd parts
 more_parts source p [] (x ∷ xs) ts a b rest h comma parts = (a, b, h, comma, parts)
 more_parts source p (q ∷ qs) xs ts a b rest h comma parts = (a, b, h, comma, parts)
@@ -151,8 +153,8 @@ request_found source ts a x name e =
 ranges_found : (source : List ℕ) (ts a : List Token) (x : Option MessageItem × List Token) → IsWorded keyword_of source keywords.TransactionResponseAck ts a → ranges_at source a ≡ Ok x → IsItem source x.0 ts x.1
 unfolding ranges_at
 ranges_found source ts a x name e =
-    let xs = bind_ok (braced_at source (worded_at range_of source) a) _ x e in
-    subst (IsSpelled (IsItem source) ts) (ok_is _ x xs.2) (record { a = a; name = name; is = braced_found source (worded_at range_of source) (IsWorded range_of source) (worded_found range_of source) a xs.0 xs.1 })
+    let xs = bind_ok (braced_at source (meaning_at range_of source) a) _ x e in
+    subst (IsSpelled (IsItem source) ts) (ok_is _ x xs.2) (record { a = a; name = name; is = braced_found source (meaning_at range_of source) (IsWorded range_of source) (worded_found range_of source) a xs.0 xs.1 })
 
 answer_found : (source : List ℕ) (ts a : List Token) (x : Option MessageItem × List Token) → IsWorded keyword_of source keywords.Reply ts a ⊎ IsWorded keyword_of source keywords.Pending ts a → answer_at source a ≡ Ok x → IsItem source x.0 ts x.1
 unfolding answer_at
@@ -252,7 +254,7 @@ sender_found source ts x e =
     let g = guard_ok (is_sender (text_of source w.0.0)) w.0.0.start w.0 x w.2 in
     subst (IsSpelled (IsSender source) ts) g.1 (record { named = g.0; is = word_found source ts w.0 w.1 })
 
--- a text behind its head
+-- a text after its head
 pub text_found : (source : List ℕ) (ts a : List Token) (m : Message) → IsWorded version_of source 1 ts a → text_at source a ≡ Ok m → IsText source m ts
 unfolding text_at
 text_found source ts a m head e =

@@ -5,7 +5,7 @@ use Rattle.mg_scan.specs.declared.kind.TokenKind.TheVariants.{Word, Open, Equals
 use Rattle.mg_scan.specs.declared.span.Span.{Span}
 use Rattle.mg_scan.specs.declared.token.Token.{Token}
 use Rattle.mg_scan.specs.Span.{text_of}
-use Rattle.mg_numbers.specs.Numbers.{number_of}
+use Rattle.mg_words.specs.Numbers.{number_of}
 use Rattle.mg_text.specs.declared.keyword.Keyword.{Keyword}
 use Rattle.mg_text.specs.declared.keyword.Keyword.TheVariants as keywords
 use Rattle.mg_text.specs.declared.media.PropertyValue.{PropertyValue}
@@ -16,8 +16,9 @@ use Rattle.mg_text.specs.declared.media.MediaPart.{MediaPart}
 use Rattle.mg_text.specs.declared.media.MediaPart.TheVariants as parts
 use Rattle.mg_text.specs.Keyword.{keyword_of}
 use Rattle.mg_text.specs.Words.{mode_of, switch_of}
-use Rattle.mg_text.specs.Reading.{◌>>=◌, mark_at, after_mark, span_at, word_at, worded_at, keyword_at, number_at, after_group, filled_at, braced_at, place_of}
-use Rattle.mg_text.specs.Media.{value_kinded, value_at, optional_value_at, switched_at, mode_part_at, package_part_at, control_named, control_at, stream_named, stream_part_at, numbered_at, media_named, media_part_at}
+use Rattle.mg_words.specs.ResultSteps.{◌>>=◌}
+use Rattle.mg_text.specs.aids.Reading.{mark_at, after_mark, span_at, word_at, meaning_at, keyword_at, number_at, after_group, filled_at, braced_at, place_of}
+use Rattle.mg_text.specs.aids.Media.{value_kinded, value_at, optional_value_at, switched_at, mode_part_at, package_part_at, control_named, control_at, stream_named, stream_part_at, numbered_at, media_named, media_part_at}
 use Rattle.mg_text.specs.Grammar.{IsWord, IsWorded, IsOptionalAssigned, IsValue, has_slash, is_control, IsControlPart, IsStreamPart, IsMediaPart}
 use Rattle.mg_text.proofs.Sound.{bind_ok, ok_is, mark_found, after_found, if_some_ok, chosen, span_found, word_found, worded_found, group_found, filled_found, braced_found, IsSpelled}
 
@@ -49,21 +50,21 @@ mode_found : (source : List ℕ) (ts a : List Token) (x : ControlPart × List To
 unfolding mode_part_at
 mode_found source ts a x name e =
     let b = bind_ok (mark_at source Equals a) _ x e in
-    let mode = bind_ok (worded_at mode_of source b.0) _ x b.2 in
+    let mode = bind_ok (meaning_at mode_of source b.0) _ x b.2 in
     subst (IsSpelled (IsControlPart source) ts) (ok_is _ x mode.2) (record { a = a; name = name; is = record { a = b.0; equals = mark_found source Equals a b.0 b.1; is = worded_found mode_of source b.0 mode.0 mode.1 } })
 
 value_part_found : (source : List ℕ) (ts a : List Token) (x : ControlPart × List Token) → IsWorded keyword_of source keywords.ReservedValue ts a → switched_at source controls.ReservedValue a ≡ Ok x → IsControlPart source x.0 ts x.1
 unfolding switched_at
 value_part_found source ts a x name e =
     let b = bind_ok (mark_at source Equals a) _ x e in
-    let on = bind_ok (worded_at switch_of source b.0) _ x b.2 in
+    let on = bind_ok (meaning_at switch_of source b.0) _ x b.2 in
     subst (IsSpelled (IsControlPart source) ts) (ok_is _ x on.2) (record { a = a; name = name; is = record { a = b.0; equals = mark_found source Equals a b.0 b.1; is = worded_found switch_of source b.0 on.0 on.1 } })
 
 group_part_found : (source : List ℕ) (ts a : List Token) (x : ControlPart × List Token) → IsWorded keyword_of source keywords.ReservedGroup ts a → switched_at source controls.ReservedGroup a ≡ Ok x → IsControlPart source x.0 ts x.1
 unfolding switched_at
 group_part_found source ts a x name e =
     let b = bind_ok (mark_at source Equals a) _ x e in
-    let on = bind_ok (worded_at switch_of source b.0) _ x b.2 in
+    let on = bind_ok (meaning_at switch_of source b.0) _ x b.2 in
     subst (IsSpelled (IsControlPart source) ts) (ok_is _ x on.2) (record { a = a; name = name; is = record { a = b.0; equals = mark_found source Equals a b.0 b.1; is = worded_found switch_of source b.0 on.0 on.1 } })
 
 package_found : (source : List ℕ) (ts a : List Token) (w : Span) (x : ControlPart × List Token) → IsWord w ts a → is_control (keyword_of (text_of source w)) ≡ false → package_part_at source w a ≡ Ok x → IsControlPart source x.0 ts x.1

@@ -2,7 +2,22 @@
 use Rattle.std.specs.Prelude.{ℕ, Bool, ◌||◌, List, [], ◌∷◌, Option, find, codes}
 use Rattle.std.specs.Str.{str_eq_ignore_ascii_case}
 use Rattle.mg_text.specs.declared.keyword.Keyword.{Keyword}
-use Rattle.mg_text.specs.declared.keyword.Keyword.TheVariants.{Transaction, Reply, Pending, TransactionResponseAck, Context, ContextAudit, Add, Modify, Move, Subtract, AuditValue, AuditCapability, Notify, ServiceChange, Audit, Media, Stream, LocalControl, Local, Remote, TerminationState, Mode, SendOnly, ReceiveOnly, SendReceive, Inactive, Loopback, Topology, Isolate, Oneway, Bothway, ReservedValue, ReservedGroup, Statistics, Error, Signals, Events, Modem, Mux, DigitMap, EventBuffer, ObservedEvents, Packages, Priority, Emergency}
+use Rattle.mg_text.specs.declared.keyword.Keyword.TheVariants.{Transaction, Reply, Pending}
+use Rattle.mg_text.specs.declared.keyword.Keyword.TheVariants.{TransactionResponseAck, Context}
+use Rattle.mg_text.specs.declared.keyword.Keyword.TheVariants.{ContextAudit, Add, Modify, Move}
+use Rattle.mg_text.specs.declared.keyword.Keyword.TheVariants.{Subtract, AuditValue}
+use Rattle.mg_text.specs.declared.keyword.Keyword.TheVariants.{AuditCapability, Notify}
+use Rattle.mg_text.specs.declared.keyword.Keyword.TheVariants.{ServiceChange, Audit, Media, Stream}
+use Rattle.mg_text.specs.declared.keyword.Keyword.TheVariants.{LocalControl, Local, Remote}
+use Rattle.mg_text.specs.declared.keyword.Keyword.TheVariants.{TerminationState, Mode, SendOnly}
+use Rattle.mg_text.specs.declared.keyword.Keyword.TheVariants.{ReceiveOnly, SendReceive, Inactive}
+use Rattle.mg_text.specs.declared.keyword.Keyword.TheVariants.{Loopback, Topology, Isolate, Oneway}
+use Rattle.mg_text.specs.declared.keyword.Keyword.TheVariants.{Bothway, ReservedValue}
+use Rattle.mg_text.specs.declared.keyword.Keyword.TheVariants.{ReservedGroup, Statistics, Error}
+use Rattle.mg_text.specs.declared.keyword.Keyword.TheVariants.{Signals, Events, Modem, Mux}
+use Rattle.mg_text.specs.declared.keyword.Keyword.TheVariants.{DigitMap, EventBuffer}
+use Rattle.mg_text.specs.declared.keyword.Keyword.TheVariants.{ObservedEvents, Packages, Priority}
+use Rattle.mg_text.specs.declared.keyword.Keyword.TheVariants.{Emergency}
 
 -- the same but for the case of ASCII letters
 abbrev pub same_word : List ℕ → List ℕ → Bool

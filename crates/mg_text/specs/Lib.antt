@@ -3,11 +3,7 @@ pub mod Words
 pub mod Head
 pub mod Sender
 pub mod Grammar
-pub mod Reading
-pub mod Media
-pub mod Commands
-pub mod Requests
 pub mod Message
 pub mod MessageReading
-pub mod Text
 pub mod Proper
+pub mod aids

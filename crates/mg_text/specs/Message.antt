@@ -1,8 +1,10 @@
 -- A message, and the head of one of another version.
-use Rattle.std.specs.Prelude.{◌≡◌, ◌≢◌, ℕ, ◌+◌, ◌<◌, ◌≤◌, ◌⊎◌, false, List, [], ◌∷◌, length, Option, Some, None, Result, Err}
+use Rattle.std.specs.Prelude.{◌≡◌, ◌≢◌, ℕ, ◌+◌, ◌<◌, ◌≤◌, ◌⊎◌, false, List, [], ◌∷◌, length, Option}
+use Rattle.std.specs.Prelude.{Some, None, Result, Err}
+use Rattle.mg_words.specs.Limits.{message_limit, request_limit, command_limit}
 use Rattle.mg_scan.specs.declared.fault.ScanFault.{ScanFault}
 use Rattle.mg_scan.specs.declared.token.Token.{Token}
-use Rattle.mg_scan.specs.Scanner.{Scanning, Gives, rest_of}
+use Rattle.mg_scan.specs.Scanner.{Scanning, IsNext, rest_of}
 use Rattle.mg_scan.specs.Tokens.{Taken, first_token}
 use Rattle.mg_text.specs.declared.request.Action.{Action}
 use Rattle.mg_text.specs.declared.body.MessageItem.{MessageItem}
@@ -16,7 +18,8 @@ use Rattle.mg_text.specs.Grammar.{IsText, IsWorded}
 -- scanning goes from one place to another by these tokens
 abbrev pub Reaches : Scanning → List Token → Scanning → Type 0
 Reaches old [] new = old ≡ new
-Reaches old (t ∷ ts) new = (next : Scanning) × (next.source ≡ old.source) × Gives old t next × Reaches next ts new
+Reaches old (t ∷ ts) new =
+    (next : Scanning) × (next.source ≡ old.source) × IsNext old t next × Reaches next ts new
 
 -- what stands where the tokens end: nothing, or a fault
 abbrev pub ending : Option ScanFault → Option (Result Taken ScanFault)
@@ -34,7 +37,7 @@ pub record AreTokens (source : List ℕ) (ts : List Token) (fault : Option ScanF
 
 -- a datagram is read up to 8,192 bytes
 abbrev pub IsShort : List ℕ → Type 0
-IsShort source = length source ≤ 8192
+IsShort source = length source ≤ message_limit
 
 -- the bytes have a tree of the grammar, and it is this one
 pub record IsTree (source : List ℕ) (m : Message) : Type 0 where
@@ -62,21 +65,25 @@ abbrev pub items_of : Body → List MessageItem
 items_of (bodies.Requests xs) = xs
 items_of bodies.Ignored = []
 
--- the bytes are a message, with this tree: at most 4 requests, and at most 64 commands in all of them
+-- the bytes are a message, with this tree: at most 4 requests, and at most 64 commands in all of
+-- them
 pub record IsMessage (source : List ℕ) (m : Message) : Type 0 where
   pub tree : IsTree source m
-  pub requests : requests_in (items_of m.body) ≤ 4
-  pub commands : commands_in (items_of m.body) ≤ 64
+  pub requests : requests_in (items_of m.body) ≤ request_limit
+  pub commands : commands_in (items_of m.body) ≤ command_limit
 
 -- a message asks for more
 abbrev pub AsksTooMuch : Message → Type 0
-AsksTooMuch m = (4 < requests_in (items_of m.body)) ⊎ (64 < commands_in (items_of m.body))
+AsksTooMuch m =
+    (request_limit < requests_in (items_of m.body))
+    ⊎ (command_limit < commands_in (items_of m.body))
 
 -- the bytes are too long, or they have a tree that asks for too much
 abbrev pub IsTooMany : List ℕ → Type 0
-IsTooMany source = (8192 < length source) ⊎ ((m : Message) × IsTree source m × AsksTooMuch m)
+IsTooMany source =
+    (message_limit < length source) ⊎ ((m : Message) × IsTree source m × AsksTooMuch m)
 
--- the bytes begin with the head of another version, whatever stands behind it
+-- the bytes begin with the head of another version, whatever stands after it
 pub record HasOtherVersion (source : List ℕ) (version : ℕ) : Type 0 where
   pub short : IsShort source
   pub tokens : List Token

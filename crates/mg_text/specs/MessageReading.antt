@@ -3,7 +3,8 @@ use Rattle.std.specs.Prelude.{ℕ, List}
 use Rattle.mg_text.specs.declared.message.Message.{Message}
 use Rattle.mg_text.specs.Message.{IsShort, IsTree, IsMessage, IsTooMany, HasOtherVersion}
 
--- a message with this tree, one that is too long or asks for too much, one of another version, or none
+-- a message with this tree, one that is too long or asks for too much, one of another version, or
+-- none
 pub data MessageReading : Type 0 where
   Read : (message : Message) → MessageReading
   TooMany : MessageReading

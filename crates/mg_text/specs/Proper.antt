@@ -1,12 +1,15 @@
--- What reading promises of requests: each has an action, and each name of a termination is a word of 1 to 64 bytes.
+-- What reading promises of requests: each has an action, and each name of a termination is a word
+-- of 1 to 64 bytes.
 use Rattle.std.specs.Prelude.{ℕ, ◌==◌, Bool, true, ◌&&◌, not, List, length}
 use Rattle.std.specs.List.{list_all}
 use Rattle.mg_scan.specs.Span.{text_of}
-use Rattle.mg_reply.specs.Term.{is_term}
+use Rattle.mg_words.specs.Term.{is_term}
 use Rattle.mg_text.specs.declared.command.Command.{Command}
-use Rattle.mg_text.specs.declared.property.Triple.{Triple}
-use Rattle.mg_text.specs.declared.property.Property.{Property}
-use Rattle.mg_text.specs.declared.property.Property.TheVariants.{Topology, ContextAudit, Priority, Emergency}
+use Rattle.mg_text.specs.declared.context_property.Triple.{Triple}
+use Rattle.mg_text.specs.declared.context_property.ContextProperty.{ContextProperty}
+use Rattle.mg_text.specs.declared.context_property.ContextProperty.TheVariants.{Topology}
+use Rattle.mg_text.specs.declared.context_property.ContextProperty.TheVariants.{ContextAudit}
+use Rattle.mg_text.specs.declared.context_property.ContextProperty.TheVariants.{Priority, Emergency}
 use Rattle.mg_text.specs.declared.request.Action.{Action}
 use Rattle.mg_text.specs.declared.request.Request.{Request}
 use Rattle.mg_text.specs.declared.body.MessageItem.{MessageItem}
@@ -18,17 +21,20 @@ command_is_proper source x = is_term (text_of source x.term)
 abbrev pub triple_is_proper : List ℕ → Triple → Bool
 triple_is_proper source x = is_term (text_of source x.first) && is_term (text_of source x.second)
 
-abbrev pub property_is_proper : List ℕ → Property → Bool
+abbrev pub property_is_proper : List ℕ → ContextProperty → Bool
 property_is_proper source (Topology xs) = list_all (triple_is_proper source) xs
 property_is_proper source (ContextAudit xs) = true
 property_is_proper source (Priority word) = true
 property_is_proper source (Emergency word) = true
 
 abbrev pub action_is_proper : List ℕ → Action → Bool
-action_is_proper source x = list_all (property_is_proper source) x.properties && list_all (command_is_proper source) x.commands
+action_is_proper source x =
+    list_all (property_is_proper source) x.properties
+    && list_all (command_is_proper source) x.commands
 
 abbrev pub request_is_proper : List ℕ → Request → Bool
-request_is_proper source x = not (length x.actions == 0) && list_all (action_is_proper source) x.actions
+request_is_proper source x =
+    not (length x.actions == 0) && list_all (action_is_proper source) x.actions
 
 abbrev pub item_is_proper : List ℕ → MessageItem → Bool
 item_is_proper source (items.Request x) = request_is_proper source x

@@ -1,24 +1,28 @@
--- The sender of a message (RFC 3525, Annex B.2: mId, as a domain address, a domain name or a device name).
-use Rattle.std.specs.Prelude.{ℕ, Bool, true, false, ◌&&◌, ◌||◌, ◌==◌, not, nat_le, List, [], ◌∷◌, length, Option, Some, None, is_some, if◌then◌else◌}
+-- The sender of a message (RFC 3525, Annex B.2: mId, as a domain address, a domain name or a device
+-- name).
+use Rattle.std.specs.Prelude.{ℕ, Bool, true, false, ◌&&◌, ◌||◌, ◌==◌, not, nat_le, List, [], ◌∷◌}
+use Rattle.std.specs.Prelude.{length, Option, Some, None, is_some, if◌then◌else◌}
 use Rattle.std.specs.List.{list_all}
 use Rattle.std.specs.Char.{is_ascii_alphanumeric}
-use Rattle.mg_numbers.specs.Numbers.{port_of}
-use Rattle.mg_numbers.specs.Address.{address_of}
-use Rattle.mg_numbers.specs.Cut.{cut}
+use Rattle.mg_words.specs.Limits.{name_limit}
+use Rattle.mg_words.specs.Numbers.{port_of}
+use Rattle.mg_words.specs.Address.{address_of}
+use Rattle.mg_words.specs.Cut.{cut}
 
 -- a letter, a digit, - or .
 abbrev pub is_domain_byte : ℕ → Bool
 is_domain_byte b = is_ascii_alphanumeric b || b == 45 || b == 46
 
 abbrev pub is_domain : List ℕ → Bool
-is_domain text = not (length text == 0) && nat_le (length text) 64 && list_all is_domain_byte text
+is_domain text =
+    not (length text == 0) && nat_le (length text) name_limit && list_all is_domain_byte text
 
 -- nothing, or a colon and a port
 abbrev pub is_port_part : List ℕ → Bool
 is_port_part [] = true
 is_port_part (b ∷ port) = if b == 58 then is_some (port_of port) else false
 
--- an address and a domain name, each behind its opening mark
+-- an address and a domain name, each after its opening mark
 abbrev pub is_address_parts : Option (List ℕ × List ℕ) → Bool
 is_address_parts None = false
 is_address_parts (Some parts) = is_some (address_of parts.0) && is_port_part parts.1
@@ -39,4 +43,4 @@ is_sender [] = false
 is_sender (b ∷ rest) =
     if b == 91 then is_address_host rest
     else (if b == 60 then is_domain_host rest
-    else nat_le (length (b ∷ rest)) 64)
+    else nat_le (length (b ∷ rest)) name_limit)

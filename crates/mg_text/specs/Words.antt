@@ -1,37 +1,24 @@
 -- What single words stand for (RFC 3525, Annex B.2).
-use Rattle.std.specs.Prelude.{ℕ, Bool, true, false, List, length, take, drop, Option, Some, None, codes, ◌==◌, nat_lt, if◌then◌else◌}
-use Rattle.std.specs.Str.{bytes_eq}
+use Rattle.std.specs.Prelude.{ℕ, Bool, true, false, List, length, take, drop, Option, Some, None}
+use Rattle.std.specs.Prelude.{codes, nat_lt, if◌then◌else◌}
 use Rattle.std.specs.Option.{option_map, option_and_then}
-use Rattle.mg_numbers.specs.Numbers.{number_of}
-use Rattle.mg_numbers.specs.Cut.{cut}
+use Rattle.mg_words.specs.Numbers.{number_of}
+use Rattle.mg_words.specs.Cut.{cut}
 use Rattle.mg_text.specs.declared.keyword.Keyword.{Keyword}
 use Rattle.mg_text.specs.declared.keyword.Keyword.TheVariants as keywords
-use Rattle.mg_reply.specs.declared.association.Association.{Association}
-use Rattle.mg_reply.specs.declared.association.Association.TheVariants as associations
-use Rattle.mg_text.specs.declared.property.ContextWord.{ContextWord}
-use Rattle.mg_text.specs.declared.property.ContextWord.TheVariants as contexts
+use Rattle.mg_words.specs.declared.association.Association.{Association}
+use Rattle.mg_words.specs.declared.association.Association.TheVariants as associations
+use Rattle.mg_text.specs.declared.context_property.ContextWord.{ContextWord}
+use Rattle.mg_text.specs.declared.context_property.ContextWord.TheVariants as contexts
 use Rattle.mg_text.specs.declared.descriptor.AuditWord.{AuditWord}
 use Rattle.mg_text.specs.declared.descriptor.AuditWord.TheVariants as audits
-use Rattle.mg_reply.specs.declared.mode.Mode.{Mode}
-use Rattle.mg_reply.specs.declared.mode.Mode.TheVariants as modes
+use Rattle.mg_words.specs.declared.mode.Mode.{Mode}
+use Rattle.mg_words.specs.declared.mode.Mode.TheVariants as modes
 use Rattle.mg_text.specs.declared.body.Range.{Range}
-use Rattle.mg_reply.specs.declared.command_word.CommandWord.{CommandWord}
-use Rattle.mg_reply.specs.declared.command_word.CommandWord.TheVariants as commands
-use Rattle.mg_text.specs.declared.command.CommandHead.{CommandHead}
-use Rattle.mg_reply.specs.declared.context_id.ContextId.{ContextId}
-use Rattle.mg_reply.specs.declared.context_id.ContextId.TheVariants.{Null, Choose, All, Number}
+use Rattle.mg_words.specs.declared.command_word.CommandWord.{CommandWord}
+use Rattle.mg_words.specs.declared.command_word.CommandWord.TheVariants as commands
+use Rattle.mg_text.specs.declared.command_head.CommandHead.{CommandHead}
 use Rattle.mg_text.specs.Keyword.{same_word, keyword_of}
-
--- a context by its number; three numbers are other ways to write - $ *
-abbrev pub numbered : ℕ → ContextId
-numbered n = if n == 0 then Null else (if n == 4294967294 then Choose else (if n == 4294967295 then All else Number n))
-
-unfoldable pub context_of : List ℕ → Option ContextId
-context_of text =
-    if bytes_eq text (codes "-") then Some Null
-    else (if bytes_eq text (codes "$") then Some Choose
-    else (if bytes_eq text (codes "*") then Some All
-    else option_map numbered (number_of text)))
 
 -- associations: Isolate, Oneway, Bothway
 abbrev pub association_named : Keyword → Option Association
@@ -84,14 +71,17 @@ mode_of text = option_and_then mode_named (keyword_of text)
 
 -- ON or OFF
 abbrev pub switch_of : List ℕ → Option Bool
-switch_of text = if same_word text (codes "ON") then Some true else (if same_word text (codes "OFF") then Some false else None)
+switch_of text =
+    if same_word text (codes "ON") then Some true
+    else (if same_word text (codes "OFF") then Some false else None)
 
 -- transaction numbers: one, or two with - (45) between them
 abbrev pub range_from : ℕ → Option ℕ → Option Range
 range_from first last = option_map (λ last. record { first = first; last = last }) last
 
 abbrev pub range_between : List ℕ → Option (List ℕ × List ℕ) → Option Range
-range_between text (Some parts) = option_and_then (λ first. range_from first (number_of parts.1)) (number_of parts.0)
+range_between text (Some parts) =
+    option_and_then (λ first. range_from first (number_of parts.1)) (number_of parts.0)
 range_between text None = option_and_then (λ n. range_from n (Some n)) (number_of text)
 
 abbrev pub range_of : List ℕ → Option Range
@@ -109,32 +99,33 @@ command_named keywords.Notify = Some commands.Notify
 command_named keywords.ServiceChange = Some commands.ServiceChange
 command_named _ = None
 
--- a command's word behind its prefixes
-abbrev pub headed : Bool → Bool → Keyword → Option CommandHead
-headed optional wildcard keyword = option_map (λ word. record { word = word; is_optional = optional; wants_wildcard = wildcard }) (command_named keyword)
-
--- what stands behind a prefix, in any case
+-- what stands after a prefix, in letters of any case
 unfoldable pub after_prefix : List ℕ → List ℕ → Option (List ℕ)
 after_prefix prefix text =
     if nat_lt (length text) (length prefix) then None
-    else (if same_word (take (length prefix) text) prefix then Some (drop (length prefix) text) else None)
+    else (if same_word (take (length prefix) text) prefix then Some (drop (length prefix) text)
+    else None)
 
--- a command's word that may have W- before it
-abbrev pub behind_wildcard : Bool → List ℕ → Option (List ℕ) → Option CommandHead
-behind_wildcard optional text (Some rest) = option_and_then (headed optional true) (keyword_of rest)
-behind_wildcard optional text None = option_and_then (headed optional false) (keyword_of text)
+-- a command's word, and whether O- and W- stand before it
+abbrev pub headed : Bool → Bool → Keyword → Option CommandHead
+headed optional wildcard keyword =
+    option_map (λ word. record { word = word; is_optional = optional; wants_wildcard = wildcard })
+    (command_named keyword)
 
-abbrev pub behind_optional : Bool → List ℕ → Option CommandHead
-behind_optional optional text = behind_wildcard optional text (after_prefix (codes "W-") text)
-
-abbrev pub prefixed : List ℕ → Option (List ℕ) → Option CommandHead
-prefixed text (Some rest) = behind_optional true rest
-prefixed text None = behind_optional false text
+-- the command after a prefix, or else another reading
+abbrev pub prefixed : (optional wildcard : Bool) → Option (List ℕ) → Option CommandHead
+    → Option CommandHead
+prefixed optional wildcard (Some rest) other =
+    option_and_then (headed optional wildcard) (keyword_of rest)
+prefixed optional wildcard None other = other
 
 abbrev pub command_for : List ℕ → Option Keyword → Option CommandHead
 command_for text (Some keyword) = headed false false keyword
-command_for text None = prefixed text (after_prefix (codes "O-") text)
+command_for text None =
+    prefixed true true (after_prefix (codes "O-W-") text)
+    (prefixed true false (after_prefix (codes "O-") text)
+    (prefixed false true (after_prefix (codes "W-") text) None))
 
--- a command: a word of the encoding, which may have O-, then W- straight before it
+-- a command: a word of the encoding, alone or with O-W-, O- or W- straight before it
 unfoldable pub command_of : List ℕ → Option CommandHead
 command_of text = command_for text (keyword_of text)

@@ -1,41 +1,42 @@
 ghost use Rattle.std.specs.Prelude.{◌≡◌, length};
-ghost use Rattle.mg_text.specs.Reading.{Gives};
-ghost use Rattle.mg_text.specs.Requests.{parts_at, action_at};
+ghost use Rattle.mg_text.specs.aids.Reading.{Agrees};
+ghost use Rattle.mg_text.specs.aids.Requests.{parts_at, action_at};
 
 use crate::command::Command;
-use crate::commands::ACommand;
+use crate::context_properties::{begins_property, property_at};
+use crate::context_property::ContextProperty;
 use crate::fault::ReadFault;
-use crate::items::Items;
+use crate::from_word::meaning_at;
 use crate::keyword::Keyword;
-use crate::lists::{Rule, items_at};
-use crate::marks::{after_mark, context_at, mark_at, named_at, place_of};
-use crate::properties::{begins_property, property_at};
-use crate::property::Property;
+use crate::lists::{FromTokens, items_at};
+use crate::marks::{after_mark, mark_at, named_at, place_of};
 use crate::request::Action;
+use crate::tree_list::TreeList;
 use mg_scan::{Token, TokenKind};
+use mg_words::ContextId;
 use std::alloc::Global;
 
 /// The properties of an action, and its commands.
 #[derive(Drop)]
 pub struct ActionParts {
-    pub properties: Items<Property>,
-    pub commands: Items<Command>,
+    pub properties: TreeList<ContextProperty>,
+    pub commands: TreeList<Command>,
 }
 
-/// Properties and then commands, up to the brace that closes them, and what stands behind it.
+/// Properties and then commands, up to the brace that closes them, and what stands after it.
 fn parts_at<'t>(
     alloc: Global,
     source: &[u8],
     tokens: &'t [Token],
 ) -> Result<(ActionParts, &'t [Token]), ReadFault>
-    ensures { Gives (λ x. (x.0, x.1.now)) result (parts_at source.now (length tokens.now) tokens.now) }
+    ensures { Agrees (λ x. (x.0, x.1.now)) result (parts_at source.now (length tokens.now) tokens.now) }
 {
     let mut properties = Vec::new(alloc);
     let mut rest = tokens;
     for _ in 0..tokens.len() {
         if !begins_property(source, rest) {
-            let (commands, rest) = items_at(&ACommand, alloc, source, rest)?;
-            let properties = Items::new(properties);
+            let (commands, rest) = items_at::<Command>(alloc, source, rest)?;
+            let properties = TreeList::new(properties);
             return Ok((
                 ActionParts {
                     properties,
@@ -48,8 +49,8 @@ fn parts_at<'t>(
         properties.push(property)?;
         let Some(next) = after_mark(TokenKind::Comma, after) else {
             let rest = mark_at(source, TokenKind::Close, after)?;
-            let properties = Items::new(properties);
-            let commands = Items::new(Vec::new(alloc));
+            let properties = TreeList::new(properties);
+            let commands = TreeList::new(Vec::new(alloc));
             return Ok((
                 ActionParts {
                     properties,
@@ -64,23 +65,18 @@ fn parts_at<'t>(
 }
 
 /// An action.
-pub struct AnAction;
+impl FromTokens for Action {
+    ghost reading = { action_at };
 
-impl Rule for AnAction {
-    type Output = Action;
-
-    ghost reads = { λ _ source tokens. action_at source tokens };
-
-    #[tactic(auto, unfolding(crate::specs::Requests::action_at))]
-    fn read<'t>(
-        &self,
+    #[tactic(auto, unfolding(crate::specs::aids::Requests::action_at))]
+    fn from_tokens<'t>(
         alloc: Global,
         source: &[u8],
         tokens: &'t [Token],
     ) -> Result<(Action, &'t [Token]), ReadFault> {
         let rest = named_at(source, Keyword::Context, tokens)?;
         let rest = mark_at(source, TokenKind::Equals, rest)?;
-        let (context, rest) = context_at(source, rest)?;
+        let (context, rest) = meaning_at::<ContextId>(source, rest)?;
         let rest = mark_at(source, TokenKind::Open, rest)?;
         let (parts, rest) = parts_at(alloc, source, rest)?;
         let action = Action {

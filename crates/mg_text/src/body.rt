@@ -1,5 +1,5 @@
-use crate::items::Items;
 use crate::request::Request;
+use crate::tree_list::TreeList;
 
 /// Transaction numbers from the first up to the last, both among them. One number alone is both.
 #[derive(Clone, Copy, Debug, PartialEq, Eq)]
@@ -13,14 +13,14 @@ pub struct Range {
 pub enum MessageItem {
     Request(Request),
     /// The replies with these transactions' numbers have come.
-    Acknowledgement(Items<Range>),
+    Acknowledgement(TreeList<Range>),
 }
 
-/// What stands behind the head and the sender of a message.
+/// What stands after the head and the sender of a message.
 #[derive(Drop)]
 pub enum Body {
-    /// Items to act on, in their order. A Reply or Pending item among them is left out.
-    Requests(Items<MessageItem>),
+    /// TreeList to act on, in their order. A Reply or Pending item among them is left out.
+    Requests(TreeList<MessageItem>),
     /// Nothing to act on: an Error body, or items of which each is a Reply or a Pending.
     Ignored,
 }

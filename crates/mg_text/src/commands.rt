@@ -1,30 +1,32 @@
 ghost use Rattle.std.specs.Prelude.{◌≡◌};
-ghost use Rattle.mg_text.specs.Reading.{Gives};
-ghost use Rattle.mg_text.specs.Commands.{descriptors_at, command_at};
+ghost use Rattle.mg_text.specs.aids.Reading.{Agrees};
+ghost use Rattle.mg_text.specs.aids.Commands.{descriptors_at, command_at};
 
 use crate::command::Command;
+use crate::command_head::CommandHead;
 use crate::descriptor::Descriptor;
-use crate::descriptors::{ADescriptor, optional_audit_at, skipped_at};
+use crate::descriptors::{optional_audit_at, skipped_at};
 use crate::fault::ReadFault;
-use crate::items::Items;
-use crate::lists::{Rule, optional_braced_at};
-use crate::marks::{command_head_at, mark_at, term_at};
-use mg_reply::CommandWord;
+use crate::from_word::meaning_at;
+use crate::lists::{FromTokens, optional_braced_at};
+use crate::marks::{mark_at, term_at};
+use crate::tree_list::TreeList;
 use mg_scan::{Token, TokenKind};
+use mg_words::CommandWord;
 use std::alloc::Global;
 
-/// What stands behind the name of a command's termination.
+/// What stands after the name of a command's termination.
 fn descriptors_at<'t>(
     alloc: Global,
     source: &[u8],
     word: CommandWord,
     tokens: &'t [Token],
-) -> Result<(Items<Descriptor>, &'t [Token]), ReadFault>
-    ensures { Gives (λ x. (x.0, x.1.now)) result (descriptors_at source.now word tokens.now) }
+) -> Result<(TreeList<Descriptor>, &'t [Token]), ReadFault>
+    ensures { Agrees (λ x. (x.0, x.1.now)) result (descriptors_at source.now word tokens.now) }
 {
     match word {
         CommandWord::Add | CommandWord::Modify | CommandWord::Move => {
-            optional_braced_at(&ADescriptor, alloc, source, tokens)
+            optional_braced_at::<Descriptor>(alloc, source, tokens)
         }
         CommandWord::Subtract | CommandWord::AuditValue => {
             optional_audit_at(alloc, source, tokens)
@@ -36,21 +38,16 @@ fn descriptors_at<'t>(
 }
 
 /// A command.
-pub struct ACommand;
+impl FromTokens for Command {
+    ghost reading = { command_at };
 
-impl Rule for ACommand {
-    type Output = Command;
-
-    ghost reads = { λ _ source tokens. command_at source tokens };
-
-    #[tactic(auto, unfolding(crate::specs::Commands::command_at))]
-    fn read<'t>(
-        &self,
+    #[tactic(auto, unfolding(crate::specs::aids::Commands::command_at))]
+    fn from_tokens<'t>(
         alloc: Global,
         source: &[u8],
         tokens: &'t [Token],
     ) -> Result<(Command, &'t [Token]), ReadFault> {
-        let (head, rest) = command_head_at(source, tokens)?;
+        let (head, rest) = meaning_at::<CommandHead>(source, tokens)?;
         let rest = mark_at(source, TokenKind::Equals, rest)?;
         let (term, rest) = term_at(source, rest)?;
         let (descriptors, rest) = descriptors_at(alloc, source, head.word, rest)?;

@@ -1,25 +1,27 @@
 ghost use Rattle.std.specs.Prelude.{◌≡◌};
-ghost use Rattle.mg_text.specs.Reading.{Gives};
+ghost use Rattle.mg_text.specs.aids.Reading.{Agrees};
 ghost use Rattle.mg_text.specs.Grammar.{has_slash};
-ghost use Rattle.mg_text.specs.Media.{value_at, optional_value_at, switched_at, mode_part_at, package_part_at, control_at};
+ghost use Rattle.mg_text.specs.aids.Media.{value_at, optional_value_at, switched_at, mode_part_at, package_part_at, control_at};
 ghost use Rattle.mg_text.specs.declared.media.ControlPart.TheVariants as controls;
 
 use crate::fault::ReadFault;
+use crate::from_word::meaning_at;
 use crate::group::after_group;
 use crate::keyword::{Keyword, keyword_of};
-use crate::lists::Rule;
-use crate::marks::{after_mark, mark_at, mode_at, switch_at, word_at};
+use crate::lists::FromTokens;
+use crate::marks::{after_mark, mark_at, word_at};
 use crate::media::{ControlPart, PropertyValue};
 use mg_scan::{Span, Token, TokenKind};
+use mg_words::Mode;
 use std::alloc::Global;
 
-/// The value of a package's property, and what stands behind it.
-#[tactic(auto, unfolding(crate::specs::Media::value_at))]
+/// The value of a package's property, and what stands after it.
+#[tactic(auto, unfolding(crate::specs::aids::Media::value_at))]
 fn value_at<'t>(
     source: &[u8],
     tokens: &'t [Token],
 ) -> Result<(PropertyValue, &'t [Token]), ReadFault>
-    ensures { Gives (λ x. (x.0, x.1.now)) result (value_at source.now tokens.now) }
+    ensures { Agrees (λ x. (x.0, x.1.now)) result (value_at source.now tokens.now) }
 {
     match tokens {
         [] => Err(ReadFault::Syntax(source.len())),
@@ -35,13 +37,13 @@ fn value_at<'t>(
     }
 }
 
-/// The value of a package's property behind an equals sign, if one stands there.
-#[tactic(auto, unfolding(crate::specs::Media::optional_value_at))]
+/// The value of a package's property after an equals sign, if one stands there.
+#[tactic(auto, unfolding(crate::specs::aids::Media::optional_value_at))]
 fn optional_value_at<'t>(
     source: &[u8],
     tokens: &'t [Token],
 ) -> Result<(Option<PropertyValue>, &'t [Token]), ReadFault>
-    ensures { Gives (λ x. (x.0, x.1.now)) result (optional_value_at source.now tokens.now) }
+    ensures { Agrees (λ x. (x.0, x.1.now)) result (optional_value_at source.now tokens.now) }
 {
     let Some(rest) = after_mark(TokenKind::Equals, tokens) else {
         return Ok((None, tokens));
@@ -57,53 +59,53 @@ fn has_slash(text: &[u8]) -> bool
     text.contains(&b'/')
 }
 
-/// A mode behind its word.
-#[tactic(auto, unfolding(crate::specs::Media::mode_part_at))]
+/// A mode after its word.
+#[tactic(auto, unfolding(crate::specs::aids::Media::mode_part_at))]
 fn mode_part_at<'t>(
     source: &[u8],
     tokens: &'t [Token],
 ) -> Result<(ControlPart, &'t [Token]), ReadFault>
-    ensures { Gives (λ x. (x.0, x.1.now)) result (mode_part_at source.now tokens.now) }
+    ensures { Agrees (λ x. (x.0, x.1.now)) result (mode_part_at source.now tokens.now) }
 {
     let rest = mark_at(source, TokenKind::Equals, tokens)?;
-    let (mode, rest) = mode_at(source, rest)?;
+    let (mode, rest) = meaning_at::<Mode>(source, rest)?;
     Ok((ControlPart::Mode(mode), rest))
 }
 
-/// A reserved value behind its word.
-#[tactic(auto, unfolding(crate::specs::Media::switched_at))]
+/// A reserved value after its word.
+#[tactic(auto, unfolding(crate::specs::aids::Media::switched_at))]
 fn value_part_at<'t>(
     source: &[u8],
     tokens: &'t [Token],
 ) -> Result<(ControlPart, &'t [Token]), ReadFault>
-    ensures { Gives (λ x. (x.0, x.1.now)) result (switched_at source.now controls.ReservedValue tokens.now) }
+    ensures { Agrees (λ x. (x.0, x.1.now)) result (switched_at source.now controls.ReservedValue tokens.now) }
 {
     let rest = mark_at(source, TokenKind::Equals, tokens)?;
-    let (is_on, rest) = switch_at(source, rest)?;
+    let (is_on, rest) = meaning_at::<bool>(source, rest)?;
     Ok((ControlPart::ReservedValue(is_on), rest))
 }
 
-/// A reserved group behind its word.
-#[tactic(auto, unfolding(crate::specs::Media::switched_at))]
+/// A reserved group after its word.
+#[tactic(auto, unfolding(crate::specs::aids::Media::switched_at))]
 fn group_part_at<'t>(
     source: &[u8],
     tokens: &'t [Token],
 ) -> Result<(ControlPart, &'t [Token]), ReadFault>
-    ensures { Gives (λ x. (x.0, x.1.now)) result (switched_at source.now controls.ReservedGroup tokens.now) }
+    ensures { Agrees (λ x. (x.0, x.1.now)) result (switched_at source.now controls.ReservedGroup tokens.now) }
 {
     let rest = mark_at(source, TokenKind::Equals, tokens)?;
-    let (is_on, rest) = switch_at(source, rest)?;
+    let (is_on, rest) = meaning_at::<bool>(source, rest)?;
     Ok((ControlPart::ReservedGroup(is_on), rest))
 }
 
-/// A package's property behind its name.
-#[tactic(auto, unfolding(crate::specs::Media::package_part_at))]
+/// A package's property after its name.
+#[tactic(auto, unfolding(crate::specs::aids::Media::package_part_at))]
 fn package_part_at<'t>(
     source: &[u8],
     name: Span,
     tokens: &'t [Token],
 ) -> Result<(ControlPart, &'t [Token]), ReadFault>
-    ensures { Gives (λ x. (x.0, x.1.now)) result (package_part_at source.now name tokens.now) }
+    ensures { Agrees (λ x. (x.0, x.1.now)) result (package_part_at source.now name tokens.now) }
 {
     if !has_slash(name.text(source)) {
         return Err(ReadFault::Syntax(name.start));
@@ -113,16 +115,11 @@ fn package_part_at<'t>(
 }
 
 /// A part of a LocalControl.
-pub struct AControlPart;
+impl FromTokens for ControlPart {
+    ghost reading = { control_at };
 
-impl Rule for AControlPart {
-    type Output = ControlPart;
-
-    ghost reads = { λ _ source tokens. control_at source tokens };
-
-    #[tactic(auto, unfolding(crate::specs::Media::control_at))]
-    fn read<'t>(
-        &self,
+    #[tactic(auto, unfolding(crate::specs::aids::Media::control_at))]
+    fn from_tokens<'t>(
         alloc: Global,
         source: &[u8],
         tokens: &'t [Token],

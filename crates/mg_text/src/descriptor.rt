@@ -1,5 +1,5 @@
-use crate::items::Items;
 use crate::media::MediaPart;
+use crate::tree_list::TreeList;
 
 /// A descriptor that an audit asks for (RFC 3525, section 7.1.12).
 #[derive(Clone, Copy, Debug, PartialEq, Eq)]
@@ -30,8 +30,8 @@ pub enum OtherWord {
 /// A descriptor of a command (RFC 3525, section 7.1).
 #[derive(Drop)]
 pub enum Descriptor {
-    Media(Items<MediaPart>),
-    Audit(Items<AuditWord>),
+    Media(TreeList<MediaPart>),
+    Audit(TreeList<AuditWord>),
     /// Another descriptor, and whether it has content: it has none where its word stands alone or with braces
     /// that have nothing between them.
     Other(OtherWord, bool),

@@ -1,59 +1,34 @@
 ghost use Rattle.std.specs.Prelude.{◌≡◌};
-ghost use Rattle.mg_text.specs.Reading.{Gives, worded_at};
-ghost use Rattle.mg_text.specs.Words.{audit_word_of};
-ghost use Rattle.mg_text.specs.Commands.{audit_words_at, assigned_at, content_at, other_at, descriptor_at, audit_at, optional_audit_at, skipped_at};
+ghost use Rattle.mg_text.specs.aids.Reading.{Agrees};
+ghost use Rattle.mg_text.specs.aids.Commands.{audit_words_at, assigned_at, content_at, other_at, descriptor_at, audit_at, optional_audit_at, skipped_at};
 
 use crate::descriptor::{AuditWord, Descriptor, OtherWord};
 use crate::fault::ReadFault;
+use crate::from_word::meaning_at;
 use crate::group::{after_group, filled_at};
-use crate::items::Items;
 use crate::keyword::Keyword;
-use crate::lists::{Rule, any_braced_at, braced_at};
-use crate::marks::{after_mark, keyword_at, mark_at, place_of, word_at};
-use crate::streams::AMediaPart;
-use crate::words::audit_word_of;
+use crate::lists::{FromTokens, any_braced_at, braced_at};
+use crate::marks::{after_mark, mark_at, place_of, word_at};
+use crate::media::MediaPart;
+use crate::tree_list::TreeList;
 use mg_scan::{Token, TokenKind};
 use std::alloc::Global;
 
-/// An audited word.
-struct AnAuditWord;
-
-impl Rule for AnAuditWord {
-    type Output = AuditWord;
-
-    ghost reads = { λ _ source tokens. worded_at audit_word_of source tokens };
-
-    #[tactic(auto, unfolding(crate::specs::Reading::worded_at))]
-    fn read<'t>(
-        &self,
-        alloc: Global,
-        source: &[u8],
-        tokens: &'t [Token],
-    ) -> Result<(AuditWord, &'t [Token]), ReadFault> {
-        let _ = alloc;
-        let (word, rest) = word_at(source, tokens)?;
-        match audit_word_of(word.text(source)) {
-            Some(value) => Ok((value, rest)),
-            None => Err(ReadFault::Syntax(word.start)),
-        }
-    }
-}
-
-/// The words of an Audit, behind its own word.
+/// The words of an Audit, after its own word.
 fn audit_words_at<'t>(
     alloc: Global,
     source: &[u8],
     tokens: &'t [Token],
-) -> Result<(Items<AuditWord>, &'t [Token]), ReadFault>
-    ensures { Gives (λ x. (x.0, x.1.now)) result (audit_words_at source.now tokens.now) }
+) -> Result<(TreeList<AuditWord>, &'t [Token]), ReadFault>
+    ensures { Agrees (λ x. (x.0, x.1.now)) result (audit_words_at source.now tokens.now) }
 {
-    any_braced_at(&AnAuditWord, alloc, source, tokens)
+    any_braced_at::<AuditWord>(alloc, source, tokens)
 }
 
-/// What stands behind the value of a descriptor, whose equals sign was read.
-#[tactic(auto, unfolding(crate::specs::Commands::assigned_at))]
+/// What stands after the value of a descriptor, whose equals sign was read.
+#[tactic(auto, unfolding(crate::specs::aids::Commands::assigned_at))]
 fn assigned_at<'t>(source: &[u8], tokens: &'t [Token]) -> Result<&'t [Token], ReadFault>
-    ensures { Gives (λ x. x.now) result (assigned_at source.now tokens.now) }
+    ensures { Agrees (λ x. x.now) result (assigned_at source.now tokens.now) }
 {
     if let Some(inside) = after_mark(TokenKind::Open, tokens) {
         return after_group(source, inside);
@@ -63,10 +38,10 @@ fn assigned_at<'t>(source: &[u8], tokens: &'t [Token]) -> Result<&'t [Token], Re
     Ok(rest)
 }
 
-/// Whether content stands behind a descriptor's word, and what stands behind that.
-#[tactic(auto, unfolding(crate::specs::Commands::content_at))]
+/// Whether content stands after a descriptor's word, and what stands after that.
+#[tactic(auto, unfolding(crate::specs::aids::Commands::content_at))]
 fn content_at<'t>(source: &[u8], tokens: &'t [Token]) -> Result<(bool, &'t [Token]), ReadFault>
-    ensures { Gives (λ x. (x.0, x.1.now)) result (content_at source.now tokens.now) }
+    ensures { Agrees (λ x. (x.0, x.1.now)) result (content_at source.now tokens.now) }
 {
     let Some(value) = after_mark(TokenKind::Equals, tokens) else {
         return filled_at(source, tokens);
@@ -75,38 +50,33 @@ fn content_at<'t>(source: &[u8], tokens: &'t [Token]) -> Result<(bool, &'t [Toke
     Ok((true, rest))
 }
 
-/// A descriptor whose content isn't kept, behind its word.
-#[tactic(auto, unfolding(crate::specs::Commands::other_at))]
+/// A descriptor whose content isn't kept, after its word.
+#[tactic(auto, unfolding(crate::specs::aids::Commands::other_at))]
 fn other_at<'t>(
     source: &[u8],
     word: OtherWord,
     tokens: &'t [Token],
 ) -> Result<(Descriptor, &'t [Token]), ReadFault>
-    ensures { Gives (λ x. (x.0, x.1.now)) result (other_at source.now word tokens.now) }
+    ensures { Agrees (λ x. (x.0, x.1.now)) result (other_at source.now word tokens.now) }
 {
     let (has_content, rest) = content_at(source, tokens)?;
     Ok((Descriptor::Other(word, has_content), rest))
 }
 
 /// A descriptor of an Add, Modify or Move.
-pub struct ADescriptor;
+impl FromTokens for Descriptor {
+    ghost reading = { descriptor_at };
 
-impl Rule for ADescriptor {
-    type Output = Descriptor;
-
-    ghost reads = { λ _ source tokens. descriptor_at source tokens };
-
-    #[tactic(auto, unfolding(crate::specs::Commands::descriptor_at))]
-    fn read<'t>(
-        &self,
+    #[tactic(auto, unfolding(crate::specs::aids::Commands::descriptor_at))]
+    fn from_tokens<'t>(
         alloc: Global,
         source: &[u8],
         tokens: &'t [Token],
     ) -> Result<(Descriptor, &'t [Token]), ReadFault> {
-        let (keyword, rest) = keyword_at(source, tokens)?;
+        let (keyword, rest) = meaning_at::<Keyword>(source, tokens)?;
         match keyword {
             Keyword::Media => {
-                let (parts, rest) = braced_at(&AMediaPart, alloc, source, rest)?;
+                let (parts, rest) = braced_at::<MediaPart>(alloc, source, rest)?;
                 Ok((Descriptor::Media(parts), rest))
             }
             Keyword::Audit => {
@@ -124,16 +94,16 @@ impl Rule for ADescriptor {
     }
 }
 
-/// An Audit, and what stands behind it.
-#[tactic(auto, unfolding(crate::specs::Commands::audit_at))]
+/// An Audit, and what stands after it.
+#[tactic(auto, unfolding(crate::specs::aids::Commands::audit_at))]
 fn audit_at<'t>(
     alloc: Global,
     source: &[u8],
     tokens: &'t [Token],
-) -> Result<(Items<AuditWord>, &'t [Token]), ReadFault>
-    ensures { Gives (λ x. (x.0, x.1.now)) result (audit_at source.now tokens.now) }
+) -> Result<(TreeList<AuditWord>, &'t [Token]), ReadFault>
+    ensures { Agrees (λ x. (x.0, x.1.now)) result (audit_at source.now tokens.now) }
 {
-    let (keyword, rest) = keyword_at(source, tokens)?;
+    let (keyword, rest) = meaning_at::<Keyword>(source, tokens)?;
     match keyword {
         Keyword::Audit => audit_words_at(alloc, source, rest),
         _ => Err(ReadFault::Syntax(place_of(source, tokens))),
@@ -141,32 +111,32 @@ fn audit_at<'t>(
 }
 
 /// An Audit in braces, or no descriptor.
-#[tactic(auto, unfolding(crate::specs::Commands::optional_audit_at))]
+#[tactic(auto, unfolding(crate::specs::aids::Commands::optional_audit_at))]
 pub fn optional_audit_at<'t>(
     alloc: Global,
     source: &[u8],
     tokens: &'t [Token],
-) -> Result<(Items<Descriptor>, &'t [Token]), ReadFault>
-    ensures { Gives (λ x. (x.0, x.1.now)) result (optional_audit_at source.now tokens.now) }
+) -> Result<(TreeList<Descriptor>, &'t [Token]), ReadFault>
+    ensures { Agrees (λ x. (x.0, x.1.now)) result (optional_audit_at source.now tokens.now) }
 {
     let Some(inside) = after_mark(TokenKind::Open, tokens) else {
-        return Ok((Items::new(Vec::new(alloc)), tokens));
+        return Ok((TreeList::new(Vec::new(alloc)), tokens));
     };
     let (words, rest) = audit_at(alloc, source, inside)?;
     let rest = mark_at(source, TokenKind::Close, rest)?;
     let audit = vec![in alloc; Descriptor::Audit(words)]?;
-    Ok((Items::new(audit), rest))
+    Ok((TreeList::new(audit), rest))
 }
 
 /// No descriptors: a group that stands there isn't kept.
-#[tactic(auto, unfolding(crate::specs::Commands::skipped_at))]
+#[tactic(auto, unfolding(crate::specs::aids::Commands::skipped_at))]
 pub fn skipped_at<'t>(
     alloc: Global,
     source: &[u8],
     tokens: &'t [Token],
-) -> Result<(Items<Descriptor>, &'t [Token]), ReadFault>
-    ensures { Gives (λ x. (x.0, x.1.now)) result (skipped_at source.now tokens.now) }
+) -> Result<(TreeList<Descriptor>, &'t [Token]), ReadFault>
+    ensures { Agrees (λ x. (x.0, x.1.now)) result (skipped_at source.now tokens.now) }
 {
     let (_, rest) = filled_at(source, tokens)?;
-    Ok((Items::new(Vec::new(alloc)), rest))
+    Ok((TreeList::new(Vec::new(alloc)), rest))
 }

@@ -1,14 +1,14 @@
 ghost use Rattle.std.specs.Prelude.{◌≡◌};
-ghost use Rattle.mg_text.specs.Reading.{Gives, after_group, group_at, filled_at};
+ghost use Rattle.mg_text.specs.aids.Reading.{Agrees, after_group, group_at, filled_at};
 
 use crate::fault::ReadFault;
 use crate::marks::{after_mark, is_kind, mark_at};
 use mg_scan::{Token, TokenKind};
 
-/// What stands behind the brace that closes a group, whose opening brace was read.
+/// What stands after the brace that closes a group, whose opening brace was read.
 #[tactic(auto, using(crate::proofs::GroupSteps::steps))]
 pub fn after_group<'t>(source: &[u8], tokens: &'t [Token]) -> Result<&'t [Token], ReadFault>
-    ensures { Gives (λ x. x.now) result (after_group source.now 0 tokens.now) }
+    ensures { Agrees (λ x. x.now) result (after_group source.now 0 tokens.now) }
 {
     let mut depth: usize = 0;
     for (i, token) in tokens.iter().enumerate() {
@@ -25,19 +25,19 @@ pub fn after_group<'t>(source: &[u8], tokens: &'t [Token]) -> Result<&'t [Token]
     Err(ReadFault::Syntax(source.len()))
 }
 
-/// What stands behind a group: braces and what is between them, with balanced braces.
-#[tactic(auto, unfolding(crate::specs::Reading::group_at))]
+/// What stands after a group: braces and what is between them, with balanced braces.
+#[tactic(auto, unfolding(crate::specs::aids::Reading::group_at))]
 pub fn group_at<'t>(source: &[u8], tokens: &'t [Token]) -> Result<&'t [Token], ReadFault>
-    ensures { Gives (λ x. x.now) result (group_at source.now tokens.now) }
+    ensures { Agrees (λ x. x.now) result (group_at source.now tokens.now) }
 {
     let tokens = mark_at(source, TokenKind::Open, tokens)?;
     after_group(source, tokens)
 }
 
-/// Whether a group stands there that has a token in it, and what stands behind the group, if there is one.
-#[tactic(auto, unfolding(crate::specs::Reading::filled_at))]
+/// Whether a group stands there that has a token in it, and what stands after the group, if there is one.
+#[tactic(auto, unfolding(crate::specs::aids::Reading::filled_at))]
 pub fn filled_at<'t>(source: &[u8], tokens: &'t [Token]) -> Result<(bool, &'t [Token]), ReadFault>
-    ensures { Gives (λ x. (x.0, x.1.now)) result (filled_at source.now tokens.now) }
+    ensures { Agrees (λ x. (x.0, x.1.now)) result (filled_at source.now tokens.now) }
 {
     let Some(inside) = after_mark(TokenKind::Open, tokens) else {
         return Ok((false, tokens));

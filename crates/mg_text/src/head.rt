@@ -1,13 +1,14 @@
 ghost use Rattle.std.specs.Prelude.{◌≡◌, ◌<◌, length};
-ghost use Rattle.mg_text.specs.Head.{version_behind, version_of};
+ghost use Rattle.mg_text.specs.Head.{version_after, version_of};
 
+use crate::from_word::FromWord;
 use crate::keyword::same_word;
-use mg_numbers::version_of as version_in_digits;
+use mg_words::version_of as version_in_digits;
 
-/// The version that a word names behind one form of the protocol's name.
-#[tactic(auto, unfolding(crate::specs::Head::version_behind))]
-fn version_behind(name: &[u8], text: &[u8]) -> Option<u8>
-    ensures value { result ≡ version_behind name.now text.now }
+/// The version that a word names after one form of the protocol's name.
+#[tactic(auto, unfolding(crate::specs::Head::version_after))]
+fn version_after(name: &[u8], text: &[u8]) -> Option<u8>
+    ensures value { result ≡ version_after name.now text.now }
 {
     if text.len() < name.len() {
         return None;
@@ -21,12 +22,14 @@ fn version_behind(name: &[u8], text: &[u8]) -> Option<u8>
 }
 
 /// The version of the protocol that the first word of a message names.
-#[tactic(auto, unfolding(crate::specs::Head::version_of))]
-pub fn version_of(text: &[u8]) -> Option<u8>
-    ensures value { result ≡ version_of text.now }
-{
-    match version_behind(b"MEGACO/", text) {
-        Some(version) => Some(version),
-        None => version_behind(b"!/", text),
+impl FromWord for u8 {
+    ghost meaning = { version_of };
+
+    #[tactic(auto, unfolding(crate::specs::Head::version_of))]
+    fn from_word(text: &[u8]) -> Option<u8> {
+        match version_after(b"MEGACO/", text) {
+            Some(version) => Some(version),
+            None => version_after(b"!/", text),
+        }
     }
 }

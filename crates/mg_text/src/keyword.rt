@@ -1,5 +1,6 @@
-ghost use Rattle.std.specs.Prelude.{◌≡◌};
+ghost use Rattle.std.specs.Prelude.{◌≡◌, find};
 ghost use Rattle.mg_text.specs.Keyword.{same_word, long_of, short_of, is_named, keyword_of};
+ghost use Rattle.mg_text.specs.aids.Keywords.{words_by};
 
 /// The words of the encoding. Each has a long and a short form, in letters of any case.
 #[derive(Clone, Copy, Debug, PartialEq, Eq)]
@@ -50,54 +51,6 @@ pub enum Keyword {
     Priority,
     Emergency,
 }
-
-const KEYWORDS: [Keyword; 45] = [
-    Keyword::Transaction,
-    Keyword::Reply,
-    Keyword::Pending,
-    Keyword::TransactionResponseAck,
-    Keyword::Context,
-    Keyword::ContextAudit,
-    Keyword::Add,
-    Keyword::Modify,
-    Keyword::Move,
-    Keyword::Subtract,
-    Keyword::AuditValue,
-    Keyword::AuditCapability,
-    Keyword::Notify,
-    Keyword::ServiceChange,
-    Keyword::Audit,
-    Keyword::Media,
-    Keyword::Stream,
-    Keyword::LocalControl,
-    Keyword::Local,
-    Keyword::Remote,
-    Keyword::TerminationState,
-    Keyword::Mode,
-    Keyword::SendOnly,
-    Keyword::ReceiveOnly,
-    Keyword::SendReceive,
-    Keyword::Inactive,
-    Keyword::Loopback,
-    Keyword::Topology,
-    Keyword::Isolate,
-    Keyword::Oneway,
-    Keyword::Bothway,
-    Keyword::ReservedValue,
-    Keyword::ReservedGroup,
-    Keyword::Statistics,
-    Keyword::Error,
-    Keyword::Signals,
-    Keyword::Events,
-    Keyword::Modem,
-    Keyword::Mux,
-    Keyword::DigitMap,
-    Keyword::EventBuffer,
-    Keyword::ObservedEvents,
-    Keyword::Packages,
-    Keyword::Priority,
-    Keyword::Emergency,
-];
 
 impl Keyword {
     #[tactic(auto, unfolding(crate::specs::Keyword::long_of))]
@@ -207,12 +160,21 @@ impl Keyword {
     }
 }
 
-/// Whether two words are the same but for the case of their letters. Words of different lengths are told
-/// apart by these.
+/// The same where both words have one length. It is kept out of [`same_word`], which most words end by their length.
+#[inline(never)]
+#[tactic(auto, using(crate::proofs::KeywordLaws::exact))]
+fn same_letters(a: &[u8], b: &[u8]) -> bool
+    ensures value { result ≡ same_word a.now b.now }
+{
+    a == b || a.eq_ignore_ascii_case(b)
+}
+
+/// Whether two words are the same but for the case of their letters.
+#[tactic(auto, using(crate::proofs::KeywordLaws::same_len))]
 pub fn same_word(a: &[u8], b: &[u8]) -> bool
     ensures value { result ≡ same_word a.now b.now }
 {
-    a.eq_ignore_ascii_case(b)
+    a.len() == b.len() && same_letters(a, b)
 }
 
 /// Whether a text is one of the two forms of a word.
@@ -223,13 +185,93 @@ pub fn is_named(text: &[u8], keyword: Keyword) -> bool
     same_word(text, keyword.long().as_bytes()) || same_word(text, keyword.short().as_bytes())
 }
 
-/// The word that a text is a form of. Only forms of the text's own length are compared with it.
-#[tactic(auto, unfolding(crate::specs::Keyword::keyword_of))]
-pub fn keyword_of(text: &[u8]) -> Option<Keyword>
-    ensures value { result ≡ keyword_of text.now }
+/// The words of which a form begins with a letter, which is given in lower case.
+#[tactic(auto, unfolding(crate::specs::aids::Keywords::words_by, crate::specs::Keyword::long_of, crate::specs::Keyword::short_of))]
+fn words_by(letter: u8) -> &'static [Keyword]
+    ensures value { result.now ≡ words_by letter }
 {
-    KEYWORDS
+    match letter {
+        b'a' => &[
+            Keyword::Add,
+            Keyword::AuditValue,
+            Keyword::AuditCapability,
+            Keyword::Audit,
+        ],
+        b'b' => &[Keyword::Bothway],
+        b'c' => &[Keyword::Context, Keyword::ContextAudit],
+        b'd' => &[Keyword::DigitMap],
+        b'e' => &[
+            Keyword::Error,
+            Keyword::Events,
+            Keyword::EventBuffer,
+            Keyword::Emergency,
+        ],
+        b'i' => &[Keyword::Inactive, Keyword::Isolate],
+        b'k' => &[Keyword::TransactionResponseAck],
+        b'l' => &[Keyword::LocalControl, Keyword::Local, Keyword::Loopback],
+        b'm' => &[
+            Keyword::Modify,
+            Keyword::Move,
+            Keyword::Media,
+            Keyword::Mode,
+            Keyword::Modem,
+            Keyword::Mux,
+        ],
+        b'n' => &[Keyword::Notify],
+        b'o' => &[
+            Keyword::LocalControl,
+            Keyword::Oneway,
+            Keyword::ObservedEvents,
+        ],
+        b'p' => &[
+            Keyword::Reply,
+            Keyword::Pending,
+            Keyword::Packages,
+            Keyword::Priority,
+        ],
+        b'r' => &[
+            Keyword::Reply,
+            Keyword::Remote,
+            Keyword::ReceiveOnly,
+            Keyword::ReservedValue,
+            Keyword::ReservedGroup,
+        ],
+        b's' => &[
+            Keyword::Subtract,
+            Keyword::ServiceChange,
+            Keyword::Stream,
+            Keyword::SendOnly,
+            Keyword::SendReceive,
+            Keyword::Statistics,
+            Keyword::Signals,
+        ],
+        b't' => &[
+            Keyword::Transaction,
+            Keyword::TransactionResponseAck,
+            Keyword::TerminationState,
+            Keyword::Topology,
+        ],
+        _ => &[],
+    }
+}
+
+/// The first of some words that a text is a form of.
+fn word_among(words: &[Keyword], text: &[u8]) -> Option<Keyword>
+    ensures value { result ≡ find (is_named text.now) words.now }
+{
+    words
         .iter()
         .copied()
         .find(|keyword| is_named(text, *keyword))
+}
+
+/// The word that a text is a form of. Only forms that begin with the text's first letter are compared with
+/// it, and of these only such as have its length.
+pub fn keyword_of(text: &[u8]) -> Option<Keyword>
+    ensures value { result ≡ keyword_of text.now }
+{
+    match text {
+        [] => None,
+        [first, ..] => word_among(words_by(first.to_ascii_lowercase()), text),
+    }
 }

@@ -16,23 +16,23 @@
 mod actions;
 mod body;
 mod command;
+mod command_head;
 mod commands;
-mod context;
+mod context_properties;
+mod context_property;
 mod controls;
 mod descriptor;
 mod descriptors;
 mod fault;
+mod from_word;
 mod group;
 mod head;
-mod items;
 mod keyword;
 pub mod laws;
 mod lists;
 mod marks;
 mod media;
 mod message;
-mod properties;
-mod property;
 mod reading;
 mod request;
 mod scanning;
@@ -41,20 +41,24 @@ mod sequence;
 mod streams;
 #[cfg(test)]
 mod tests;
+mod tree_list;
 mod words;
 
 pub use crate::body::{Body, MessageItem, Range};
 pub use crate::command::Command;
+pub use crate::context_property::{ContextProperty, ContextWord, Triple};
 pub use crate::descriptor::{AuditWord, Descriptor, OtherWord};
 pub use crate::fault::ReadFault;
-pub use crate::items::Items;
 pub use crate::media::{ControlPart, MediaPart, PropertyValue, StreamPart};
 pub use crate::message::Message;
-pub use crate::property::{ContextWord, Property, Triple};
-pub use crate::reading::{COMMAND_LIMIT, MESSAGE_LIMIT, REQUEST_LIMIT, read};
+pub use crate::reading::read;
 pub use crate::request::{Action, Request};
+pub use crate::tree_list::TreeList;
 pub use mg_reply::{
-    Association, Bytes, CommandWord, ContextId, Control, ERROR_LIMIT, ErrorNumber, HEAD_LIMIT,
-    ITEM_LIMIT, Item, Media, Mode, Outcome, Parts, REPLY_LIMIT, Reply, Statistics, TERM_LIMIT,
-    Term, TooLong, write_address, write_error, write_head, write_port, write_reply,
+    Bytes, Control, HEAD_LIMIT, ITEM_LIMIT, Item, Media, Outcome, Parts, Reply, TooLong,
+    write_address, write_error, write_head, write_port, write_reply,
+};
+pub use mg_words::{
+    Association, COMMAND_LIMIT, CommandWord, ContextId, ERROR_LIMIT, ErrorNumber, MESSAGE_LIMIT,
+    Mode, REPLY_LIMIT, REQUEST_LIMIT, Stats, TERM_LIMIT, Term,
 };

@@ -1,6 +1,6 @@
-use crate::items::Items;
-use mg_reply::Mode;
+use crate::tree_list::TreeList;
 use mg_scan::Span;
+use mg_words::Mode;
 
 /// The value of a property in a LocalControl.
 #[derive(Clone, Copy, Debug, PartialEq, Eq)]
@@ -31,7 +31,7 @@ pub enum StreamPart {
     Local(Span),
     /// The session description of the other side, without its braces.
     Remote(Span),
-    LocalControl(Items<ControlPart>),
+    LocalControl(TreeList<ControlPart>),
 }
 
 /// A part of a Media descriptor (RFC 3525, section 7.1.4).
@@ -40,7 +40,7 @@ pub enum MediaPart {
     /// A part that stands straight in the descriptor: it belongs to stream 1.
     Part(StreamPart),
     /// A stream by its number, and its parts.
-    Stream(u32, Items<StreamPart>),
+    Stream(u32, TreeList<StreamPart>),
     /// Whether it has content.
     TerminationState(bool),
 }

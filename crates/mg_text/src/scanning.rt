@@ -12,10 +12,14 @@ pub fn tokens_of(
     ensures { IfOk result (λ r. AreTokens source.now r.0.items r.1) }
 {
     let mut scanner = Scanner::new(source);
-    let mut tokens = Vec::new(alloc);
+    let mut tokens = Vec::with_capacity(alloc, source.len() / 3 + 8)?;
     loop {
         match scanner.next() {
-            Some(Ok(token)) => tokens.push(token)?,
+            // Made anew of its parts, without the bytes between them.
+            Some(Ok(token)) => tokens.push(Token {
+                kind: token.kind,
+                span: token.span,
+            })?,
             Some(Err(fault)) => return Ok((tokens, Some(fault))),
             None => return Ok((tokens, None)),
         }

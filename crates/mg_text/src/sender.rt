@@ -2,7 +2,7 @@ ghost use Rattle.std.specs.Prelude.{◌≡◌, ◌<◌, ◌≤◌, length};
 ghost use Rattle.std.specs.List.{list_all};
 ghost use Rattle.mg_text.specs.Sender.{is_sender, is_domain_byte, is_domain, is_port_part, is_address_host, is_domain_host};
 
-use mg_numbers::{address_of, cut, port_of};
+use mg_words::{address_of, cut, port_of};
 
 /// Whether a byte may stand in a domain name: a letter, a digit, `-` or `.`.
 fn is_domain_byte(b: u8) -> bool
@@ -36,7 +36,7 @@ fn is_port_part(text: &[u8]) -> bool
     }
 }
 
-/// Whether a text, behind its opening bracket, is an IPv4 address, the closing bracket, and perhaps a port.
+/// Whether a text, after its opening bracket, is an IPv4 address, the closing bracket, and perhaps a port.
 fn is_address_host(text: &[u8]) -> bool
     ensures value { result ≡ is_address_host text.now }
 {
@@ -46,7 +46,7 @@ fn is_address_host(text: &[u8]) -> bool
     }
 }
 
-/// Whether a text, behind its opening mark, is a domain name, the closing mark, and perhaps a port.
+/// Whether a text, after its opening mark, is a domain name, the closing mark, and perhaps a port.
 fn is_domain_host(text: &[u8]) -> bool
     ensures value { result ≡ is_domain_host text.now }
 {

@@ -1,99 +1,73 @@
 ghost use Rattle.std.specs.Prelude.{◌≡◌, length};
-ghost use Rattle.mg_text.specs.Reading.{Gives, worded_at};
-ghost use Rattle.mg_text.specs.Words.{range_of};
+ghost use Rattle.mg_text.specs.aids.Reading.{Agrees};
 ghost use Rattle.mg_text.specs.Grammar.{body_of};
-ghost use Rattle.mg_text.specs.Requests.{request_at, ranges_at, answer_at, item_at, sequence_at, error_at, body_at};
+ghost use Rattle.mg_text.specs.aids.Requests.{request_at, ranges_at, answer_at, item_at, sequence_at, error_at, body_at};
 
-use crate::actions::AnAction;
 use crate::body::{Body, MessageItem, Range};
 use crate::fault::ReadFault;
+use crate::from_word::meaning_at;
 use crate::group::group_at;
-use crate::items::Items;
 use crate::keyword::Keyword;
-use crate::lists::{Rule, braced_at};
-use crate::marks::{keyword_at, mark_at, number_at, place_of, word_at};
-use crate::request::Request;
-use crate::words::range_of;
+use crate::lists::{FromTokens, braced_at};
+use crate::marks::{mark_at, place_of, word_at};
+use crate::request::{Action, Request};
+use crate::tree_list::TreeList;
 use mg_scan::{Token, TokenKind};
 use std::alloc::Global;
 
-/// Transaction numbers.
-struct ARange;
-
-impl Rule for ARange {
-    type Output = Range;
-
-    ghost reads = { λ _ source tokens. worded_at range_of source tokens };
-
-    #[tactic(auto, unfolding(crate::specs::Reading::worded_at))]
-    fn read<'t>(
-        &self,
-        alloc: Global,
-        source: &[u8],
-        tokens: &'t [Token],
-    ) -> Result<(Range, &'t [Token]), ReadFault> {
-        let _ = alloc;
-        let (word, rest) = word_at(source, tokens)?;
-        match range_of(word.text(source)) {
-            Some(value) => Ok((value, rest)),
-            None => Err(ReadFault::Syntax(word.start)),
-        }
-    }
-}
-
-/// A request behind its word.
-#[tactic(auto, unfolding(crate::specs::Requests::request_at))]
+/// A request after its word.
+#[tactic(auto, unfolding(crate::specs::aids::Requests::request_at))]
 fn request_at<'t>(
     alloc: Global,
     source: &[u8],
     tokens: &'t [Token],
 ) -> Result<(Option<MessageItem>, &'t [Token]), ReadFault>
-    ensures { Gives (λ x. (x.0, x.1.now)) result (request_at source.now tokens.now) }
+    ensures { Agrees (λ x. (x.0, x.1.now)) result (request_at source.now tokens.now) }
 {
     let rest = mark_at(source, TokenKind::Equals, tokens)?;
-    let (number, rest) = number_at(source, rest)?;
-    let (actions, rest) = braced_at(&AnAction, alloc, source, rest)?;
+    let (number, rest) = meaning_at::<u32>(source, rest)?;
+    let (actions, rest) = braced_at::<Action>(alloc, source, rest)?;
     let request = Request { number, actions };
     Ok((Some(MessageItem::Request(request)), rest))
 }
 
-/// An acknowledgement behind its word.
-#[tactic(auto, unfolding(crate::specs::Requests::ranges_at))]
+/// An acknowledgement after its word.
+#[tactic(auto, unfolding(crate::specs::aids::Requests::ranges_at))]
 fn ranges_at<'t>(
     alloc: Global,
     source: &[u8],
     tokens: &'t [Token],
 ) -> Result<(Option<MessageItem>, &'t [Token]), ReadFault>
-    ensures { Gives (λ x. (x.0, x.1.now)) result (ranges_at source.now tokens.now) }
+    ensures { Agrees (λ x. (x.0, x.1.now)) result (ranges_at source.now tokens.now) }
 {
-    let (ranges, rest) = braced_at(&ARange, alloc, source, tokens)?;
+    let (ranges, rest) = braced_at::<Range>(alloc, source, tokens)?;
     Ok((Some(MessageItem::Acknowledgement(ranges)), rest))
 }
 
-/// A Reply or Pending behind its word: no item, since it isn't kept.
-#[tactic(auto, unfolding(crate::specs::Requests::answer_at))]
+/// A Reply or Pending after its word: no item, since it isn't kept.
+#[tactic(auto, unfolding(crate::specs::aids::Requests::answer_at))]
 fn answer_at<'t>(
     source: &[u8],
     tokens: &'t [Token],
 ) -> Result<(Option<MessageItem>, &'t [Token]), ReadFault>
-    ensures { Gives (λ x. (x.0, x.1.now)) result (answer_at source.now tokens.now) }
+    ensures { Agrees (λ x. (x.0, x.1.now)) result (answer_at source.now tokens.now) }
 {
     let rest = mark_at(source, TokenKind::Equals, tokens)?;
-    let (_, rest) = number_at(source, rest)?;
+    let (_, rest) = meaning_at::<u32>(source, rest)?;
     let rest = group_at(source, rest)?;
     Ok((None, rest))
 }
 
-/// An item of a message, if it is kept, and what stands behind it.
-#[tactic(auto, unfolding(crate::specs::Requests::item_at))]
+/// An item of a message, if it is kept, and what stands after it.
+#[tactic(auto, unfolding(crate::specs::aids::Requests::item_at))]
 fn item_at<'t>(
     alloc: Global,
     source: &[u8],
     tokens: &'t [Token],
 ) -> Result<(Option<MessageItem>, &'t [Token]), ReadFault>
-    ensures { Gives (λ x. (x.0, x.1.now)) result (item_at source.now tokens.now) }
+    ensures { Agrees (λ x. (x.0, x.1.now)) result (item_at source.now tokens.now) }
 {
-    let (keyword, rest) = keyword_at(source, tokens)?;
+    let (keyword, rest) = meaning_at::<Keyword>(source, tokens)?;
     match keyword {
         Keyword::Transaction => request_at(alloc, source, rest),
         Keyword::TransactionResponseAck => ranges_at(alloc, source, rest),
@@ -108,7 +82,7 @@ fn sequence_at(
     source: &[u8],
     tokens: &[Token],
 ) -> Result<Vec<MessageItem>, ReadFault>
-    ensures { Gives (λ x. x.items) result (sequence_at source.now (length tokens.now) tokens.now) }
+    ensures { Agrees (λ x. x.items) result (sequence_at source.now (length tokens.now) tokens.now) }
 {
     let mut items = Vec::new(alloc);
     let mut rest = tokens;
@@ -132,14 +106,14 @@ fn body_of(items: Vec<MessageItem>) -> Body
     if items.is_empty() {
         Body::Ignored
     } else {
-        Body::Requests(Items::new(items))
+        Body::Requests(TreeList::new(items))
     }
 }
 
-/// An Error body behind its word, up to the end of the tokens, whatever it holds.
-#[tactic(auto, unfolding(crate::specs::Requests::error_at))]
+/// An Error body after its word, up to the end of the tokens, whatever it holds.
+#[tactic(auto, unfolding(crate::specs::aids::Requests::error_at))]
 fn error_at(source: &[u8], tokens: &[Token]) -> Result<Body, ReadFault>
-    ensures { Gives (λ x. x) result (error_at source.now tokens.now) }
+    ensures { Agrees (λ x. x) result (error_at source.now tokens.now) }
 {
     let rest = mark_at(source, TokenKind::Equals, tokens)?;
     let (_, rest) = word_at(source, rest)?;
@@ -152,11 +126,11 @@ fn error_at(source: &[u8], tokens: &[Token]) -> Result<Body, ReadFault>
 }
 
 /// The body of a message, up to the end of the tokens.
-#[tactic(auto, unfolding(crate::specs::Requests::body_at))]
+#[tactic(auto, unfolding(crate::specs::aids::Requests::body_at))]
 pub fn body_at(alloc: Global, source: &[u8], tokens: &[Token]) -> Result<Body, ReadFault>
-    ensures { Gives (λ x. x) result (body_at source.now tokens.now) }
+    ensures { Agrees (λ x. x) result (body_at source.now tokens.now) }
 {
-    let (keyword, rest) = keyword_at(source, tokens)?;
+    let (keyword, rest) = meaning_at::<Keyword>(source, tokens)?;
     match keyword {
         Keyword::Error => error_at(source, rest),
         _ => {

@@ -1,33 +1,28 @@
 ghost use Rattle.std.specs.Prelude.{◌≡◌};
-ghost use Rattle.mg_text.specs.Reading.{Gives};
-ghost use Rattle.mg_text.specs.Media.{stream_part_at, numbered_at, media_part_at};
+ghost use Rattle.mg_text.specs.aids.Reading.{Agrees};
+ghost use Rattle.mg_text.specs.aids.Media.{stream_part_at, numbered_at, media_part_at};
 
-use crate::controls::AControlPart;
 use crate::fault::ReadFault;
+use crate::from_word::meaning_at;
 use crate::group::filled_at;
 use crate::keyword::Keyword;
-use crate::lists::{Rule, braced_at};
-use crate::marks::{keyword_at, mark_at, number_at, place_of, span_at};
-use crate::media::{MediaPart, StreamPart};
+use crate::lists::{FromTokens, braced_at};
+use crate::marks::{mark_at, place_of, span_at};
+use crate::media::{ControlPart, MediaPart, StreamPart};
 use mg_scan::{Token, TokenKind};
 use std::alloc::Global;
 
 /// A part of a stream.
-pub struct AStreamPart;
+impl FromTokens for StreamPart {
+    ghost reading = { stream_part_at };
 
-impl Rule for AStreamPart {
-    type Output = StreamPart;
-
-    ghost reads = { λ _ source tokens. stream_part_at source tokens };
-
-    #[tactic(auto, unfolding(crate::specs::Media::stream_part_at))]
-    fn read<'t>(
-        &self,
+    #[tactic(auto, unfolding(crate::specs::aids::Media::stream_part_at))]
+    fn from_tokens<'t>(
         alloc: Global,
         source: &[u8],
         tokens: &'t [Token],
     ) -> Result<(StreamPart, &'t [Token]), ReadFault> {
-        let (keyword, rest) = keyword_at(source, tokens)?;
+        let (keyword, rest) = meaning_at::<Keyword>(source, tokens)?;
         match keyword {
             Keyword::Local => {
                 let (text, rest) = span_at(source, TokenKind::Octets, rest)?;
@@ -38,7 +33,7 @@ impl Rule for AStreamPart {
                 Ok((StreamPart::Remote(text), rest))
             }
             Keyword::LocalControl => {
-                let (parts, rest) = braced_at(&AControlPart, alloc, source, rest)?;
+                let (parts, rest) = braced_at::<ControlPart>(alloc, source, rest)?;
                 Ok((StreamPart::LocalControl(parts), rest))
             }
             _ => Err(ReadFault::Syntax(place_of(source, tokens))),
@@ -46,37 +41,32 @@ impl Rule for AStreamPart {
     }
 }
 
-/// A stream behind its word: its number and its parts.
-#[tactic(auto, unfolding(crate::specs::Media::numbered_at))]
+/// A stream after its word: its number and its parts.
+#[tactic(auto, unfolding(crate::specs::aids::Media::numbered_at))]
 fn numbered_at<'t>(
     alloc: Global,
     source: &[u8],
     tokens: &'t [Token],
 ) -> Result<(MediaPart, &'t [Token]), ReadFault>
-    ensures { Gives (λ x. (x.0, x.1.now)) result (numbered_at source.now tokens.now) }
+    ensures { Agrees (λ x. (x.0, x.1.now)) result (numbered_at source.now tokens.now) }
 {
     let rest = mark_at(source, TokenKind::Equals, tokens)?;
-    let (number, rest) = number_at(source, rest)?;
-    let (parts, rest) = braced_at(&AStreamPart, alloc, source, rest)?;
+    let (number, rest) = meaning_at::<u32>(source, rest)?;
+    let (parts, rest) = braced_at::<StreamPart>(alloc, source, rest)?;
     Ok((MediaPart::Stream(number, parts), rest))
 }
 
 /// A part of a Media descriptor.
-pub struct AMediaPart;
+impl FromTokens for MediaPart {
+    ghost reading = { media_part_at };
 
-impl Rule for AMediaPart {
-    type Output = MediaPart;
-
-    ghost reads = { λ _ source tokens. media_part_at source tokens };
-
-    #[tactic(auto, unfolding(crate::specs::Media::media_part_at))]
-    fn read<'t>(
-        &self,
+    #[tactic(auto, unfolding(crate::specs::aids::Media::media_part_at))]
+    fn from_tokens<'t>(
         alloc: Global,
         source: &[u8],
         tokens: &'t [Token],
     ) -> Result<(MediaPart, &'t [Token]), ReadFault> {
-        let (keyword, rest) = keyword_at(source, tokens)?;
+        let (keyword, rest) = meaning_at::<Keyword>(source, tokens)?;
         match keyword {
             Keyword::Stream => numbered_at(alloc, source, rest),
             Keyword::TerminationState => {
@@ -84,7 +74,7 @@ impl Rule for AMediaPart {
                 Ok((MediaPart::TerminationState(has_content), rest))
             }
             _ => {
-                let (part, rest) = AStreamPart.read(alloc, source, tokens)?;
+                let (part, rest) = StreamPart::from_tokens(alloc, source, tokens)?;
                 Ok((MediaPart::Part(part), rest))
             }
         }

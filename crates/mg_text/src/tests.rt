@@ -1,7 +1,7 @@
 use crate::{
-    Association, AuditWord, Body, CommandWord, ContextId, ContextWord, ControlPart, Descriptor,
-    MediaPart, MessageItem, Mode, OtherWord, Property, PropertyValue, Range, ReadFault, StreamPart,
-    read,
+    Association, AuditWord, Body, CommandWord, ContextId, ContextProperty, ContextWord,
+    ControlPart, Descriptor, MediaPart, MessageItem, Mode, OtherWord, PropertyValue, Range,
+    ReadFault, StreamPart, read,
 };
 use mg_scan::Span;
 use std::alloc::{AllocError, Global};
@@ -9,13 +9,13 @@ use std::test::Fail;
 
 const HEAD: &[u8] = b"MEGACO/1 [127.0.0.1]:2945 ";
 
-/// The head of a message, a text before so many equal ones, and a text behind them.
+/// The head of a message, a text before so many equal ones, and a text after them.
 fn repeated(
     alloc: Global,
     before: &[u8],
     part: &[u8],
     count: usize,
-    behind: &[u8],
+    after: &[u8],
 ) -> Result<Vec<u8>, AllocError> {
     let mut text = Vec::new(alloc);
     text.extend_from_slice(HEAD)?;
@@ -23,7 +23,7 @@ fn repeated(
     for _ in 0..count {
         text.extend_from_slice(part)?;
     }
-    text.extend_from_slice(behind)?;
+    text.extend_from_slice(after)?;
     Ok(text)
 }
 
@@ -32,7 +32,7 @@ fn is_text(span: Span, source: &[u8], text: &[u8]) -> bool {
     span.text(source) == text
 }
 
-/// Whether a text behind the head is a syntax fault.
+/// Whether a text after the head is a syntax fault.
 fn is_fault(alloc: Global, text: &[u8]) -> Result<bool, AllocError> {
     let source = repeated(alloc, text, b"", 0, b"")?;
     Ok(matches!(read(alloc, source.as_slice()), Err(ReadFault::Syntax(_))))
@@ -59,10 +59,10 @@ fn reads_an_add_with_a_stream(rt: HostRuntime) -> Result<(), Fail> {
     };
     assert_eq!(rt; action.context, ContextId::Choose);
     let [
-        Property::Topology(triples),
-        Property::ContextAudit(words),
-        Property::Priority(priority),
-        Property::Emergency(None),
+        ContextProperty::Topology(triples),
+        ContextProperty::ContextAudit(words),
+        ContextProperty::Priority(priority),
+        ContextProperty::Emergency(None),
     ] = action.properties.as_slice()
     else {
         return Err("four properties".into());

@@ -3,7 +3,7 @@ use Rattle.std.proofs.Common.{◌≡◌, ℕ, true, false, ◌||◌, ◌==◌, S
 use Rattle.std.specs.List.{list_any}
 use Rattle.std.proofs.lemmas.Bool.{false≢true, and_parts, cases_Bool}
 use Rattle.mg_topology.specs.declared.triple.Triple.{Triple}
-use Rattle.mg_topology.specs.declared.association.Association.TheVariants.{Oneway}
+use Rattle.mg_words.specs.declared.association.Association.TheVariants.{Oneway}
 use Rattle.mg_topology.specs.Triple.{leads, speaks_of, overlaps}
 use Rattle.mg_topology.specs.Edits.{Edit, Enter, Leave, Apply, last_word, touches}
 use Rattle.mg_topology.proofs.TripleLemmas.{overlaps-is}

@@ -8,7 +8,7 @@ use Rattle.mg_topology.specs.Mask.{has_seat}
 use Rattle.mg_topology.specs.Triple.{speaks_of, word_of}
 use Rattle.mg_topology.specs.aids.Word.{word_after}
 use Rattle.mg_topology.specs.Edits.{Edit, Enter, Leave, Apply, is_held, last_word, allows, lets_hear, apply_all}
-use Rattle.mg_topology.specs.Topology.{Kept, holds, hears, StandsFor}
+use Rattle.mg_topology.specs.Topology.{TopologyState, holds, hears, StandsFor}
 use Rattle.mg_topology.proofs.MaskLemmas.{has_seat-inside}
 
 -- ---- seats, and rows at two held seats that differ
@@ -24,7 +24,7 @@ row_of_pair : (x y d b b' : Bool) → x ≡ true → y ≡ true → d ≡ false 
 row_of_pair x y d b b' p q r e = grind arith
 
 -- to stand for a list of edits is to hold its seats, and to have its words in the rows of held seats
-pub stands_from : (k : Kept) (es : List Edit) → ((s : ℕ) → holds k s ≡ is_held es s)
+pub stands_from : (k : TopologyState) (es : List Edit) → ((s : ℕ) → holds k s ≡ is_held es s)
     → ((l t : ℕ) → is_held es l ≡ true → is_held es t ≡ true → (l == t) ≡ false → has_seat (slice_index k.rows l) t ≡ lets_hear es l t)
     → StandsFor k es
 stands_from k es held row = record {
@@ -32,29 +32,29 @@ stands_from k es held row = record {
   pairs = λ l t. same_pair _ _ _ _ (l == t) _ _ (held l) (held t) (row l t);
 }
 
-pub row_from : (k : Kept) (es : List Edit) (l t : ℕ) → StandsFor k es → is_held es l ≡ true → is_held es t ≡ true → (l == t) ≡ false → has_seat (slice_index k.rows l) t ≡ lets_hear es l t
+pub row_from : (k : TopologyState) (es : List Edit) (l t : ℕ) → StandsFor k es → is_held es l ≡ true → is_held es t ≡ true → (l == t) ≡ false → has_seat (slice_index k.rows l) t ≡ lets_hear es l t
 row_from k es l t h p q d =
     row_of_pair (is_held es l) (is_held es t) (l == t) _ _ p q d
     (sym (same_pair (holds k l) (holds k t) _ _ (l == t) _ (has_seat (slice_index k.rows l) t) (h.seats l) (h.seats t) (λ _ _ _. refl)) ∙ h.pairs l t)
 
-pub held_below : (k : Kept) (es : List Edit) (s : ℕ) → StandsFor k es → is_held es s ≡ true → s < MEMBERS
+pub held_below : (k : TopologyState) (es : List Edit) (s : ℕ) → StandsFor k es → is_held es s ≡ true → s < MEMBERS
 held_below k es s h p = grind (arith, nat_tests, h.seats s)
 
 -- ---- the edits, one by one
 
-entered_seat : (k k' : Kept) (n s : ℕ) (b : Bool) → n < MEMBERS → has_seat k'.held s ≡ cond (s == n) true (has_seat k.held s) → holds k s ≡ b → holds k' s ≡ cond (s == n) true b
+entered_seat : (k k' : TopologyState) (n s : ℕ) (b : Bool) → n < MEMBERS → has_seat k'.held s ≡ cond (s == n) true (has_seat k.held s) → holds k s ≡ b → holds k' s ≡ cond (s == n) true b
 entered_seat k k' n s b p e h = grind (arith, nat_tests)
 
-entered_pair : (k k' : Kept) (n : ℕ) (es : List Edit) (l t : ℕ) → (l ≡ n → has_seat (slice_index k'.rows l) t ≡ true)
+entered_pair : (k k' : TopologyState) (n : ℕ) (es : List Edit) (l t : ℕ) → (l ≡ n → has_seat (slice_index k'.rows l) t ≡ true)
     → (l ≢ n → has_seat (slice_index k'.rows l) t ≡ cond (t == n) true (has_seat (slice_index k.rows l) t))
     → (is_held es l ≡ true → is_held es t ≡ true → has_seat (slice_index k.rows l) t ≡ lets_hear es l t)
     → is_held (Enter n ∷ es) l ≡ true → is_held (Enter n ∷ es) t ≡ true → has_seat (slice_index k'.rows l) t ≡ lets_hear (Enter n ∷ es) l t
 entered_pair k k' n es l t own row h p q = grind (arith, nat_tests)
 
-entered_below : (k : Kept) (n : ℕ) (es : List Edit) (s : ℕ) → n < MEMBERS → StandsFor k es → is_held (Enter n ∷ es) s ≡ true → s < MEMBERS
+entered_below : (k : TopologyState) (n : ℕ) (es : List Edit) (s : ℕ) → n < MEMBERS → StandsFor k es → is_held (Enter n ∷ es) s ≡ true → s < MEMBERS
 entered_below k n es s p h q = grind (arith, nat_tests, h.seats s)
 
-pub enter_stands : (k k' : Kept) (n : ℕ) (es : List Edit) → n < MEMBERS
+pub enter_stands : (k k' : TopologyState) (n : ℕ) (es : List Edit) → n < MEMBERS
     → ((s : ℕ) → has_seat k'.held s ≡ cond (s == n) true (has_seat k.held s))
     → ((t : ℕ) → t < MEMBERS → has_seat (slice_index k'.rows n) t ≡ true)
     → ((l t : ℕ) → l < MEMBERS → l ≢ n → has_seat (slice_index k'.rows l) t ≡ cond (t == n) true (has_seat (slice_index k.rows l) t))
@@ -67,13 +67,13 @@ enter_stands k k' n es inside held own row h =
     (row l t (entered_below k n es l inside h p))
     (λ x y. row_from k es l t h x y d) p q)
 
-left_seat : (k k' : Kept) (n s : ℕ) (b : Bool) → has_seat k'.held s ≡ cond (s == n) false (has_seat k.held s) → holds k s ≡ b → holds k' s ≡ cond (s == n) false b
+left_seat : (k k' : TopologyState) (n s : ℕ) (b : Bool) → has_seat k'.held s ≡ cond (s == n) false (has_seat k.held s) → holds k s ≡ b → holds k' s ≡ cond (s == n) false b
 left_seat k k' n s b e h = grind (arith, nat_tests)
 
 still_held : (n : ℕ) (es : List Edit) (s : ℕ) → is_held (Leave n ∷ es) s ≡ true → is_held es s ≡ true
 still_held n es s p = grind (arith, nat_tests)
 
-pub leave_stands : (k k' : Kept) (n : ℕ) (es : List Edit)
+pub leave_stands : (k k' : TopologyState) (n : ℕ) (es : List Edit)
     → ((s : ℕ) → has_seat k'.held s ≡ cond (s == n) false (has_seat k.held s)) → k'.rows ≡ k.rows
     → StandsFor k es → StandsFor k' (Leave n ∷ es)
 leave_stands k k' n es held rows h =
@@ -85,7 +85,7 @@ applied_word : (triple : Triple) (o : Option Triple) (l t : ℕ) (b : Bool) → 
 applied_word triple o l t true = refl
 applied_word triple o l t false = refl
 
-pub apply_stands : (k k' : Kept) (triple : Triple) (es : List Edit) → k'.held ≡ k.held
+pub apply_stands : (k k' : TopologyState) (triple : Triple) (es : List Edit) → k'.held ≡ k.held
     → ((l t : ℕ) → l < MEMBERS → has_seat (slice_index k'.rows l) t ≡ word_after triple l t (has_seat (slice_index k.rows l) t))
     → StandsFor k es → StandsFor k' (Apply triple ∷ es)
 apply_stands k k' triple es held row h =
@@ -110,6 +110,6 @@ apply_all-more triples i triple es p e =
 -- ---- what a topology tells
 
 -- the row of a held listener, without itself and the seats that nobody holds
-pub row_tells : (k : Kept) (l t : ℕ) (b : Bool) → k.held < 2 ^ MEMBERS → holds k l ≡ true
+pub row_tells : (k : TopologyState) (l t : ℕ) (b : Bool) → k.held < 2 ^ MEMBERS → holds k l ≡ true
     → b ≡ cond (t == l) false (has_seat (slice_index k.rows l) t && has_seat k.held t) → b ≡ hears k l t
 row_tells k l t b p q e = grind (arith, nat_tests, has_seat-inside k.held t p)

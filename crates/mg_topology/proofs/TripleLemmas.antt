@@ -4,8 +4,8 @@ use Rattle.std.specs.List.{list_any}
 use Rattle.std.proofs.lemmas.Bool.{not-true, not_from_false, and_parts, and_from}
 use Rattle.std.proofs.lemmas.List.Folds.{Any-from_list_any, list_any-from_Any}
 use Rattle.mg_topology.specs.declared.triple.Triple.{Triple}
-use Rattle.mg_topology.specs.declared.association.Association.{Association}
-use Rattle.mg_topology.specs.declared.association.Association.TheVariants.{Isolate, Oneway, Bothway}
+use Rattle.mg_words.specs.declared.association.Association.{Association}
+use Rattle.mg_words.specs.declared.association.Association.TheVariants.{Isolate, Oneway, Bothway}
 use Rattle.mg_topology.specs.Triple.{is_oneway, overlaps, Overlaps}
 use Rattle.mg_topology.proofs.MaskLemmas.{has_common_seat, is_disjoint-common}
 

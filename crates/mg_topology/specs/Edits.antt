@@ -1,6 +1,7 @@
 -- The edits of one context, newest first, and what they say of its seats (RFC 3525, section
 -- 7.1.18). That a newcomer and each member hear each other is this project's own rule.
-use Rattle.std.specs.Prelude.{ℕ, Bool, true, false, not, ◌&&◌, ◌||◌, ◌==◌, Option, Some, None, if◌then◌else◌, List, [], ◌∷◌}
+use Rattle.std.specs.Prelude.{ℕ, Bool, true, false, not, ◌&&◌, ◌||◌, ◌==◌, Option, Some, None}
+use Rattle.std.specs.Prelude.{if◌then◌else◌, List, [], ◌∷◌}
 use Rattle.mg_topology.specs.Triple.{speaks_of, word_of}
 use Rattle.mg_topology.specs.declared.triple.Triple.{Triple}
 

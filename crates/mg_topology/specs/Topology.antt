@@ -5,22 +5,22 @@ use Rattle.mg_topology.specs.Edits.{Edit, is_held, hears_in}
 
 -- what is kept: the held seats as a mask, and for each listener a row, the mask of those that its
 -- last words let it hear. What a row says of itself or of a seat that is not held means nothing.
-pub record Kept : Type 0 where
+pub record TopologyState : Type 0 where
   pub held : ℕ
   pub rows : List ℕ
 
 -- whether the seat is held; none is from the seat limit on
-abbrev pub holds : Kept → ℕ → Bool
+abbrev pub holds : TopologyState → ℕ → Bool
 holds kept seat = nat_lt seat seat_limit && has_seat kept.held seat
 
 -- whether the listener hears the talker: both are held, they differ, and the row has the talker
-abbrev pub hears : Kept → ℕ → ℕ → Bool
+abbrev pub hears : TopologyState → ℕ → ℕ → Bool
 hears kept listener talker =
     holds kept listener
     && (holds kept talker
     && (not (listener == talker) && has_seat (slice_index kept.rows listener) talker))
 
 -- what is kept agrees with the edits, for each seat and for each pair
-pub record StandsFor (kept : Kept) (es : List Edit) : Type 0 where
+pub record StandsFor (kept : TopologyState) (es : List Edit) : Type 0 where
   pub seats : (seat : ℕ) → holds kept seat ≡ is_held es seat
   pub pairs : (listener talker : ℕ) → hears kept listener talker ≡ hears_in es listener talker

@@ -2,8 +2,8 @@
 use Rattle.std.specs.Prelude.{◌≡◌, ℕ, Bool, true, false, ◌&&◌, ◌||◌, not}
 use Rattle.mg_topology.specs.Mask.{has_seat, is_disjoint, HaveCommonSeat}
 use Rattle.mg_topology.specs.declared.triple.Triple.{Triple}
-use Rattle.mg_topology.specs.declared.association.Association.{Association}
-use Rattle.mg_topology.specs.declared.association.Association.TheVariants.{Isolate, Oneway, Bothway}
+use Rattle.mg_words.specs.declared.association.Association.{Association}
+use Rattle.mg_words.specs.declared.association.Association.TheVariants.{Isolate, Oneway, Bothway}
 
 -- the triple's own direction leads from the talker to the listener, from its first set to its
 -- second

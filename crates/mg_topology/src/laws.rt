@@ -7,7 +7,7 @@ ghost use Rattle.std.specs.Prelude.{◌≡◌, ◌≢◌, ℕ, ◌<◌, ◌≤�
 ghost use Rattle.std.specs.List.{list_any, filter, range_with_len};
 ghost use Rattle.std.specs.List.Sorted.{IsStrictlyIncreasing};
 ghost use Rattle.mg_topology.specs.declared.triple.Triple.{Triple};
-ghost use Rattle.mg_topology.specs.declared.association.Association.TheVariants.{Isolate, Oneway, Bothway};
+ghost use Rattle.mg_words.specs.declared.association.Association.TheVariants.{Isolate, Oneway, Bothway};
 ghost use Rattle.mg_topology.specs.declared.mask.TheConstants.{EMPTY, FULL, MEMBERS};
 ghost use Rattle.mg_topology.specs.Mask.{seat_limit, has_seat, seats_of, seat_count, IsEmpty};
 ghost use Rattle.mg_topology.specs.Triple.{leads, speaks_of, overlaps, Overlaps};

@@ -27,7 +27,6 @@
 //! Sets of seats are bit masks, and [`mask`] has the only functions that touch their bits.
 #![tactic(auto)]
 
-mod association;
 pub mod laws;
 pub mod mask;
 mod overlap;
@@ -37,8 +36,8 @@ mod tests;
 mod topology;
 mod triple;
 
-pub use association::Association;
 pub use mask::{MEMBERS, Mask};
+pub use mg_words::Association;
 pub use overlap::Overlap;
 pub use seats::Seats;
 pub use topology::Topology;

@@ -20,9 +20,9 @@ pub struct Topology {
 }
 
 impl Model for Topology {
-    ghost use Rattle.mg_topology.specs.Topology.{Kept};
+    ghost use Rattle.mg_topology.specs.Topology.{TopologyState};
 
-    ghost Value = { Kept };
+    ghost Value = { TopologyState };
 
     ghost view = { λ t. record { held = t.held; rows = t.rows } };
 }

@@ -1,7 +1,8 @@
 -- One room by its seats, and the masks of each listener in it.
-use Rattle.std.specs.Prelude.{◌≡◌, ℕ, ◌<◌, Bool, not, ◌&&◌, ◌==◌, if◌then◌else◌, List, [], slice_index}
+use Rattle.std.specs.Prelude.{◌≡◌, ℕ, ◌<◌, Bool, not, ◌&&◌, ◌==◌, if◌then◌else◌, List, []}
+use Rattle.std.specs.Prelude.{slice_index}
 use Rattle.mg_topology.specs.Mask.{seat_limit, has_seat, IsEmpty}
-use Rattle.mg_topology.specs.Topology.{Kept, holds, hears, StandsFor}
+use Rattle.mg_topology.specs.Topology.{TopologyState, holds, hears, StandsFor}
 use Rattle.mg_flow.specs.Table.{Room}
 
 -- nobody has entered the room
@@ -22,12 +23,12 @@ pub record SetsSeat (old new : Room) (seat : ℕ)
       has_seat new.listens s ≡ (if s == seat then does_listen else has_seat old.listens s)
 
 -- the talker's speech goes to the listener
-abbrev pub flows_to : Kept → (talks listens : ℕ) → (listener talker : ℕ) → Bool
+abbrev pub flows_to : TopologyState → (talks listens : ℕ) → (listener talker : ℕ) → Bool
 flows_to topology talks listens listener talker =
     has_seat talks talker && (has_seat listens listener && hears topology listener talker)
 
 -- the talker is another member, whom the last word keeps from the listener
-abbrev pub is_kept_from : Kept → (talks : ℕ) → (listener talker : ℕ) → Bool
+abbrev pub is_kept_from : TopologyState → (talks : ℕ) → (listener talker : ℕ) → Bool
 is_kept_from topology talks listener talker =
     has_seat talks talker
     && (holds topology listener

@@ -1,7 +1,7 @@
 use Rattle.std.proofs.Common.{◌∙◌, map, sym, ap, true≢false}
 use Rattle.clap.specs.Words.{kind_of}
 use Rattle.mg_bridge.specs.Options.{IsRefused, asked, replay}
-use Rattle.mg_bridge.proofs.AskedLaws.{asks_none, asks_run, meets_subcommand, passed_on}
+use Rattle.mg_bridge.proofs.InvocationLaws.{asks_none, asks_run, meets_subcommand, passed_on}
 use Rattle.mg_bridge.proofs.options.asked_config.Goals as goal
 
 pub returns-in_err-matches-clause-refused : goal.returns-in_err-matches-clause-refused

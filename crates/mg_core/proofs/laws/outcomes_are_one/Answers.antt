@@ -1,7 +1,7 @@
 use Rattle.std.proofs.Common.{◌≡◌, ℕ, List, [], ◌∷◌, ◌++◌, Option, sym, ap, subst, ◌∙◌}
 use Rattle.mg_engine.specs.declared.taken.Taken.{Taken}
 use Rattle.mg_engine.specs.Arrival.{Takes}
-use Rattle.mg_engine.specs.World as engine
+use Rattle.mg_engine.specs.Gateway as engine
 use Rattle.mg_text.specs.MessageReading.{MessageReading, IsReading}
 use Rattle.mg_core.specs.declared.event.Event.{Event}
 use Rattle.mg_core.specs.declared.event.Event.TheVariants.{Control, Media, Tick}
@@ -14,7 +14,7 @@ abbrev OneReading : Type 0
 OneReading = (bytes : List ℕ) (a b : MessageReading) → IsReading bytes a → IsReading bytes b → a ≡ b
 
 abbrev OneArrival : Type 0
-OneArrival = (w : engine.World) (port : ℕ) (source list : List ℕ) (x y : engine.World) (a b : Taken) → Takes w port source list x a → Takes w port source list y b → (x ≡ y) × (a ≡ b)
+OneArrival = (w : engine.Gateway) (port : ℕ) (source list : List ℕ) (x y : engine.Gateway) (a b : Taken) → Takes w port source list x a → Takes w port source list y b → (x ≡ y) × (a ≡ b)
 
 same_outcome : OneReading → OneArrival → (w : World) (event : Event) (a b : List Sent) (x y : World) → Step w event a x → Step w event b y → (a ≡ b) × (x ≡ y)
 same_outcome reads arrives w (Control source bytes) a b x y (answer, (r, is, e), sent) (other, (q, too, f), also) =
@@ -24,7 +24,7 @@ same_outcome reads arrives w (Media port source bytes) a b x y (taken, (g, takes
     let same = arrives w.gateway port source.address bytes g k taken other takes too in (
       sent ∙ sym also,
       is
-          ∙ ap (λ (z : engine.World). record w { gateway = z; tally = with_taken taken w.tally }) same.0
+          ∙ ap (λ (z : engine.Gateway). record w { gateway = z; tally = with_taken taken w.tally }) same.0
           ∙ ap (λ (t : Taken). record w { gateway = k; tally = with_taken t w.tally }) same.1
           ∙ sym its,
     )

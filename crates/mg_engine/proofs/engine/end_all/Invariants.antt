@@ -1,6 +1,6 @@
 use Rattle.std.proofs.Common.{◌≡◌, ℕ, ◌<◌, ◌≤◌, get_or, length}
 use Rattle.mg_engine.specs.Media.{idle, ended}
-use Rattle.mg_engine.specs.Sending.{slot_sends}
+use Rattle.mg_engine.specs.aids.Sending.{slot_sends}
 use Rattle.mg_engine.proofs.engine.end_all.Given as goal
 
 abbrev pub invariant-loop-i : goal.invariant-loop-i

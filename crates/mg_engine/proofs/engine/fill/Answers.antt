@@ -3,9 +3,9 @@ use Rattle.std.specs.Prelude.{option_to_list}
 use Rattle.std.specs.Option.{option_map}
 use Rattle.std.proofs.lemmas.List.{length-map, get_or-map}
 use Rattle.mg_rooms.specs.declared.record.Record.{Record}
-use Rattle.mg_rooms.specs.World.{holder_of}
+use Rattle.mg_rooms.specs.Registry.{holder_of}
 use Rattle.mg_engine.specs.declared.datagram.Datagram.{Datagram}
-use Rattle.mg_engine.specs.Sending.{packet_now}
+use Rattle.mg_engine.specs.aids.Sending.{packet_now}
 use Rattle.mg_engine.specs.Tick.{sent_to}
 use Rattle.mg_engine.proofs.SendingLaws.{nobody, one_more}
 use Rattle.mg_engine.proofs.engine.fill.Goals as goal

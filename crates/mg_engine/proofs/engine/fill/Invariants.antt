@@ -1,7 +1,7 @@
 use Rattle.std.proofs.Common.{◌≡◌, ◌≤◌, length, take}
 use Rattle.std.specs.Prelude.{filter_map}
 use Rattle.std.specs.Option.{option_map}
-use Rattle.mg_engine.specs.Sending.{packet_now}
+use Rattle.mg_engine.specs.aids.Sending.{packet_now}
 use Rattle.mg_engine.specs.Tick.{sent_to}
 use Rattle.mg_engine.proofs.engine.fill.Given as goal
 

@@ -1,6 +1,6 @@
 use Rattle.std.proofs.Common.{◌≡◌, pos, ◌+ℤ◌, get_or, Option, Some, sym, ap, ◌∙◌}
 use Rattle.mg_rooms.specs.declared.record.Record.{Record}
-use Rattle.mg_engine.specs.Sending.{part_now}
+use Rattle.mg_engine.specs.aids.Sending.{part_now}
 use Rattle.mg_engine.proofs.sending.add_slot.Goals as goal
 
 abbrev found : Record → Option Record

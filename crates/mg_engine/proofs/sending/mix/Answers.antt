@@ -2,7 +2,7 @@ use Rattle.std.proofs.Common.{Bool, cond, map, sym, ap, ◌∙◌}
 use Rattle.std.specs.List.{range_with_len}
 use Rattle.std.proofs.lemmas.Simd.{map-map}
 use Rattle.mg_engine.specs.Mixing.{limited}
-use Rattle.mg_engine.specs.Sending.{sample_at, heard_now}
+use Rattle.mg_engine.specs.aids.Sending.{sample_at, heard_now}
 use Rattle.mg_engine.proofs.sending.mix.Goals as goal
 
 pub returns-then-is_loopback : goal.returns-then-is_loopback

@@ -1,8 +1,8 @@
 use Rattle.std.proofs.Common.{ℕ, ℤ, ◌<◌, ◌≤◌, List, pos, ◌+ℤ◌, unsigned_abs, get_or, length, refl, sym, ap, ◌∙◌, arith}
 use Rattle.std.proofs.lemmas.List.{length-map, get_or-map, get_or-replicate, take_all}
-use Rattle.mg_rooms.specs.World.{holder_of}
+use Rattle.mg_rooms.specs.Registry.{holder_of}
 use Rattle.mg_engine.specs.Mix.{sum_of}
-use Rattle.mg_engine.specs.Sending.{part_now, heard_now}
+use Rattle.mg_engine.specs.aids.Sending.{part_now, heard_now}
 use Rattle.mg_engine.proofs.SumLaws.{sum-more, list_is}
 use Rattle.mg_engine.proofs.sending.sum_heard.Goals as goal
 

@@ -1,6 +1,6 @@
 use Rattle.std.proofs.Common.{◌≡◌, ℕ, ◌*◌, ◌<◌, ◌≤◌, pos, get_or, length, take, unsigned_abs}
 use Rattle.mg_engine.specs.Mix.{sum_of}
-use Rattle.mg_engine.specs.Sending.{part_now}
+use Rattle.mg_engine.specs.aids.Sending.{part_now}
 use Rattle.mg_engine.proofs.sending.sum_heard.Given as goal
 
 abbrev pub invariant-loop-slot : goal.invariant-loop-slot

@@ -1,8 +1,8 @@
 use Rattle.std.proofs.Common.{ℕ, ℤ, ◌+ℤ◌, take, to_z, of_z, unsigned_abs, w32, sym, ap, ◌∙◌, arith, rules}
 use Rattle.std.proofs.lemmas.Int.{to_z-of_z}
-use Rattle.mg_rooms.specs.World.{record_at}
+use Rattle.mg_rooms.specs.Registry.{record_at}
 use Rattle.mg_engine.specs.Mix.{sum_of}
-use Rattle.mg_engine.specs.Sending.{talking_now}
+use Rattle.mg_engine.specs.aids.Sending.{talking_now}
 use Rattle.mg_engine.proofs.SumLaws.{sum-more}
 use Rattle.mg_engine.proofs.sending.sum_talking.Goals as goal
 

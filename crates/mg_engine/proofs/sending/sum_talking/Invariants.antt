@@ -1,7 +1,7 @@
 use Rattle.std.proofs.Common.{◌≡◌, ◌*◌, ◌≤◌, take, unsigned_abs}
-use Rattle.mg_rooms.specs.World.{record_at}
+use Rattle.mg_rooms.specs.Registry.{record_at}
 use Rattle.mg_engine.specs.Mix.{sum_of}
-use Rattle.mg_engine.specs.Sending.{talking_now}
+use Rattle.mg_engine.specs.aids.Sending.{talking_now}
 use Rattle.mg_engine.proofs.sending.sum_talking.Given as goal
 
 abbrev pub invariant-loop-number : goal.invariant-loop-number

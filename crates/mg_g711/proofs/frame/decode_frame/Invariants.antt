@@ -1,12 +1,10 @@
-use Rattle.std.proofs.Common.{◌≡◌, length, take, map}
-use Rattle.std.specs.Prelude.{All, FitsSigned}
-use Rattle.std.specs.Int.{w16}
+use Rattle.std.proofs.Common.{◌≡◌, ◌*◌, length, get_or}
 use Rattle.mg_g711.specs.Law.{sample_of}
+use Rattle.mg_g711.proofs.Chunks.{DoneTo}
 use Rattle.mg_g711.proofs.frame.decode_frame.Given as goal
 
 abbrev pub invariant-loop-i : goal.invariant-loop-i
 invariant-loop-i l = record {
   whole : length l.samples ≡ 160;
-  each : take l.i l.samples ≡ map (sample_of l.law) (take l.i l.bytes);
-  in_range : All (FitsSigned w16) (take l.i l.samples);
+  each : DoneTo (16 * l.i) (λ k. sample_of l.law (get_or l.bytes k 0)) l.initial.samples l.samples;
 }

@@ -1,5 +1,5 @@
 use Rattle.std.proofs.Common.{◌++◌, ◌∙◌, ◌+◌, [], take, drop, sym, ap, arith, codes}
-use Rattle.mg_reply.specs.Draft.{drafted}
+use Rattle.mg_reply.specs.aids.Draft.{drafted}
 use Rattle.mg_reply.specs.Entries.{action_id}
 use Rattle.mg_reply.specs.Written.{action_text, actions_text}
 use Rattle.mg_reply.proofs.ActionLaws.{goes_on, action_ends, all_done, none_pending}
@@ -10,8 +10,8 @@ loop-i-preserved-in_default c =
     let item = ap action_id c.index-items-i.is in
     let none = sym item ∙ sym c.action_id.ensures.value ∙ c.in_default.is in
     record {
-      behind = omega arith;
-      same = goes_on c.loop-i.draft c.loop-i.mark.now c.args.items.now c.loop-i.from c.loop-i.i c.index-items-i.result c.loop-i.invariant.behind c.loop-i-test.true none ∙ c.loop-i.invariant.same;
+      after = omega arith;
+      same = goes_on c.loop-i.draft c.loop-i.mark.now c.args.items.now c.loop-i.from c.loop-i.i c.index-items-i.result c.loop-i.invariant.after c.loop-i-test.true none ∙ c.loop-i.invariant.same;
     }
 
 pub loop-i-preserved : goal.loop-i-preserved
@@ -23,7 +23,7 @@ loop-i-preserved c =
     let pending = c.split_at-in-loop-i.ensures.back ∙ ap (drop c.loop-i.from) c.split_at.ensures.front in
     let put = c.put_action.ensures.value ∙ ap (λ p. drafted c.loop-i.draft (c.loop-i.mark.now ++ action_text c.in-Some.id p)) pending in
     record {
-      behind = omega arith;
+      after = omega arith;
       same =
           ap (λ p. drafted c.put_action.new.draft (actions_text (codes ",") p (drop (i + 1) xs))) (none_pending xs i)
           ∙ ap (λ d. drafted d (actions_text (codes ",") [] (drop (i + 1) xs))) put

@@ -1,7 +1,7 @@
 use Rattle.std.proofs.Common.{◌&&◌, ◌+◌, ◌∷◌, [], ◌∙◌, ap, sym, drop, get_or}
-use Rattle.mg_reply.specs.Draft.{drafted}
+use Rattle.mg_reply.specs.aids.Draft.{drafted}
 use Rattle.mg_reply.specs.Listed.{listed}
-use Rattle.mg_reply.specs.Marks.{is_empty, mark_of}
+use Rattle.mg_reply.specs.aids.Marks.{is_empty, mark_of}
 use Rattle.mg_reply.specs.Entries.{texts_of}
 use Rattle.mg_reply.proofs.ListedLaws.{all_step, first_step, all_end}
 use Rattle.mg_reply.proofs.action_writing.put_all.Goals as goal

@@ -1,8 +1,8 @@
 use Rattle.std.proofs.Common.{◌&&◌, ◌∙◌, ap, codes}
 use Rattle.mg_reply.specs.declared.entry_kind.EntryKind.TheVariants.{Triples, Commands, Faults}
-use Rattle.mg_reply.specs.Draft.{drafted}
+use Rattle.mg_reply.specs.aids.Draft.{drafted}
 use Rattle.mg_reply.specs.Listed.{listed}
-use Rattle.mg_reply.specs.Marks.{is_empty, mark_of, closing}
+use Rattle.mg_reply.specs.aids.Marks.{is_empty, mark_of, closing}
 use Rattle.mg_reply.specs.Entries.{texts_of, topology_entry}
 use Rattle.mg_reply.proofs.DraftLaws.{four_parts}
 use Rattle.mg_reply.proofs.ListedLaws.{entries_are}

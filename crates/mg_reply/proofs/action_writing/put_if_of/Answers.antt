@@ -1,6 +1,6 @@
 use Rattle.std.proofs.Common.{◌≡◌, ◌∙◌, true, ap, sym}
-use Rattle.mg_reply.specs.Draft.{drafted}
-use Rattle.mg_reply.specs.Marks.{mark_of}
+use Rattle.mg_reply.specs.aids.Draft.{drafted}
+use Rattle.mg_reply.specs.aids.Marks.{mark_of}
 use Rattle.mg_reply.specs.Entries.{is_of, item_text}
 use Rattle.mg_reply.proofs.DraftLaws.{then}
 use Rattle.mg_reply.proofs.ListedLaws.{one_of}

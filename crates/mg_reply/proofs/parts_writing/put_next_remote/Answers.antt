@@ -1,5 +1,5 @@
 use Rattle.std.proofs.Common.{◌∙◌, ap, sym, codes}
-use Rattle.mg_reply.specs.Draft.{drafted}
+use Rattle.mg_reply.specs.aids.Draft.{drafted}
 use Rattle.mg_reply.specs.Listed.{listed}
 use Rattle.mg_reply.specs.Media.{remote_text, optional}
 use Rattle.mg_reply.proofs.DraftLaws.{then}

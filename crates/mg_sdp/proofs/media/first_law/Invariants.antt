@@ -1,5 +1,5 @@
 use Rattle.std.proofs.Common.{◌≡◌}
-use Rattle.mg_sdp.specs.FieldsLeft.{fields_left}
+use Rattle.mg_sdp.specs.aids.FieldsLeft.{fields_left}
 use Rattle.mg_sdp.specs.Media.{first_law}
 use Rattle.mg_sdp.proofs.media.first_law.Given as goal
 

@@ -1,7 +1,7 @@
 use Rattle.std.proofs.Common.{◌≡◌}
 use Rattle.mg_sdp.specs.Lines.{lines_of}
-use Rattle.mg_sdp.specs.LinesLeft.{lines_left}
-use Rattle.mg_sdp.specs.Reader.{start}
+use Rattle.mg_sdp.specs.aids.LinesLeft.{lines_left}
+use Rattle.mg_sdp.specs.aids.Reader.{start}
 use Rattle.mg_sdp.proofs.ReaderLaws.{read_on}
 use Rattle.mg_sdp.proofs.reader.read_sessions.Given as goal
 

@@ -1,5 +1,5 @@
 use Rattle.std.proofs.Common.{◌≡◌, ◌-◌, length}
-use Rattle.mg_text.specs.Requests.{parts_at}
+use Rattle.mg_text.specs.aids.Requests.{parts_at}
 use Rattle.mg_text.proofs.PartSteps.{with_front}
 use Rattle.mg_text.proofs.actions.parts_at.Given as goal
 

@@ -1,5 +1,5 @@
 use Rattle.std.proofs.Common.{◌≡◌, ◌≤◌, drop}
-use Rattle.mg_text.specs.Reading.{after_group}
+use Rattle.mg_text.specs.aids.Reading.{after_group}
 use Rattle.mg_text.proofs.group.after_group.Given as goal
 
 abbrev pub invariant-loop-i : goal.invariant-loop-i

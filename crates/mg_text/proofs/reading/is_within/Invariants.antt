@@ -1,5 +1,5 @@
 use Rattle.std.proofs.Common.{◌≡◌, drop}
-use Rattle.mg_text.specs.Text.{is_within}
+use Rattle.mg_text.specs.aids.Text.{is_within}
 use Rattle.mg_text.proofs.reading.is_within.Given as goal
 
 abbrev pub invariant-loop-item : goal.invariant-loop-item

@@ -1,5 +1,5 @@
 use Rattle.std.proofs.Common.{◌≡◌, ◌-◌, length}
-use Rattle.mg_text.specs.Requests.{sequence_at}
+use Rattle.mg_text.specs.aids.Requests.{sequence_at}
 use Rattle.mg_text.proofs.SequenceSteps.{with_front}
 use Rattle.mg_text.proofs.sequence.sequence_at.Given as goal
 

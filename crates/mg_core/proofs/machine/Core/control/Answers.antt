@@ -2,7 +2,7 @@ use Rattle.std.proofs.Common.{refl, sym, subst, ◌∙◌}
 use Rattle.mg_text.specs.MessageReading.{Read}
 use Rattle.mg_core.specs.CoreView.{CoreView}
 use Rattle.mg_core.specs.declared.answer.Answer.TheVariants.{Send}
-use Rattle.mg_core.specs.declared.state.State.{State}
+use Rattle.mg_core.specs.declared.state.CoreState.{CoreState}
 use Rattle.mg_core.specs.Step.{told}
 use Rattle.mg_core.specs.World.{StandsFor, with_control}
 use Rattle.mg_core.proofs.AnswerLaws.{is_refused}
@@ -21,4 +21,4 @@ returns-in-Some-clause-answered c w h =
     let counted = c.count_control-in-Some.ensures.counted w held in
     let read = rw c.in-Err.is at c.read.ensures in
     let (reading, is, refused) = is_refused c.args.bytes.now c.in-Err.fault c.in-Some.number (sym c.refusal_of.ensures.value ∙ c.in-Some.is) read.long read.long_only read.version read.version_only read.syntax (with_control w) in
-    (with_control w, (told Send c.refuse.new.self.answer, (reading, is, refused ∙ c.refuse.ensures.refused (with_control w) counted), refl), subst (λ (s : State). StandsFor s (with_control w)) (sym c.refuse.ensures.state) counted)
+    (with_control w, (told Send c.refuse.new.self.answer, (reading, is, refused ∙ c.refuse.ensures.refused (with_control w) counted), refl), subst (λ (s : CoreState). StandsFor s (with_control w)) (sym c.refuse.ensures.state) counted)

@@ -1,4 +1,4 @@
-use Rattle.std.proofs.Common.{take, length-take, arith}
+use Rattle.std.proofs.Common.{Ok, Err, take, length-take, arith}
 use Rattle.std.proofs.lemmas.Result.{err_from_is_err_and}
 use Rattle.mg_core.proofs.RunLaws.{comes_start, comes_bytes, comes_fault, comes_end, progress_unread}
 use Rattle.mg_core.proofs.script_runner.ScriptRunner.take_all.Goals as goal
@@ -17,12 +17,22 @@ returns-in_err-n g c =
           progress_unread config script (g.R.Read.remaining c.loop.reader) c.loop.self.begun.text c.loop.self.lines come.0 (g.W.Write.contents c.args.writer.now) (g.W.Write.contents c.loop.writer) come.1;
     })
 
+pub returns-in_err-finish : goal.returns-in_err-finish
+returns-in_err-finish g c =
+    let p = err_from_is_err_and c.from_residual-in_err-finish.result c.from_residual-in_err-finish.ensures.1 in
+    rw (p.1, p.2) (record {
+      value = λ config starts script is.
+          comes_end config script (g.R.Read.remaining c.loop.reader) (g.R.Read.remaining c.read_some.new.reader)
+          c.loop.self.begun.text c.loop.self.lines c.loop.self.runner.core.state c.finish.new.self.runner.core.state (g.W.Write.contents c.args.writer.now) (g.W.Write.contents c.loop.writer) (g.W.Write.contents c.finish.new.writer) (Err c.in_err-finish.field-0.0)
+          (c.loop.invariant.value config starts script is) (rw c.in_default.is at c.in_ok-n.ensures.value) c.in_err-finish.ensures.value;
+    })
+
 pub returns-in_default : goal.returns-in_default
 returns-in_default g c = record {
   value = λ config starts script is.
       comes_end config script (g.R.Read.remaining c.loop.reader) (g.R.Read.remaining c.read_some.new.reader)
-      c.loop.self.begun.text c.loop.self.lines c.loop.self.runner.core.state c.finish.new.self.runner.core.state (g.W.Write.contents c.args.writer.now) (g.W.Write.contents c.loop.writer) (g.W.Write.contents c.finish.new.writer) c.finish.result
-      (c.loop.invariant.value config starts script is) (rw c.in_default.is at c.in_ok-n.ensures.value) c.finish.ensures.value;
+      c.loop.self.begun.text c.loop.self.lines c.loop.self.runner.core.state c.finish.new.self.runner.core.state (g.W.Write.contents c.args.writer.now) (g.W.Write.contents c.loop.writer) (g.W.Write.contents c.finish.new.writer) (Ok tt)
+      (c.loop.invariant.value config starts script is) (rw c.in_default.is at c.in_ok-n.ensures.value) c.in_ok-finish.ensures.value;
 }
 
 pub returns-in_err-take_bytes : goal.returns-in_err-take_bytes

@@ -7,7 +7,7 @@ returns c =
     let config = c.args.self.now in
     record {
       value = (
-        λ h. apart_is config c.if-self-eq0.false c.if-self.false c.if-behind-eq1.false (leb-true _ _ h),
-        λ h. le-leb _ _ (far_is config c.if-self.false c.if-behind-eq1.false h),
+        λ h. apart_is config c.if-self-eq0.false c.if-self.false c.if-distance-eq1.false (leb-true _ _ h),
+        λ h. le-leb _ _ (far_is config c.if-self.false c.if-distance-eq1.false h),
       );
     }

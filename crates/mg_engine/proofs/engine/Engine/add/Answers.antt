@@ -1,9 +1,9 @@
 use Rattle.std.proofs.Common.{◌<◌, length, sym, ap, subst, ◌∙◌, arith}
 use Rattle.mg_rooms.specs.Outcome as commands
-use Rattle.mg_rooms.specs.World as rooms
+use Rattle.mg_rooms.specs.Registry as rooms
 use Rattle.mg_engine.specs.Media as media
 use Rattle.mg_engine.specs.Outcome.{added, done_with}
-use Rattle.mg_engine.specs.Stands.{Kept, StandsFor}
+use Rattle.mg_engine.specs.Stands.{EngineState, StandsFor}
 use Rattle.mg_engine.proofs.OutcomeLaws.{add_adds}
 use Rattle.mg_engine.proofs.EditLaws.{slots_kept, room_left, whole_added, made_is, begun_tuned, added_stands}
 use Rattle.mg_engine.proofs.engine.Engine.add.Goals as goal
@@ -40,7 +40,7 @@ returns-clause-outcome c w h =
     let d = c.in_ok-done.done in
     let settings = c.args.settings.now in
     let done = c.in_ok-done.ensures.outcome in
-    let k : Kept = record { config = c.self.inside.config; rooms = old; media = c.self.inside.media.items } in
+    let k : EngineState = record { config = c.self.inside.config; rooms = old; media = c.self.inside.media.items } in
     let sound = c.gateways_are_sound-2.ensures.sound in
     let a = add_adds old c.args.target settings new d done in
     let made = made_is old new d a (λ i x lt. c.each_is_found.ensures.number new i x sound lt) in
@@ -49,6 +49,6 @@ returns-clause-outcome c w h =
     let lt : a.added.slot < length k.media = omega (arith, is.slot, slots) in
     let others = c.others_are_left_alone.ensures.add old new c.args.target settings d c.gateways_are_sound.ensures.sound done in
     let set_to = begun_tuned k.media c.begin.new.media.items c.tune.new.media.items a.added.slot (media.begun k.config) settings.depth lt (c.begin.ensures.begun a.added made) (c.tune.ensures.tuned a.added made) in
-    let stands = subst (λ (x : Kept). StandsFor x w) (sym c.self.view_is) h in
-    let here = ap (λ (x : rooms.World). done_with (added w settings) (commands.add x c.args.target settings)) stands.rooms ∙ ap (done_with (added w settings)) done in
+    let stands = subst (λ (x : EngineState). StandsFor x w) (sym c.self.view_is) h in
+    let here = ap (λ (x : rooms.Registry). done_with (added w settings) (commands.add x c.args.target settings)) stands.rooms ∙ ap (done_with (added w settings)) done in
     (added w settings new d, here, added_stands k new c.tune.new.media.items w settings d a.added a sound (λ x y r s. c.nothing_is_held_twice.ensures.slot new x y r s sound) others.termination made lt set_to stands)

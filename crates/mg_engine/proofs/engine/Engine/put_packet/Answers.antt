@@ -4,9 +4,9 @@ use Rattle.std.specs.Option.{option_map}
 use Rattle.mg_sdp.specs.declared.chosen.Chosen.{Chosen}
 use Rattle.mg_rooms.specs.declared.record.Record.{Record}
 use Rattle.mg_engine.specs.declared.datagram.Datagram.{Datagram}
-use Rattle.mg_engine.specs.Sending.{packet_now}
-use Rattle.mg_rooms.specs.World.{holder_of}
-use Rattle.mg_engine.specs.Stands.{Kept}
+use Rattle.mg_engine.specs.aids.Sending.{packet_now}
+use Rattle.mg_rooms.specs.Registry.{holder_of}
+use Rattle.mg_engine.specs.Stands.{EngineState}
 use Rattle.mg_engine.specs.Tick.{sent_to}
 use Rattle.mg_engine.proofs.SendingLaws.{found_is}
 use Rattle.mg_engine.proofs.engine.Engine.put_packet.Goals as goal
@@ -15,7 +15,7 @@ pub returns-in-Some-sent_to-clause-put : goal.returns-in-Some-sent_to-clause-put
 returns-in-Some-sent_to-clause-put c r holds =
     let old = c.args.outbox.now.items in
     let k = c.args.self.now in
-    let same : c.in-Some.sender ≡ r = found_is c.in-Some.sender r (sym c.in-Some.is ∙ c.held.ensures.value ∙ ap (λ (x : Kept). holder_of x.rooms c.args.slot) c.self.view_is ∙ holds) in
+    let same : c.in-Some.sender ≡ r = found_is c.in-Some.sender r (sym c.in-Some.is ∙ c.held.ensures.value ∙ ap (λ (x : EngineState). holder_of x.rooms c.args.slot) c.self.view_is ∙ holds) in
     let goes = sym c.in-Some-sent_to.is ∙ c.sent_to.ensures.value ∙ ap sent_to same in
     c.push.ensures.items
     ∙ ap (λ (d : Datagram). old ++ d ∷ []) (c.packet.ensures.value ∙ ap (λ (x : Record). packet_now k x c.in-Some-sent_to.to) same)

@@ -1,33 +1,33 @@
 use Rattle.std.proofs.Common.{ℕ, List, Some, refl, sym, ap, subst, ◌∙◌}
 use Rattle.std.specs.Option.{option_map}
-use Rattle.mg_rooms.specs.World.{record_at}
-use Rattle.mg_engine.specs.declared.stats.Stats.{Stats}
-use Rattle.mg_engine.specs.World.{Stream, stream_at}
+use Rattle.mg_rooms.specs.Registry.{record_at}
+use Rattle.mg_words.specs.declared.stats.Stats.{Stats}
+use Rattle.mg_engine.specs.Gateway.{TerminationMedia, media_of}
 use Rattle.mg_engine.specs.Media as media
-use Rattle.mg_engine.specs.Stands.{Kept, StandsFor, media_at}
+use Rattle.mg_engine.specs.Stands.{EngineState, StandsFor, media_at}
 use Rattle.mg_engine.proofs.EditLaws.{none_too}
-use Rattle.mg_engine.proofs.WorldLaws.{has_stream, with_slot, with_no_slot}
+use Rattle.mg_engine.proofs.GatewayLaws.{has_media, with_slot, with_no_slot}
 use Rattle.mg_engine.proofs.engine.Engine.stats.Goals as goal
 
 pub returns-in-Some : goal.returns-in-Some
 returns-in-Some c = record {
   value = λ w h.
-      let k : Kept = record { config = c.self.inside.config; rooms = c.self.inside.rooms; media = c.self.inside.media.items } in
-      let stands = subst (λ (x : Kept). StandsFor x w) (sym c.self.view_is) h in
+      let k : EngineState = record { config = c.self.inside.config; rooms = c.self.inside.rooms; media = c.self.inside.media.items } in
+      let stands = subst (λ (x : EngineState). StandsFor x w) (sym c.self.view_is) h in
       let (r, there, slot) = with_slot (record_at k.rooms c.args.number) c.in-Some.slot (sym c.slot_of.ensures.value ∙ c.in-Some.is) in
-      let (s, found, is) = has_stream k w c.args.number r stands there in
+      let (s, found, is) = has_media k w c.args.number r stands there in
       let stats = c.stats_in.ensures.value
-      ∙ ap (λ (ms : List media.Kept). (media_at ms c.in-Some.slot).stats) c.as_slice.ensures.value
+      ∙ ap (λ (ms : List media.SlotMedia). (media_at ms c.in-Some.slot).stats) c.as_slice.ensures.value
       ∙ ap (λ (n : ℕ). (media_at k.media n).stats) (sym slot)
       ∙ is.stats in
-      ap (λ (x : Stats). Some x) stats ∙ ap (option_map (λ (x : Stream). x.stats)) (sym found);
+      ap (λ (x : Stats). Some x) stats ∙ ap (option_map (λ (x : TerminationMedia). x.stats)) (sym found);
 }
 
 pub returns-in-None : goal.returns-in-None
 returns-in-None c = record {
   value = λ w h.
-      let k : Kept = record { config = c.self.inside.config; rooms = c.self.inside.rooms; media = c.self.inside.media.items } in
-      let stands = subst (λ (x : Kept). StandsFor x w) (sym c.self.view_is) h in
+      let k : EngineState = record { config = c.self.inside.config; rooms = c.self.inside.rooms; media = c.self.inside.media.items } in
+      let stands = subst (λ (x : EngineState). StandsFor x w) (sym c.self.view_is) h in
       let none = with_no_slot (record_at k.rooms c.args.number) (sym c.slot_of.ensures.value ∙ c.in-None.is) in
-      ap (option_map (λ (x : Stream). x.stats)) (sym (none_too k w c.args.number stands.numbers none (stream_at w c.args.number) refl));
+      ap (option_map (λ (x : TerminationMedia). x.stats)) (sym (none_too k w c.args.number stands.numbers none (media_of w c.args.number) refl));
 }

@@ -1,5 +1,5 @@
 use Rattle.std.proofs.Common.{◌≡◌, ℕ, ◌+◌, ◌*◌, eqb, cond, Option, Some, sym, ap, ◌∙◌, arith}
-use Rattle.mg_engine.specs.Ports.{slot_of}
+use Rattle.mg_engine.specs.aids.Ports.{slot_of}
 use Rattle.mg_engine.proofs.PoolLaws.{slot_more, slot_below}
 use Rattle.mg_engine.proofs.ports.Ports.new.Goals as goal
 

@@ -1,7 +1,7 @@
 use Rattle.mg_rooms.specs.Outcome.{add}
 use Rattle.mg_rooms.proofs.RoomsLaws.{gives_sound, gives_lasts}
 use Rattle.mg_rooms.proofs.LastLaws.{add_lasts}
-use Rattle.mg_rooms.proofs.SoundLaws.{add_sound}
+use Rattle.mg_rooms.proofs.ConsistentLaws.{add_sound}
 use Rattle.mg_rooms.proofs.rooms.Rooms.add.Goals as goal
 
 pub invariant_of-self : goal.invariant_of-self

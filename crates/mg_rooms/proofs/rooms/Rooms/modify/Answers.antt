@@ -1,7 +1,7 @@
 use Rattle.mg_rooms.specs.Outcome.{modify}
 use Rattle.mg_rooms.proofs.RoomsLaws.{gives_sound, gives_lasts}
 use Rattle.mg_rooms.proofs.LastLaws.{modify_lasts}
-use Rattle.mg_rooms.proofs.SoundLaws.{modify_sound}
+use Rattle.mg_rooms.proofs.ConsistentLaws.{modify_sound}
 use Rattle.mg_rooms.proofs.rooms.Rooms.modify.Goals as goal
 
 pub invariant_of-self : goal.invariant_of-self

@@ -1,7 +1,7 @@
 use Rattle.mg_rooms.specs.Outcome.{move_to}
 use Rattle.mg_rooms.proofs.RoomsLaws.{gives_sound, gives_lasts}
 use Rattle.mg_rooms.proofs.LastLaws.{move_keeps}
-use Rattle.mg_rooms.proofs.SoundLaws.{move_sound}
+use Rattle.mg_rooms.proofs.ConsistentLaws.{move_sound}
 use Rattle.mg_rooms.proofs.rooms.Rooms.move_to.Goals as goal
 
 pub invariant_of-self : goal.invariant_of-self

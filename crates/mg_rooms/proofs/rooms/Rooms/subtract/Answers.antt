@@ -1,7 +1,7 @@
 use Rattle.mg_rooms.specs.Outcome.{subtract}
 use Rattle.mg_rooms.proofs.RoomsLaws.{gives_sound, gives_lasts}
 use Rattle.mg_rooms.proofs.LastLaws.{subtract_lasts}
-use Rattle.mg_rooms.proofs.SoundLaws.{subtract_sound}
+use Rattle.mg_rooms.proofs.ConsistentLaws.{subtract_sound}
 use Rattle.mg_rooms.proofs.rooms.Rooms.subtract.Goals as goal
 
 pub invariant_of-self : goal.invariant_of-self

@@ -1,5 +1,5 @@
 use Rattle.std.proofs.Common.{ap, arith}
-use Rattle.mg_rooms.specs.Tables.{world_of}
+use Rattle.mg_rooms.specs.aids.Tables.{world_of}
 use Rattle.mg_rooms.proofs.CallLaws.{with_more, slot_is_empty, inserted_kept, inserted_is}
 use Rattle.mg_rooms.proofs.tables.Tables.insert.Goals as goal
 

@@ -1,5 +1,5 @@
 use Rattle.std.proofs.Common.{ap}
-use Rattle.mg_rooms.specs.Tables.{world_of}
+use Rattle.mg_rooms.specs.aids.Tables.{world_of}
 use Rattle.mg_rooms.specs.Changes.{with_members}
 use Rattle.mg_rooms.specs.Members.{without}
 use Rattle.mg_rooms.proofs.CallLaws.{left_there, unchanged_context, with_contexts}

@@ -1,5 +1,5 @@
 use Rattle.std.proofs.Common.{ap, None}
-use Rattle.mg_rooms.specs.Tables.{world_of}
+use Rattle.mg_rooms.specs.aids.Tables.{world_of}
 use Rattle.mg_rooms.proofs.CallLaws.{removed_is, with_terminations, unchanged_termination}
 use Rattle.mg_rooms.proofs.tables.Tables.remove.Goals as goal
 

@@ -1,0 +1,258 @@
+-- Each item of a reply is wide, and the last ends an action.
+use Rattle.std.proofs.Common.{◌≡◌, ℕ, ◌+◌, ◌/◌, ◌%◌, ◌≤◌, zero, suc, Bool, true, false, ◌&&◌, ◌||◌, ◌==◌, not, List, [], ◌∷◌, ◌++◌, length, Result, Ok, Err, refl, ◌∙◌, length-append, arith, codes, decimal, if◌then◌else◌}
+use Rattle.std.specs.Fmt.{digits, digits_onto, digit_glyph}
+use Rattle.std.specs.List.{list_all}
+use Rattle.std.proofs.lemmas.Bool.{and_parts, le-leb}
+use Rattle.std.proofs.lemmas.List.Folds.{list_all-append}
+use Rattle.mg_scan.specs.Span.{text_of}
+use Rattle.mg_words.specs.CommandWord.{command_text}
+use Rattle.mg_words.specs.ContextId.{context_text}
+use Rattle.mg_words.specs.ErrorNumber.{error_row, error_text}
+use Rattle.mg_words.specs.ResultSteps.{◌>>=◌}
+use Rattle.mg_words.specs.Term.{is_term, rtp_name}
+use Rattle.mg_words.specs.declared.command_word.CommandWord.{CommandWord}
+use Rattle.mg_words.specs.declared.command_word.CommandWord.TheVariants as words
+use Rattle.mg_words.specs.declared.context_id.ContextId.{ContextId}
+use Rattle.mg_words.specs.declared.context_id.ContextId.TheVariants as contexts
+use Rattle.mg_words.specs.declared.error_number.ErrorNumber.{ErrorNumber}
+use Rattle.mg_words.specs.declared.error_number.ErrorNumber.TheVariants.{NotServed}
+use Rattle.mg_reply.specs.declared.item.Item.{Item}
+use Rattle.mg_reply.specs.declared.item.Item.TheVariants as replies
+use Rattle.mg_reply.specs.declared.outcome.Outcome.{Outcome}
+use Rattle.mg_reply.specs.declared.outcome.Outcome.TheVariants.{Failed, Done}
+use Rattle.mg_reply.specs.declared.outcome.Parts.{Parts}
+use Rattle.mg_reply.specs.Entries.{outcome_text}
+use Rattle.mg_reply.specs.Listed.{listed}
+use Rattle.mg_reply.specs.Reply.{is_refusal, last_is_action}
+use Rattle.mg_reply.specs.Theorems.{is_wide}
+use Rattle.mg_rooms.specs.declared.target.Target.{Target}
+use Rattle.mg_rooms.specs.declared.target.Target.TheVariants as targets
+use Rattle.mg_engine.specs.declared.edit.Edit.TheVariants as edits
+use Rattle.mg_engine.specs.Gateway.{Gateway}
+use Rattle.mg_text.specs.declared.command.Command.{Command}
+use Rattle.mg_text.specs.declared.request.Action.{Action}
+use Rattle.mg_text.specs.Proper.{property_is_proper, command_is_proper, action_is_proper}
+use Rattle.mg_commands.specs.declared.command_parameters.CommandParameters.{CommandParameters}
+use Rattle.mg_commands.specs.declared.name.Name.{Name}
+use Rattle.mg_commands.specs.declared.name.Name.TheVariants as names
+use Rattle.mg_commands.specs.declared.served.Served.{Served}
+use Rattle.mg_commands.specs.Name.{name_of, written_as, written_name}
+use Rattle.mg_commands.specs.Outcome.{CommandOutcome, check_command, check_new_name, number_in, edit_outcome, in_same_world, outcome_by_word, outcome, reply_parts, served_at}
+use Rattle.mg_commands.specs.ReplyDescriptors.{descriptors_after, descriptors_before}
+use Rattle.mg_commands.specs.Theorems.{ItemsAreWide, ItemsAreWhole}
+use Rattle.mg_commands.specs.Transaction.{ActionState, TransactionState, after_command, with_command, go_on, with_commands, is_refused, action_start, action_end, refusal, with_action, rest_of, with_actions, replied}
+
+-- ## Texts
+
+if_longer : (b : Bool) (m : ℕ) (xs ys : List ℕ) → m ≤ length xs → m ≤ length ys → m ≤ length (if b then xs else ys)
+if_longer true m xs ys h k = h
+if_longer false m xs ys h k = k
+
+onto_longer : (k base : ℕ) (upper : Bool) (n : ℕ) (acc : List ℕ) → length acc ≤ length (digits_onto k base upper n acc)
+onto_longer zero base upper n acc = omega arith
+onto_longer (suc k) base upper n acc =
+    let x = digit_glyph upper (n % base) in
+    let rest = onto_longer k base upper (n / base) (x ∷ acc) in
+    if_longer (n / base == 0) (length acc) (x ∷ acc) (digits_onto k base upper (n / base) (x ∷ acc)) (omega arith) (omega (arith, rest))
+
+decimal_some : (n : ℕ) → 1 ≤ length (decimal n)
+unfolding digits
+decimal_some n =
+    let x = digit_glyph false (n % 10) in
+    if_longer (n / 10 == 0) 1 (x ∷ []) (digits_onto 63 10 false (n / 10) (x ∷ [])) (omega arith) (onto_longer 63 10 false (n / 10) (x ∷ []))
+
+rtp_long : (n : ℕ) → 5 ≤ length (rtp_name n)
+rtp_long n = omega (arith, length-append (codes "RTP/") (decimal n), decimal_some n)
+
+word_long : (word : CommandWord) → 3 ≤ length (command_text word)
+unfolding command_text
+word_long words.Add = omega arith
+word_long words.Modify = omega arith
+word_long words.Move = omega arith
+word_long words.Subtract = omega arith
+word_long words.AuditValue = omega arith
+word_long words.AuditCapability = omega arith
+word_long words.Notify = omega arith
+word_long words.ServiceChange = omega arith
+
+audit_long : 10 ≤ length (command_text words.AuditValue)
+unfolding command_text
+audit_long = omega arith
+
+error_long : (e : ErrorNumber) → 9 ≤ length (error_text e)
+unfolding error_text
+error_long e =
+    let row = error_row e in
+    omega (arith, length-append (codes "Error=") (decimal row.0 ++ (codes "{\"" ++ (row.1 ++ codes "\"}"))), length-append (decimal row.0) (codes "{\"" ++ (row.1 ++ codes "\"}")), length-append (codes "{\"") (row.1 ++ codes "\"}"), length-append row.1 (codes "\"}"))
+
+context_some : (id : ContextId) → 1 ≤ length (context_text id)
+context_some contexts.Null = omega arith
+context_some contexts.Choose = omega arith
+context_some contexts.All = omega arith
+context_some (contexts.Number n) = decimal_some n
+
+term_some : (text : List ℕ) → is_term text ≡ true → 1 ≤ length text
+term_some [] h = absurd (cc h)
+term_some (x ∷ xs) h = omega arith
+
+written_some : (text : List ℕ) (name : Name) → 1 ≤ length text → 1 ≤ length (written_as text name)
+written_some text names.Root h = omega arith
+written_some text names.Choose h = omega arith
+written_some text names.All h = omega arith
+written_some text (names.Number n) h = omega (arith, rtp_long n)
+written_some text names.Other h = h
+
+name_some : (text : List ℕ) → is_term text ≡ true → 1 ≤ length (written_name text)
+unfolding written_name
+name_some text h = written_some text (name_of text) (term_some text h)
+
+-- ## Items
+
+action_wide : (id : ContextId) → is_wide (replies.Action id) ≡ true
+action_wide id = le-leb 9 _ (omega (arith, length-append (codes "Context=") (context_text id ++ []), length-append (context_text id) [], context_some id))
+
+fault_wide : (e : ErrorNumber) → is_wide (replies.Fault e) ≡ true
+fault_wide e = le-leb 9 _ (error_long e)
+
+command_wide : (word : CommandWord) (term : List ℕ) (o : Outcome) → 9 ≤ length (command_text word) + (1 + (length term + length (outcome_text o))) → is_wide (replies.Command word term o) ≡ true
+command_wide word term o h = le-leb 9 _ (omega (arith, h, length-append (command_text word) (codes "=" ++ (term ++ outcome_text o)), length-append (codes "=") (term ++ outcome_text o), length-append term (outcome_text o)))
+
+failed_long : (e : ErrorNumber) → 9 ≤ length (outcome_text (Failed e))
+unfolding listed
+failed_long e = omega (arith, error_long e, length-append (codes "{" ++ (error_text e ++ [])) (codes "}"), length-append (codes "{") (error_text e ++ []), length-append (error_text e) [])
+
+-- ## Outcomes
+
+by_bind : {A B E : Type 0} (P : Result B E → Type 0) (r : Result A E) (f : A → Result B E) → ((x : A) → P (f x)) → ((e : E) → P (Err e)) → P (r >>= f)
+by_bind P (Ok x) f h e = h x
+by_bind P (Err y) f h e = e y
+
+-- what a command tells, if it is done, is long enough by its word and its termination's name
+data IsLong (word : CommandWord) : CommandOutcome → Type 0 where
+  done : (p : Gateway × Served) → 9 ≤ length (command_text word) + (1 + length p.1.term) → IsLong word (Ok p)
+  failed : (e : ErrorNumber) → IsLong word (Err e)
+
+named : (word : CommandWord) (w : Gateway) (target : Target) (n : ℕ) (parts : Parts) → IsLong word (Ok (w, served_at target n parts))
+named word w target n parts = done (w, served_at target n parts) (omega (arith, word_long word, rtp_long n))
+
+audit_is_long : (w : Gateway) (r : Result Served ErrorNumber) → IsLong words.AuditValue (in_same_world w r)
+audit_is_long w (Ok s) = done (w, s) (omega (arith, audit_long))
+audit_is_long w (Err e) = failed e
+
+by_word_long : (word : CommandWord) (w : Gateway) (target : Target) (name : Name) (parameters : CommandParameters) → IsLong word (outcome_by_word word w target name parameters)
+by_word_long words.Add w target name parameters = by_bind (IsLong words.Add) (check_new_name w name) _ (λ u. by_bind (IsLong words.Add) (edit_outcome w (edits.Add target parameters.settings)) _ (λ p. named words.Add p.0 (targets.Number p.1.context) p.1.termination (reply_parts (descriptors_after parameters) p.0 p.1.termination)) failed) failed
+by_word_long words.Modify w target name parameters = by_bind (IsLong words.Modify) (number_in name) _ (λ n. by_bind (IsLong words.Modify) (edit_outcome w (edits.Modify target n parameters.settings)) _ (λ p. named words.Modify p.0 target n (reply_parts (descriptors_after parameters) p.0 n)) failed) failed
+by_word_long words.Move w target name parameters = by_bind (IsLong words.Move) (number_in name) _ (λ n. by_bind (IsLong words.Move) (edit_outcome w (edits.Move target n parameters.settings)) _ (λ p. named words.Move p.0 (targets.Number p.1.context) n (reply_parts (descriptors_after parameters) p.0 n)) failed) failed
+by_word_long words.Subtract w target name parameters = by_bind (IsLong words.Subtract) (number_in name) _ (λ n. by_bind (IsLong words.Subtract) (edit_outcome w (edits.Subtract target n)) _ (λ p. named words.Subtract p.0 target n (reply_parts (descriptors_before parameters) w n)) failed) failed
+by_word_long words.AuditValue w target name parameters = audit_is_long w _
+by_word_long words.AuditCapability w target name parameters = failed NotServed
+by_word_long words.Notify w target name parameters = failed NotServed
+by_word_long words.ServiceChange w target name parameters = failed NotServed
+
+outcome_long : (source : List ℕ) (w : Gateway) (target : Target) (c : Command) → IsLong c.word (outcome source w target c)
+unfolding outcome
+outcome_long source w target c = by_bind (IsLong c.word) (check_command source (name_of (text_of source c.term)) c) _ (λ parameters. by_word_long c.word w target (name_of (text_of source c.term)) parameters) failed
+
+-- ## Items of a run
+
+abbrev AreWide : List Item → Type 0
+AreWide xs = list_all is_wide xs ≡ true
+
+both_true : (a b : Bool) → a ≡ true → b ≡ true → (a && b) ≡ true
+both_true true b h k = k
+both_true false b h k = h
+
+wide_last : (xs : List Item) (x : Item) → AreWide xs → is_wide x ≡ true → AreWide (xs ++ x ∷ [])
+wide_last xs x h k = list_all-append is_wide xs (x ∷ []) ∙ both_true (list_all is_wide xs) (is_wide x && true) h (both_true (is_wide x) true k refl)
+
+after_command_wide : (source : List ℕ) (run : ActionState) (c : Command) (r : CommandOutcome) → IsLong c.word r → command_is_proper source c ≡ true → AreWide run.items → AreWide (after_command source run c r).0.items
+after_command_wide source run c (Ok p) (done _ h) proper wide = wide_last run.items (replies.Command c.word p.1.term (Done p.1.parts)) wide (command_wide c.word p.1.term (Done p.1.parts) (omega (arith, h)))
+after_command_wide source run c (Err e) (failed _) proper wide = wide_last run.items (replies.Command c.word (written_name (text_of source c.term)) (Failed e)) wide (command_wide c.word (written_name (text_of source c.term)) (Failed e) (omega (arith, failed_long e)))
+
+with_command_wide : (source : List ℕ) (run : ActionState) (c : Command) → command_is_proper source c ≡ true → AreWide run.items → AreWide (with_command source c run).0.items
+with_command_wide source run c proper wide = after_command_wide source run c (outcome source run.gateway run.target c) (outcome_long source run.gateway run.target c) proper wide
+
+go_on_wide : (rest : ActionState → ActionState × Bool) (x : ActionState × Bool) → AreWide x.0.items → ((run : ActionState) → AreWide run.items → AreWide (rest run).0.items) → AreWide (go_on rest x).0.items
+go_on_wide rest (run, true) h k = k run h
+go_on_wide rest (run, false) h k = h
+
+commands_wide : (source : List ℕ) (cs : List Command) (run : ActionState) → list_all (command_is_proper source) cs ≡ true → AreWide run.items → AreWide (with_commands source cs run).0.items
+unfolding with_commands
+commands_wide source [] run proper wide = wide
+commands_wide source (c ∷ cs) run proper wide =
+    let two = and_parts (command_is_proper source c) (list_all (command_is_proper source) cs) proper in
+    go_on_wide (with_commands source cs) (with_command source c run) (with_command_wide source run c two.0 wide) (λ next h. commands_wide source cs next two.1 h)
+
+action_end_wide : (x : ActionState × Bool) → AreWide x.0.items → AreWide (action_end x).0.items
+action_end_wide (run, is_done) h = wide_last run.items _ h (action_wide _)
+
+refusal_wide : (a : Action) (s : TransactionState) → AreWide s.items → AreWide (refusal a s).0.items
+refusal_wide a s h = list_all-append is_wide s.items (replies.Fault NotServed ∷ replies.Action a.context ∷ []) ∙ both_true (list_all is_wide s.items) _ h (both_true (is_wide (replies.Fault NotServed)) _ (fault_wide NotServed) (both_true (is_wide (replies.Action a.context)) true (action_wide a.context) refl))
+
+if_holds : {A : Type 0} (P : A → Type 0) (b : Bool) (x y : A) → P x → P y → P (if b then x else y)
+if_holds P true x y h k = h
+if_holds P false x y h k = k
+
+with_action_wide : (source : List ℕ) (a : Action) (s : TransactionState) → action_is_proper source a ≡ true → AreWide s.items → AreWide (with_action source a s).0.items
+unfolding with_action
+with_action_wide source a s proper wide =
+    let two = and_parts (list_all (property_is_proper source) a.properties) (list_all (command_is_proper source) a.commands) proper in
+    if_holds (λ (x : TransactionState × Bool). AreWide x.0.items) (is_refused a) (refusal a s) (action_end (with_commands source a.commands (action_start a s)))
+    (refusal_wide a s wide) (action_end_wide (with_commands source a.commands (action_start a s)) (commands_wide source a.commands (action_start a s) two.1 wide))
+
+rest_of_holds : (P : TransactionState → Type 0) (rest : TransactionState → TransactionState) (x : TransactionState × Bool) → P x.0 → ((s : TransactionState) → P s → P (rest s)) → P (rest_of rest x)
+rest_of_holds P rest (s, true) h k = k s h
+rest_of_holds P rest (s, false) h k = h
+
+actions_wide : (source : List ℕ) (xs : List Action) (s : TransactionState) → list_all (action_is_proper source) xs ≡ true → AreWide s.items → AreWide (with_actions source xs s).items
+unfolding with_actions
+actions_wide source [] s proper wide = wide
+actions_wide source (a ∷ xs) s proper wide =
+    let two = and_parts (action_is_proper source a) (list_all (action_is_proper source) xs) proper in
+    rest_of_holds (λ (s : TransactionState). AreWide s.items) (with_actions source xs) (with_action source a s) (with_action_wide source a s two.0 wide) (λ next h. actions_wide source xs next two.1 h)
+
+pub items_are_wide : ItemsAreWide
+items_are_wide source request w proper =
+    let two = and_parts (not (length request.actions == 0)) (list_all (action_is_proper source) request.actions) proper in
+    actions_wide source request.actions (record { gateway = w; items = [] }) two.1 refl
+
+-- ## The last item
+
+abbrev HasEnded : TransactionState → Type 0
+HasEnded s = last_is_action false s.items ≡ true
+
+last_action : (b : Bool) (xs : List Item) (id : ContextId) → last_is_action b (xs ++ replies.Action id ∷ []) ≡ true
+last_action b [] id = refl
+last_action b (x ∷ xs) id = last_action _ xs id
+
+last_refusal : (b : Bool) (xs : List Item) (e : ErrorNumber) (id : ContextId) → last_is_action b (xs ++ replies.Fault e ∷ replies.Action id ∷ []) ≡ true
+last_refusal b [] e id = refl
+last_refusal b (x ∷ xs) e id = last_refusal _ xs e id
+
+action_end_last : (x : ActionState × Bool) → HasEnded (action_end x).0
+action_end_last (run, is_done) = last_action false run.items _
+
+with_action_last : (source : List ℕ) (a : Action) (s : TransactionState) → HasEnded (with_action source a s).0
+unfolding with_action
+with_action_last source a s =
+    if_holds (λ (x : TransactionState × Bool). HasEnded x.0) (is_refused a) (refusal a s) (action_end (with_commands source a.commands (action_start a s)))
+    (last_refusal false s.items NotServed a.context) (action_end_last (with_commands source a.commands (action_start a s)))
+
+actions_last : (source : List ℕ) (xs : List Action) (s : TransactionState) → HasEnded s → HasEnded (with_actions source xs s)
+unfolding with_actions
+actions_last source [] s h = h
+actions_last source (a ∷ xs) s h = rest_of_holds HasEnded (with_actions source xs) (with_action source a s) (with_action_last source a s) (actions_last source xs)
+
+some_actions_last : (source : List ℕ) (xs : List Action) (s : TransactionState) → not (length xs == 0) ≡ true → HasEnded (with_actions source xs s)
+unfolding with_actions
+some_actions_last source [] s h = absurd (cc h)
+some_actions_last source (a ∷ xs) s h = rest_of_holds HasEnded (with_actions source xs) (with_action source a s) (with_action_last source a s) (actions_last source xs)
+
+or_true : (a b : Bool) → b ≡ true → (a || b) ≡ true
+or_true true b h = refl
+or_true false b h = h
+
+pub items_are_whole : ItemsAreWhole
+items_are_whole source request w proper =
+    let two = and_parts (not (length request.actions == 0)) (list_all (action_is_proper source) request.actions) proper in
+    or_true (is_refusal (replied source request w).items) (last_is_action false (replied source request w).items) (some_actions_last source request.actions (record { gateway = w; items = [] }) two.0)

@@ -1,8 +1,0 @@
-use Rattle.mg_commands.specs.Faults.{media_part_fault}
-use Rattle.mg_commands.proofs.FaultSteps.{walk_hit}
-use Rattle.mg_commands.proofs.faults.media_fault.Goals as goal
-
-pub returns-in-Some : goal.returns-in-Some
-returns-in-Some c = record {
-  value = walk_hit (media_part_fault c.args.source.now) c.args.parts.now c.loop-i.i c.index-parts-i.result _ c.split_at.result.0.now _ _ c.in-Some.fault c.loop-i-test.true c.index-parts-i.is c.split_at.ensures.front c.media_part_fault.ensures.value c.in-Some.is c.loop-i.invariant;
-}

@@ -1,0 +1,5 @@
+use Rattle.mg_commands.proofs.RunLaws.{request_ran}
+use Rattle.mg_commands.proofs.transactions.transaction.Goals as goal
+
+pub returns-clause-ran : goal.returns-clause-ran
+returns-clause-ran c = request_ran c.args.source.now c.args.request.now c.args.engine.now c.try_actions.new.engine c.start.new.self c.try_actions.new.reply c.start.ensures.value (rw c.as_slice.ensures.value at c.try_actions.ensures.ran)

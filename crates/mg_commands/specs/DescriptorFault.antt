@@ -1,0 +1,71 @@
+-- The first fault of the descriptors of a command, in the order of its text (RFC 3525, section 7.1;
+-- which descriptors are served is this project's own).
+use Rattle.std.specs.Prelude.{ℕ, Bool, true, false, ◌&&◌, ◌==◌, List, [], Option, Some, None, codes}
+use Rattle.std.specs.Prelude.{if◌then◌else◌}
+use Rattle.std.specs.List.{list_any}
+use Rattle.std.specs.Str.{str_eq_ignore_ascii_case}
+use Rattle.mg_scan.specs.declared.span.Span.{Span}
+use Rattle.mg_scan.specs.Span.{text_of}
+use Rattle.mg_words.specs.declared.error_number.ErrorNumber.{ErrorNumber}
+use Rattle.mg_words.specs.declared.error_number.ErrorNumber.TheVariants.{DescriptorTwice}
+use Rattle.mg_words.specs.declared.error_number.ErrorNumber.TheVariants.{DescriptorNotServed}
+use Rattle.mg_text.specs.declared.descriptor.OtherWord.{OtherWord}
+use Rattle.mg_text.specs.declared.descriptor.OtherWord.TheVariants as others
+use Rattle.mg_text.specs.declared.descriptor.Descriptor.{Descriptor}
+use Rattle.mg_text.specs.declared.media.ControlPart.{ControlPart}
+use Rattle.mg_text.specs.declared.media.ControlPart.TheVariants as controls
+use Rattle.mg_commands.specs.declared.part.Part.{Part}
+use Rattle.mg_commands.specs.declared.part.Part.TheVariants as parts
+use Rattle.mg_commands.specs.Part.{parts_of}
+use Rattle.mg_commands.specs.Search.{first_after}
+
+abbrev pub same_word : OtherWord → OtherWord → Bool
+same_word others.Signals others.Signals = true
+same_word others.Events others.Events = true
+same_word others.Modem others.Modem = true
+same_word others.Mux others.Mux = true
+same_word others.DigitMap others.DigitMap = true
+same_word others.EventBuffer others.EventBuffer = true
+same_word _ _ = false
+
+-- the one property that is served, in letters of any case
+unfoldable pub is_jitter : List ℕ → Span → Bool
+is_jitter source name = str_eq_ignore_ascii_case (text_of source name) (codes "nt/jit")
+
+-- of the properties with a name, nt/jit alone may not stand twice
+abbrev pub same_control : List ℕ → ControlPart → ControlPart → Bool
+same_control source (controls.Mode a) (controls.Mode b) = true
+same_control source (controls.ReservedValue a) (controls.ReservedValue b) = true
+same_control source (controls.ReservedGroup a) (controls.ReservedGroup b) = true
+same_control source (controls.Property a v) (controls.Property b w) =
+    is_jitter source a && is_jitter source b
+same_control source _ _ = false
+
+-- whether a word stands twice: within a stream alone, and a Stream may
+abbrev pub is_same : List ℕ → Part → Part → Bool
+is_same source parts.Media parts.Media = true
+is_same source parts.Audit parts.Audit = true
+is_same source (parts.Other a x) (parts.Other b y) = same_word a b
+is_same source (parts.TerminationState x) (parts.TerminationState y) = true
+is_same source (parts.Local n a) (parts.Local k b) = n == k
+is_same source (parts.Remote n a) (parts.Remote k b) = n == k
+is_same source (parts.LocalControl n) (parts.LocalControl k) = n == k
+is_same source (parts.Control n a) (parts.Control k b) = n == k && same_control source a b
+is_same source _ _ = false
+
+-- a descriptor that isn't served may stand alone or with empty braces
+abbrev pub is_unserved : Part → Bool
+is_unserved (parts.Other word has_content) = has_content
+is_unserved (parts.TerminationState has_content) = has_content
+is_unserved _ = false
+
+abbrev pub fault_of : Bool → Part → Option ErrorNumber
+fault_of stood x =
+    if stood then Some DescriptorTwice
+    else (if is_unserved x then Some DescriptorNotServed else None)
+
+abbrev pub part_fault : List ℕ → List Part → Part → Option ErrorNumber
+part_fault source before x = fault_of (list_any (is_same source x) before) x
+
+abbrev pub descriptors_fault : List ℕ → List Descriptor → Option ErrorNumber
+descriptors_fault source xs = first_after (part_fault source) [] (parts_of xs)

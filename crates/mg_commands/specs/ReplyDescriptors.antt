@@ -1,0 +1,39 @@
+-- What a reply is to tell of a termination (RFC 3525, sections 7.2 and 7.1.12).
+use Rattle.std.specs.Prelude.{◌||◌, not, Bool, true, false, ◌∷◌, Option, Some}
+use Rattle.mg_rooms.specs.declared.media_setting.MediaSetting.{MediaSetting}
+use Rattle.mg_rooms.specs.declared.media_setting.MediaSetting.TheVariants as settings
+use Rattle.mg_commands.specs.declared.command_parameters.CommandParameters.{CommandParameters}
+use Rattle.mg_commands.specs.declared.reply_descriptors.ReplyDescriptors.{ReplyDescriptors}
+
+-- a Local that isn't blank was set
+abbrev pub is_offer : Option MediaSetting → Bool
+is_offer (Some (settings.Offer (x ∷ xs))) = true
+is_offer _ = false
+
+-- after an Add, Modify or Move: what is audited, and the Local that was set
+abbrev pub descriptors_after : CommandParameters → ReplyDescriptors
+descriptors_after parameters =
+    record {
+      media = parameters.audits_media;
+      local = is_offer parameters.settings.local;
+      statistics = parameters.audits_statistics;
+    }
+
+-- by an AuditValue: what is audited
+abbrev pub descriptors_by_audit : CommandParameters → ReplyDescriptors
+descriptors_by_audit parameters =
+    record {
+      media = parameters.audits_media;
+      local = false;
+      statistics = parameters.audits_statistics;
+    }
+
+-- before a Subtract: what is audited, and without an audit the counters
+abbrev pub descriptors_before : CommandParameters → ReplyDescriptors
+descriptors_before parameters =
+    record {
+      media = parameters.audits_media;
+      local = false;
+      statistics = parameters.audits_statistics
+          || not parameters.has_audit;
+    }

@@ -1,0 +1,4 @@
+pub mod Words
+pub mod Levels
+pub mod Parameters
+pub mod Runs

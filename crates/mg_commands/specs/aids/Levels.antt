@@ -1,0 +1,66 @@
+-- The first fault of descriptors level by level, as the program looks for it: a part is looked at
+-- with those before it at its own level.
+use Rattle.std.specs.Prelude.{ℕ, Bool, false, ◌&&◌, ◌||◌, ◌==◌, List, [], Option, true}
+use Rattle.std.specs.List.{list_any}
+use Rattle.mg_words.specs.declared.error_number.ErrorNumber.{ErrorNumber}
+use Rattle.mg_text.specs.declared.descriptor.Descriptor.{Descriptor}
+use Rattle.mg_text.specs.declared.media.ControlPart.{ControlPart}
+use Rattle.mg_text.specs.declared.media.ControlPart.TheVariants as controls
+use Rattle.mg_text.specs.declared.media.StreamPart.{StreamPart}
+use Rattle.mg_text.specs.declared.media.MediaPart.{MediaPart}
+use Rattle.mg_text.specs.declared.media.MediaPart.TheVariants as media
+use Rattle.mg_commands.specs.declared.part.Part.{Part}
+use Rattle.mg_commands.specs.declared.part.Part.TheVariants as parts
+use Rattle.mg_commands.specs.DescriptorFault.{is_jitter, same_control, is_same, fault_of}
+use Rattle.mg_commands.specs.Search.{or_else, first_after}
+use Rattle.mg_commands.specs.aids.Words.{stream_word, controls_within, descriptor_word}
+use Rattle.mg_commands.specs.aids.Words.{media_within}
+
+-- a part of a LocalControl that may stand once
+abbrev pub is_single : List ℕ → ControlPart → Bool
+is_single source (controls.Mode mode) = true
+is_single source (controls.ReservedValue is_on) = true
+is_single source (controls.ReservedGroup is_on) = true
+is_single source (controls.Property name value) = is_jitter source name
+
+abbrev pub control_level : List ℕ → ℕ → List ControlPart → ControlPart → Option ErrorNumber
+control_level source n before x =
+    fault_of (list_any (same_control source x) before) (parts.Control n x)
+
+abbrev pub is_same_word : List ℕ → Part → ℕ → StreamPart → Bool
+is_same_word source x n y = is_same source x (stream_word n y)
+
+-- whether a part of the stream n stands in a part of a Media descriptor
+abbrev pub stands_in : List ℕ → Part → ℕ → MediaPart → Bool
+stands_in source x n (media.Part y) = n == 1 && is_same_word source x 1 y
+stands_in source x n (media.Stream k ys) = n == k && list_any (is_same_word source x k) ys
+stands_in source x n (media.TerminationState has_content) = false
+
+abbrev pub stood_in_media : List ℕ → List MediaPart → ℕ → List StreamPart → Part → Bool
+stood_in_media source parts n before x =
+    list_any (is_same_word source x n) before || list_any (stands_in source x n) parts
+
+abbrev pub stream_level : List ℕ → List MediaPart → ℕ → List StreamPart → StreamPart
+    → Option ErrorNumber
+stream_level source parts n before x =
+    or_else (fault_of (stood_in_media source parts n before (stream_word n x)) (stream_word n x))
+    (first_after (control_level source n) [] (controls_within x))
+
+abbrev pub is_state : MediaPart → Bool
+is_state (media.Part x) = false
+is_state (media.Stream n xs) = false
+is_state (media.TerminationState has_content) = true
+
+abbrev pub media_level : List ℕ → List MediaPart → MediaPart → Option ErrorNumber
+media_level source before (media.Part x) = stream_level source before 1 [] x
+media_level source before (media.Stream n xs) = first_after (stream_level source before n) [] xs
+media_level source before (media.TerminationState has_content) =
+    fault_of (list_any is_state before) (parts.TerminationState has_content)
+
+abbrev pub is_same_descriptor : List ℕ → Part → Descriptor → Bool
+is_same_descriptor source x y = is_same source x (descriptor_word y)
+
+abbrev pub descriptor_level : List ℕ → List Descriptor → Descriptor → Option ErrorNumber
+descriptor_level source before x =
+    or_else (fault_of (list_any (is_same_descriptor source (descriptor_word x)) before)
+    (descriptor_word x)) (first_after (media_level source) [] (media_within x))

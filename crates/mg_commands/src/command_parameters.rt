@@ -1,0 +1,132 @@
+ghost use Rattle.std.specs.Prelude.{◌≡◌};
+ghost use Rattle.mg_commands.specs.Search.{or_else};
+ghost use Rattle.mg_commands.specs.aids.Parameters.{nothing_asked, with_part};
+ghost use Rattle.mg_commands.specs.CommandParameters.{mode_in, depth_of, depth_in, setting_of, local_in, remote_in, parameters_of};
+
+use crate::descriptor_fault::is_jitter;
+use crate::descriptor_parts::DescriptorParts;
+use crate::part::Part;
+use crate::property_fault::jitter_of;
+use mg_engine::{MediaSetting, Mode, Settings};
+use mg_scan::Span;
+use mg_sdp::read_sessions;
+use mg_text::{AuditWord, ControlPart, Descriptor};
+
+/// What a command asks for, by its descriptors.
+#[derive(Debug, Drop)]
+pub struct CommandParameters {
+    /// What it sets.
+    pub settings: Settings,
+    /// Whether it has an Audit descriptor.
+    pub has_audit: bool,
+    /// Whether it asks for the media.
+    pub audits_media: bool,
+    /// Whether it asks for the statistics.
+    pub audits_statistics: bool,
+}
+
+/// The depth of a play list, in frames of 20 ms, that holds so many milliseconds.
+fn depth_of(jitter: u16) -> u16
+    ensures value { result ≡ depth_of jitter }
+{
+    let frames = (u32::from(jitter) + 19) / 20;
+    frames as u16
+}
+
+/// What the content of a Local or Remote sets.
+fn setting_of(source: &[u8], text: Span) -> MediaSetting
+    ensures value { result ≡ setting_of source.now text }
+{
+    match read_sessions(text.text(source)) {
+        Ok(sessions) => MediaSetting::Offer(sessions),
+        Err(_) => MediaSetting::Unreadable,
+    }
+}
+
+fn mode_in(part: Part) -> Option<Mode>
+    ensures value { result ≡ mode_in part }
+{
+    match part {
+        Part::Control(_, ControlPart::Mode(mode)) => Some(mode),
+        _ => None,
+    }
+}
+
+fn depth_in(source: &[u8], part: Part) -> Option<u16>
+    ensures value { result ≡ depth_in source.now part }
+{
+    match part {
+        Part::Control(_, ControlPart::Property(name, value)) if is_jitter(source, name) => {
+            jitter_of(source, value).map(depth_of)
+        }
+        _ => None,
+    }
+}
+
+fn local_in(source: &[u8], part: Part) -> Option<MediaSetting>
+    ensures value { result ≡ local_in source.now part }
+{
+    match part {
+        Part::Local(_, text) => Some(setting_of(source, text)),
+        _ => None,
+    }
+}
+
+fn remote_in(source: &[u8], part: Part) -> Option<MediaSetting>
+    ensures value { result ≡ remote_in source.now part }
+{
+    match part {
+        Part::Remote(_, text) => Some(setting_of(source, text)),
+        _ => None,
+    }
+}
+
+/// Keeps what was found, where nothing was found before.
+fn keep_first<T: Drop>(kept: &mut Option<T>, found: Option<T>)
+    ensures value { kept.new ≡ or_else kept.old found }
+{
+    if kept.is_none() {
+        *kept = found;
+    }
+}
+
+impl CommandParameters {
+    /// Nothing is asked for.
+    fn nothing() -> CommandParameters
+        ensures value { result ≡ nothing_asked }
+    {
+        CommandParameters {
+            settings: Settings::default(),
+            has_audit: false,
+            audits_media: false,
+            audits_statistics: false,
+        }
+    }
+
+    /// Takes what a part says, where none of its kind was there before.
+    fn take(&mut self, source: &[u8], part: Part)
+        ensures value { self.new ≡ with_part source.now self.old part }
+    {
+        keep_first(&mut self.settings.mode, mode_in(part));
+        keep_first(&mut self.settings.depth, depth_in(source, part));
+        keep_first(&mut self.settings.local, local_in(source, part));
+        keep_first(&mut self.settings.remote, remote_in(source, part));
+        match part {
+            Part::Audit => self.has_audit = true,
+            Part::Audited(AuditWord::Media) => self.audits_media = true,
+            Part::Audited(AuditWord::Statistics) => self.audits_statistics = true,
+            _ => {}
+        }
+    }
+}
+
+/// What descriptors ask for.
+pub fn parameters_of(source: &[u8], descriptors: &[Descriptor]) -> CommandParameters
+    ensures value { result ≡ parameters_of source.now descriptors.now }
+{
+    let mut parameters = CommandParameters::nothing();
+    for part in DescriptorParts::new(descriptors) {
+        parameters.take(source, part);
+    }
+    parameters
+}

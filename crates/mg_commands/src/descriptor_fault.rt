@@ -1,0 +1,260 @@
+ghost use Rattle.std.specs.Prelude.{◌≡◌, [], ◌&&◌, ◌||◌, ◌==◌};
+ghost use Rattle.std.specs.List.{list_any};
+ghost use Rattle.mg_commands.specs.DescriptorFault.{same_word, is_jitter, same_control, is_same, is_unserved, fault_of, descriptors_fault};
+ghost use Rattle.mg_commands.specs.Search.{first_after};
+ghost use Rattle.mg_commands.specs.aids.Levels.{is_single, control_level, is_same_word, stands_in, stream_level, is_state, media_level, is_same_descriptor, descriptor_level};
+
+use crate::descriptor_parts::{open_descriptor, open_stream_part};
+use crate::part::Part;
+use mg_scan::Span;
+use mg_text::{ControlPart, Descriptor, ErrorNumber, MediaPart, OtherWord, StreamPart};
+
+/// Whether a property is `nt/jit`, the one that is served, in letters of any case.
+#[tactic(auto, unfolding(crate::specs::DescriptorFault::is_jitter))]
+pub fn is_jitter(source: &[u8], name: Span) -> bool
+    ensures value { result ≡ is_jitter source.now name }
+{
+    name.text(source).eq_ignore_ascii_case(b"nt/jit")
+}
+
+fn same_word(a: OtherWord, b: OtherWord) -> bool
+    ensures value { result ≡ same_word a b }
+{
+    matches!(
+        (a, b),
+        (OtherWord::Signals, OtherWord::Signals)
+            | (OtherWord::Events, OtherWord::Events)
+            | (OtherWord::Modem, OtherWord::Modem)
+            | (OtherWord::Mux, OtherWord::Mux)
+            | (OtherWord::DigitMap, OtherWord::DigitMap)
+            | (OtherWord::EventBuffer, OtherWord::EventBuffer)
+    )
+}
+
+fn same_control(source: &[u8], a: &ControlPart, b: &ControlPart) -> bool
+    ensures value { result ≡ same_control source.now a.now b.now }
+{
+    match (a, b) {
+        (ControlPart::Mode(_), ControlPart::Mode(_))
+        | (ControlPart::ReservedValue(_), ControlPart::ReservedValue(_))
+        | (ControlPart::ReservedGroup(_), ControlPart::ReservedGroup(_)) => true,
+        (ControlPart::Property(a, _), ControlPart::Property(b, _)) => {
+            is_jitter(source, *a) && is_jitter(source, *b)
+        }
+        _ => false,
+    }
+}
+
+/// Whether two parts are the same word of the same stream, of which one may stand.
+fn is_same(source: &[u8], a: Part, b: Part) -> bool
+    ensures value { result ≡ is_same source.now a b }
+{
+    match (a, b) {
+        (Part::Media, Part::Media) | (Part::Audit, Part::Audit) => true,
+        (Part::Other(a, _), Part::Other(b, _)) => same_word(a, b),
+        (Part::TerminationState(_), Part::TerminationState(_)) => true,
+        (Part::Local(n, _), Part::Local(k, _)) | (Part::Remote(n, _), Part::Remote(k, _)) => n == k,
+        (Part::LocalControl(n), Part::LocalControl(k)) => n == k,
+        (Part::Control(n, a), Part::Control(k, b)) => n == k && same_control(source, &a, &b),
+        _ => false,
+    }
+}
+
+/// The fault of a part: that its word stood before, or else that it has content and isn't served.
+fn fault_of(stood: bool, part: Part) -> Option<ErrorNumber>
+    ensures value { result ≡ fault_of stood part }
+{
+    match part {
+        _ if stood => Some(ErrorNumber::DescriptorTwice),
+        Part::Other(_, true) | Part::TerminationState(true) => {
+            Some(ErrorNumber::DescriptorNotServed)
+        }
+        _ => None,
+    }
+}
+
+/// Whether a part of a LocalControl is one that may stand once alone. Any number of the others may stand there, and
+/// none of them looks back.
+fn is_single(source: &[u8], part: &ControlPart) -> bool
+    ensures value { result ≡ is_single source.now part.now }
+{
+    match part {
+        ControlPart::Property(name, _) => is_jitter(source, *name),
+        ControlPart::Mode(_) | ControlPart::ReservedValue(_) | ControlPart::ReservedGroup(_) =>
+            true,
+    }
+}
+
+/// Whether a part of a LocalControl stood before.
+fn stood_in_control(source: &[u8], part: &ControlPart, before: &[ControlPart]) -> bool
+    ensures value { result ≡ list_any (same_control source.now part.now) before.now }
+{
+    is_single(source, part) && before.iter().any(|other| same_control(source, part, other))
+}
+
+/// The first fault within a LocalControl of a stream.
+#[tactic(auto, using(crate::proofs::FaultSteps::walking))]
+fn controls_fault(source: &[u8], stream: u32, parts: &[ControlPart]) -> Option<ErrorNumber>
+    ensures value { result ≡ first_after (control_level source.now stream) [] parts.now }
+{
+    for (i, part) in parts.iter().enumerate() {
+        let (before, _) = parts.split_at(i);
+        let stood = stood_in_control(source, part, before);
+        if let Some(fault) = fault_of(stood, Part::Control(stream, *part)) {
+            return Some(fault);
+        }
+    }
+    None
+}
+
+fn is_same_word(source: &[u8], part: &Part, stream: u32, other: &StreamPart) -> bool
+    ensures value { result ≡ is_same_word source.now part.now stream other.now }
+{
+    let (word, _) = open_stream_part(stream, other);
+    is_same(source, *part, word)
+}
+
+/// Whether a part stands among the parts of a stream.
+fn stands_among(source: &[u8], part: &Part, stream: u32, parts: &[StreamPart]) -> bool
+    ensures value { result ≡ list_any (is_same_word source.now part.now stream) parts.now }
+{
+    parts
+        .iter()
+        .any(|other| is_same_word(source, part, stream, other))
+}
+
+/// Whether a part of a stream stands in a part of a Media descriptor. The streams' numbers are compared first: a
+/// message has room for some 700 streams.
+fn stands_in(source: &[u8], part: &Part, stream: u32, other: &MediaPart) -> bool
+    ensures value { result ≡ stands_in source.now part.now stream other.now }
+{
+    match other {
+        MediaPart::Part(x) => stream == 1 && is_same_word(source, part, 1, x),
+        MediaPart::Stream(number, parts) => {
+            stream == *number && stands_among(source, part, *number, parts.as_slice())
+        }
+        MediaPart::TerminationState(_) => false,
+    }
+}
+
+/// Whether a part of a stream stands in the parts of a Media descriptor.
+fn stands_in_media(source: &[u8], part: &Part, stream: u32, media: &[MediaPart]) -> bool
+    ensures value { result ≡ list_any (stands_in source.now part.now stream) media.now }
+{
+    media
+        .iter()
+        .any(|other| stands_in(source, part, stream, other))
+}
+
+/// The first fault of a part of a stream.
+fn stream_part_fault(
+    source: &[u8],
+    media: &[MediaPart],
+    stream: u32,
+    before: &[StreamPart],
+    part: &StreamPart,
+) -> Option<ErrorNumber>
+    ensures value { result ≡ stream_level source.now media.now stream before.now part.now }
+{
+    let (word, controls) = open_stream_part(stream, part);
+    let stood = stands_among(source, &word, stream, before)
+        || stands_in_media(source, &word, stream, media);
+    match fault_of(stood, word) {
+        Some(fault) => Some(fault),
+        None => controls_fault(source, stream, controls),
+    }
+}
+
+/// The first fault within a Stream after parts of its Media descriptor.
+#[tactic(auto, using(crate::proofs::FaultSteps::walking))]
+fn stream_fault(
+    source: &[u8],
+    media: &[MediaPart],
+    stream: u32,
+    parts: &[StreamPart],
+) -> Option<ErrorNumber>
+    ensures value { result ≡ first_after (stream_level source.now media.now stream) [] parts.now }
+{
+    for (i, part) in parts.iter().enumerate() {
+        let (before, _) = parts.split_at(i);
+        if let Some(fault) = stream_part_fault(source, media, stream, before, part) {
+            return Some(fault);
+        }
+    }
+    None
+}
+
+/// Whether a TerminationState stands among parts of a Media descriptor.
+fn has_state(parts: &[MediaPart]) -> bool
+    ensures value { result ≡ list_any is_state parts.now }
+{
+    parts
+        .iter()
+        .any(|part| matches!(part, MediaPart::TerminationState(_)))
+}
+
+/// The first fault of a part of a Media descriptor.
+fn media_part_fault(source: &[u8], before: &[MediaPart], part: &MediaPart) -> Option<ErrorNumber>
+    ensures value { result ≡ media_level source.now before.now part.now }
+{
+    match part {
+        MediaPart::Part(x) => stream_part_fault(source, before, 1, &[], x),
+        MediaPart::Stream(number, parts) => stream_fault(source, before, *number, parts.as_slice()),
+        MediaPart::TerminationState(has_content) => {
+            fault_of(has_state(before), Part::TerminationState(*has_content))
+        }
+    }
+}
+
+/// The first fault within a Media descriptor.
+#[tactic(auto, using(crate::proofs::FaultSteps::walking))]
+fn media_fault(source: &[u8], parts: &[MediaPart]) -> Option<ErrorNumber>
+    ensures value { result ≡ first_after (media_level source.now) [] parts.now }
+{
+    for (i, part) in parts.iter().enumerate() {
+        let (before, _) = parts.split_at(i);
+        if let Some(fault) = media_part_fault(source, before, part) {
+            return Some(fault);
+        }
+    }
+    None
+}
+
+/// Whether a descriptor's word stood before.
+fn stood_in_command(source: &[u8], word: Part, before: &[Descriptor]) -> bool
+    ensures value { result ≡ list_any (is_same_descriptor source.now word) before.now }
+{
+    before
+        .iter()
+        .any(|other| is_same(source, word, open_descriptor(other).0))
+}
+
+/// The first fault of a descriptor.
+fn descriptor_fault(
+    source: &[u8],
+    before: &[Descriptor],
+    descriptor: &Descriptor,
+) -> Option<ErrorNumber>
+    ensures value { result ≡ descriptor_level source.now before.now descriptor.now }
+{
+    let (word, media, _) = open_descriptor(descriptor);
+    match fault_of(stood_in_command(source, word, before), word) {
+        Some(fault) => Some(fault),
+        None => media_fault(source, media),
+    }
+}
+
+/// The first fault in the descriptors of a command: a word that stood there already, or a descriptor with content
+/// that isn't served.
+#[tactic(auto, using(crate::proofs::FaultSteps::walking))]
+pub fn descriptors_fault(source: &[u8], descriptors: &[Descriptor]) -> Option<ErrorNumber>
+    ensures value { result ≡ descriptors_fault source.now descriptors.now }
+{
+    for (i, descriptor) in descriptors.iter().enumerate() {
+        let (before, _) = descriptors.split_at(i);
+        if let Some(fault) = descriptor_fault(source, before, descriptor) {
+            return Some(fault);
+        }
+    }
+    None
+}

@@ -1,0 +1,62 @@
+ghost use Rattle.std.specs.Prelude.{◌≡◌};
+ghost use Rattle.mg_commands.specs.PropertyFault.{jitter_of, control_fault, property_fault, properties_fault};
+
+use crate::descriptor_fault::is_jitter;
+use crate::descriptor_parts::DescriptorParts;
+use crate::part::Part;
+use mg_text::{ControlPart, Descriptor, ErrorNumber, PropertyValue};
+use mg_words::uint16_of;
+
+/// The value of `nt/jit` in milliseconds: a word of one to five digits, at most 65535.
+pub fn jitter_of(source: &[u8], value: Option<PropertyValue>) -> Option<u16>
+    ensures value { result ≡ jitter_of source.now value }
+{
+    match value {
+        Some(PropertyValue::Word(word)) => uint16_of(word.text(source)),
+        Some(PropertyValue::Quoted(_) | PropertyValue::Group) | None => None,
+    }
+}
+
+/// The fault of a part of a LocalControl: a reservation, or a property that isn't served or has another value than it
+/// may have.
+fn control_fault(source: &[u8], part: &ControlPart) -> Option<ErrorNumber>
+    ensures value { result ≡ control_fault source.now part.now }
+{
+    match part {
+        ControlPart::Mode(_) => None,
+        ControlPart::ReservedValue(is_on) | ControlPart::ReservedGroup(is_on) => {
+            is_on.then_some(ErrorNumber::NotServed)
+        }
+        ControlPart::Property(name, value) => {
+            if is_jitter(source, *name) && jitter_of(source, *value).is_some() {
+                None
+            } else {
+                Some(ErrorNumber::PropertyNotServed)
+            }
+        }
+    }
+}
+
+/// The fault of a part. A stream other than 1 is one.
+fn property_fault(source: &[u8], part: Part) -> Option<ErrorNumber>
+    ensures value { result ≡ property_fault source.now part }
+{
+    match part {
+        Part::Stream(1) => None,
+        Part::Stream(_) => Some(ErrorNumber::NotServed),
+        Part::Control(_, control) => control_fault(source, &control),
+        _ => None,
+    }
+}
+
+/// The first property at fault in the descriptors of a command.
+pub fn properties_fault(source: &[u8], descriptors: &[Descriptor]) -> Option<ErrorNumber>
+    ensures value { result ≡ properties_fault source.now descriptors.now }
+{
+    for part in DescriptorParts::new(descriptors) {
+        if let Some(fault) = property_fault(source, part) {
+            return Some(fault);
+        }
+    }
+    None
+}

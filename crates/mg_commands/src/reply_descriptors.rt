@@ -1,0 +1,61 @@
+ghost use Rattle.std.specs.Prelude.{◌≡◌};
+ghost use Rattle.mg_commands.specs.ReplyDescriptors.{is_offer, descriptors_after, descriptors_by_audit, descriptors_before};
+
+use crate::command_parameters::CommandParameters;
+use mg_engine::MediaSetting;
+
+/// What a reply is to tell of a termination.
+#[derive(Clone, Copy, Debug, PartialEq, Eq)]
+pub struct ReplyDescriptors {
+    /// All that is set of its media.
+    pub media: bool,
+    /// Its Local, where not all of its media are told.
+    pub local: bool,
+    /// Its counters.
+    pub statistics: bool,
+}
+
+/// Whether a Local that isn't blank was set.
+fn is_offer(setting: &Option<MediaSetting>) -> bool
+    ensures value { result ≡ is_offer setting.now }
+{
+    match setting {
+        Some(MediaSetting::Offer(sessions)) => !sessions.is_blank(),
+        Some(MediaSetting::Clear | MediaSetting::Unreadable) | None => false,
+    }
+}
+
+impl ReplyDescriptors {
+    /// After an Add, Modify or Move: what is audited, and the Local that was set.
+    pub fn after(parameters: &CommandParameters) -> ReplyDescriptors
+        ensures value { result ≡ descriptors_after parameters.now }
+    {
+        ReplyDescriptors {
+            media: parameters.audits_media,
+            local: is_offer(&parameters.settings.local),
+            statistics: parameters.audits_statistics,
+        }
+    }
+
+    /// By an AuditValue: what is audited.
+    pub fn by_audit(parameters: &CommandParameters) -> ReplyDescriptors
+        ensures value { result ≡ descriptors_by_audit parameters.now }
+    {
+        ReplyDescriptors {
+            media: parameters.audits_media,
+            local: false,
+            statistics: parameters.audits_statistics,
+        }
+    }
+
+    /// Before a Subtract: what is audited, and without an audit the counters.
+    pub fn before(parameters: &CommandParameters) -> ReplyDescriptors
+        ensures value { result ≡ descriptors_before parameters.now }
+    {
+        ReplyDescriptors {
+            media: parameters.audits_media,
+            local: false,
+            statistics: parameters.audits_statistics || !parameters.has_audit,
+        }
+    }
+}

@@ -1,0 +1,77 @@
+ghost use Rattle.std.specs.Prelude.{◌≡◌};
+ghost use Rattle.mg_engine.specs.Gateway.{Gateway, stats_of};
+ghost use Rattle.mg_engine.specs.Stands.{StandsFor};
+ghost use Rattle.mg_commands.specs.Outcome.{media_of_record, whole_media, as_local_media, local_media, when, reply_media, reply_parts};
+
+use crate::reply_descriptors::ReplyDescriptors;
+use mg_engine::{Engine, Record, Stats};
+use mg_text::{Control, Media, Parts};
+
+/// All that is set of a termination's media.
+fn media_of_record(termination: Record) -> Media
+    ensures value { result ≡ media_of_record termination }
+{
+    Media::Whole {
+        control: Control {
+            mode: termination.mode,
+            depth: termination.depth,
+        },
+        local: termination.local,
+        remote: termination.remote,
+    }
+}
+
+/// All that is set of a termination's media.
+fn whole_media(engine: &Engine, number: u32) -> Option<Media>
+    ensures value { (w : Gateway) → StandsFor engine.now w → result ≡ whole_media w number }
+{
+    match engine.rooms().record(number) {
+        Some(record) => Some(media_of_record(record)),
+        None => None,
+    }
+}
+
+/// The Local of a termination, alone.
+fn local_media(engine: &Engine, number: u32) -> Option<Media>
+    ensures value { (w : Gateway) → StandsFor engine.now w → result ≡ local_media w number }
+{
+    let record = engine.rooms().record(number)?;
+    match record.local {
+        Some(chosen) => Some(Media::Local(chosen)),
+        None => None,
+    }
+}
+
+/// The whole media, or else the Local alone.
+fn reply_media(engine: &Engine, number: u32, descriptors: ReplyDescriptors) -> Option<Media>
+    ensures value { (w : Gateway) → StandsFor engine.now w → result ≡ reply_media descriptors w number }
+{
+    if descriptors.media {
+        whole_media(engine, number)
+    } else if descriptors.local {
+        local_media(engine, number)
+    } else {
+        None
+    }
+}
+
+/// The counters, if they are wanted.
+fn reply_statistics(engine: &Engine, number: u32, is_wanted: bool) -> Option<Stats>
+    ensures value { (w : Gateway) → StandsFor engine.now w → result ≡ when is_wanted (stats_of w number) }
+{
+    if is_wanted {
+        engine.stats(number)
+    } else {
+        None
+    }
+}
+
+/// What a reply tells of a termination.
+pub fn reply_parts(engine: &Engine, number: u32, descriptors: ReplyDescriptors) -> Parts
+    ensures value { (w : Gateway) → StandsFor engine.now w → result ≡ reply_parts descriptors w number }
+{
+    Parts {
+        media: reply_media(engine, number, descriptors),
+        statistics: reply_statistics(engine, number, descriptors.statistics),
+    }
+}

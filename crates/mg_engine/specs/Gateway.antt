@@ -1,0 +1,104 @@
+-- What a gateway is, seen from outside: its configuration, its terminations with their media, its
+-- contexts with their members, and what happened in them (RFC 3525, section 6; RFC 3550).
+use Rattle.std.specs.Prelude.{ℕ, ℤ, pos, ◌==◌, Bool, false, List, [], Option, Some, None, find, map}
+use Rattle.std.specs.Prelude.{replicate}
+use Rattle.std.specs.Option.{option_map}
+use Rattle.mg_words.specs.declared.association.Association.{Association}
+use Rattle.mg_playout.specs.Playout.{PlayList, first_state}
+use Rattle.mg_words.specs.declared.mode.Mode.{Mode}
+use Rattle.mg_words.specs.declared.mode.Mode.TheVariants.{Inactive}
+use Rattle.mg_rooms.specs.declared.record.Record.{Record}
+use Rattle.mg_rooms.specs.Registry as rooms
+use Rattle.mg_engine.specs.declared.config.Config.{Config}
+use Rattle.mg_engine.specs.Config.{limits_of}
+use Rattle.mg_words.specs.declared.stats.Stats.{Stats}
+use Rattle.mg_words.specs.Stats.{no_packets}
+
+-- The media of one termination: the frames that wait for their turn, the frame that this tick plays
+-- (160 samples), its counters, how many ticks it has lived, how many packets it has sent, and
+-- whether it sent one in its last tick.
+pub record TerminationMedia : Type 0 where
+  pub number : ℕ
+  pub play : PlayList
+  pub frame : List ℤ
+  pub stats : Stats
+  pub ticks : ℕ
+  pub packets : ℕ
+  pub sent_last : Bool
+
+-- What happens to the members of contexts: one enters a context or leaves it, or a triple of a
+-- topology descriptor is applied to the members that its two names matched at that time (RFC 3525,
+-- section 7.1.18).
+pub data ContextEdit : Type 0 where
+  Enter : (member : ℕ) → ContextEdit
+  Leave : (member : ℕ) → ContextEdit
+  Apply : (first second : List ℕ) → (association : Association) → ContextEdit
+
+-- What the gateway was started with; the terminations by their records, and the contexts with their
+-- members, as rooms has them; the media of each termination, in the order of their numbers; and all
+-- that happened to the members of all contexts so far, newest first.
+pub record Gateway : Type 0 where
+  pub config : Config
+  pub rooms : rooms.Registry
+  pub media : List TerminationMedia
+  pub edits : List ContextEdit
+
+-- the world that nothing was done in
+abbrev pub start_of : Config → Gateway
+start_of config = record {
+  config = config;
+  rooms = rooms.start_of (limits_of config);
+  media = [];
+  edits = [];
+}
+
+abbrev pub silence : List ℤ
+silence = replicate 160 (pos 0)
+
+-- the media of a termination as it is made
+abbrev pub new_media : ℕ → TerminationMedia
+new_media n = record {
+  number = n;
+  play = first_state;
+  frame = silence;
+  stats = no_packets;
+  ticks = 0;
+  packets = 0;
+  sent_last = false;
+}
+
+-- ## What is looked up by the number of a termination
+
+abbrev pub media_of : Gateway → ℕ → Option TerminationMedia
+media_of w n = find (λ s. s.number == n) w.media
+
+-- the counters of a termination, if there is one
+abbrev pub stats_of : Gateway → ℕ → Option Stats
+stats_of w n = option_map (λ s. s.stats) (media_of w n)
+
+-- ## The same of any number: one that names no termination is Inactive, in context 0, and silent
+
+abbrev pub mode_in : Option Record → Mode
+mode_in None = Inactive
+mode_in (Some r) = r.mode
+
+abbrev pub mode_of : Gateway → ℕ → Mode
+mode_of w n = mode_in (rooms.record_at w.rooms n)
+
+abbrev pub context_in : Option Record → ℕ
+context_in None = 0
+context_in (Some r) = r.context
+
+abbrev pub context_of : Gateway → ℕ → ℕ
+context_of w n = context_in (rooms.record_at w.rooms n)
+
+abbrev pub frame_in : Option TerminationMedia → List ℤ
+frame_in None = silence
+frame_in (Some s) = s.frame
+
+-- the frame that this tick plays
+abbrev pub frame_of : Gateway → ℕ → List ℤ
+frame_of w n = frame_in (media_of w n)
+
+abbrev pub numbers_of : Gateway → List ℕ
+numbers_of w = map (λ r. r.number) w.rooms.terminations

@@ -1,0 +1,71 @@
+-- What is sent in a tick, by what an engine keeps: no triple was applied, so all members of a
+-- context hear each other.
+use Rattle.std.specs.Prelude.{◌≡◌, ℕ, ℤ, pos, ◌+◌, ◌%◌, ◌^◌, ◌==◌, ◌&&◌, not, Bool, List, ◌++◌, map}
+use Rattle.std.specs.Prelude.{filter_map, Option, Some, None, slice_index_or, slice_set, Ok, Err}
+use Rattle.std.specs.Prelude.{if◌then◌else◌}
+use Rattle.std.specs.List.{range_with_len}
+use Rattle.std.specs.Option.{option_map}
+use Rattle.mg_g711.specs.Law.{byte_of}
+use Rattle.mg_rtp.specs.Header.{header_bytes, plain}
+use Rattle.mg_sdp.specs.declared.chosen.Chosen.{Chosen}
+use Rattle.mg_rooms.specs.declared.record.Record.{Record}
+use Rattle.mg_rooms.specs.Limits.{slot_port}
+use Rattle.mg_rooms.specs.Registry as rooms
+use Rattle.mg_words.specs.Mode.{talks, listens}
+use Rattle.mg_engine.specs.declared.datagram.Datagram.{Datagram}
+use Rattle.mg_engine.specs.declared.taken.Taken.{Taken}
+use Rattle.mg_engine.specs.declared.taken.Taken.TheVariants.{Placed, Dropped}
+use Rattle.mg_engine.specs.Arrival.{Arrived}
+use Rattle.mg_engine.specs.Media as media
+use Rattle.mg_engine.specs.Mixing.{limited}
+use Rattle.mg_engine.specs.Mix.{sum_of, is_loopback}
+use Rattle.mg_engine.specs.Stands.{EngineState, media_at}
+use Rattle.mg_engine.specs.Tick.{type_of, sent_to, is_sender}
+
+abbrev pub sample_at : List media.SlotMedia → ℕ → ℕ → ℤ
+sample_at kept slot i = slice_index_or (media_at kept slot).frame i (pos 0)
+
+-- what a member adds to the total of its context
+abbrev pub talking_now : List media.SlotMedia → ℕ → Option Record → ℤ
+talking_now kept i None = pos 0
+talking_now kept i (Some r) = if talks r.mode then sample_at kept r.slot i else pos 0
+
+abbrev pub flows_now : Record → Record → Bool
+flows_now t l =
+    (t.context == l.context) && (not (t.number == l.number) && (talks t.mode && listens l.mode))
+
+abbrev pub part_now : List media.SlotMedia → Record → ℕ → Record → ℤ
+part_now kept l i t = if flows_now t l then sample_at kept t.slot i else pos 0
+
+abbrev pub heard_now : List media.SlotMedia → List Record → Record → ℕ → ℤ
+heard_now kept rs l i = sum_of (part_now kept l i) rs
+
+abbrev pub mix_now : List media.SlotMedia → List Record → Record → ℕ → ℤ
+mix_now kept rs l i =
+    if is_loopback l.mode then sample_at kept l.slot i else limited (heard_now kept rs l i)
+
+abbrev pub mixed_now : List media.SlotMedia → List Record → Record → List ℤ
+mixed_now kept rs l = map (mix_now kept rs l) (range_with_len 0 160)
+
+abbrev pub packet_now : EngineState → Record → Chosen → Datagram
+packet_now k r to = record {
+  from = slot_port k.rooms.limits r.slot;
+  to = record { address = to.address; port = to.port };
+  bytes = header_bytes plain (media.header (media_at k.media r.slot) (type_of to.law)
+      ((k.config.ssrc + r.number) % 2 ^ 32))
+      ++ map (byte_of to.law) (mixed_now k.media k.rooms.terminations r);
+}
+
+abbrev pub packets_now : EngineState → List Datagram
+packets_now k = filter_map (λ r. option_map (packet_now k r) (sent_to r)) k.rooms.terminations
+
+-- whether the termination that holds a slot sends
+abbrev pub slot_sends : rooms.Registry → ℕ → Bool
+slot_sends w slot = is_sender (rooms.holder_of w slot)
+
+-- what became of what came to a slot: a frame was placed, or the media stayed as they were
+abbrev pub PlacedAt : List media.SlotMedia → List media.SlotMedia → ℕ → Arrived → Taken → Type 0
+PlacedAt old new slot (Ok p) result =
+    (new ≡ slice_set old slot (media.placed (media_at old slot) p.0 p.1).0)
+    × (result ≡ Placed ((media.placed (media_at old slot) p.0 p.1).1))
+PlacedAt old new slot (Err cause) result = (new ≡ old) × (result ≡ Dropped cause)

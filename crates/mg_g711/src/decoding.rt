@@ -1,0 +1,74 @@
+//! Decoding, sixteen bytes at a time.
+//!
+//! A level is `16 * exponent + mantissa`, and a magnitude is a small number times a power of two. The
+//! power is looked up among the lanes of a vector, which is one instruction of the processor.
+
+ghost use Rattle.std.specs.Prelude.{◌≡◌, ℕ, ◌+◌, ◌<◌, ◌≤◌, length, slice_index, pos};
+ghost use Rattle.mg_g711.specs.Law.{sample_of};
+ghost use Rattle.mg_g711.specs.aids.Chunks.{WritesChunk};
+
+use crate::law::Law;
+use std::simd::prelude::*;
+
+/// How many bytes are decoded at a time.
+pub const LANES: usize = 16;
+
+// By exponent, what mu-law multiplies by. The last eight are not looked up.
+const MU_FACTORS: [u8; LANES] = [1, 2, 4, 8, 16, 32, 64, 128, 0, 0, 0, 0, 0, 0, 0, 0];
+
+// By exponent, what A-law adds to eight times the mantissa, and then multiplies by.
+const A_STARTS: [u8; LANES] = [4, 132, 132, 132, 132, 132, 132, 132, 0, 0, 0, 0, 0, 0, 0, 0];
+
+const A_FACTORS: [u8; LANES] = [2, 2, 4, 8, 16, 32, 64, 128, 0, 0, 0, 0, 0, 0, 0, 0];
+
+/// Decodes a chunk into the places from `at` on.
+pub fn decode_chunk(law: Law, chunk: &[u8; LANES], samples: &mut [i16], at: usize)
+    requires within { at + 16 ≤ length samples.old }
+    requires bytes { (j : ℕ) → j < 16 → slice_index chunk.now j < 256 }
+    ensures { WritesChunk 16 samples.old samples.new at (λ j.
+        sample_of law (slice_index chunk.now j)) }
+{
+    match law {
+        Law::Mu => decode_mu(chunk, samples, at),
+        Law::A => decode_a(chunk, samples, at),
+    }
+}
+
+/// Decodes a chunk by mu-law into the places from `at` on.
+fn decode_mu(chunk: &[u8; LANES], samples: &mut [i16], at: usize)
+    requires within { at + 16 ≤ length samples.old }
+    requires bytes { (j : ℕ) → j < 16 → slice_index chunk.now j < 256 }
+    ensures { WritesChunk 16 samples.old samples.new at (λ j.
+        sample_of Law.Mu (slice_index chunk.now j)) }
+{
+    let turned = u8x16::from_array(*chunk) ^ u8x16::splat(0xff);
+    let exponents = (turned >> u8x16::splat(4)) & u8x16::splat(7);
+    let factors = u8x16::from_array(MU_FACTORS).swizzle_dyn(exponents);
+    let starts = ((turned & u8x16::splat(15)) << u8x16::splat(3)) + u8x16::splat(132);
+    let biased = starts.cast::<u16>() * factors.cast::<u16>();
+    let magnitudes = (biased - u16x16::splat(132)).cast::<i16>();
+    let are_positive = turned.cast::<u16>().simd_lt(u16x16::splat(128));
+    are_positive
+        .select(magnitudes, magnitudes * i16x16::splat(-1))
+        .copy_to_slice(&mut samples[at..]);
+}
+
+/// Decodes a chunk by A-law into the places from `at` on. The sign is turned round with the bits that
+/// A-law inverts.
+fn decode_a(chunk: &[u8; LANES], samples: &mut [i16], at: usize)
+    requires within { at + 16 ≤ length samples.old }
+    requires bytes { (j : ℕ) → j < 16 → slice_index chunk.now j < 256 }
+    ensures { WritesChunk 16 samples.old samples.new at (λ j.
+        sample_of Law.A (slice_index chunk.now j)) }
+{
+    let turned = u8x16::from_array(*chunk) ^ u8x16::splat(0xd5);
+    let exponents = (turned >> u8x16::splat(4)) & u8x16::splat(7);
+    let factors = u8x16::from_array(A_FACTORS).swizzle_dyn(exponents);
+    let first = u8x16::from_array(A_STARTS).swizzle_dyn(exponents);
+    let starts = ((turned & u8x16::splat(15)) << u8x16::splat(3)) + first;
+    let magnitudes = (starts.cast::<u16>() * factors.cast::<u16>()).cast::<i16>();
+    let are_positive = turned.cast::<u16>().simd_lt(u16x16::splat(128));
+    are_positive
+        .select(magnitudes, magnitudes * i16x16::splat(-1))
+        .copy_to_slice(&mut samples[at..]);
+}

@@ -1,2 +1,0 @@
-pub mod DigitSteps
-pub mod CutLaws

@@ -1,3 +1,0 @@
-pub mod Cut
-pub mod Numbers
-pub mod Address

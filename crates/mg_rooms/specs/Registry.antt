@@ -1,0 +1,79 @@
+-- The terminations and contexts of a gateway (RFC 3525, section 6).
+use Rattle.std.specs.Prelude.{◌≡◌, ℕ, Bool, not, ◌&&◌, List, [], Option, Some, None, ◌==◌, nat_le}
+use Rattle.std.specs.Prelude.{find}
+use Rattle.std.specs.List.{list_any, range_with_len}
+use Rattle.mg_rooms.specs.declared.record.Record.{Record}
+use Rattle.mg_rooms.specs.declared.context.Context.{Context}
+use Rattle.mg_rooms.specs.declared.limits.Limits.{Limits}
+use Rattle.mg_words.specs.Limits.{context_limit, member_limit, last_termination, last_context}
+
+-- terminations and contexts stand in the order of their numbers, which is that of their making
+pub record Registry : Type 0 where
+  pub limits : Limits
+  pub terminations : List Record
+  pub contexts : List Context
+  pub next_termination : ℕ
+  pub next_context : ℕ
+
+-- the world that nothing was done in
+abbrev pub start_of : Limits → Registry
+start_of limits =
+    record {
+      limits = limits;
+      terminations = [];
+      contexts = [];
+      next_termination = limits.first_termination;
+      next_context = limits.first_context;
+    }
+
+-- ## What is looked up
+
+abbrev pub record_at : Registry → ℕ → Option Record
+record_at w n = find (λ r. r.number == n) w.terminations
+
+abbrev pub context_at : Registry → ℕ → Option Context
+context_at w c = find (λ x. x.number == c) w.contexts
+
+-- the termination that holds a slot
+abbrev pub holder_of : Registry → ℕ → Option Record
+holder_of w slot = find (λ r. r.slot == slot) w.terminations
+
+abbrev pub members_of : Option Context → List ℕ
+members_of None = []
+members_of (Some x) = x.members
+
+-- a context that is not there has no members
+abbrev pub members_at : Registry → ℕ → List ℕ
+members_at w c = members_of (context_at w c)
+
+-- ## What is free
+
+-- the least number below n that passes the test
+abbrev pub least_below : ℕ → (ℕ → Bool) → Option ℕ
+least_below n test = find test (range_with_len 0 n)
+
+-- the least slot that no termination holds
+abbrev pub free_slot : Registry → Option ℕ
+free_slot w =
+    least_below w.limits.slots (λ slot. not (list_any (λ r. r.slot == slot) w.terminations))
+
+-- the least room that no context holds
+abbrev pub free_room : Registry → Option ℕ
+free_room w = least_below context_limit (λ room. not (list_any (λ x. x.room == room) w.contexts))
+
+-- the least seat of the context that no termination in it holds
+abbrev pub free_seat : Registry → ℕ → Option ℕ
+free_seat w c =
+    least_below member_limit (λ seat. not
+    (list_any (λ r. (r.context == c) && (r.seat == seat)) w.terminations))
+
+-- numbers rise and are not used again
+abbrev pub has_termination_left : Registry → Bool
+has_termination_left w = nat_le w.next_termination last_termination
+
+abbrev pub has_context_left : Registry → Bool
+has_context_left w = nat_le w.next_context last_context
+
+-- the termination n is in the context c
+abbrev pub IsMember : Registry → ℕ → ℕ → Type 0
+IsMember w c n = (r : Record) × (record_at w n ≡ Some r) × (r.context ≡ c)

@@ -1,0 +1,4 @@
+pub mod Entering
+pub mod Entries
+pub mod Order
+pub mod Tables

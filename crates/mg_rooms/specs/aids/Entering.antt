@@ -1,0 +1,18 @@
+-- What a place has to be so that a termination can enter there.
+use Rattle.std.specs.Prelude.{◌≡◌, ℕ, ◌<◌, ◌≤◌, List, length, Option, Some, None, not, ◌==◌, find}
+use Rattle.std.specs.List.{list_any}
+use Rattle.mg_rooms.specs.declared.context.Context.{Context}
+use Rattle.mg_rooms.specs.declared.place.Place.{Place}
+use Rattle.mg_words.specs.Limits.{context_limit, member_limit, last_context}
+use Rattle.mg_rooms.specs.Registry.{Registry, least_below, members_of}
+
+-- a free room for a context that is made, or a context that is not full
+abbrev pub CanEnterAt : List Context → ℕ → ℕ → Option ℕ → Type 0
+CanEnterAt contexts next c (Some room) =
+    (least_below context_limit (λ k. not (list_any (λ x. x.room == k) contexts)) ≡ Some room)
+    × (c ≡ next) × (next ≤ last_context)
+CanEnterAt contexts next c None =
+    length (members_of (find (λ x. x.number == c) contexts)) < member_limit
+
+abbrev pub CanEnter : Registry → Place → Type 0
+CanEnter w place = CanEnterAt w.contexts w.next_context place.context place.made

@@ -1,0 +1,23 @@
+-- What the code finds, by its places among the bytes.
+use Rattle.std.specs.Prelude.{◌≡◌, ℕ, ◌+◌, ◌<◌, ◌≤◌, List, drop, length, Option, Some, None, Result}
+use Rattle.std.specs.Prelude.{Ok, Err}
+use Rattle.std.specs.List.{slice_range}
+use Rattle.mg_scan.specs.declared.fault.ScanFault.{ScanFault}
+use Rattle.mg_scan.specs.declared.found.Found.{Found}
+use Rattle.mg_scan.specs.Tokens.{Taken, taken, closing}
+
+-- what was found, by its places among the bytes
+pub record Places (bytes : List ℕ) (want : Option (Result Taken ScanFault))
+    (x : Found) : Type 0 where
+  pub start : x.start ≤ x.end
+  pub end : x.end + closing x.kind ≡ x.next
+  pub some : 0 < x.next
+  pub next : x.next ≤ length bytes
+  pub is : want ≡ taken x.kind (slice_range bytes x.start x.end) (drop x.next bytes)
+
+-- an answer of the code is the wanted one
+abbrev pub FindsAs : List ℕ → Option (Result Taken ScanFault) → Option (Result Found ScanFault)
+    → Type 0
+FindsAs bytes want None = want ≡ None
+FindsAs bytes want (Some (Err f)) = want ≡ Some (Err f)
+FindsAs bytes want (Some (Ok x)) = Places bytes want x

@@ -1,0 +1,4 @@
+pub mod LinesLeft
+pub mod FieldsLeft
+pub mod Progress
+pub mod Reader

@@ -1,0 +1,4 @@
+pub mod HeardLemmas
+pub mod LimitLane
+pub mod SumLemmas
+pub mod TotalLemmas

@@ -1,0 +1,16 @@
+-- What holds of the totals that are kept.
+use Rattle.std.specs.Prelude.{◌≡◌, ℕ, ◌<◌, ◌≤◌, ℤ, List, [], length, slice_index_or, unsigned_abs}
+use Rattle.mg_words.specs.Limits.{context_limit}
+use Rattle.mg_sums.specs.Samples.{sample}
+use Rattle.mg_sums.specs.Sums.{SumsState, AreValidSums, total_of}
+
+-- no number of a row is farther from zero
+abbrev pub AreNear : ℕ → List ℤ → Type 0
+AreNear limit row = (i : ℕ) → i < 160 → unsigned_abs (sample row i) ≤ limit
+
+-- each kept total is the plain sum of its room
+pub record AreTotals (kept : SumsState) (totals : List (List ℤ)) : Type 0 where
+  pub valid : AreValidSums kept
+  pub rooms : length totals ≡ context_limit
+  pub sums : (room i : ℕ) → room < context_limit → i < 160 →
+      sample (slice_index_or totals room []) i ≡ total_of kept room i

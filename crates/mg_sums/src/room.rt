@@ -1,0 +1,41 @@
+ghost use Rattle.std.specs.Prelude.{◌≡◌, ◌<◌};
+ghost use Rattle.mg_words.specs.Limits.{context_limit};
+
+use std::marker::Model;
+
+/// The room of a context, a number below [`CONTEXTS`](crate::CONTEXTS). Contracts see the number.
+#[derive(Clone, Copy, Debug, PartialEq, Eq, Hash)]
+pub struct Room {
+    number: u8,
+}
+
+impl Model for Room {
+    ghost use Rattle.std.specs.Prelude.{ℕ, ◌<◌};
+    ghost use Rattle.mg_words.specs.Limits.{context_limit};
+
+    ghost Value = { ℕ };
+
+    ghost view = { λ room. room.number };
+
+    ghost invariant = { λ room. room.number < context_limit };
+
+    ghost inverse = { λ number. record { number = number } };
+}
+
+impl Room {
+    /// The room with a number.
+    pub fn new(number: u8) -> Self
+        requires { number < context_limit }
+        ensures { result ≡ number }
+    {
+        Room { number }
+    }
+
+    /// Its number.
+    pub fn number(self) -> usize
+        ensures value { result ≡ self }
+        ensures within { result < context_limit }
+    {
+        usize::from(self.number)
+    }
+}

@@ -1,0 +1,41 @@
+ghost use Rattle.std.specs.Prelude.{◌≡◌, ◌<◌};
+ghost use Rattle.mg_words.specs.Limits.{termination_limit};
+
+use std::marker::Model;
+
+/// The row of a termination, the number of its slot below [`TERMINATIONS`](crate::TERMINATIONS). Contracts see the number.
+#[derive(Clone, Copy, Debug, PartialEq, Eq, Hash)]
+pub struct Row {
+    number: u8,
+}
+
+impl Model for Row {
+    ghost use Rattle.std.specs.Prelude.{ℕ, ◌<◌};
+    ghost use Rattle.mg_words.specs.Limits.{termination_limit};
+
+    ghost Value = { ℕ };
+
+    ghost view = { λ row. row.number };
+
+    ghost invariant = { λ row. row.number < termination_limit };
+
+    ghost inverse = { λ number. record { number = number } };
+}
+
+impl Row {
+    /// The row with a number.
+    pub fn new(number: u8) -> Self
+        requires { number < termination_limit }
+        ensures { result ≡ number }
+    {
+        Row { number }
+    }
+
+    /// Its number.
+    pub fn number(self) -> usize
+        ensures value { result ≡ self }
+        ensures within { result < termination_limit }
+    {
+        usize::from(self.number)
+    }
+}

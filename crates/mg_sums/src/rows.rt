@@ -1,0 +1,148 @@
+//! The rows of a mixer, and the three kernels that add them up and count their calls.
+//!
+//! The fields of a row are private to this module. Elsewhere a row is read by its readers alone,
+//! so no other code can add up rows.
+
+ghost use Rattle.std.specs.Prelude.{◌≡◌, ℕ, ◌+◌, ◌%◌, ◌^◌, ◌<◌, ◌+ℤ◌, ◌-ℤ◌, pos, length, replicate};
+ghost use Rattle.std.specs.Option.{option_copied};
+ghost use Rattle.mg_g711.specs.Frame.{IsFrame};
+ghost use Rattle.mg_sums.specs.Samples.{sample, nearest_sample, frame_or_silence};
+ghost use Rattle.mg_sums.specs.Sums.{work_after};
+ghost use Rattle.mg_sums.specs.aids.Totals.{AreNear};
+
+use crate::kernels;
+use mg_g711::Frame;
+use mg_g711::theorems::frames_are_whole;
+use mg_words::SAMPLES;
+use std::marker::Model;
+
+/// The samples of a frame, or of a mix.
+#[derive(Drop)]
+pub struct FrameRow {
+    samples: Frame,
+}
+
+impl Model for FrameRow {
+    ghost use Rattle.std.specs.Prelude.{ℤ, List};
+
+    ghost Value = { List ℤ };
+
+    ghost view = { λ row. row.samples };
+}
+
+/// Sums of samples: a total, or what is left of one.
+#[derive(Drop)]
+pub struct SumRow {
+    sums: [i32; SAMPLES],
+}
+
+impl Model for SumRow {
+    ghost use Rattle.std.specs.Prelude.{ℤ, List};
+
+    ghost Value = { List ℤ };
+
+    ghost view = { λ row. row.sums };
+}
+
+/// Counts a call of a kernel.
+fn count(work: &mut u32)
+    ensures { work.new ≡ work_after 1 work.old }
+{
+    *work = work.wrapping_add(1);
+}
+
+impl FrameRow {
+    /// The row of a frame, or of silence.
+    pub fn new(frame: Option<&Frame>) -> Self
+        ensures value { result ≡ frame_or_silence (option_copied frame.entry) }
+        ensures frame { IsFrame result }
+    {
+        let samples = match frame {
+            Some(frame) => *frame,
+            None => [0; SAMPLES],
+        };
+        frames_are_whole(&samples);
+        FrameRow { samples }
+    }
+
+    /// The samples.
+    pub fn frame(&self) -> &Frame
+        ensures { result.now ≡ self.now }
+    {
+        &self.samples
+    }
+
+    /// Writes the sums, each nearest_sample to 16 bits.
+    pub fn limit(&mut self, sums: &SumRow)
+        ensures limits { (i : ℕ) → i < 160 →
+            sample self.new i ≡ nearest_sample (sample sums.now i) }
+        ensures long { length self.new ≡ 160 }
+    {
+        kernels::limit(&mut self.samples, &sums.sums);
+    }
+}
+
+impl SumRow {
+    /// The row of 160 zeros.
+    pub fn new() -> Self
+        ensures { result ≡ replicate 160 (pos 0) }
+    {
+        SumRow { sums: [0; SAMPLES] }
+    }
+
+    /// The sum at a place.
+    pub fn sum(&self, i: usize) -> &i32
+        requires { i < 160 }
+        ensures { result.now ≡ sample self.now i }
+    {
+        &self.sums[i]
+    }
+
+    /// Adds a row.
+    pub fn add(&mut self, row: &FrameRow, work: &mut u32)
+        requires near { AreNear (2 ^ 30) self.old }
+        ensures sums { (i : ℕ) → i < 160 →
+            sample self.new i ≡ sample self.old i +ℤ sample row.now i }
+        ensures work { work.new ≡ work_after 1 work.old }
+    {
+        count(work);
+        frames_are_whole(&row.samples);
+        kernels::add_row(&mut self.sums, &row.samples);
+    }
+
+    /// Takes a row away.
+    pub fn take(&mut self, row: &FrameRow, work: &mut u32)
+        requires near { AreNear (2 ^ 30) self.old }
+        ensures sums { (i : ℕ) → i < 160 →
+            sample self.new i ≡ sample self.old i -ℤ sample row.now i }
+        ensures work { work.new ≡ work_after 1 work.old }
+    {
+        count(work);
+        frames_are_whole(&row.samples);
+        kernels::take_row(&mut self.sums, &row.samples);
+    }
+
+    /// Takes a row away and adds another in its place.
+    pub fn replace(&mut self, old: &FrameRow, new: &FrameRow, work: &mut u32)
+        requires near { AreNear (2 ^ 29) self.old }
+        ensures sums { (i : ℕ) → i < 160 →
+            sample self.new i ≡ sample self.old i -ℤ sample old.now i +ℤ sample new.now i }
+        ensures work { work.new ≡ work_after 2 work.old }
+    {
+        frames_are_whole(&old.samples);
+        self.take(old, work);
+        self.add(new, work);
+    }
+
+    /// Writes the difference of two rows.
+    pub fn write_difference(&mut self, total: &SumRow, row: &FrameRow, work: &mut u32)
+        requires near { AreNear (2 ^ 30) total.now }
+        ensures sums { (i : ℕ) → i < 160 →
+            sample self.new i ≡ sample total.now i -ℤ sample row.now i }
+        ensures work { work.new ≡ work_after 1 work.old }
+    {
+        count(work);
+        frames_are_whole(&row.samples);
+        kernels::difference(&mut self.sums, &total.sums, &row.samples);
+    }
+}

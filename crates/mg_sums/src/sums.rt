@@ -1,0 +1,231 @@
+ghost use Rattle.std.specs.Prelude.{◌≡◌, ℕ, ◌+◌, ◌^◌, ◌<◌, ◌≤◌, ◌-ℤ◌, [], length, All, map, replicate, slice_set, Some, None, IfOk};
+ghost use Rattle.std.specs.Option.{option_copied};
+ghost use Rattle.mg_words.specs.Limits.{context_limit, termination_limit};
+ghost use Rattle.mg_g711.specs.Frame.{IsFrame};
+ghost use Rattle.mg_g711.specs.Law.{byte_of};
+ghost use Rattle.mg_sums.specs.Samples.{sample, sum_of, silence, frame_or_silence};
+ghost use Rattle.mg_sums.specs.Sums.{sample_in, left_out_by, work_after, frame_calls};
+ghost use Rattle.mg_sums.specs.aids.Totals.{AreNear};
+
+use crate::room::Room;
+use crate::row::Row;
+use crate::rows::{FrameRow, SumRow};
+use mg_g711::{Frame, Law, encode_frame};
+use mg_words::{CONTEXTS, TERMINATIONS};
+use std::alloc::{AllocError, Global};
+use std::marker::Model;
+
+/// The frames of all rows, the rooms that the rows are joined to, and one total for each room.
+///
+/// Contracts see the record `SumsState` of `specs/Sums.antt`, which has no totals: that each kept
+/// total is the sum of its room holds at all times.
+#[derive(Drop)]
+pub struct Sums {
+    frames: Vec<FrameRow>,
+    rooms: [Option<Room>; TERMINATIONS],
+    totals: Vec<SumRow>,
+    // What a mix is made in: its sums, and its samples.
+    rest: SumRow,
+    mix: FrameRow,
+    work: u32,
+}
+
+impl Model for Sums {
+    ghost use Rattle.mg_sums.specs.Sums.{SumsState};
+
+    ghost Value = { SumsState };
+
+    ghost use Rattle.mg_sums.specs.aids.Totals.{AreTotals};
+
+    ghost view = { λ s. record { frames = s.frames.items; rooms = s.rooms; work = s.work } };
+
+    ghost invariant = { λ s.
+        AreTotals
+        (record { frames = s.frames.items; rooms = s.rooms; work = s.work })
+        s.totals.items };
+}
+
+impl Sums {
+    ghost use Rattle.mg_sums.specs.Sums.{first_state, frame_of, room_of, total_of, mix_of, AreOfRoom, AreValidSums};
+
+    /// Rows of silence that are joined nowhere. Fails only where memory is refused, and no other
+    /// call takes any.
+    pub fn new(alloc: Global) -> Result<Self, AllocError>
+        ensures first { IfOk result (λ sums. sums ≡ first_state) }
+    {
+        Ok(Sums {
+            frames: silent_frames(alloc)?,
+            rooms: [None; TERMINATIONS],
+            totals: zero_totals(alloc)?,
+            rest: SumRow::new(),
+            mix: FrameRow::new(None),
+            work: 0,
+        })
+    }
+
+    /// Joins a row that is joined nowhere to a room. From then on its frame is in the room's
+    /// total.
+    pub fn join(&mut self, room: Room, row: Row)
+        requires free { room_of self.old row ≡ None }
+        ensures { self.new ≡ record self.old {
+          rooms = slice_set self.old.rooms row (Some room);
+          work = work_after 1 self.old.work;
+        } }
+    {
+        self.rooms[row.number()] = Some(room);
+        let frame = &self.frames[row.number()];
+        self.totals[room.number()].add(frame, &mut self.work);
+    }
+
+    /// Takes a row out of the room that it is joined to, and its frame out of the room's total.
+    pub fn leave(&mut self, room: Room, row: Row)
+        requires joined { room_of self.old row ≡ Some room }
+        ensures { self.new ≡ record self.old {
+          rooms = slice_set self.old.rooms row None;
+          work = work_after 1 self.old.work;
+        } }
+    {
+        self.rooms[row.number()] = None;
+        let frame = &self.frames[row.number()];
+        self.totals[room.number()].take(frame, &mut self.work);
+    }
+
+    /// Sets the frame of a row, silence for none. Where the row is joined, its old frame leaves
+    /// the total and the new one comes in.
+    pub fn set_frame(&mut self, row: Row, frame: Option<&Frame>)
+        ensures { self.new ≡ record self.old {
+          frames = slice_set self.old.frames row (frame_or_silence (option_copied frame.entry));
+          work = work_after (frame_calls (room_of self.old row)) self.old.work;
+        } }
+    {
+        let new = FrameRow::new(frame);
+        if let Some(room) = self.room(row) {
+            let old = &self.frames[row.number()];
+            self.totals[room.number()].replace(old, &new, &mut self.work);
+        }
+        self.frames[row.number()] = new;
+    }
+
+    /// What is heard in a room without the base and the rows of `minus`, as the payload of a
+    /// packet.
+    ///
+    /// The base is the listener's own row, or none where the listener doesn't talk, and `minus`
+    /// has the rows that are silenced for it. All are joined to the room, and no two are the
+    /// same.
+    pub fn mix(&mut self, room: Room, base: Option<Row>, minus: &[Row], law: Law) -> [u8; 160]
+        requires rows { AreOfRoom self.old.rooms room (left_out_by base minus.now) }
+        ensures mix { result
+            ≡ map (byte_of law) (mix_of self.old room (left_out_by base minus.now)) }
+        ensures kept { self.new ≡ record self.old {
+          work = work_after (1 + length minus.now) self.old.work;
+        } }
+    {
+        let total = &self.totals[room.number()];
+        let frames = self.frames.as_slice();
+        write_rest(&mut self.rest, total, frames, base, minus, &mut self.work);
+        self.mix.limit(&self.rest);
+        encode_frame(law, self.mix.frame())
+    }
+
+    /// Sample `i` of a room's total, which is not limited.
+    pub fn total(&self, room: Room, i: usize) -> &i32
+        requires { i < 160 }
+        ensures { result.now ≡ total_of self.now room i }
+    {
+        self.totals[room.number()].sum(i)
+    }
+
+    /// The frame that was last set for a row: silence where that was none, or before any.
+    pub fn frame(&self, row: Row) -> &Frame
+        ensures value { result.now ≡ frame_of self.now row }
+        ensures frame { IsFrame result.now }
+    {
+        self.frames[row.number()].frame()
+    }
+
+    /// The room that a row is joined to, if any.
+    pub fn room(&self, row: Row) -> Option<Room>
+        ensures { result ≡ room_of self.now row }
+    {
+        self.rooms[row.number()]
+    }
+
+    /// How often a row kernel was called, modulo 2^32.
+    pub fn work(&self) -> u32
+        ensures { result ≡ self.now.work }
+    {
+        self.work
+    }
+
+    /// Shows what holds of all that is kept, and does nothing.
+    pub(crate) fn know(&self)
+        ensures { AreValidSums self.now }
+    {
+        let _work = &self.work;
+    }
+}
+
+/// Writes a total without the rows left out.
+fn write_rest(
+    rest: &mut SumRow,
+    total: &SumRow,
+    frames: &[FrameRow],
+    base: Option<Row>,
+    minus: &[Row],
+    work: &mut u32,
+)
+    requires near { AreNear (2 ^ 22) total.now }
+    requires frames { (length frames.now ≡ termination_limit) × All IsFrame frames.now }
+    requires few { length minus.now ≤ termination_limit }
+    ensures sums { (i : ℕ) → i < 160 →
+        sample rest.new i
+        ≡ sample total.now i -ℤ sum_of (sample_in frames.now i) (left_out_by base minus.now) }
+    ensures work { work.new ≡ work_after (1 + length minus.now) work.old }
+{
+    write_without(rest, total, frames, base, work);
+    for row in minus {
+        rest.take(&frames[row.number()], work);
+    }
+}
+
+/// Writes a total without the base, if there is one.
+fn write_without(
+    rest: &mut SumRow,
+    total: &SumRow,
+    frames: &[FrameRow],
+    base: Option<Row>,
+    work: &mut u32,
+)
+    requires near { AreNear (2 ^ 22) total.now }
+    requires frames { (length frames.now ≡ termination_limit) × All IsFrame frames.now }
+    ensures sums { (i : ℕ) → i < 160 →
+        sample rest.new i
+        ≡ sample total.now i -ℤ sum_of (sample_in frames.now i) (left_out_by base []) }
+    ensures near { AreNear (2 ^ 22 + 2 ^ 15) rest.new }
+    ensures work { work.new ≡ work_after 1 work.old }
+{
+    match base {
+        Some(row) => rest.write_difference(total, &frames[row.number()], work),
+        None => rest.write_difference(total, &FrameRow::new(None), work),
+    }
+}
+
+fn silent_frames(alloc: Global) -> Result<Vec<FrameRow>, AllocError>
+    ensures { IfOk result (λ frames. frames.items ≡ replicate termination_limit silence) }
+{
+    let mut frames = Vec::new(alloc);
+    for _row in 0..TERMINATIONS {
+        frames.push(FrameRow::new(None))?;
+    }
+    Ok(frames)
+}
+
+fn zero_totals(alloc: Global) -> Result<Vec<SumRow>, AllocError>
+    ensures { IfOk result (λ totals. totals.items ≡ replicate context_limit silence) }
+{
+    let mut totals = Vec::new(alloc);
+    for _room in 0..CONTEXTS {
+        totals.push(SumRow::new())?;
+    }
+    Ok(totals)
+}

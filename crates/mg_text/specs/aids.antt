@@ -1,0 +1,6 @@
+pub mod Keywords
+pub mod Reading
+pub mod Media
+pub mod Commands
+pub mod Requests
+pub mod Text

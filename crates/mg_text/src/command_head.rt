@@ -1,0 +1,80 @@
+ghost use Rattle.std.specs.Prelude.{◌≡◌, None, Some, MatchOption};
+ghost use Rattle.mg_text.specs.Words.{after_prefix, command_named, headed, command_of};
+
+use crate::from_word::FromWord;
+use crate::keyword::{Keyword, keyword_of, same_word};
+use mg_words::CommandWord;
+
+/// A command's word with what stands straight before it.
+#[derive(Clone, Copy, Debug, PartialEq, Eq)]
+pub struct CommandHead {
+    pub word: CommandWord,
+    pub is_optional: bool,
+    pub wants_wildcard: bool,
+}
+
+/// What stands after a prefix, in letters of any case, or `None` where the text has another front.
+#[tactic(auto, unfolding(crate::specs::Words::after_prefix))]
+fn after_prefix<'a>(prefix: &[u8], text: &'a [u8]) -> Option<&'a [u8]>
+    ensures { MatchOption result (after_prefix prefix.now text.now ≡ None)
+        (λ rest. after_prefix prefix.now text.now ≡ Some rest.now) }
+{
+    if text.len() < prefix.len() {
+        return None;
+    }
+    let (front, rest) = text.split_at(prefix.len());
+    if same_word(front, prefix) {
+        Some(rest)
+    } else {
+        None
+    }
+}
+
+/// The command that a word of the encoding stands for.
+fn command_named(keyword: Keyword) -> Option<CommandWord>
+    ensures value { result ≡ command_named keyword }
+{
+    match keyword {
+        Keyword::Add => Some(CommandWord::Add),
+        Keyword::Modify => Some(CommandWord::Modify),
+        Keyword::Move => Some(CommandWord::Move),
+        Keyword::Subtract => Some(CommandWord::Subtract),
+        Keyword::AuditValue => Some(CommandWord::AuditValue),
+        Keyword::AuditCapability => Some(CommandWord::AuditCapability),
+        Keyword::Notify => Some(CommandWord::Notify),
+        Keyword::ServiceChange => Some(CommandWord::ServiceChange),
+        _ => None,
+    }
+}
+
+/// A command's word with the prefixes that stood before it.
+fn headed(is_optional: bool, wants_wildcard: bool, keyword: Keyword) -> Option<CommandHead>
+    ensures value { result ≡ headed is_optional wants_wildcard keyword }
+{
+    let word = command_named(keyword)?;
+    Some(CommandHead {
+        word,
+        is_optional,
+        wants_wildcard,
+    })
+}
+
+/// A word of the encoding, alone or with `O-W-`, `O-` or `W-` straight before it.
+impl FromWord for CommandHead {
+    ghost meaning = { command_of };
+
+    #[tactic(auto, unfolding(crate::specs::Words::command_of))]
+    fn from_word(text: &[u8]) -> Option<CommandHead> {
+        if let Some(keyword) = keyword_of(text) {
+            return headed(false, false, keyword);
+        }
+        if let Some(rest) = after_prefix(b"O-W-", text) {
+            return headed(true, true, keyword_of(rest)?);
+        }
+        if let Some(rest) = after_prefix(b"O-", text) {
+            return headed(true, false, keyword_of(rest)?);
+        }
+        let rest = after_prefix(b"W-", text)?;
+        headed(false, true, keyword_of(rest)?)
+    }
+}

@@ -1,0 +1,15 @@
+pub mod Limits
+pub mod OptionSteps
+pub mod ResultSteps
+pub mod Leads
+pub mod Cut
+pub mod Numbers
+pub mod Address
+pub mod WordByte
+pub mod Term
+pub mod ContextId
+pub mod Mode
+pub mod Association
+pub mod CommandWord
+pub mod ErrorNumber
+pub mod Stats

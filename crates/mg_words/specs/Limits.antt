@@ -1,0 +1,59 @@
+-- The limits of this gateway. Definitions cite them by these names, and each number stands here
+-- alone.
+use Rattle.std.specs.Prelude.{ℕ}
+
+-- members of a context
+abbrev pub member_limit : ℕ
+member_limit = 32
+
+-- contexts, and terminations in all of them
+abbrev pub context_limit : ℕ
+context_limit = 64
+
+abbrev pub termination_limit : ℕ
+termination_limit = 128
+
+-- frames that a play list has places for: the fewest, the most, and what it begins with
+abbrev pub least_depth : ℕ
+least_depth = 2
+
+abbrev pub greatest_depth : ℕ
+greatest_depth = 16
+
+abbrev pub first_depth : ℕ
+first_depth = 4
+
+-- samples of a frame: 20 ms at 8,000 a second
+abbrev pub frame_samples : ℕ
+frame_samples = 160
+
+-- bytes of a datagram that is read
+abbrev pub message_limit : ℕ
+message_limit = 8192
+
+-- requests of a message, and commands in all of them
+abbrev pub request_limit : ℕ
+request_limit = 4
+
+abbrev pub command_limit : ℕ
+command_limit = 64
+
+-- bytes of a termination's name, a domain name or a device name
+abbrev pub name_limit : ℕ
+name_limit = 64
+
+-- alternatives of a session description
+abbrev pub alternative_limit : ℕ
+alternative_limit = 8
+
+-- bytes of a reply
+abbrev pub reply_limit : ℕ
+reply_limit = 16000
+
+-- the greatest number of a termination
+abbrev pub last_termination : ℕ
+last_termination = 4294967295
+
+-- the greatest number of a context: the two above it stand for $ and * (RFC 3525, section 6.1.2)
+abbrev pub last_context : ℕ
+last_context = 4294967293

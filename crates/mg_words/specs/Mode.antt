@@ -1,0 +1,31 @@
+-- Modes of a stream (RFC 3525, section 7.1.7). A mode is seen from outside the context: a
+-- termination that receives from its peer talks into the context, one that sends to its peer
+-- listens to it.
+use Rattle.std.specs.Prelude.{ℕ, List, Bool, true, false, codes}
+use Rattle.mg_words.specs.declared.mode.Mode.{Mode}
+use Rattle.mg_words.specs.declared.mode.Mode.TheVariants.{Inactive, SendOnly, ReceiveOnly}
+use Rattle.mg_words.specs.declared.mode.Mode.TheVariants.{SendReceive, Loopback}
+
+-- the other members hear it
+abbrev pub talks : Mode → Bool
+talks Inactive = false
+talks SendOnly = false
+talks ReceiveOnly = true
+talks SendReceive = true
+talks Loopback = false
+
+-- it hears the other members
+abbrev pub listens : Mode → Bool
+listens Inactive = false
+listens SendOnly = true
+listens ReceiveOnly = false
+listens SendReceive = true
+listens Loopback = false
+
+-- its long word
+unfoldable pub mode_text : Mode → List ℕ
+mode_text Inactive = codes "Inactive"
+mode_text SendOnly = codes "SendOnly"
+mode_text ReceiveOnly = codes "ReceiveOnly"
+mode_text SendReceive = codes "SendReceive"
+mode_text Loopback = codes "Loopback"

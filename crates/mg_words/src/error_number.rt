@@ -1,0 +1,120 @@
+ghost use Rattle.std.specs.Prelude.{◌≡◌, ◌++◌, ◌+◌, ◌<◌, ◌≤◌, length, decimal};
+ghost use Rattle.mg_words.specs.ErrorNumber.{error_row, error_text};
+
+use arrayvec::ArrayVec;
+use itoa::Buffer;
+
+/// The bytes of the longest descriptor of an error.
+pub const ERROR_LIMIT: usize = 64;
+
+/// Why a message, an action or a command was refused. The numbers and texts are this gateway's own table,
+/// in the range that RFC 3525, section 14.3, leaves to errors.
+#[derive(Clone, Copy, Debug, PartialEq, Eq)]
+pub enum ErrorNumber {
+    /// A message that is not of the grammar.
+    Syntax,
+    /// A message of another version of the protocol.
+    Version,
+    /// A name that the command can't have.
+    IdentifierNotAllowed,
+    /// The action's context isn't there, or can't be entered.
+    UnknownContext,
+    /// All contexts are there, or their numbers are used up.
+    NoContextLeft,
+    /// A Oneway triple with a termination on both sides.
+    IllegalCombination,
+    /// No termination has this name.
+    UnknownTermination,
+    /// A command on all terminations of a context that has none.
+    WildcardMatchedNone,
+    /// All slots are held, or the numbers are used up.
+    NoTerminationLeft,
+    /// An Add of a termination that is there, or a Move into the context that it is in.
+    AlreadyInContext,
+    /// The context has as many members as it can have.
+    ContextFull,
+    /// The termination is in another context.
+    NotInContext,
+    /// A descriptor with content that isn't served.
+    DescriptorNotServed,
+    /// A property, or a value of it, that isn't served.
+    PropertyNotServed,
+    /// A word stands a second time where it may stand once.
+    DescriptorTwice,
+    /// A message above its limits, or a command, context, stream or reservation that isn't served.
+    NotServed,
+    /// A Local or Remote without a session description that can be served.
+    NoMedia,
+    /// The reply has more bytes than one may have; its commands stay done.
+    ReplyTooLong,
+}
+
+fn push(out: &mut ArrayVec<u8, ERROR_LIMIT>, part: &[u8])
+    requires room { length out.old.items + length part.now ≤ ERROR_LIMIT }
+    ensures value { out.new.items ≡ out.old.items ++ part.now }
+    ensures len { length out.new.items ≡ length out.old.items + length part.now }
+{
+    let _ = out.try_extend_from_slice(part);
+}
+
+impl ErrorNumber {
+    #[tactic(auto, unfolding(crate::specs::ErrorNumber::error_row))]
+    fn row(self) -> (u16, &'static str)
+        ensures value { (result.0, result.1.now) ≡ error_row self }
+        ensures number { result.0 < 1000 }
+        ensures text { length result.1.now ≤ 40 }
+    {
+        match self {
+            ErrorNumber::Syntax => (400, "syntax"),
+            ErrorNumber::Version => (406, "version"),
+            ErrorNumber::IdentifierNotAllowed => (410, "identifier not allowed here"),
+            ErrorNumber::UnknownContext => (411, "unknown context"),
+            ErrorNumber::NoContextLeft => (412, "no context left"),
+            ErrorNumber::IllegalCombination => (421, "illegal combination"),
+            ErrorNumber::UnknownTermination => (430, "unknown termination"),
+            ErrorNumber::WildcardMatchedNone => (431, "wildcard matched none"),
+            ErrorNumber::NoTerminationLeft => (432, "no termination or port left"),
+            ErrorNumber::AlreadyInContext => (433, "already in a context"),
+            ErrorNumber::ContextFull => (434, "context full"),
+            ErrorNumber::NotInContext => (435, "termination not in context"),
+            ErrorNumber::DescriptorNotServed => (444, "descriptor not served"),
+            ErrorNumber::PropertyNotServed => (445, "property not served"),
+            ErrorNumber::DescriptorTwice => (448, "descriptor twice"),
+            ErrorNumber::NotServed => (501, "not served"),
+            ErrorNumber::NoMedia => (515, "no media that can be served"),
+            ErrorNumber::ReplyTooLong => (533, "reply too long"),
+        }
+    }
+
+    /// The number as a controller sees it.
+    pub fn number(self) -> u16
+        ensures value { result ≡ (error_row self).0 }
+    {
+        self.row().0
+    }
+
+    /// The text, without the quotation marks that it is written in.
+    pub fn as_str(self) -> &'static str
+        ensures value { result.now ≡ (error_row self).1 }
+    {
+        self.row().1
+    }
+
+    /// The descriptor as it is written: the number, and its text in quotation marks and braces, of at most 64
+    /// bytes in all.
+    #[tactic(auto, using(crate::proofs::ErrorLaws::parts), unfolding(crate::specs::ErrorNumber::error_text))]
+    pub fn descriptor(self) -> ArrayVec<u8, ERROR_LIMIT>
+        ensures value { result.items ≡ error_text self }
+        ensures short { length result.items ≤ ERROR_LIMIT }
+    {
+        let (number, text) = self.row();
+        let mut buffer = Buffer::new();
+        let mut out = ArrayVec::new();
+        push(&mut out, b"Error=");
+        push(&mut out, buffer.format(number).as_bytes());
+        push(&mut out, b"{\"");
+        push(&mut out, text.as_bytes());
+        push(&mut out, b"\"}");
+        out
+    }
+}

@@ -1,0 +1,45 @@
+//! The words of the protocol (Megaco, RFC 3525), each once for all crates: modes, associations, commands,
+//! contexts, names of terminations, errors and counters, with the text of each; the numbers, ports and IPv4
+//! addresses that stand in control messages, session descriptions and scripts; and the limits of this gateway.
+//!
+//! Each reader takes a whole text and answers the value that it stands for, or `None` where it stands for
+//! none. Leading zeros are allowed, signs and spaces are not:
+//!
+//! ```rust
+//! assert_eq!(rt; port_of(b"02945"), Some(2945));
+//! assert_eq!(rt; address_of(b"127.0.0.1"), Some([127, 0, 0, 1]));
+//! assert_eq!(rt; Term::rtp(7).as_slice(), b"RTP/7".as_slice());
+//! ```
+#![tactic(auto)]
+
+mod address;
+mod association;
+mod command_word;
+mod context_id;
+mod error_number;
+mod limits;
+mod mode;
+mod number;
+mod parts;
+mod stats;
+mod term;
+#[cfg(test)]
+mod tests;
+mod word_byte;
+
+pub use crate::address::{ADDRESS_LIMIT, address_of, address_text};
+pub use crate::association::Association;
+pub use crate::command_word::CommandWord;
+pub use crate::context_id::{ContextId, context_of};
+pub use crate::error_number::{ERROR_LIMIT, ErrorNumber};
+pub use crate::limits::{
+    ALTERNATIVE_LIMIT, COMMAND_LIMIT, CONTEXTS, FIRST_DEPTH, LAST_CONTEXT, LAST_TERMINATION,
+    MAX_DEPTH, MEMBERS, MESSAGE_LIMIT, MIN_DEPTH, REPLY_LIMIT, REQUEST_LIMIT, SAMPLES, TERM_LIMIT,
+    TERMINATIONS, constants_are_limits,
+};
+pub use crate::mode::{Mode, mode_listens, mode_talks};
+pub use crate::number::{number_of, port_of, uint16_of, version_of};
+pub use crate::parts::cut;
+pub use crate::stats::Stats;
+pub use crate::term::{Term, is_term};
+pub use crate::word_byte::is_word_byte;

@@ -1,0 +1,63 @@
+ghost use Rattle.std.specs.Prelude.{◌≡◌};
+ghost use Rattle.mg_words.specs.Limits.{member_limit, context_limit, termination_limit, least_depth, greatest_depth, first_depth, frame_samples, message_limit, request_limit, command_limit, name_limit, alternative_limit, reply_limit, last_termination, last_context};
+
+/// The most members of a context.
+pub const MEMBERS: usize = 32;
+
+/// The most contexts of a gateway.
+pub const CONTEXTS: usize = 64;
+
+/// The most terminations of a gateway.
+pub const TERMINATIONS: usize = 128;
+
+/// The fewest frames that a play list has places for.
+pub const MIN_DEPTH: usize = 2;
+
+/// The most frames that a play list has places for.
+pub const MAX_DEPTH: usize = 16;
+
+/// How many frames a play list has places for where nothing else is asked.
+pub const FIRST_DEPTH: usize = 4;
+
+/// The samples of a frame: 20 ms at 8,000 a second. They are as many bytes of payload.
+pub const SAMPLES: usize = 160;
+
+/// The bytes of the longest datagram that is read.
+pub const MESSAGE_LIMIT: usize = 8192;
+
+/// The most requests of a message.
+pub const REQUEST_LIMIT: usize = 4;
+
+/// The most commands in all requests of a message.
+pub const COMMAND_LIMIT: usize = 64;
+
+/// The bytes of the longest name of a termination.
+pub const TERM_LIMIT: usize = 64;
+
+/// The most alternatives of a session description.
+pub const ALTERNATIVE_LIMIT: usize = 8;
+
+/// The bytes of the longest reply.
+pub const REPLY_LIMIT: usize = 16000;
+
+/// The greatest number of a termination.
+pub const LAST_TERMINATION: u32 = 4294967295;
+
+/// The greatest number of a context. The two above it stand for `$` and `*` (RFC 3525, section 6.1.2).
+pub const LAST_CONTEXT: u32 = 4294967293;
+
+/// The constants are the limits that the definitions speak of.
+pub fn constants_are_limits()
+    ensures members { MEMBERS ≡ member_limit }
+    ensures contexts { CONTEXTS ≡ context_limit }
+    ensures terminations { TERMINATIONS ≡ termination_limit }
+    ensures depths { (MIN_DEPTH ≡ least_depth) × (MAX_DEPTH ≡ greatest_depth) × (FIRST_DEPTH ≡ first_depth) }
+    ensures samples { SAMPLES ≡ frame_samples }
+    ensures message { MESSAGE_LIMIT ≡ message_limit }
+    ensures requests { REQUEST_LIMIT ≡ request_limit }
+    ensures commands { COMMAND_LIMIT ≡ command_limit }
+    ensures names { TERM_LIMIT ≡ name_limit }
+    ensures alternatives { ALTERNATIVE_LIMIT ≡ alternative_limit }
+    ensures reply { REPLY_LIMIT ≡ reply_limit }
+    ensures numbers { (LAST_TERMINATION ≡ last_termination) × (LAST_CONTEXT ≡ last_context) }
+{}

@@ -1,0 +1,69 @@
+ghost use Rattle.std.specs.Prelude.{◌≡◌, ◌≤◌, IfSome};
+ghost use Rattle.mg_words.specs.Numbers.{decimal_of, number_of, uint16_of, port_of, part_of, version_of};
+
+/// The number that so many digits at the most stand for, if it is at most the limit.
+#[tactic(auto, using(crate::proofs::DigitSteps::steps))]
+fn decimal_of(text: &[u8], most: usize, limit: u32) -> Option<u32>
+    ensures value { result ≡ decimal_of most limit text.now }
+    ensures within { IfSome result (λ n. n ≤ limit) }
+{
+    if text.is_empty() || text.len() > most {
+        return None;
+    }
+    let mut value: u32 = 0;
+    for b in text {
+        if !b.is_ascii_digit() {
+            return None;
+        }
+        let next = 10 * u64::from(value) + u64::from(*b - b'0');
+        if next > u64::from(limit) {
+            return None;
+        }
+        value = next as u32;
+    }
+    Some(value)
+}
+
+/// The number that one to ten digits stand for, if it is at most 4294967295.
+pub fn number_of(text: &[u8]) -> Option<u32>
+    ensures value { result ≡ number_of text.now }
+{
+    decimal_of(text, 10, u32::MAX)
+}
+
+/// The number that one to five digits stand for, if it is at most 65535.
+pub fn uint16_of(text: &[u8]) -> Option<u16>
+    ensures value { result ≡ uint16_of text.now }
+{
+    match decimal_of(text, 5, 65535) {
+        Some(number) => Some(number as u16),
+        None => None,
+    }
+}
+
+/// The port that one to five digits stand for, if it is at most 65535.
+pub fn port_of(text: &[u8]) -> Option<u16>
+    ensures value { result ≡ port_of text.now }
+{
+    uint16_of(text)
+}
+
+/// The part of an address that one to three digits stand for, if it is at most 255.
+pub fn part_of(text: &[u8]) -> Option<u8>
+    ensures value { result ≡ part_of text.now }
+{
+    match decimal_of(text, 3, 255) {
+        Some(part) => Some(part as u8),
+        None => None,
+    }
+}
+
+/// The version that one or two digits stand for.
+pub fn version_of(text: &[u8]) -> Option<u8>
+    ensures value { result ≡ version_of text.now }
+{
+    match decimal_of(text, 2, 99) {
+        Some(version) => Some(version as u8),
+        None => None,
+    }
+}

@@ -1,0 +1,100 @@
+ghost use Rattle.std.specs.Prelude.{◌≡◌, ◌↔◌, true, IsTrue, IsSome, IfSome, codes};
+ghost use Rattle.std.specs.List.{list_all};
+ghost use Rattle.mg_words.specs.WordByte.{is_word_byte};
+ghost use Rattle.mg_words.specs.Term.{is_term, rtp_name};
+
+use crate::limits::TERM_LIMIT;
+use crate::word_byte::is_word_byte;
+use arrayvec::ArrayVec;
+use itoa::Buffer;
+use std::marker::Model;
+
+/// The name of a termination: a word of 1 to 64 bytes. Contracts see its bytes.
+#[derive(Drop)]
+pub struct Term {
+    bytes: ArrayVec<u8, TERM_LIMIT>,
+}
+
+impl Model for Term {
+    ghost use Rattle.std.specs.Prelude.{List, ℕ, ◌≡◌, true};
+    ghost use Rattle.mg_words.specs.Term.{is_term};
+
+    ghost Value = { List ℕ };
+
+    ghost view = { λ t. t.bytes.items };
+
+    ghost invariant = { λ t. is_term t.bytes.items ≡ true };
+}
+
+/// Whether each byte may stand in a word.
+fn all_word_bytes(text: &[u8]) -> bool
+    ensures value { result ≡ list_all is_word_byte text.now }
+{
+    text.iter().all(|b| is_word_byte(*b))
+}
+
+/// Whether a text is the name of a termination: a word of 1 to 64 bytes.
+pub fn is_term(text: &[u8]) -> bool
+    ensures value { result ≡ is_term text.now }
+{
+    !text.is_empty() && text.len() <= TERM_LIMIT && all_word_bytes(text)
+}
+
+impl Term {
+    /// The name with these bytes, or `None` where they are no word of 1 to 64 bytes.
+    pub fn new(text: &[u8]) -> Option<Self>
+        ensures value { IfSome result (λ term. term ≡ text.now) }
+        ensures found { IsSome result ↔ (is_term text.now ≡ true) }
+    {
+        if !is_term(text) {
+            return None;
+        }
+        let mut bytes = ArrayVec::new();
+        match bytes.try_extend_from_slice(text) {
+            Ok(()) => Some(Term { bytes }),
+            Err(_) => None,
+        }
+    }
+
+    /// The name of the gateway as a whole.
+    pub fn root() -> Self
+        ensures value { result ≡ codes "ROOT" }
+    {
+        Term::new(b"ROOT").unwrap()
+    }
+
+    /// What an Add names for a termination that is to be made.
+    pub fn choose() -> Self
+        ensures value { result ≡ codes "$" }
+    {
+        Term::new(b"$").unwrap()
+    }
+
+    /// What a command names for all terminations of a context.
+    pub fn all() -> Self
+        ensures value { result ≡ codes "*" }
+    {
+        Term::new(b"*").unwrap()
+    }
+
+    /// The name of the termination with a number: `RTP/` and the number.
+    #[tactic(auto, using(crate::proofs::TermLaws::names))]
+    pub fn rtp(number: u32) -> Self
+        ensures value { result ≡ rtp_name number }
+    {
+        let mut buffer = Buffer::new();
+        let mut bytes = ArrayVec::new();
+        bytes.try_extend_from_slice(b"RTP/").unwrap();
+        bytes
+            .try_extend_from_slice(buffer.format(number).as_bytes())
+            .unwrap();
+        Term { bytes }
+    }
+
+    /// The bytes of the name.
+    pub fn as_slice(&self) -> &[u8]
+        ensures value { result.now ≡ self.now }
+    {
+        self.bytes.as_slice()
+    }
+}

@@ -1,0 +1,63 @@
+use crate::{
+    ContextId, ErrorNumber, Mode, Stats, Term, address_of, address_text, context_of, cut,
+    mode_listens, mode_talks, number_of, port_of, version_of,
+};
+
+#[test]
+fn reads_numbers(rt: HostRuntime) {
+    assert_eq!(rt; number_of(b"4294967295"), Some(4294967295));
+    assert_eq!(rt; number_of(b"0000000007"), Some(7));
+    for text in [b"".as_slice(), b"4294967296", b"00000000007", b"+7", b"7 "] {
+        assert_eq!(rt; number_of(text), None);
+    }
+    assert_eq!(rt; port_of(b"65535"), Some(65535));
+    assert_eq!(rt; port_of(b"65536"), None);
+    assert_eq!(rt; version_of(b"01"), Some(1));
+    assert_eq!(rt; version_of(b"001"), None);
+}
+
+#[test]
+fn reads_addresses(rt: HostRuntime) {
+    assert_eq!(rt; address_of(b"127.000.0.1"), Some([127, 0, 0, 1]));
+    for text in [
+        b"127.0.0".as_slice(),
+        b"127.0.0.256",
+        b"127.0.0.1.",
+        b"127.0.0.",
+        b"1.2.3.4.5",
+    ] {
+        assert_eq!(rt; address_of(text), None);
+    }
+    assert_eq!(rt;
+        cut(b':', b"a:b:c"),
+        Some((b"a".as_slice(), b"b:c".as_slice()))
+    );
+    assert_eq!(rt; cut(b':', b"abc"), None);
+}
+
+#[test]
+fn writes_addresses_and_errors(rt: HostRuntime) {
+    assert_eq!(rt;
+        address_text([10, 0, 0, 255]).as_slice(),
+        b"10.0.0.255".as_slice()
+    );
+    assert_eq!(rt; ErrorNumber::NotServed.number(), 501);
+    assert_eq!(rt; ErrorNumber::NotServed.as_str(), "not served");
+    assert_eq!(rt;
+        ErrorNumber::Syntax.descriptor().as_slice(),
+        b"Error=400{\"syntax\"}".as_slice()
+    );
+}
+
+#[test]
+fn names_terminations_and_contexts(rt: HostRuntime) {
+    assert_eq!(rt;
+        Term::rtp(4294967295).as_slice(),
+        b"RTP/4294967295".as_slice()
+    );
+    assert!(rt; Term::new(b"a,b").is_none());
+    assert_eq!(rt; context_of(b"4294967294"), Some(ContextId::Choose));
+    assert_eq!(rt; context_of(b"7"), Some(ContextId::Number(7)));
+    assert!(rt; mode_talks(Mode::ReceiveOnly) && !mode_listens(Mode::ReceiveOnly));
+    assert_eq!(rt; Stats::new().or_, 0);
+}

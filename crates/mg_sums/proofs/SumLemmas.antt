@@ -84,7 +84,7 @@ changed_from f g row a (suc n) l m h = elim (cases_eq row a) [
 ]
 
 pub sum_of-changed : (f g : ℕ → ℤ) (row n : ℕ) → row < n → ((k : ℕ) → k ≢ row → f k ≡ g k) → sum_of f (range_with_len 0 n) +ℤ g row ≡ sum_of g (range_with_len 0 n) +ℤ f row
-sum_of-changed f g row n l h = changed_from f g row 0 n (omega arith) (omega arith) h
+sum_of-changed f g changed n l h = changed_from f g changed 0 n (omega arith) (omega arith) h
 
 -- Different numbers below a bound, in any order, are those of the numbers below it that are among them.
 none_among : (x : ℕ) (xs : List ℕ) → All (λ r. x ≢ r) xs → is_among xs x ≡ false

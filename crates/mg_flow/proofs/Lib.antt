@@ -1,3 +1,4 @@
 -- Lemmas that several proofs share.
+pub mod HearsLemmas
 pub mod MasksLemmas
 pub mod TableLemmas

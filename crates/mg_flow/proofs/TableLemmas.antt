@@ -149,7 +149,7 @@ mode_stands {table} {place} {i} {s} {old} {new} {t} {l} read same set es h =
 
 -- ---- triples in order
 
-own_triples : (room : ℕ) (triples : List Triple) (es : List Edit)
+pub own_triples : (room : ℕ) (triples : List Triple) (es : List Edit)
     → edits_in room (apply_all room triples es) ≡ topology.apply_all triples (edits_in room es)
 own_triples room [] es = refl
 own_triples room (triple ∷ triples) es =

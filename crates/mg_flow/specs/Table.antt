@@ -1,8 +1,10 @@
 -- What a flow table is seen as, and which lists of edits it stands for (this project's own).
-use Rattle.std.specs.Prelude.{◌≡◌, ◌≢◌, ℕ, Bool, not, ◌&&◌, ◌==◌, if◌then◌else◌, List, []}
+use Rattle.std.specs.Prelude.{◌≡◌, ◌≢◌, ℕ, Bool, not, ◌&&◌, ◌==◌, if◌then◌else◌, List, [], ◌∷◌}
 use Rattle.std.specs.Prelude.{slice_index_or}
+use Rattle.mg_topology.specs.declared.triple.Triple.{Triple}
 use Rattle.mg_topology.specs.Mask.{has_seat}
 use Rattle.mg_topology.specs.Topology as topology
+use Rattle.mg_topology.specs.Triple.{speaks_of, word_of}
 use Rattle.mg_flow.specs.declared.place.Place.{Place}
 use Rattle.mg_flow.specs.Place.{is_same, are_together}
 use Rattle.mg_flow.specs.Edits.{Edit, edits_in, talks_in, listens_in}
@@ -81,3 +83,10 @@ pub record KeepsPlaces (old new : List Room) : Type 0 where
   pub held : (p : Place) → holds new p ≡ holds old p
   pub talkers : (p : Place) → talks new p ≡ talks old p
   pub listeners : (p : Place) → listens new p ≡ listens old p
+
+-- whether the listener hears the talker after triples, in order, by whether it did before
+abbrev pub hears_after : List Triple → ℕ → ℕ → Bool → Bool
+hears_after [] listener talker did = did
+hears_after (x ∷ xs) listener talker did =
+    hears_after xs listener talker
+    (if speaks_of x listener talker then word_of x listener talker else did)

@@ -1,8 +1,8 @@
-ghost use Rattle.std.specs.Prelude.{◌≡◌, ℕ, ◌<◌, ◌∷◌, [], List, true, false, ◌↔◌, Any, IsTrue, IsFalse, IsErr, IfOk, OnOk, OnErr};
+ghost use Rattle.std.specs.Prelude.{◌≡◌, ℕ, ◌<◌, ◌||◌, if◌then◌else◌, ◌∷◌, [], List, true, false, ◌↔◌, Any, IsTrue, IsFalse, IsErr, IfOk, OnOk, OnErr};
 ghost use Rattle.mg_words.specs.Limits.{context_limit};
 ghost use Rattle.mg_topology.specs.Mask.{has_seat};
 ghost use Rattle.mg_topology.specs.Triple.{Overlaps};
-ghost use Rattle.mg_flow.specs.Place.{IsWithinLimits, beside};
+ghost use Rattle.mg_flow.specs.Place.{IsWithinLimits, is_same, beside, are_together};
 
 use crate::place::Place;
 use crate::room::Room;
@@ -41,7 +41,7 @@ impl Model for FlowTable {
 
 impl FlowTable {
     ghost use Rattle.mg_flow.specs.Edits.{Edit, Enter, Leave, SetMode, apply_all, is_held, hears_in, flows_in, is_silenced_in};
-    ghost use Rattle.mg_flow.specs.Table.{StandsFor, StandsForSome, KeepsOthers, SetsPlace, KeepsPlaces, holds, hears, flows, is_silenced};
+    ghost use Rattle.mg_flow.specs.Table.{StandsFor, StandsForSome, KeepsOthers, SetsPlace, KeepsPlaces, holds, hears, hears_after, flows, is_silenced};
 
     /// The table of a gateway whose rooms nobody has entered.
     ///
@@ -139,6 +139,10 @@ impl FlowTable {
         ensures edits { (es : List Edit) → StandsFor self.old es →
             StandsFor self.new (Enter place talks listens ∷ es) }
         ensures place { SetsPlace self.old self.new place true talks listens }
+        ensures hears { (l t : Place) → hears self.new l t ≡
+            (if is_same l place || is_same t place
+            then are_together (holds self.new) l t
+            else hears self.old l t) }
         ensures others { KeepsOthers self.old self.new place.room }
     {
         let room = &mut self.rooms[usize::from(place.room)];
@@ -151,6 +155,8 @@ impl FlowTable {
         ensures edits { (es : List Edit) → StandsFor self.old es →
             StandsFor self.new (Leave place ∷ es) }
         ensures place { SetsPlace self.old self.new place false false false }
+        ensures hears { (l t : Place) → hears self.new l t ≡
+            (if is_same l place || is_same t place then false else hears self.old l t) }
         ensures others { KeepsOthers self.old self.new place.room }
     {
         masks_are_sets();
@@ -164,6 +170,7 @@ impl FlowTable {
         ensures edits { (es : List Edit) → StandsFor self.old es →
             StandsFor self.new (SetMode place talks listens ∷ es) }
         ensures place { SetsPlace self.old self.new place true talks listens }
+        ensures hears { (l t : Place) → hears self.new l t ≡ hears self.old l t }
         ensures others { KeepsOthers self.old self.new place.room }
     {
         masks_are_sets();
@@ -179,6 +186,9 @@ impl FlowTable {
         ensures ok { OnOk result ((es : List Edit) → StandsFor self.old es →
             StandsFor self.new (apply_all room triples.now es)) }
         ensures places { KeepsPlaces self.old self.new }
+        ensures hears { OnOk result ((l t : Place) → l.room ≡ room →
+            IsTrue (are_together (holds self.old) l t) →
+            hears self.new l t ≡ hears_after triples.now l.seat t.seat (hears self.old l t)) }
         ensures others { KeepsOthers self.old self.new room }
         ensures err { OnErr result (self.new ≡ self.old) }
     {

@@ -23,7 +23,7 @@
 //! a call, and say which list it stands for afterwards (`StandsFor` in `specs/Table.antt`). What a
 //! list of edits means stands in `specs/Edits.antt`, by looking backwards over the list, and
 //! [`laws`] has what follows from that alone. Where there is no list at hand, the clauses `kept`,
-//! `place`, `places` and `others` say what is kept, and what stays.
+//! `place`, `places`, `hears` and `others` say what is kept, what changes, and what stays.
 #![tactic(auto)]
 
 mod flow_table;

@@ -1,6 +1,7 @@
 use Rattle.std.proofs.Common.{◌≡◌, ◌∷◌, true, ap, ◌∙◌}
 use Rattle.mg_flow.specs.Edits.{Leave}
 use Rattle.mg_flow.specs.Table.{holds}
+use Rattle.mg_flow.proofs.HearsLemmas.{leave_hears}
 use Rattle.mg_flow.proofs.TableLemmas.{IsRead, held_within, leave_stands, IsTable-edited}
 use Rattle.mg_flow.proofs.flow_table.FlowTable.on_leave.Goals as goal
 
@@ -15,6 +16,9 @@ returns-clause-edits c =
       is = c.index_mut-room.ensures.value;
     } in
     rw (← c.self.view_is) (leave_stands read c.leave.ensures.edits c.leave.ensures.seat)
+
+pub returns-clause-hears : goal.returns-clause-hears
+returns-clause-hears c = leave_hears c.args.self.now _ c.args.place (rw (← c.self.view_is) c.self.invariant.edits) (returns-clause-edits c)
 
 pub invariant_of-self : goal.invariant_of-self
 invariant_of-self c =

@@ -1,6 +1,7 @@
 use Rattle.std.proofs.Common.{◌≡◌, ◌∷◌, true, ap, ◌∙◌}
 use Rattle.mg_flow.specs.Edits.{SetMode}
 use Rattle.mg_flow.specs.Table.{holds}
+use Rattle.mg_flow.proofs.HearsLemmas.{mode_hears}
 use Rattle.mg_flow.proofs.TableLemmas.{IsRead, held_within, mode_stands, IsTable-edited}
 use Rattle.mg_flow.proofs.flow_table.FlowTable.on_mode.Goals as goal
 
@@ -15,6 +16,10 @@ returns-clause-edits c =
       is = c.index_mut-room.ensures.value;
     } in
     rw (← c.self.view_is) (mode_stands read c.set_mode.ensures.topology c.set_mode.ensures.seat)
+
+pub returns-clause-hears : goal.returns-clause-hears
+returns-clause-hears c =
+    mode_hears c.args.self.now _ c.args.place c.args.talks c.args.listens (rw (← c.self.view_is) c.self.invariant.edits) (returns-clause-edits c)
 
 pub invariant_of-self : goal.invariant_of-self
 invariant_of-self c =

@@ -1,6 +1,7 @@
 use Rattle.std.proofs.Common.{◌<◌, length, arith}
 use Rattle.std.proofs.lemmas.Result.{on_ok_weaker}
 use Rattle.mg_flow.specs.Edits.{apply_all}
+use Rattle.mg_flow.proofs.HearsLemmas.{triples_hear}
 use Rattle.mg_flow.proofs.TableLemmas.{triples_stand, IsTable-tried}
 use Rattle.mg_flow.proofs.flow_table.FlowTable.on_triples.Goals as goal
 
@@ -12,6 +13,12 @@ returns-clause-ok c =
     (on_ok_weaker c.apply.result
     (λ edits. stand c.from.ensures within c.index_mut-spoken_of.ensures.value edits c.apply.ensures.talks c.apply.ensures.listens)
     c.apply.ensures.ok)
+
+pub returns-clause-hears : goal.returns-clause-hears
+returns-clause-hears c =
+    on_ok_weaker c.apply.result
+    (triples_hear c.args.self.now _ c.args.room c.args.triples.now (rw (← c.self.view_is) c.self.invariant.edits))
+    (returns-clause-ok c)
 
 pub invariant_of-self : goal.invariant_of-self
 invariant_of-self c =

@@ -5,3 +5,4 @@ pub mod ParameterLaws
 pub mod RunLaws
 pub mod WideLaws
 pub mod Rows
+pub mod StreamSteps

@@ -85,7 +85,7 @@ fn remote_in(source: &[u8], part: Part) -> Option<MediaSetting>
 fn keep_first<T: Drop>(kept: &mut Option<T>, found: Option<T>)
     ensures value { kept.new ≡ or_else kept.old found }
 {
-    if kept.is_none() {
+    if kept.is_none() && found.is_some() {
         *kept = found;
     }
 }

@@ -1,8 +1,8 @@
-ghost use Rattle.std.specs.Prelude.{◌≡◌, [], ◌&&◌, ◌||◌, ◌==◌};
+ghost use Rattle.std.specs.Prelude.{◌≡◌, ℕ, List, [], ◌&&◌, ◌||◌, ◌==◌};
 ghost use Rattle.std.specs.List.{list_any};
 ghost use Rattle.mg_commands.specs.DescriptorFault.{same_word, is_jitter, same_control, is_same, is_unserved, fault_of, descriptors_fault};
 ghost use Rattle.mg_commands.specs.Search.{first_after};
-ghost use Rattle.mg_commands.specs.aids.Levels.{is_single, control_level, is_same_word, stands_in, stream_level, is_state, media_level, is_same_descriptor, descriptor_level};
+ghost use Rattle.mg_commands.specs.aids.Levels.{is_single, control_level, is_same_word, stands_in, stream_level, is_state, media_level, stream_of, greatest_stream, is_same_descriptor, descriptor_level};
 
 use crate::descriptor_parts::{open_descriptor, open_stream_part};
 use crate::part::Part;
@@ -206,16 +206,43 @@ fn media_part_fault(source: &[u8], before: &[MediaPart], part: &MediaPart) -> Op
     }
 }
 
+/// The number of the stream that a part of a Media descriptor belongs to, or 0 where it belongs to none.
+fn stream_of(part: &MediaPart) -> u32
+    ensures value { result ≡ stream_of part.now }
+{
+    match part {
+        MediaPart::Part(_) => 1,
+        MediaPart::Stream(number, _) => *number,
+        MediaPart::TerminationState(_) => 0,
+    }
+}
+
+/// The parts before a part of a Media descriptor among which it may stand already: none where its stream has a
+/// greater number than each of those before, so that streams by rising numbers look back at nothing.
+fn lookback<'a>(greatest: u32, before: &'a [MediaPart], part: &MediaPart) -> &'a [MediaPart]
+    requires greatest { greatest ≡ greatest_stream before.now }
+    ensures level { (source : List ℕ) → media_level source result.now part.now ≡ media_level source before.now part.now }
+{
+    if stream_of(part) > greatest {
+        &[]
+    } else {
+        before
+    }
+}
+
 /// The first fault within a Media descriptor.
 #[tactic(auto, using(crate::proofs::FaultSteps::walking))]
 fn media_fault(source: &[u8], parts: &[MediaPart]) -> Option<ErrorNumber>
     ensures value { result ≡ first_after (media_level source.now) [] parts.now }
 {
+    let mut greatest = 0;
     for (i, part) in parts.iter().enumerate() {
         let (before, _) = parts.split_at(i);
+        let before = lookback(greatest, before, part);
         if let Some(fault) = media_part_fault(source, before, part) {
             return Some(fault);
         }
+        greatest = greatest.max(stream_of(part));
     }
     None
 }

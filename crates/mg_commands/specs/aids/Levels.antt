@@ -1,6 +1,6 @@
 -- The first fault of descriptors level by level, as the program looks for it: a part is looked at
 -- with those before it at its own level.
-use Rattle.std.specs.Prelude.{ℕ, Bool, false, ◌&&◌, ◌||◌, ◌==◌, List, [], Option, true}
+use Rattle.std.specs.Prelude.{ℕ, Bool, false, ◌&&◌, ◌||◌, ◌==◌, List, [], ◌∷◌, Option, true, max}
 use Rattle.std.specs.List.{list_any}
 use Rattle.mg_words.specs.declared.error_number.ErrorNumber.{ErrorNumber}
 use Rattle.mg_text.specs.declared.descriptor.Descriptor.{Descriptor}
@@ -56,6 +56,17 @@ media_level source before (media.Part x) = stream_level source before 1 [] x
 media_level source before (media.Stream n xs) = first_after (stream_level source before n) [] xs
 media_level source before (media.TerminationState has_content) =
     fault_of (list_any is_state before) (parts.TerminationState has_content)
+
+-- the stream that a part of a Media descriptor belongs to, 0 where it belongs to none
+abbrev pub stream_of : MediaPart → ℕ
+stream_of (media.Part x) = 1
+stream_of (media.Stream n xs) = n
+stream_of (media.TerminationState has_content) = 0
+
+-- the greatest of those, 0 where there is no part
+abbrev pub greatest_stream : List MediaPart → ℕ
+greatest_stream [] = 0
+greatest_stream (x ∷ xs) = max (stream_of x) (greatest_stream xs)
 
 abbrev pub is_same_descriptor : List ℕ → Part → Descriptor → Bool
 is_same_descriptor source x y = is_same source x (descriptor_word y)

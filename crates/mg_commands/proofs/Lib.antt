@@ -2,6 +2,8 @@ pub mod FaultSteps
 pub mod SearchSteps
 pub mod LevelLaws
 pub mod ParameterLaws
+pub mod PutLaws
+pub mod PropertySteps
 pub mod RunLaws
 pub mod WideLaws
 pub mod Rows

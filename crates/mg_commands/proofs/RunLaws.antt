@@ -1,28 +1,32 @@
 -- What comes of the commands and actions of a request, step by step.
-use Rattle.std.proofs.Common.{◌≡◌, ℕ, ◌+◌, ◌<◌, ◌≤◌, Bool, true, false, List, [], ◌∷◌, ◌++◌, length, get_or, drop, Ok, Err, refl, sym, ap, ◌∙◌, append_assoc}
+use Rattle.std.proofs.Common.{◌≡◌, ℕ, ◌+◌, ◌<◌, ◌≤◌, Bool, true, false, List, [], ◌∷◌, ◌++◌, length, get_or, drop, Option, Some, None, Result, Ok, Err, refl, sym, ap, subst, ◌∙◌, append_assoc}
 use Rattle.std.specs.List.{list_all}
+use Rattle.std.specs.Option.{option_or}
 use Rattle.std.proofs.lemmas.List.{drop_more, drop_all}
 use Rattle.std.proofs.lemmas.List.Folds.{list_all_at}
 use Rattle.mg_scan.specs.Span.{text_of}
 use Rattle.mg_words.specs.Leads.{Leads}
 use Rattle.mg_words.specs.declared.error_number.ErrorNumber.{ErrorNumber}
-use Rattle.mg_words.specs.declared.error_number.ErrorNumber.TheVariants.{NotServed}
 use Rattle.mg_reply.specs.declared.item.Item.{Item}
 use Rattle.mg_reply.specs.declared.item.Item.TheVariants as replies
 use Rattle.mg_reply.specs.declared.outcome.Outcome.TheVariants.{Failed, Done}
 use Rattle.mg_reply.specs.Reply.{Answered, started, after_put, after_all}
 use Rattle.mg_rooms.specs.declared.target.Target.{Target}
 use Rattle.mg_engine.specs.Gateway.{Gateway}
-use Rattle.mg_engine.specs.Stands.{EngineState, StandsFor}
+use Rattle.mg_engine.specs.Stands.{EngineState, StandsFor, IsOutcome}
 use Rattle.mg_text.specs.declared.command.Command.{Command}
 use Rattle.mg_text.specs.declared.request.Action.{Action}
 use Rattle.mg_text.specs.declared.request.Request.{Request}
 use Rattle.mg_text.specs.Proper.{command_is_proper, action_is_proper}
+use Rattle.mg_commands.specs.declared.progress.Progress.{Progress}
 use Rattle.mg_commands.specs.declared.served.Served.{Served}
+use Rattle.mg_commands.specs.ContextProperties.{action_fault, context_outcome}
 use Rattle.mg_commands.specs.Name.{written_name}
 use Rattle.mg_commands.specs.Outcome.{outcome}
-use Rattle.mg_commands.specs.Transaction.{ActionState, TransactionState, after_command, with_command, with_commands, action_start, id_of, target_of, is_refused, with_action, with_actions, replied}
-use Rattle.mg_commands.specs.aids.Runs.{Comes, ActionKept, action_kept, IsAction, TransactionKept, transaction_kept, IsTransaction}
+use Rattle.mg_commands.specs.Search.{or_else}
+use Rattle.mg_commands.specs.Transaction.{ActionState, TransactionState, after_command, with_command, with_commands, action_start, id_of, target_of, ended, after_properties, after_commands, action_unless, with_action, with_actions, replied}
+use Rattle.mg_commands.specs.aids.Runs.{ActionKept, action_kept, IsAction, TransactionKept, transaction_kept, IsTransaction, Tells}
+use Rattle.mg_commands.proofs.PutLaws.{put_next, put_more}
 
 value_cases : (b : Bool) → (b ≡ false → true ≡ false) → b ≡ true
 value_cases true h = refl
@@ -37,14 +41,6 @@ action_proper source xs i d lt all = value_cases (action_is_proper source (get_o
 
 pub ruleset propers = (command_proper, action_proper)
 
--- an item put after others
-put_last : (base : Answered) (xs : List Item) (x : Item) → after_all base (xs ++ x ∷ []) ≡ after_put (after_all base xs) x
-put_last base [] x = refl
-put_last base (y ∷ ys) x = put_last (after_put base y) ys x
-
-put_next : (base before : Answered) (xs : List Item) (x : Item) → before ≡ after_all base xs → after_put before x ≡ after_all base (xs ++ x ∷ [])
-put_next base before xs x h = ap (λ (r : Answered). after_put r x) h ∙ sym (put_last base xs x)
-
 -- ## A command
 
 abbrev item_done : Command → Served → Item
@@ -56,21 +52,25 @@ item_failed source c e = replies.Command c.word (written_name (text_of source c.
 with_outcome : (source : List ℕ) (c : Command) (run : ActionState) (target : Target) → run.target ≡ target → with_command source c run ≡ after_command source run c (outcome source run.gateway target c)
 with_outcome source c run target h = ap (λ (t : Target). after_command source run c (outcome source run.gateway t c)) h
 
-pub command_done : (source : List ℕ) (c : Command) (old new : EngineState) (target : Target) (before told : Answered) (s : Served) → ((w : Gateway) → StandsFor old w → Comes new (Ok s) (outcome source w target c)) → told ≡ after_put before (item_done c s)
-    → (base : Answered) → Leads (IsAction base) (action_kept old target before) (action_kept new s.target told) (λ run next. with_command source c run ≡ (next, true))
-command_done source c old new target before told s came put base run h =
+made_first : (a b made : Option ℕ) (told : Option ℕ) → a ≡ b → told ≡ option_or b made → or_else a made ≡ told
+made_first a (Some n) made told h e = ap (λ (o : Option ℕ). or_else o made) h ∙ sym e
+made_first a None made told h e = ap (λ (o : Option ℕ). or_else o made) h ∙ sym e
+
+pub command_done : (source : List ℕ) (c : Command) (old new : EngineState) (progress : Progress) (before told : Answered) (s : Served) (made : Option ℕ) → ((w : Gateway) → StandsFor old w → IsOutcome new (Ok s) (outcome source w progress.target c)) → made ≡ option_or progress.made s.made → told ≡ after_put before (item_done c s)
+    → (base : Answered) → Leads (IsAction base) (action_kept old progress before) (action_kept new (record { target = s.target; made = made }) told) (λ run next. with_command source c run ≡ (next, true))
+command_done source c old new progress before told s made came is put base run h =
     let (w, did, stands) = came run.gateway h.gateway in (
-      record { gateway = w; target = s.target; items = run.items ++ item_done c s ∷ [] },
-      with_outcome source c run target h.target ∙ ap (after_command source run c) did,
-      record { gateway = stands; target = refl; reply = put ∙ put_next base before run.items (item_done c s) h.reply },
+      record { gateway = w; target = s.target; made = or_else run.made s.made; items = run.items ++ item_done c s ∷ [] },
+      with_outcome source c run progress.target h.target ∙ ap (after_command source run c) did,
+      record { gateway = stands; target = refl; made = made_first run.made progress.made s.made made h.made is; reply = put ∙ put_next base before run.items (item_done c s) h.reply },
     )
 
-pub command_failed : (source : List ℕ) (c : Command) (old new : EngineState) (target : Target) (before told : Answered) (e : ErrorNumber) → ((w : Gateway) → StandsFor old w → Comes new (Err e) (outcome source w target c)) → new ≡ old → told ≡ after_put before (item_failed source c e)
-    → (base : Answered) → Leads (IsAction base) (action_kept old target before) (action_kept new target told) (λ run next. with_command source c run ≡ (next, false))
-command_failed source c old new target before told e came same put base run h = (
-  record { gateway = run.gateway; target = run.target; items = run.items ++ item_failed source c e ∷ [] },
-  with_outcome source c run target h.target ∙ ap (after_command source run c) (came run.gateway h.gateway),
-  record { gateway = rw same h.gateway; target = h.target; reply = put ∙ put_next base before run.items (item_failed source c e) h.reply },
+pub command_failed : (source : List ℕ) (c : Command) (old new : EngineState) (progress : Progress) (before told : Answered) (e : ErrorNumber) → ((w : Gateway) → StandsFor old w → IsOutcome new (Err e) (outcome source w progress.target c)) → new ≡ old → told ≡ after_put before (item_failed source c e)
+    → (base : Answered) → Leads (IsAction base) (action_kept old progress before) (action_kept new progress told) (λ run next. with_command source c run ≡ (next, false))
+command_failed source c old new progress before told e came same put base run h = (
+  record { gateway = run.gateway; target = run.target; made = run.made; items = run.items ++ item_failed source c e ∷ [] },
+  with_outcome source c run progress.target h.target ∙ ap (after_command source run c) (came run.gateway h.gateway),
+  record { gateway = rw same h.gateway; target = h.target; made = h.made; reply = put ∙ put_next base before run.items (item_failed source c e) h.reply },
 )
 
 -- ## Commands
@@ -110,29 +110,71 @@ module _ (source : List ℕ) (cs : List Command) (base : Answered) (entered kept
 
 -- ## An action
 
-pub action_refused : (source : List ℕ) (a : Action) (kept : EngineState) (before fault told : Answered) → is_refused a ≡ true → fault ≡ after_put before (replies.Fault NotServed) → told ≡ after_put fault (replies.Action a.context)
+abbrev pub first_progress : Action → Progress
+first_progress a = record { target = target_of a.context; made = None }
+
+pub action_refused : (source : List ℕ) (a : Action) (kept : EngineState) (before fault told : Answered) (e : ErrorNumber) → action_fault a ≡ Some e → fault ≡ after_put before (replies.Fault e) → told ≡ after_put fault (replies.Action a.context)
     → (base : Answered) → Leads (IsTransaction base) (transaction_kept kept before) (transaction_kept kept told) (λ s next. with_action source a s ≡ (next, false))
 unfolding with_action
-action_refused source a kept before fault told e first last base s h = (
-  record { gateway = s.gateway; items = s.items ++ replies.Fault NotServed ∷ replies.Action a.context ∷ [] },
-  rw e refl,
+action_refused source a kept before fault told e why first last base s h = (
+  record { gateway = s.gateway; items = s.items ++ replies.Fault e ∷ replies.Action a.context ∷ [] },
+  ap (λ (o : Option ErrorNumber). action_unless o source a s) why,
   record {
     gateway = h.gateway;
-    reply = last ∙ put_next base fault (s.items ++ replies.Fault NotServed ∷ []) (replies.Action a.context) (first ∙ put_next base before s.items (replies.Fault NotServed) h.reply)
-        ∙ ap (after_all base) (append_assoc s.items (replies.Fault NotServed ∷ []) (replies.Action a.context ∷ []));
+    reply = last ∙ put_next base fault (s.items ++ replies.Fault e ∷ []) (replies.Action a.context) (first ∙ put_next base before s.items (replies.Fault e) h.reply)
+        ∙ ap (after_all base) (append_assoc s.items (replies.Fault e ∷ []) (replies.Action a.context ∷ []));
   },
 )
 
-pub action_ended : (source : List ℕ) (a : Action) (old new : EngineState) (before told ended : Answered) (target : Target) (is_done : Bool) → is_refused a ≡ false → ended ≡ after_put told (replies.Action (id_of target))
-    → ((base : Answered) → Leads (IsAction base) (action_kept old (target_of a.context) before) (action_kept new target told) (λ run next. with_commands source a.commands run ≡ (next, is_done)))
-    → (base : Answered) → Leads (IsTransaction base) (transaction_kept old before) (transaction_kept new ended) (λ s next. with_action source a s ≡ (next, is_done))
-unfolding with_action
-action_ended source a old new before told ended target is_done e put ran base s h =
-    let (next, did, stands) = ran base (action_start a s) (record { gateway = h.gateway; target = refl; reply = h.reply }) in (
-      record { gateway = next.gateway; items = next.items ++ replies.Action (id_of target) ∷ [] },
-      rw (e, did, stands.target) refl,
-      record { gateway = stands.gateway; reply = put ∙ put_next base told next.items (replies.Action (id_of target)) stands.reply },
-    )
+-- the end of an action, by what was told of its context
+close : (base before told closed : Answered) (new : EngineState) (run : ActionState) (w : Gateway) (items : List Item) → StandsFor new w → before ≡ after_all base run.items → told ≡ after_all before items → closed ≡ after_put told (replies.Action (id_of run.target)) → IsTransaction base (transaction_kept new closed) (ended run w items)
+close base before told closed new run w items stands h put last = record {
+  gateway = stands;
+  reply = last ∙ put_next base told (run.items ++ items) (replies.Action (id_of run.target)) (put_more base before told run.items items h put);
+}
+
+module _ (base before told closed : Answered) (new : EngineState) (run : ActionState) (is_done : Bool) (h : before ≡ after_all base run.items) (last : closed ≡ after_put told (replies.Action (id_of run.target))) where
+  properties_ended : (r : Result (Gateway × List Item) ErrorNumber) → Tells new before told is_done run.gateway r → (next : TransactionState) × (after_properties run r ≡ (next, is_done)) × IsTransaction base (transaction_kept new closed) next
+  properties_ended (Ok p) t = (
+    ended run p.0 p.1,
+    ap (λ (b : Bool). (ended run p.0 p.1, b)) (sym t.0),
+    close base before told closed new run p.0 p.1 t.2 h t.1 last,
+  )
+  properties_ended (Err e) t = (
+    ended run run.gateway (replies.Fault e ∷ []),
+    ap (λ (b : Bool). (ended run run.gateway (replies.Fault e ∷ []), b)) (sym t.0),
+    close base before told closed new run run.gateway (replies.Fault e ∷ []) t.2 h t.1 last,
+  )
+
+-- An action whose commands were tried.
+module _ (source : List ℕ) (a : Action) (old middle : EngineState) (before said : Answered) (progress : Progress) (were_done : Bool) (none : action_fault a ≡ None)
+    (ran : (base : Answered) → Leads (IsAction base) (action_kept old (first_progress a) before) (action_kept middle progress said) (λ run next. with_commands source a.commands run ≡ (next, were_done))) where
+  as_started : (base : Answered) (s : TransactionState) → IsTransaction base (transaction_kept old before) s → IsAction base (action_kept old (first_progress a) before) (action_start a s)
+  as_started base s h = record { gateway = h.gateway; target = refl; made = refl; reply = h.reply }
+
+  goes_on : (s : TransactionState) (run : ActionState) → with_commands source a.commands (action_start a s) ≡ (run, were_done) → with_action source a s ≡ after_commands source a.properties (run, were_done)
+  unfolding with_action
+  goes_on s run did = ap (λ (o : Option ErrorNumber). action_unless o source a s) none ∙ ap (after_commands source a.properties) did
+
+  -- one failed, so nothing more was done
+  pub action_stopped : (new : EngineState) (told closed : Answered) (is_done : Bool) → were_done ≡ false → is_done ≡ were_done → new ≡ middle → told ≡ said → closed ≡ after_put told (replies.Action (id_of progress.target))
+      → (base : Answered) → Leads (IsTransaction base) (transaction_kept old before) (transaction_kept new closed) (λ s next. with_action source a s ≡ (next, is_done))
+  action_stopped new told closed is_done failed done kept said_so last base s h =
+      let (run, did, stands) = ran base (action_start a s) (as_started base s h) in (
+        ended run run.gateway [],
+        goes_on s run did ∙ ap (λ (b : Bool). after_commands source a.properties (run, b)) failed ∙ ap (λ (b : Bool). (ended run run.gateway [], b)) (sym (done ∙ failed)),
+        close base said told closed new run run.gateway [] (rw kept stands.gateway) stands.reply said_so (rw stands.target last),
+      )
+
+  -- all were done
+  pub action_finished : (new : EngineState) (told closed : Answered) (is_done : Bool) → were_done ≡ true → ((w : Gateway) → StandsFor middle w → Tells new said told is_done w (context_outcome source progress.made a.properties w progress.target)) → closed ≡ after_put told (replies.Action (id_of progress.target))
+      → (base : Answered) → Leads (IsTransaction base) (transaction_kept old before) (transaction_kept new closed) (λ s next. with_action source a s ≡ (next, is_done))
+  action_finished new told closed is_done all tells last base s h =
+      let (run, did, stands) = ran base (action_start a s) (as_started base s h) in
+      let came = ap (λ (made : Option ℕ). context_outcome source made a.properties run.gateway run.target) stands.made ∙ ap (λ (t : Target). context_outcome source progress.made a.properties run.gateway t) stands.target in
+      let told_so = subst (λ (r : Result (Gateway × List Item) ErrorNumber). Tells new said told is_done run.gateway r) (sym came) (tells run.gateway stands.gateway) in
+      let (next, is, left) = properties_ended base said told closed new run is_done stands.reply (rw stands.target last) (context_outcome source run.made a.properties run.gateway run.target) told_so in
+      (next, goes_on s run did ∙ ap (λ (b : Bool). after_commands source a.properties (run, b)) all ∙ is, left)
 
 -- ## Actions
 

@@ -1,7 +1,7 @@
 -- Each item of a reply is wide, and the last ends an action.
-use Rattle.std.proofs.Common.{◌≡◌, ℕ, ◌+◌, ◌/◌, ◌%◌, ◌≤◌, zero, suc, Bool, true, false, ◌&&◌, ◌||◌, ◌==◌, not, List, [], ◌∷◌, ◌++◌, length, Result, Ok, Err, refl, ◌∙◌, length-append, arith, codes, decimal, if◌then◌else◌}
+use Rattle.std.proofs.Common.{◌≡◌, ℕ, ◌+◌, ◌/◌, ◌%◌, ◌≤◌, zero, suc, Bool, true, false, ◌&&◌, ◌||◌, ◌==◌, not, List, [], ◌∷◌, ◌++◌, length, map, Option, Some, None, Result, Ok, Err, refl, ◌∙◌, length-append, arith, codes, decimal, if◌then◌else◌}
 use Rattle.std.specs.Fmt.{digits, digits_onto, digit_glyph}
-use Rattle.std.specs.List.{list_all}
+use Rattle.std.specs.List.{list_all, list_any}
 use Rattle.std.proofs.lemmas.Bool.{and_parts, le-leb}
 use Rattle.std.proofs.lemmas.List.Folds.{list_all-append}
 use Rattle.mg_scan.specs.Span.{text_of}
@@ -16,6 +16,9 @@ use Rattle.mg_words.specs.declared.context_id.ContextId.{ContextId}
 use Rattle.mg_words.specs.declared.context_id.ContextId.TheVariants as contexts
 use Rattle.mg_words.specs.declared.error_number.ErrorNumber.{ErrorNumber}
 use Rattle.mg_words.specs.declared.error_number.ErrorNumber.TheVariants.{NotServed}
+use Rattle.mg_words.specs.Association.{association_text}
+use Rattle.mg_words.specs.declared.association.Association.{Association}
+use Rattle.mg_words.specs.declared.association.Association.TheVariants as associations
 use Rattle.mg_reply.specs.declared.item.Item.{Item}
 use Rattle.mg_reply.specs.declared.item.Item.TheVariants as replies
 use Rattle.mg_reply.specs.declared.outcome.Outcome.{Outcome}
@@ -27,8 +30,11 @@ use Rattle.mg_reply.specs.Reply.{is_refusal, last_is_action}
 use Rattle.mg_reply.specs.Theorems.{is_wide}
 use Rattle.mg_rooms.specs.declared.target.Target.{Target}
 use Rattle.mg_rooms.specs.declared.target.Target.TheVariants as targets
-use Rattle.mg_engine.specs.declared.edit.Edit.TheVariants as edits
+use Rattle.mg_engine.specs.Flow.{hears}
 use Rattle.mg_engine.specs.Gateway.{Gateway}
+use Rattle.mg_engine.specs.Outcome.{add, modify, move_to, subtract, apply_triples}
+use Rattle.mg_rooms.specs.Registry.{members_at}
+use Rattle.mg_text.specs.declared.context_property.ContextProperty.{ContextProperty}
 use Rattle.mg_text.specs.declared.command.Command.{Command}
 use Rattle.mg_text.specs.declared.request.Action.{Action}
 use Rattle.mg_text.specs.Proper.{property_is_proper, command_is_proper, action_is_proper}
@@ -37,10 +43,11 @@ use Rattle.mg_commands.specs.declared.name.Name.{Name}
 use Rattle.mg_commands.specs.declared.name.Name.TheVariants as names
 use Rattle.mg_commands.specs.declared.served.Served.{Served}
 use Rattle.mg_commands.specs.Name.{name_of, written_as, written_name}
-use Rattle.mg_commands.specs.Outcome.{CommandOutcome, check_command, check_new_name, number_in, edit_outcome, in_same_world, outcome_by_word, outcome, reply_parts, served_at}
+use Rattle.mg_commands.specs.ContextProperties.{is_context_audit, action_fault, triples_of, pair_item, audit_pair, audit_pairs, audit_items, context_outcome}
+use Rattle.mg_commands.specs.Outcome.{CommandOutcome, check_command, check_new_name, number_in, in_same_world, outcome_by_word, outcome, reply_parts, served_at, made_at}
 use Rattle.mg_commands.specs.ReplyDescriptors.{descriptors_after, descriptors_before}
 use Rattle.mg_commands.specs.Theorems.{ItemsAreWide, ItemsAreWhole}
-use Rattle.mg_commands.specs.Transaction.{ActionState, TransactionState, after_command, with_command, go_on, with_commands, is_refused, action_start, action_end, refusal, with_action, rest_of, with_actions, replied}
+use Rattle.mg_commands.specs.Transaction.{ActionState, TransactionState, after_command, with_command, go_on, with_commands, action_start, ended, after_properties, after_commands, refusal, action_unless, with_action, rest_of, with_actions, replied}
 
 -- ## Texts
 
@@ -91,6 +98,12 @@ context_some contexts.Choose = omega arith
 context_some contexts.All = omega arith
 context_some (contexts.Number n) = decimal_some n
 
+association_long : (association : Association) → 6 ≤ length (association_text association)
+unfolding association_text
+association_long associations.Isolate = omega arith
+association_long associations.Oneway = omega arith
+association_long associations.Bothway = omega arith
+
 term_some : (text : List ℕ) → is_term text ≡ true → 1 ≤ length text
 term_some [] h = absurd (cc h)
 term_some (x ∷ xs) h = omega arith
@@ -121,6 +134,11 @@ failed_long : (e : ErrorNumber) → 9 ≤ length (outcome_text (Failed e))
 unfolding listed
 failed_long e = omega (arith, error_long e, length-append (codes "{" ++ (error_text e ++ [])) (codes "}"), length-append (codes "{") (error_text e ++ []), length-append (error_text e) [])
 
+triple_wide : (a b : ℕ) (association : Association) → is_wide (replies.Triple (rtp_name a) (rtp_name b) association) ≡ true
+triple_wide a b association =
+    let last = codes "," ++ association_text association in
+    le-leb 9 _ (omega (arith, length-append (rtp_name a) (codes "," ++ (rtp_name b ++ last)), length-append (codes ",") (rtp_name b ++ last), length-append (rtp_name b) last, rtp_long a, rtp_long b))
+
 -- ## Outcomes
 
 by_bind : {A B E : Type 0} (P : Result B E → Type 0) (r : Result A E) (f : A → Result B E) → ((x : A) → P (f x)) → ((e : E) → P (Err e)) → P (r >>= f)
@@ -135,15 +153,18 @@ data IsLong (word : CommandWord) : CommandOutcome → Type 0 where
 named : (word : CommandWord) (w : Gateway) (target : Target) (n : ℕ) (parts : Parts) → IsLong word (Ok (w, served_at target n parts))
 named word w target n parts = done (w, served_at target n parts) (omega (arith, word_long word, rtp_long n))
 
+made : (word : CommandWord) (w : Gateway) (target : Target) (n : ℕ) (parts : Parts) → IsLong word (Ok (w, made_at target n parts))
+made word w target n parts = done (w, made_at target n parts) (omega (arith, word_long word, rtp_long n))
+
 audit_is_long : (w : Gateway) (r : Result Served ErrorNumber) → IsLong words.AuditValue (in_same_world w r)
 audit_is_long w (Ok s) = done (w, s) (omega (arith, audit_long))
 audit_is_long w (Err e) = failed e
 
 by_word_long : (word : CommandWord) (w : Gateway) (target : Target) (name : Name) (parameters : CommandParameters) → IsLong word (outcome_by_word word w target name parameters)
-by_word_long words.Add w target name parameters = by_bind (IsLong words.Add) (check_new_name w name) _ (λ u. by_bind (IsLong words.Add) (edit_outcome w (edits.Add target parameters.settings)) _ (λ p. named words.Add p.0 (targets.Number p.1.context) p.1.termination (reply_parts (descriptors_after parameters) p.0 p.1.termination)) failed) failed
-by_word_long words.Modify w target name parameters = by_bind (IsLong words.Modify) (number_in name) _ (λ n. by_bind (IsLong words.Modify) (edit_outcome w (edits.Modify target n parameters.settings)) _ (λ p. named words.Modify p.0 target n (reply_parts (descriptors_after parameters) p.0 n)) failed) failed
-by_word_long words.Move w target name parameters = by_bind (IsLong words.Move) (number_in name) _ (λ n. by_bind (IsLong words.Move) (edit_outcome w (edits.Move target n parameters.settings)) _ (λ p. named words.Move p.0 (targets.Number p.1.context) n (reply_parts (descriptors_after parameters) p.0 n)) failed) failed
-by_word_long words.Subtract w target name parameters = by_bind (IsLong words.Subtract) (number_in name) _ (λ n. by_bind (IsLong words.Subtract) (edit_outcome w (edits.Subtract target n)) _ (λ p. named words.Subtract p.0 target n (reply_parts (descriptors_before parameters) w n)) failed) failed
+by_word_long words.Add w target name parameters = by_bind (IsLong words.Add) (check_new_name w name) _ (λ u. by_bind (IsLong words.Add) (add w target parameters.settings) _ (λ p. made words.Add p.0 (targets.Number p.1.context) p.1.termination (reply_parts (descriptors_after parameters) p.0 p.1.termination)) failed) failed
+by_word_long words.Modify w target name parameters = by_bind (IsLong words.Modify) (number_in name) _ (λ n. by_bind (IsLong words.Modify) (modify w target n parameters.settings) _ (λ p. named words.Modify p.0 target n (reply_parts (descriptors_after parameters) p.0 n)) failed) failed
+by_word_long words.Move w target name parameters = by_bind (IsLong words.Move) (number_in name) _ (λ n. by_bind (IsLong words.Move) (move_to w target n parameters.settings) _ (λ p. named words.Move p.0 (targets.Number p.1.context) n (reply_parts (descriptors_after parameters) p.0 n)) failed) failed
+by_word_long words.Subtract w target name parameters = by_bind (IsLong words.Subtract) (number_in name) _ (λ n. by_bind (IsLong words.Subtract) (subtract w target n) _ (λ p. named words.Subtract p.0 target n (reply_parts (descriptors_before parameters) w n)) failed) failed
 by_word_long words.AuditValue w target name parameters = audit_is_long w _
 by_word_long words.AuditCapability w target name parameters = failed NotServed
 by_word_long words.Notify w target name parameters = failed NotServed
@@ -183,22 +204,67 @@ commands_wide source (c ∷ cs) run proper wide =
     let two = and_parts (command_is_proper source c) (list_all (command_is_proper source) cs) proper in
     go_on_wide (with_commands source cs) (with_command source c run) (with_command_wide source run c two.0 wide) (λ next h. commands_wide source cs next two.1 h)
 
-action_end_wide : (x : ActionState × Bool) → AreWide x.0.items → AreWide (action_end x).0.items
-action_end_wide (run, is_done) h = wide_last run.items _ h (action_wide _)
+wide_more : (xs ys : List Item) → AreWide xs → AreWide ys → AreWide (xs ++ ys)
+wide_more xs ys h k = list_all-append is_wide xs ys ∙ both_true (list_all is_wide xs) (list_all is_wide ys) h k
 
-refusal_wide : (a : Action) (s : TransactionState) → AreWide s.items → AreWide (refusal a s).0.items
-refusal_wide a s h = list_all-append is_wide s.items (replies.Fault NotServed ∷ replies.Action a.context ∷ []) ∙ both_true (list_all is_wide s.items) _ h (both_true (is_wide (replies.Fault NotServed)) _ (fault_wide NotServed) (both_true (is_wide (replies.Action a.context)) true (action_wide a.context) refl))
+-- ## What is told of a context
+
+pair_item_wide : (x y : Bool) (a b : ℕ) → is_wide (pair_item x y a b) ≡ true
+pair_item_wide true true a b = triple_wide a b associations.Bothway
+pair_item_wide true false a b = triple_wide a b associations.Oneway
+pair_item_wide false true a b = triple_wide b a associations.Oneway
+pair_item_wide false false a b = triple_wide a b associations.Isolate
+
+pairs_of_wide : (w : Gateway) (a : ℕ) (bs : List ℕ) → AreWide (map (audit_pair w a) bs)
+pairs_of_wide w a [] = refl
+pairs_of_wide w a (b ∷ bs) = both_true (is_wide (audit_pair w a b)) (list_all is_wide (map (audit_pair w a) bs)) (pair_item_wide (hears w b a) (hears w a b) a b) (pairs_of_wide w a bs)
+
+pairs_wide : (w : Gateway) (members : List ℕ) → AreWide (audit_pairs w members)
+unfolding audit_pairs
+pairs_wide w [] = refl
+pairs_wide w (a ∷ members) = wide_more (map (audit_pair w a) members) (audit_pairs w members) (pairs_of_wide w a members) (pairs_wide w members)
 
 if_holds : {A : Type 0} (P : A → Type 0) (b : Bool) (x y : A) → P x → P y → P (if b then x else y)
 if_holds P true x y h k = h
 if_holds P false x y h k = k
 
+audit_wide : (ps : List ContextProperty) (w : Gateway) (c : ℕ) → AreWide (audit_items ps w c)
+audit_wide ps w c = if_holds AreWide (list_any is_context_audit ps) (audit_pairs w (members_at w.rooms c)) [] (pairs_wide w (members_at w.rooms c)) refl
+
+-- what is told of a context, if its properties are done, is wide
+data TellsWide : Result (Gateway × List Item) ErrorNumber → Type 0 where
+  told : (p : Gateway × List Item) → AreWide p.1 → TellsWide (Ok p)
+  refused : (e : ErrorNumber) → TellsWide (Err e)
+
+context_wide : (source : List ℕ) (made : Option ℕ) (ps : List ContextProperty) (w : Gateway) (target : Target) → TellsWide (context_outcome source made ps w target)
+context_wide source made [] w target = told (w, []) refl
+context_wide source made (x ∷ ps) w target = by_bind TellsWide (apply_triples w target (triples_of source made (x ∷ ps))) _ (λ p. told (p.0, audit_items (x ∷ ps) p.0 p.1) (audit_wide (x ∷ ps) p.0 p.1)) refused
+
+-- ## Actions
+
+ended_wide : (run : ActionState) (w : Gateway) (items : List Item) → AreWide run.items → AreWide items → AreWide (ended run w items).items
+ended_wide run w items h k = wide_last (run.items ++ items) _ (wide_more run.items items h k) (action_wide _)
+
+after_properties_wide : (run : ActionState) (r : Result (Gateway × List Item) ErrorNumber) → TellsWide r → AreWide run.items → AreWide (after_properties run r).0.items
+after_properties_wide run (Ok p) (told _ k) h = ended_wide run p.0 p.1 h k
+after_properties_wide run (Err e) (refused _) h = ended_wide run run.gateway (replies.Fault e ∷ []) h (both_true (is_wide (replies.Fault e)) true (fault_wide e) refl)
+
+after_commands_wide : (source : List ℕ) (ps : List ContextProperty) (x : ActionState × Bool) → AreWide x.0.items → AreWide (after_commands source ps x).0.items
+after_commands_wide source ps (run, true) h = after_properties_wide run (context_outcome source run.made ps run.gateway run.target) (context_wide source run.made ps run.gateway run.target) h
+after_commands_wide source ps (run, false) h = ended_wide run run.gateway [] h refl
+
+refusal_wide : (a : Action) (s : TransactionState) (e : ErrorNumber) → AreWide s.items → AreWide (refusal a s e).0.items
+refusal_wide a s e h = list_all-append is_wide s.items (replies.Fault e ∷ replies.Action a.context ∷ []) ∙ both_true (list_all is_wide s.items) _ h (both_true (is_wide (replies.Fault e)) _ (fault_wide e) (both_true (is_wide (replies.Action a.context)) true (action_wide a.context) refl))
+
+unless_wide : (o : Option ErrorNumber) (source : List ℕ) (a : Action) (s : TransactionState) → list_all (command_is_proper source) a.commands ≡ true → AreWide s.items → AreWide (action_unless o source a s).0.items
+unless_wide (Some e) source a s proper wide = refusal_wide a s e wide
+unless_wide None source a s proper wide = after_commands_wide source a.properties (with_commands source a.commands (action_start a s)) (commands_wide source a.commands (action_start a s) proper wide)
+
 with_action_wide : (source : List ℕ) (a : Action) (s : TransactionState) → action_is_proper source a ≡ true → AreWide s.items → AreWide (with_action source a s).0.items
 unfolding with_action
 with_action_wide source a s proper wide =
     let two = and_parts (list_all (property_is_proper source) a.properties) (list_all (command_is_proper source) a.commands) proper in
-    if_holds (λ (x : TransactionState × Bool). AreWide x.0.items) (is_refused a) (refusal a s) (action_end (with_commands source a.commands (action_start a s)))
-    (refusal_wide a s wide) (action_end_wide (with_commands source a.commands (action_start a s)) (commands_wide source a.commands (action_start a s) two.1 wide))
+    unless_wide (action_fault a) source a s two.1 wide
 
 rest_of_holds : (P : TransactionState → Type 0) (rest : TransactionState → TransactionState) (x : TransactionState × Bool) → P x.0 → ((s : TransactionState) → P s → P (rest s)) → P (rest_of rest x)
 rest_of_holds P rest (s, true) h k = k s h
@@ -229,14 +295,21 @@ last_refusal : (b : Bool) (xs : List Item) (e : ErrorNumber) (id : ContextId) �
 last_refusal b [] e id = refl
 last_refusal b (x ∷ xs) e id = last_refusal _ xs e id
 
-action_end_last : (x : ActionState × Bool) → HasEnded (action_end x).0
-action_end_last (run, is_done) = last_action false run.items _
+after_properties_last : (run : ActionState) (r : Result (Gateway × List Item) ErrorNumber) → HasEnded (after_properties run r).0
+after_properties_last run (Ok p) = last_action false (run.items ++ p.1) _
+after_properties_last run (Err e) = last_action false (run.items ++ replies.Fault e ∷ []) _
+
+after_commands_last : (source : List ℕ) (ps : List ContextProperty) (x : ActionState × Bool) → HasEnded (after_commands source ps x).0
+after_commands_last source ps (run, true) = after_properties_last run (context_outcome source run.made ps run.gateway run.target)
+after_commands_last source ps (run, false) = last_action false (run.items ++ []) _
+
+unless_last : (o : Option ErrorNumber) (source : List ℕ) (a : Action) (s : TransactionState) → HasEnded (action_unless o source a s).0
+unless_last (Some e) source a s = last_refusal false s.items e a.context
+unless_last None source a s = after_commands_last source a.properties (with_commands source a.commands (action_start a s))
 
 with_action_last : (source : List ℕ) (a : Action) (s : TransactionState) → HasEnded (with_action source a s).0
 unfolding with_action
-with_action_last source a s =
-    if_holds (λ (x : TransactionState × Bool). HasEnded x.0) (is_refused a) (refusal a s) (action_end (with_commands source a.commands (action_start a s)))
-    (last_refusal false s.items NotServed a.context) (action_end_last (with_commands source a.commands (action_start a s)))
+with_action_last source a s = unless_last (action_fault a) source a s
 
 actions_last : (source : List ℕ) (xs : List Action) (s : TransactionState) → HasEnded s → HasEnded (with_actions source xs s)
 unfolding with_actions

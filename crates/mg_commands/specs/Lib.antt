@@ -4,6 +4,7 @@ pub mod Search
 pub mod DescriptorFault
 pub mod PropertyFault
 pub mod CommandParameters
+pub mod ContextProperties
 pub mod ReplyDescriptors
 pub mod Outcome
 pub mod Transaction

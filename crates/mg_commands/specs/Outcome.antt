@@ -16,14 +16,11 @@ use Rattle.mg_words.specs.declared.error_number.ErrorNumber.TheVariants as error
 use Rattle.mg_reply.specs.declared.media.Media.{Media}
 use Rattle.mg_reply.specs.declared.media.Media.TheVariants.{Local, Whole}
 use Rattle.mg_reply.specs.declared.outcome.Parts.{Parts}
-use Rattle.mg_rooms.specs.declared.done.Done.{Done}
 use Rattle.mg_rooms.specs.declared.record.Record.{Record}
 use Rattle.mg_rooms.specs.declared.target.Target.{Target}
 use Rattle.mg_rooms.specs.declared.target.Target.TheVariants as targets
 use Rattle.mg_rooms.specs.Outcome.{member}
 use Rattle.mg_rooms.specs.Registry.{record_at}
-use Rattle.mg_engine.specs.declared.edit.Edit.{Edit}
-use Rattle.mg_engine.specs.declared.edit.Edit.TheVariants as edits
 use Rattle.mg_engine.specs.Outcome as engine
 use Rattle.mg_engine.specs.Gateway.{Gateway, stats_of}
 use Rattle.mg_text.specs.declared.command.Command.{Command}
@@ -148,31 +145,33 @@ abbrev pub CommandOutcome : Type 0
 CommandOutcome = Result (Gateway × Served) ErrorNumber
 
 abbrev pub served_at : Target → ℕ → Parts → Served
-served_at target n parts = record { target = target; term = rtp_name n; parts = parts }
+served_at target n parts =
+    record { target = target; made = None; term = rtp_name n; parts = parts }
 
-abbrev pub edit_outcome : Gateway → Edit → Result (Gateway × Done) ErrorNumber
-edit_outcome w edit = engine.outcome w edit
+-- the same of a termination that was made
+abbrev pub made_at : Target → ℕ → Parts → Served
+made_at target n parts = record (served_at target n parts) { made = Some n }
 
 abbrev pub add_outcome : Gateway → Target → Name → CommandParameters → CommandOutcome
 add_outcome w target name parameters = do
   _ ← check_new_name w name
-  p ← edit_outcome w (edits.Add target parameters.settings)
+  p ← engine.add w target parameters.settings
   Ok (
     p.0,
-    served_at (targets.Number p.1.context) p.1.termination
+    made_at (targets.Number p.1.context) p.1.termination
         (reply_parts (descriptors_after parameters) p.0 p.1.termination),
   )
 
 abbrev pub modify_outcome : Gateway → Target → Name → CommandParameters → CommandOutcome
 modify_outcome w target name parameters = do
   n ← number_in name
-  p ← edit_outcome w (edits.Modify target n parameters.settings)
+  p ← engine.modify w target n parameters.settings
   Ok (p.0, served_at target n (reply_parts (descriptors_after parameters) p.0 n))
 
 abbrev pub move_outcome : Gateway → Target → Name → CommandParameters → CommandOutcome
 move_outcome w target name parameters = do
   n ← number_in name
-  p ← edit_outcome w (edits.Move target n parameters.settings)
+  p ← engine.move_to w target n parameters.settings
   Ok (
     p.0,
     served_at (targets.Number p.1.context) n
@@ -182,7 +181,7 @@ move_outcome w target name parameters = do
 abbrev pub subtract_outcome : Gateway → Target → Name → CommandParameters → CommandOutcome
 subtract_outcome w target name parameters = do
   n ← number_in name
-  p ← edit_outcome w (edits.Subtract target n)
+  p ← engine.subtract w target n
   Ok (p.0, served_at target n (reply_parts (descriptors_before parameters) w n))
 
 abbrev pub audit_termination : Gateway → Target → Name → CommandParameters
@@ -197,6 +196,7 @@ abbrev pub audit_root : Target → Result Served ErrorNumber
 audit_root targets.Null =
     Ok (record {
       target = targets.Null;
+      made = None;
       term = codes "ROOT";
       parts = record { media = None; statistics = None };
     })

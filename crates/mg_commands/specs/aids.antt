@@ -1,4 +1,5 @@
 pub mod Words
 pub mod Levels
 pub mod Parameters
+pub mod Properties
 pub mod Runs

@@ -10,17 +10,22 @@
 //! ```
 //!
 //! The commands of a request are tried in their order, action by action, up to the first that fails. What was not
-//! tried isn't told. A command that is refused leaves the engine as it was.
+//! tried isn't told. A command that is refused leaves the engine as it was. What an action asks of its context as a
+//! whole, a topology and an audit of it, is done after its commands, if none failed.
 #![tactic(auto)]
 
+mod action_fault;
 mod checks;
 mod command_parameters;
+mod context_audit;
+mod context_properties;
 mod descriptor_fault;
 mod descriptor_parts;
 pub mod laws;
 mod name;
 mod outcomes;
 mod part;
+mod progress;
 mod property_fault;
 mod reply_descriptors;
 mod reply_parts;

@@ -2,9 +2,8 @@
 
 ghost use Rattle.std.specs.Prelude.{◌≡◌, OnErr};
 ghost use Rattle.mg_engine.specs.Gateway.{Gateway};
-ghost use Rattle.mg_engine.specs.Stands.{StandsFor};
-ghost use Rattle.mg_commands.specs.aids.Runs.{Comes};
-ghost use Rattle.mg_commands.specs.Outcome.{served_at, edit_outcome, add_outcome, modify_outcome, move_outcome, subtract_outcome, audit_termination, audit_root, audit_outcome, outcome_by_word, outcome};
+ghost use Rattle.mg_engine.specs.Stands.{StandsFor, IsOutcome};
+ghost use Rattle.mg_commands.specs.Outcome.{served_at, made_at, add_outcome, modify_outcome, move_outcome, subtract_outcome, audit_termination, audit_root, audit_outcome, outcome_by_word, outcome};
 
 use crate::checks::{check_command, check_new_name, number_in};
 use crate::command_parameters::CommandParameters;
@@ -12,7 +11,7 @@ use crate::name::{Name, name_of};
 use crate::reply_descriptors::ReplyDescriptors;
 use crate::reply_parts::reply_parts;
 use crate::served::Served;
-use mg_engine::{Done, Edit, Engine, Target};
+use mg_engine::{Engine, Target};
 use mg_text::{Command, CommandWord, ErrorNumber, Parts, Term};
 
 /// What is told of the termination with a number.
@@ -21,17 +20,22 @@ fn served_at(target: Target, number: u32, parts: Parts) -> Served
 {
     Served {
         target,
+        made: None,
         term: Term::rtp(number),
         parts,
     }
 }
 
-/// Does an edit.
-fn edit_outcome(engine: &mut Engine, edit: &Edit) -> Result<Done, ErrorNumber>
-    ensures came { (w : Gateway) → StandsFor engine.old w → Comes engine.new result (edit_outcome w edit.now) }
-    ensures refused { OnErr result (engine.new ≡ engine.old) }
+/// The same of one that was made.
+fn made_at(target: Target, number: u32, parts: Parts) -> Served
+    ensures value { result ≡ made_at target number parts }
 {
-    engine.edit(edit)
+    Served {
+        target,
+        made: Some(number),
+        term: Term::rtp(number),
+        parts,
+    }
 }
 
 /// An Add (RFC 3525, section 7.2.1).
@@ -41,18 +45,14 @@ fn add_outcome(
     name: Name,
     parameters: CommandParameters,
 ) -> Result<Served, ErrorNumber>
-    ensures came { (w : Gateway) → StandsFor engine.old w → Comes engine.new result (add_outcome w target name parameters) }
+    ensures came { (w : Gateway) → StandsFor engine.old w → IsOutcome engine.new result (add_outcome w target name parameters) }
     ensures refused { OnErr result (engine.new ≡ engine.old) }
 {
     check_new_name(engine, name)?;
     let descriptors = ReplyDescriptors::after(&parameters);
-    let edit = Edit::Add {
-        target,
-        settings: parameters.settings,
-    };
-    let done = edit_outcome(engine, &edit)?;
+    let done = engine.add(target, &parameters.settings)?;
     let parts = reply_parts(engine, done.termination, descriptors);
-    Ok(served_at(Target::Number(done.context), done.termination, parts))
+    Ok(made_at(Target::Number(done.context), done.termination, parts))
 }
 
 /// A Modify (RFC 3525, section 7.2.2).
@@ -62,17 +62,12 @@ fn modify_outcome(
     name: Name,
     parameters: CommandParameters,
 ) -> Result<Served, ErrorNumber>
-    ensures came { (w : Gateway) → StandsFor engine.old w → Comes engine.new result (modify_outcome w target name parameters) }
+    ensures came { (w : Gateway) → StandsFor engine.old w → IsOutcome engine.new result (modify_outcome w target name parameters) }
     ensures refused { OnErr result (engine.new ≡ engine.old) }
 {
     let number = number_in(name)?;
     let descriptors = ReplyDescriptors::after(&parameters);
-    let edit = Edit::Modify {
-        target,
-        number,
-        settings: parameters.settings,
-    };
-    edit_outcome(engine, &edit)?;
+    engine.modify(target, number, &parameters.settings)?;
     let parts = reply_parts(engine, number, descriptors);
     Ok(served_at(target, number, parts))
 }
@@ -84,17 +79,12 @@ fn move_outcome(
     name: Name,
     parameters: CommandParameters,
 ) -> Result<Served, ErrorNumber>
-    ensures came { (w : Gateway) → StandsFor engine.old w → Comes engine.new result (move_outcome w target name parameters) }
+    ensures came { (w : Gateway) → StandsFor engine.old w → IsOutcome engine.new result (move_outcome w target name parameters) }
     ensures refused { OnErr result (engine.new ≡ engine.old) }
 {
     let number = number_in(name)?;
     let descriptors = ReplyDescriptors::after(&parameters);
-    let edit = Edit::Move {
-        target,
-        number,
-        settings: parameters.settings,
-    };
-    let done = edit_outcome(engine, &edit)?;
+    let done = engine.move_to(target, number, &parameters.settings)?;
     let parts = reply_parts(engine, number, descriptors);
     Ok(served_at(Target::Number(done.context), number, parts))
 }
@@ -106,12 +96,12 @@ fn subtract_outcome(
     name: Name,
     parameters: &CommandParameters,
 ) -> Result<Served, ErrorNumber>
-    ensures came { (w : Gateway) → StandsFor engine.old w → Comes engine.new result (subtract_outcome w target name parameters.now) }
+    ensures came { (w : Gateway) → StandsFor engine.old w → IsOutcome engine.new result (subtract_outcome w target name parameters.now) }
     ensures refused { OnErr result (engine.new ≡ engine.old) }
 {
     let number = number_in(name)?;
     let before = reply_parts(engine, number, ReplyDescriptors::before(parameters));
-    edit_outcome(engine, &Edit::Subtract { target, number })?;
+    engine.subtract(target, number)?;
     Ok(served_at(target, number, before))
 }
 
@@ -137,6 +127,7 @@ fn audit_root(target: Target) -> Result<Served, ErrorNumber>
     match target {
         Target::Null => Ok(Served {
             target,
+            made: None,
             term: Term::root(),
             parts: Parts {
                 media: None,
@@ -172,7 +163,7 @@ fn outcome_by_word(
     name: Name,
     parameters: CommandParameters,
 ) -> Result<Served, ErrorNumber>
-    ensures came { (w : Gateway) → StandsFor engine.old w → Comes engine.new result (outcome_by_word word w target name parameters) }
+    ensures came { (w : Gateway) → StandsFor engine.old w → IsOutcome engine.new result (outcome_by_word word w target name parameters) }
     ensures refused { OnErr result (engine.new ≡ engine.old) }
 {
     match word {
@@ -195,7 +186,7 @@ pub fn outcome(
     target: Target,
     command: &Command,
 ) -> Result<Served, ErrorNumber>
-    ensures came { (w : Gateway) → StandsFor engine.old w → Comes engine.new result (outcome source.now w target command.now) }
+    ensures came { (w : Gateway) → StandsFor engine.old w → IsOutcome engine.new result (outcome source.now w target command.now) }
     ensures refused { OnErr result (engine.new ≡ engine.old) }
 {
     let name = name_of(command.term.text(source));

@@ -6,6 +6,8 @@ use mg_text::{Parts, Term};
 pub struct Served {
     /// The action's context after it.
     pub target: Target,
+    /// The termination that it made.
+    pub made: Option<u32>,
     /// The termination's name, as the reply has it.
     pub term: Term,
     /// What the reply tells of it.

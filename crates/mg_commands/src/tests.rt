@@ -128,3 +128,123 @@ fn ends_a_request_with_what_fails(rt: HostRuntime) -> Result<(), Fail> {
     assert!(rt; are_answered(rt.alloc(), &cases)?);
     Ok(())
 }
+
+#[test]
+fn says_who_hears_whom(rt: HostRuntime) -> Result<(), Fail> {
+    let cases: [(&[u8], &[u8]); 8] = [
+        (
+            b"!/1 a T=1{C=${A=$,A=$}}",
+            b"Reply=1{Context=1{Add=RTP/1,Add=RTP/2}}",
+        ),
+        (
+            b"!/1 a T=2{C=1{TP{$,RTP/1,OW},CA{TP},A=$}}",
+            b"Reply=2{Context=1{Topology{RTP/1,RTP/2,Bothway,RTP/3,RTP/1,Oneway,RTP/2,RTP/3,Bothway},Add=RTP/3}}",
+        ),
+        (
+            b"!/1 a T=3{C=1{TP{RTP/9,*,IS,$,*,IS}}}",
+            b"Reply=3{Context=1{Error=435{\"termination not in context\"}}}",
+        ),
+        (
+            b"!/1 a T=4{C=1{TP{$,*,IS,RTP/9,*,IS}}}",
+            b"Reply=4{Context=1{Error=410{\"identifier not allowed here\"}}}",
+        ),
+        (
+            b"!/1 a T=5{C=-{CA{TP}}}",
+            b"Reply=5{Context=-{Error=411{\"unknown context\"}}}",
+        ),
+        (
+            b"!/1 a T=6{C=1{TP{RTP/1,RTP/2,IS,*,RTP/1,OW}}}",
+            b"Reply=6{Context=1{Error=421{\"illegal combination\"}}}",
+        ),
+        (
+            b"!/1 a T=7{C=1{CA{TP,TP}}}",
+            b"Reply=7{Context=1{Topology{RTP/1,RTP/2,Bothway,RTP/3,RTP/1,Oneway,RTP/2,RTP/3,Bothway}}}",
+        ),
+        (
+            b"!/1 a T=8{C=1{TP{RTP/$,rtp/2,IS},CA{TP},S=RTP/3{AT{}},A=$,A=$}}",
+            b"Reply=8{Context=1{Topology{RTP/1,RTP/2,Bothway,RTP/1,RTP/4,Bothway,RTP/1,RTP/5,Bothway,RTP/2,RTP/4,Isolate,RTP/2,RTP/5,Bothway,RTP/4,RTP/5,Bothway},Subtract=RTP/3,Add=RTP/4,Add=RTP/5}}",
+        ),
+    ];
+    assert!(rt; are_answered(rt.alloc(), &cases)?);
+    Ok(())
+}
+
+#[test]
+fn keeps_the_last_word(rt: HostRuntime) -> Result<(), Fail> {
+    let cases: [(&[u8], &[u8]); 7] = [
+        (
+            b"!/1 a T=1{C=${A=$,A=$,A=$}}",
+            b"Reply=1{Context=1{Add=RTP/1,Add=RTP/2,Add=RTP/3}}",
+        ),
+        (
+            b"!/1 a T=2{C=1{TP{RTP/1,RTP/2,IS,RTP/1,RTP/2,OW,RTP/3,*,BW},CA{TP}}}",
+            b"Reply=2{Context=1{Topology{RTP/1,RTP/2,Oneway,RTP/1,RTP/3,Bothway,RTP/2,RTP/3,Bothway}}}",
+        ),
+        (
+            b"!/1 a T=3{C=1{TP{RTP/1,RTP/2,OW,RTP/1,RTP/2,IS}}}",
+            b"Reply=3{Context=1}",
+        ),
+        (
+            b"!/1 a T=4{C=1{CA{TP},TP{RTP/1,*,IS}}}",
+            b"Reply=4{Context=1{Topology{RTP/1,RTP/2,Isolate,RTP/1,RTP/3,Isolate,RTP/2,RTP/3,Bothway}}}",
+        ),
+        (
+            b"!/1 a T=5{C=${MV=RTP/1}}",
+            b"Reply=5{Context=2{Move=RTP/1}}",
+        ),
+        (
+            b"!/1 a T=6{C=1{CA{TP},MV=RTP/1}}",
+            b"Reply=6{Context=1{Topology{RTP/2,RTP/3,Bothway,RTP/2,RTP/1,Bothway,RTP/3,RTP/1,Bothway},Move=RTP/1}}",
+        ),
+        (
+            b"!/1 a T=7{C=2{CA{TP}}}",
+            b"Reply=7{Context=2{Error=411{\"unknown context\"}}}",
+        ),
+    ];
+    assert!(rt; are_answered(rt.alloc(), &cases)?);
+    Ok(())
+}
+
+#[test]
+fn refuses_an_action_as_a_whole(rt: HostRuntime) -> Result<(), Fail> {
+    let cases: [(&[u8], &[u8]); 9] = [
+        (
+            b"!/1 a T=1{C=1{CA{TP},CA{PR}}}",
+            b"Reply=1{Context=1{Error=448{\"descriptor twice\"}}}",
+        ),
+        (
+            b"!/1 a T=2{C=1{TP{*,*,BW},TP{*,*,BW},PR=1}}",
+            b"Reply=2{Context=1{Error=448{\"descriptor twice\"}}}",
+        ),
+        (
+            b"!/1 a T=3{C=1{PR=1,PR=2,A=$}}",
+            b"Reply=3{Context=1{Error=444{\"descriptor not served\"}}}",
+        ),
+        (
+            b"!/1 a T=4{C=1{CA{TP,EG},CA{TP}}}",
+            b"Reply=4{Context=1{Error=444{\"descriptor not served\"}}}",
+        ),
+        (
+            b"!/1 a T=5{C=*{PR=1}}",
+            b"Reply=5{Context=*{Error=501{\"not served\"}}}",
+        ),
+        (
+            b"!/1 a T=6{C=${TP{ROOT,*,IS},MF=RTP/1,A=$},C=-{AV=ROOT}}",
+            b"Reply=6{Context=${Modify=RTP/1{Error=430{\"unknown termination\"}}}}",
+        ),
+        (
+            b"!/1 a T=7{C=${CA{TP},A=$,S=RTP/1{AT{}}},C=-{AV=ROOT}}",
+            b"Reply=7{Context=1{Add=RTP/1,Subtract=RTP/1,Error=411{\"unknown context\"}}}",
+        ),
+        (
+            b"!/1 a T=8{C=${CA{TP},TP{ROOT,*,IS}}}",
+            b"Reply=8{Context=${Error=411{\"unknown context\"}}}",
+        ),
+        (
+            b"!/1 a T=9{C=${CA{TP},A=$},C=-{AV=ROOT}}",
+            b"Reply=9{Context=2{Add=RTP/2},Context=-{AuditValue=ROOT}}",
+        ),
+    ];
+    assert!(rt; are_answered(rt.alloc(), &cases)?);
+    Ok(())
+}

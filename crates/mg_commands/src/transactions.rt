@@ -1,39 +1,46 @@
-ghost use Rattle.std.specs.Prelude.{◌≡◌, ◌⊎◌, ◌<◌, length, true};
+ghost use Rattle.std.specs.Prelude.{◌≡◌, ◌⊎◌, ◌<◌, length, true, None};
 ghost use Rattle.std.specs.List.{list_all};
 ghost use Rattle.mg_words.specs.Leads.{Leads};
 ghost use Rattle.mg_reply.specs.Reply.{Answered, IsWhole, started, after_all};
 ghost use Rattle.mg_engine.specs.Stands.{StandsFor};
 ghost use Rattle.mg_text.specs.Proper.{command_is_proper, action_is_proper, request_is_proper};
-ghost use Rattle.mg_commands.specs.Transaction.{target_of, id_of, is_refused, with_command, with_commands, with_action, with_actions, replied};
+ghost use Rattle.mg_commands.specs.Transaction.{target_of, id_of, with_command, with_commands, with_action, with_actions, replied};
 ghost use Rattle.mg_commands.specs.aids.Runs.{IsAction, action_kept, IsTransaction, transaction_kept};
 
+use crate::action_fault::action_fault;
+use crate::context_properties::try_properties;
 use crate::name::written_name;
 use crate::outcomes::outcome;
+use crate::progress::Progress;
 use mg_engine::{Engine, Target};
-use mg_text::{Action, Command, ContextId, ErrorNumber, Item, Outcome, Reply, Request};
+use mg_text::{Action, Command, ContextId, Item, Outcome, Reply, Request};
 
-/// Tries a command in the action's context. The answer is the action's context after it, and whether it was done.
+/// Tries a command of an action that has come so far. The answer is how far it comes, and whether the command was done.
 fn try_command(
     engine: &mut Engine,
     source: &[u8],
     command: &Command,
-    target: Target,
+    progress: Progress,
     reply: &mut Reply,
-) -> (Target, bool)
+) -> (Progress, bool)
     requires proper { command_is_proper source.now command.now ≡ true }
-    ensures ran { (base : Answered) → Leads (IsAction base) (action_kept engine.old target reply.old)
+    ensures ran { (base : Answered) → Leads (IsAction base) (action_kept engine.old progress reply.old)
         (action_kept engine.new result.0 reply.new) (λ run next. with_command source.now command.now run ≡ (next, result.1)) }
 {
-    match outcome(engine, source, target, command) {
+    match outcome(engine, source, progress.target, command) {
         Ok(served) => {
+            let next = Progress {
+                target: served.target,
+                made: progress.made.or(served.made),
+            };
             let done = Outcome::Done(served.parts);
             reply.put(Item::Command(command.word, served.term, done));
-            (served.target, true)
+            (next, true)
         }
         Err(number) => {
             let term = written_name(command.term.text(source));
             reply.put(Item::Command(command.word, term, Outcome::Failed(number)));
-            (target, false)
+            (progress, false)
         }
     }
 }
@@ -44,22 +51,22 @@ fn try_commands(
     engine: &mut Engine,
     source: &[u8],
     commands: &[Command],
-    target: Target,
+    progress: Progress,
     reply: &mut Reply,
-) -> (Target, bool)
+) -> (Progress, bool)
     requires proper { list_all (command_is_proper source.now) commands.now ≡ true }
-    ensures ran { (base : Answered) → Leads (IsAction base) (action_kept engine.old target reply.old)
+    ensures ran { (base : Answered) → Leads (IsAction base) (action_kept engine.old progress reply.old)
         (action_kept engine.new result.0 reply.new) (λ run next. with_commands source.now commands.now run ≡ (next, result.1)) }
 {
-    let mut target = target;
+    let mut progress = progress;
     for command in commands {
-        let (next, is_done) = try_command(engine, source, command, target, reply);
+        let (next, is_done) = try_command(engine, source, command, progress, reply);
         if !is_done {
             return (next, false);
         }
-        target = next;
+        progress = next;
     }
-    (target, true)
+    (progress, true)
 }
 
 /// The context that an action begins in.
@@ -84,15 +91,8 @@ fn id_of(target: Target) -> ContextId
     }
 }
 
-/// Whether an action is refused as a whole: for now each with a property before its commands, and one of all
-/// contexts ever.
-fn is_refused(action: &Action) -> bool
-    ensures value { result ≡ is_refused action.now }
-{
-    matches!(action.context, ContextId::All) || !action.properties.as_slice().is_empty()
-}
-
-/// Tries an action. The answer is whether it was done whole.
+/// Tries an action: its commands, and then, unless one failed, what it asks of its context. The answer is whether it was
+/// done whole.
 #[tactic(auto, unfolding(crate::specs::Transaction::with_action))]
 fn try_action(engine: &mut Engine, source: &[u8], action: &Action, reply: &mut Reply) -> bool
     requires proper { action_is_proper source.now action.now ≡ true }
@@ -100,15 +100,20 @@ fn try_action(engine: &mut Engine, source: &[u8], action: &Action, reply: &mut R
         (transaction_kept engine.new reply.new) (λ s next. with_action source.now action.now s ≡ (next, result)) }
     ensures whole { IsWhole reply.new }
 {
-    if is_refused(action) {
-        reply.put(Item::Fault(ErrorNumber::NotServed));
+    if let Some(fault) = action_fault(action) {
+        reply.put(Item::Fault(fault));
         reply.put(Item::Action(action.context));
         return false;
     }
-    let target = target_of(action.context);
     let commands = action.commands.as_slice();
-    let (target, is_done) = try_commands(engine, source, commands, target, reply);
-    reply.put(Item::Action(id_of(target)));
+    let properties = action.properties.as_slice();
+    let start = Progress {
+        target: target_of(action.context),
+        made: None,
+    };
+    let (progress, were_done) = try_commands(engine, source, commands, start, reply);
+    let is_done = were_done && try_properties(engine, source, properties, progress, reply);
+    reply.put(Item::Action(id_of(progress.target)));
     is_done
 }
 
@@ -128,8 +133,9 @@ fn try_actions(engine: &mut Engine, source: &[u8], actions: &[Action], reply: &m
 }
 
 /// Runs a request of the message that stands in `source`: tries its commands in their order up to the first
-/// that fails, and puts what came of them into the reply, which is emptied before. An action that is refused as
-/// a whole ends the request too.
+/// that fails, and puts what came of them into the reply, which is emptied before. After the commands of an action
+/// come its triples, all or none, and then its audit. An action that is refused as a whole, before its commands or
+/// after them, ends the request too.
 pub fn transaction(engine: &mut Engine, source: &[u8], request: &Request, reply: &mut Reply)
     requires proper { request_is_proper source.now request.now ≡ true }
     ensures ran { Leads StandsFor engine.old engine.new (λ w next. ((replied source.now request.now w).gateway ≡ next)

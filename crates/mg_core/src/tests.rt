@@ -246,18 +246,8 @@ fn makes_a_context_with_what_is_done(rt: HostRuntime) -> Result<(), Fail> {
     Ok(())
 }
 
-#[test]
-fn limits_terminations(rt: HostRuntime) -> Result<(), Fail> {
-    let alloc = rt.alloc();
-    let one = Config {
-        slots: 1,
-        ..Config::default()
-    };
-    let cases: [(&[u8], &[u8]); 1] = [(
-        b"Transaction=1{Context=${Add=$,Add=$}}",
-        b"Reply=1{Context=1{Add=RTP/1,Add=${Error=432{\"no termination or port left\"}}}}",
-    )];
-    assert_eq!(rt; first_wrong_reply(alloc, one, &cases)?, None);
+/// An action that makes 32 terminations in a new context, and its reply.
+fn full_context(alloc: Global) -> Result<(Vec<u8>, Vec<u8>), Fail> {
     let mut adds = Vec::from_slice(alloc, b"Transaction=1{Context=${Add=$")?;
     let mut done = Vec::from_slice(alloc, b"Reply=1{Context=1{Add=RTP/1")?;
     for n in 2..33u8 {
@@ -270,19 +260,63 @@ fn limits_terminations(rt: HostRuntime) -> Result<(), Fail> {
     }
     adds.extend_from_slice(b"}}")?;
     done.extend_from_slice(b"}}")?;
-    let cases: [(&[u8], &[u8]); 3] = [
+    Ok((adds, done))
+}
+
+#[test]
+fn limits_terminations(rt: HostRuntime) -> Result<(), Fail> {
+    let alloc = rt.alloc();
+    let one = Config {
+        slots: 1,
+        ..Config::default()
+    };
+    let cases: [(&[u8], &[u8]); 1] = [(
+        b"Transaction=1{Context=${Add=$,Add=$}}",
+        b"Reply=1{Context=1{Add=RTP/1,Add=${Error=432{\"no termination or port left\"}}}}",
+    )];
+    assert_eq!(rt; first_wrong_reply(alloc, one, &cases)?, None);
+    let (adds, done) = full_context(alloc)?;
+    let cases: [(&[u8], &[u8]); 4] = [
         (adds.as_slice(), done.as_slice()),
         (
             b"Transaction=2{Context=1{Add=$}}",
             b"Reply=2{Context=1{Add=${Error=434{\"context full\"}}}}",
         ),
         (
-            b"Transaction=3{Context=${Move=RTP/5}}",
-            b"Reply=3{Context=2{Move=RTP/5}}",
+            b"Transaction=3{Context=1{ContextAudit{Topology}},Context=1{ContextAudit{Topology}}}",
+            b"Reply=3{Error=533{\"reply too long\"}}",
+        ),
+        (
+            b"Transaction=4{Context=${Move=RTP/5}}",
+            b"Reply=4{Context=2{Move=RTP/5}}",
         ),
     ];
     let wrong = first_wrong_reply(alloc, Config::default(), &cases)?;
     assert_eq!(rt; wrong, None);
+    Ok(())
+}
+
+/// How many bytes the answer to the last of some requests has.
+fn last_answer_len(alloc: Global, requests: &[&[u8]]) -> Result<usize, Fail> {
+    let mut core = Core::new(alloc, Config::default())?;
+    for request in requests {
+        let mut message = Vec::from_slice(alloc, b"MEGACO/1 [127.0.0.1]:2945 ")?;
+        message.extend_from_slice(request)?;
+        core.control(alloc, CONTROLLER, message.as_slice())?;
+    }
+    Ok(core.answer().len())
+}
+
+#[test]
+fn audits_a_full_context(rt: HostRuntime) -> Result<(), Fail> {
+    let (adds, _) = full_context(rt.alloc())?;
+    let requests: [&[u8]; 2] = [
+        adds.as_slice(),
+        b"Transaction=2{Context=1{ContextAudit{Topology}}}",
+    ];
+
+    // 496 pairs, with their names, `Bothway` and three commas each but the last.
+    assert_eq!(rt; last_answer_len(rt.alloc(), &requests)?, 10688);
     Ok(())
 }
 

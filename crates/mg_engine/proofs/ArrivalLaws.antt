@@ -1,4 +1,4 @@
--- An engine stands for the world behind an RTP datagram.
+-- An engine stands for the world after an RTP datagram.
 use Rattle.std.proofs.Common.{◌≡◌, ℕ, ◌<◌, eqb, Bool, true, false, List, ℤ, [], ◌∷◌, length, set, Some, Result, Ok, Err, refl, sym, ap, subst, ◌∙◌}
 use Rattle.std.specs.Prelude.{find, IfOk, ◌↔◌}
 use Rattle.std.specs.Option.{option_map}
@@ -15,6 +15,7 @@ use Rattle.mg_rooms.specs.declared.record.Record.{Record}
 use Rattle.mg_rooms.specs.Changes.{change}
 use Rattle.mg_rooms.specs.Registry as rooms
 use Rattle.mg_rooms.specs.Registry.{record_at}
+use Rattle.mg_flow.specs.Table as table
 use Rattle.mg_engine.specs.declared.config.Config.{Config}
 use Rattle.mg_engine.specs.declared.taken.Taken.{Taken}
 use Rattle.mg_engine.specs.declared.taken.Taken.TheVariants.{Placed}
@@ -85,7 +86,9 @@ took_stands k w r after (Ok a) result slots found lt p h =
     (now, ap (placed_at w r.number a) there ∙ ap (λ (t : Taken). let q : Gateway × Taken = (now, t) in q) answer, subst (λ (ms : List media.SlotMedia). StandsFor (with_media k ms) now) (sym p.0) stands)
 
 -- an engine whose media alone changed
-pub media_alone : (old new : EngineState) → new.config ≡ old.config → new.rooms ≡ old.rooms → with_media old new.media ≡ new
-media_alone old new config same =
-    let keep : Config → rooms.Registry → EngineState = λ (c : Config). λ (w : rooms.Registry). record { config = c; rooms = w; media = new.media } in
-    ap (λ (c : Config). keep c old.rooms) (sym config) ∙ ap (λ (w : rooms.Registry). keep new.config w) (sym same)
+pub media_alone : (old new : EngineState) → new.config ≡ old.config → new.rooms ≡ old.rooms → new.flows ≡ old.flows → with_media old new.media ≡ new
+media_alone old new config same flows =
+    let keep : Config → rooms.Registry → List table.Room → EngineState = λ (c : Config). λ (w : rooms.Registry). λ (t : List table.Room). record { config = c; rooms = w; media = new.media; flows = t } in
+    ap (λ (c : Config). keep c old.rooms old.flows) (sym config)
+    ∙ ap (λ (w : rooms.Registry). keep new.config w old.flows) (sym same)
+    ∙ ap (λ (t : List table.Room). keep new.config new.rooms t) (sym flows)

@@ -15,18 +15,20 @@ use Rattle.mg_rooms.specs.Consistent.{IsConsistent}
 use Rattle.mg_rooms.specs.Registry as rooms
 use Rattle.mg_rooms.specs.Registry.{record_at}
 use Rattle.mg_engine.specs.declared.config.Config.{Config}
-use Rattle.mg_engine.specs.Gateway.{Gateway, TerminationMedia, ContextEdit, Enter, new_media, media_of}
-use Rattle.mg_engine.specs.Flow.{lets_hear}
+use Rattle.mg_flow.specs.Table as flow
+use Rattle.mg_engine.specs.Gateway.{Gateway, TerminationMedia, Enter, new_media, media_of}
 use Rattle.mg_engine.specs.Steps.{play_after}
 use Rattle.mg_engine.specs.Media as media
 use Rattle.mg_engine.specs.Media.{idle}
 use Rattle.mg_engine.specs.Outcome.{tuned, media_with, media_without, added, subtracted}
-use Rattle.mg_engine.specs.Stands.{EngineState, StandsFor, IsMediaOf, ShareContext, media_at}
+use Rattle.mg_engine.specs.Stands.{EngineState, StandsFor, IsMediaOf, media_at}
+use Rattle.mg_engine.specs.aids.Members.{HasMembers}
+use Rattle.mg_engine.specs.aids.Seating.{AreSeated}
 use Rattle.mg_engine.specs.aids.Whole.{IsWhole}
-use Rattle.mg_engine.proofs.FlowLaws.{entered}
+use Rattle.mg_engine.proofs.MemberLaws.{Others, Hears}
 use Rattle.mg_engine.proofs.KeyLaws.{none_before_last, found_push, found_push_other, found_changed, found_other, found_replaced, none_left, mapped_kept, keys_left, spots_left}
 use Rattle.mg_engine.proofs.OutcomeLaws.{Adds, Changes, Removes}
-use Rattle.mg_engine.proofs.SentLaws.{ByNumber}
+use Rattle.mg_engine.proofs.PlaceLaws.{ByNumber}
 use Rattle.mg_engine.proofs.SendingLaws.{nobody}
 use Rattle.mg_engine.proofs.GatewayLaws.{found_too, found_key, has_media, some_is}
 
@@ -68,18 +70,21 @@ length_push (x ∷ xs) y = omega (arith, length_push xs y)
 more_terminations : (old new : rooms.Registry) (d : Done) → Adds old new d → length new.terminations ≡ length old.terminations + 1
 more_terminations old new d a = ap length a.terminations ∙ length_push old.terminations a.added
 
-pub slots_kept : (config : Config) (old new : rooms.Registry) (pool : Limits) (kept : List media.SlotMedia) (held : List ℕ) → IsWhole config old pool kept held → new.limits ≡ old.limits → new.limits.slots ≤ length kept
-slots_kept config old new pool kept held h same = omega (arith, ap (λ (l : Limits). l.slots) (same ∙ h.limits), h.media)
+pub slots_kept : (config : Config) (old new : rooms.Registry) (pool : Limits) (kept : List media.SlotMedia) (held : List ℕ) (flows : List flow.Room) (seating : List ℕ) → IsWhole config old pool kept held flows seating → new.limits ≡ old.limits → new.limits.slots ≤ length kept
+slots_kept config old new pool kept held flows seating h same = omega (arith, ap (λ (l : Limits). l.slots) (same ∙ h.limits), h.media)
 
-pub room_left : (config : Config) (old new : rooms.Registry) (d : Done) (pool : Limits) (kept : List media.SlotMedia) (held : List ℕ) → IsWhole config old pool kept held → Adds old new d → IsConsistent new → length new.terminations ≤ new.limits.slots → length held < TERMINATIONS
-room_left config old new d pool kept held h a sound few =
+pub room_left : (config : Config) (old new : rooms.Registry) (d : Done) (pool : Limits) (kept : List media.SlotMedia) (held : List ℕ) (flows : List flow.Room) (seating : List ℕ) → IsWhole config old pool kept held flows seating → Adds old new d → IsConsistent new → length new.terminations ≤ new.limits.slots → length held < TERMINATIONS
+room_left config old new d pool kept held flows seating h a sound few =
     let some = ap length h.held ∙ length-map old.terminations (λ r. r.slot) in
     omega (arith, few, more_terminations old new d a, some, sound.limits.0.few_slots)
 
-pub whole_added : (config : Config) (old new : rooms.Registry) (d : Done) (pool : Limits) (kept after : List media.SlotMedia) (held now : List ℕ) → IsWhole config old pool kept held → (a : Adds old new d)
-    → length after ≡ length kept → now ≡ held ++ a.added.slot ∷ [] → IsWhole config new pool after now
-whole_added config old new d pool kept after held now h a same pushed =
+pub whole_added : (config : Config) (old new : rooms.Registry) (d : Done) (pool : Limits) (kept after : List media.SlotMedia) (held now : List ℕ) (before flows : List flow.Room) (seating seated : List ℕ) → IsWhole config old pool kept held before seating → (a : Adds old new d)
+    → length after ≡ length kept → now ≡ held ++ a.added.slot ∷ [] → HasMembers new flows → AreSeated new seated → length seated ≡ length seating → IsWhole config new pool after now flows seated
+whole_added config old new d pool kept after held now before flows seating seated h a same pushed members seats long =
     record {
+      members = members;
+      seats = seats;
+      places = long ∙ h.places;
       limits = a.limits ∙ h.limits;
       ports = h.ports;
       media = same ∙ h.media;
@@ -106,7 +111,7 @@ begun_tuned kept first after slot begun depth lt one two =
     ∙ set-set kept slot begun (media.tuned depth begun)
 
 -- no termination had the number before
-unknown_before : (old new : rooms.Registry) (d : Done) → Adds old new d → IsConsistent new → record_at old d.termination ≡ None
+pub unknown_before : (old new : rooms.Registry) (d : Done) → Adds old new d → IsConsistent new → record_at old d.termination ≡ None
 unknown_before old new d a sound =
     let once = subst (λ (rs : List Record). count_by (λ r. eqb r.number d.termination) rs ≤ 1) a.terminations (sound.terminations.one_number d.termination) in
     none_before_last (λ r. eqb r.number d.termination) old.terminations a.added (eq-eqb a.added.number d.termination a.number) once
@@ -131,57 +136,16 @@ pub others_kept : (w : rooms.Registry) (kept : List media.SlotMedia) (m : media.
 others_kept w kept m n x r q slots found there apart =
     get_or-set_other kept r.slot q.slot m idle (λ same. apart (slots n x q r there found same))
 
-abbrev pub Others : rooms.Registry → rooms.Registry → ℕ → Type 0
-Others old new n = (m : ℕ) → m ≢ n → record_at new m ≡ record_at old m
-
 pub apart_from : (m n : ℕ) → eqb n m ≡ false → m ≢ n
 apart_from m n e same = neither (sym e ∙ eq-eqb n m (sym same)) where
   neither : false ≡ true → ⊥
   neither h = cc h
 
--- ## Who shares a context
-
--- what else there was before shared a context then
-shared_before : (old new : rooms.Registry) (n t l : ℕ) → Others old new n → ShareContext new t l → t ≢ n → l ≢ n → ShareContext old t l
-shared_before old new n t l others s first second = record {
-  first = s.first;
-  second = s.second;
-  is_first = sym (others t first) ∙ s.is_first;
-  is_second = sym (others l second) ∙ s.is_second;
-  same = s.same;
-  apart = s.apart;
-}
-
-abbrev pub AllHear : rooms.Registry → List ContextEdit → Type 0
-AllHear w es = (t l : ℕ) → ShareContext w t l → lets_hear es t l ≡ true
-
--- one enters a context, and others stay where they are
-pub all_hear_newcomer : (old new : rooms.Registry) (n : ℕ) (es : List ContextEdit) → Others old new n → AllHear old es → AllHear new (Enter n ∷ es)
-all_hear_newcomer old new n es others h t l s =
-    entered es t l n (eqb t n) (eqb l n) refl refl (λ first second. h t l (shared_before old new n t l others s first second))
-
--- all stay in their contexts
-abbrev Stay : rooms.Registry → rooms.Registry → Type 0
-Stay old new = (m : ℕ) (r : Record) → record_at new m ≡ Some r → (q : Record) × (record_at old m ≡ Some q) × (q.context ≡ r.context)
-
-pub all_hear_still : (old new : rooms.Registry) (es : List ContextEdit) → Stay old new → AllHear old es → AllHear new es
-all_hear_still old new es stay h t l s =
-    let (p, first, from) = stay t s.first s.is_first in
-    let (q, second, to) = stay l s.second s.is_second in
-    h t l (record {
-      first = p;
-      second = q;
-      is_first = first;
-      is_second = second;
-      same = from ∙ s.same ∙ sym to;
-      apart = s.apart;
-    })
-
 abbrev newcomer : Settings → Done → TerminationMedia
 newcomer settings d = tuned settings (new_media d.termination)
 
-abbrev with_rooms : EngineState → rooms.Registry → List media.SlotMedia → EngineState
-with_rooms k new after = record { config = k.config; rooms = new; media = after }
+abbrev pub with_rooms : EngineState → rooms.Registry → List media.SlotMedia → List flow.Room → EngineState
+with_rooms k new after flows = record { config = k.config; rooms = new; media = after; flows = flows }
 
 added_media : (k : EngineState) (new : rooms.Registry) (after : List media.SlotMedia) (w : Gateway) (settings : Settings) (d : Done) (r : Record) → Adds k.rooms new d → IsConsistent new → Slots new → Others k.rooms new d.termination → record_at new d.termination ≡ Some r
     → r.slot < length k.media → after ≡ set k.media r.slot (media.tuned settings.depth (media.begun k.config)) → StandsFor k w
@@ -203,9 +167,9 @@ added_media k new after w settings d r a sound slots others made lt set_to h m q
     ap (λ (ms : List media.SlotMedia). media_at ms q.slot) set_to ∙ others_kept new k.media (media.tuned settings.depth (media.begun k.config)) m d.termination r q slots made found apart in
     subst (λ (x : media.SlotMedia). IsMediaOf k.config x s) (sym kept) (h.media m q s old stream)
 
-pub added_stands : (k : EngineState) (new : rooms.Registry) (after : List media.SlotMedia) (w : Gateway) (settings : Settings) (d : Done) (r : Record) → Adds k.rooms new d → IsConsistent new → Slots new → Others k.rooms new d.termination → record_at new d.termination ≡ Some r
-    → r.slot < length k.media → after ≡ set k.media r.slot (media.tuned settings.depth (media.begun k.config)) → StandsFor k w → StandsFor (with_rooms k new after) (added w settings new d)
-added_stands k new after w settings d r a sound slots others made lt set_to h = record {
+pub added_stands : (k : EngineState) (new : rooms.Registry) (after : List media.SlotMedia) (flows : List flow.Room) (w : Gateway) (settings : Settings) (d : Done) (r : Record) → Adds k.rooms new d → IsConsistent new → Slots new → Others k.rooms new d.termination → record_at new d.termination ≡ Some r
+    → r.slot < length k.media → after ≡ set k.media r.slot (media.tuned settings.depth (media.begun k.config)) → Hears new flows (Enter d.termination ∷ w.edits) → StandsFor k w → StandsFor (with_rooms k new after flows) (added w settings new d)
+added_stands k new after flows w settings d r a sound slots others made lt set_to hears h = record {
   config = h.config;
   rooms = refl;
   numbers = map-append (λ s. s.number) w.media (newcomer settings d ∷ [])
@@ -214,7 +178,7 @@ added_stands k new after w settings d r a sound slots others made lt set_to h = 
       ∙ sym (map-append (λ r. r.number) k.rooms.terminations (a.added ∷ []))
       ∙ ap (map (λ r. r.number)) (sym a.terminations);
   media = λ m q s found there. added_media k new after w settings d r a sound slots others made lt set_to h m q s found there (eqb d.termination m) refl;
-  hears = all_hear_newcomer k.rooms new d.termination w.edits others h.hears;
+  hears = hears;
 }
 
 no_record : (r : Record) → some_record r ≡ None → ⊥
@@ -242,8 +206,12 @@ kept_by f k new n d a same =
     ap (map f) (a.terminations ∙ ap (λ (m : ℕ). change (λ x. x.number) m (λ _. Some a.changed) k.rooms.terminations) number)
     ∙ mapped_kept (λ x. x.number) f n (λ _. Some a.changed) k.rooms.terminations a.was (ap (λ (b : _). b ∷ []) same) a.there
 
-pub whole_changed : (k : EngineState) (new : rooms.Registry) (n : ℕ) (d : Done) (pool : Limits) (after : List media.SlotMedia) (held : List ℕ) → IsWhole k.config k.rooms pool k.media held → Changes k.rooms new n d → length after ≡ length k.media → IsWhole k.config new pool after held
-whole_changed k new n d pool after held h a same = record {
+pub whole_changed : (k : EngineState) (new : rooms.Registry) (n : ℕ) (d : Done) (pool : Limits) (after : List media.SlotMedia) (held : List ℕ) (flows : List flow.Room) (seating seated : List ℕ) → IsWhole k.config k.rooms pool k.media held k.flows seating → Changes k.rooms new n d → length after ≡ length k.media
+    → HasMembers new flows → AreSeated new seated → length seated ≡ length seating → IsWhole k.config new pool after held flows seated
+whole_changed k new n d pool after held flows seating seated h a same members seats long = record {
+  members = members;
+  seats = seats;
+  places = long ∙ h.places;
   limits = a.limits ∙ h.limits;
   ports = h.ports;
   media = same ∙ h.media;
@@ -280,22 +248,11 @@ tuned_numbers k new w settings n d a h =
     ∙ h.numbers
     ∙ sym (kept_by (λ r. r.number) k new n d a a.same)
 
--- a Modify leaves each termination in its context
-stays_at : (k : EngineState) (new : rooms.Registry) (n : ℕ) (d : Done) (a : Changes k.rooms new n d) → a.changed.context ≡ a.was.context → Others k.rooms new n → (m : ℕ) (r : Record) → record_at new m ≡ Some r → (b : Bool) → eqb n m ≡ b → (q : Record) × (record_at k.rooms m ≡ Some q) × (q.context ≡ r.context)
-stays_at k new n d a context others m r found true e =
-    let same : n ≡ m = eqb-true n m e in
-    let is : a.changed ≡ r = some_is a.changed r (sym (changed_is k new n d a) ∙ ap (record_at new) same ∙ found) in
-    (a.was, ap (record_at k.rooms) (sym same) ∙ a.there, sym context ∙ ap (λ (x : Record). x.context) is)
-stays_at k new n d a context others m r found false e = (r, sym (others m (apart_from m n e)) ∙ found, refl)
-
-pub all_stay : (k : EngineState) (new : rooms.Registry) (n : ℕ) (d : Done) (a : Changes k.rooms new n d) → a.changed.context ≡ a.was.context → Others k.rooms new n → Stay k.rooms new
-all_stay k new n d a context others m r found = stays_at k new n d a context others m r found (eqb n m) refl
-
 -- the streams after a command on a termination
-pub changed_stands : (k : EngineState) (new : rooms.Registry) (after : List media.SlotMedia) (w now : Gateway) (settings : Settings) (n : ℕ) (d : Done) (a : Changes k.rooms new n d) → Slots new → Others k.rooms new n
+pub changed_stands : (k : EngineState) (new : rooms.Registry) (after : List media.SlotMedia) (flows : List flow.Room) (w now : Gateway) (settings : Settings) (n : ℕ) (d : Done) (a : Changes k.rooms new n d) → Slots new → Others k.rooms new n
     → a.changed.slot < length k.media → after ≡ set k.media a.changed.slot (media.tuned settings.depth (media_at k.media a.changed.slot)) → StandsFor k w
-    → now.config ≡ w.config → now.rooms ≡ new → now.media ≡ media_with settings n w.media → AllHear new now.edits → StandsFor (with_rooms k new after) now
-changed_stands k new after w now settings n d a slots others lt set_to h config same streams hears = record {
+    → now.config ≡ w.config → now.rooms ≡ new → now.media ≡ media_with settings n w.media → Hears new flows now.edits → StandsFor (with_rooms k new after flows) now
+changed_stands k new after flows w now settings n d a slots others lt set_to h config same streams hears = record {
   config = config ∙ h.config;
   rooms = same;
   numbers = ap (map (λ s. s.number)) streams ∙ tuned_numbers k new w settings n d a h;
@@ -311,8 +268,12 @@ removed_at k new n d a = sym a.number ∙ number_of_was k n a.was a.there
 left_terminations : (k : EngineState) (new : rooms.Registry) (n : ℕ) (d : Done) (a : Removes k.rooms new n d) → new.terminations ≡ change (λ x. x.number) n (λ _. None) k.rooms.terminations
 left_terminations k new n d a = a.terminations ∙ ap (λ (m : ℕ). change (λ x. x.number) m (λ _. None) k.rooms.terminations) (removed_at k new n d a)
 
-pub whole_removed : (k : EngineState) (new : rooms.Registry) (n : ℕ) (d : Done) (pool : Limits) (held now : List ℕ) → IsWhole k.config k.rooms pool k.media held → (a : Removes k.rooms new n d) → IsConsistent k.rooms → now ≡ filter (λ s. not (eqb s a.was.slot)) held → IsWhole k.config new pool k.media now
-whole_removed k new n d pool held now h a sound left = record {
+pub whole_removed : (k : EngineState) (new : rooms.Registry) (n : ℕ) (d : Done) (pool : Limits) (held now : List ℕ) (flows : List flow.Room) (seating : List ℕ) → IsWhole k.config k.rooms pool k.media held k.flows seating → (a : Removes k.rooms new n d) → IsConsistent k.rooms → now ≡ filter (λ s. not (eqb s a.was.slot)) held
+    → HasMembers new flows → AreSeated new seating → IsWhole k.config new pool k.media now flows seating
+whole_removed k new n d pool held now flows seating h a sound left members seats = record {
+  members = members;
+  seats = seats;
+  places = h.places;
   limits = a.limits ∙ h.limits;
   ports = h.ports;
   media = h.media;
@@ -332,18 +293,12 @@ left_media k new w n d a sound others h m q s found there false e =
     let stream = sym (found_other (λ s. s.number) (λ _. None) n m w.media (λ x ys same. let no : eqb x.number m ≡ false = ap (λ (i : ℕ). eqb i m) (eqb-true x.number n same) ∙ e in rw no refl)) ∙ there in
     h.media m q s (sym (others m apart) ∙ found) stream
 
--- those that are left stay in their contexts
-left_at : (k : EngineState) (new : rooms.Registry) (n : ℕ) (d : Done) → Removes k.rooms new n d → IsConsistent k.rooms → Others k.rooms new n → (m : ℕ) (r : Record) → record_at new m ≡ Some r → (b : Bool) → eqb n m ≡ b → (q : Record) × (record_at k.rooms m ≡ Some q) × (q.context ≡ r.context)
-left_at k new n d a sound others m r found true e =
-    let gone = ap (find (λ x. eqb x.number n)) (left_terminations k new n d a) ∙ none_left (λ x. x.number) n k.rooms.terminations (sound.terminations.one_number n) in
-    absurd (no_record r (sym (ap (record_at new) (eqb-true n m e) ∙ found) ∙ gone))
-left_at k new n d a sound others m r found false e = (r, sym (others m (apart_from m n e)) ∙ found, refl)
+-- who was subtracted is there no longer
+pub gone : (k : EngineState) (new : rooms.Registry) (n : ℕ) (d : Done) → Removes k.rooms new n d → IsConsistent k.rooms → record_at new n ≡ None
+gone k new n d a sound = ap (find (λ x. eqb x.number n)) (left_terminations k new n d a) ∙ none_left (λ x. x.number) n k.rooms.terminations (sound.terminations.one_number n)
 
-those_left : (k : EngineState) (new : rooms.Registry) (n : ℕ) (d : Done) → Removes k.rooms new n d → IsConsistent k.rooms → Others k.rooms new n → Stay k.rooms new
-those_left k new n d a sound others m r found = left_at k new n d a sound others m r found (eqb n m) refl
-
-pub removed_stands : (k : EngineState) (new : rooms.Registry) (w : Gateway) (n : ℕ) (d : Done) (a : Removes k.rooms new n d) → IsConsistent k.rooms → Others k.rooms new n → StandsFor k w → StandsFor (with_rooms k new k.media) (subtracted w new d)
-removed_stands k new w n d a sound others h = record {
+pub removed_stands : (k : EngineState) (new : rooms.Registry) (flows : List flow.Room) (w : Gateway) (n : ℕ) (d : Done) (a : Removes k.rooms new n d) → IsConsistent k.rooms → Others k.rooms new n → Hears new flows w.edits → StandsFor k w → StandsFor (with_rooms k new k.media flows) (subtracted w new d)
+removed_stands k new flows w n d a sound others hears h = record {
   config = h.config;
   rooms = refl;
   numbers = ap (λ (m : ℕ). map (λ s. s.number) (media_without m w.media)) (removed_at k new n d a)
@@ -352,5 +307,5 @@ removed_stands k new w n d a sound others h = record {
       ∙ sym (keys_left (λ r. r.number) n k.rooms.terminations)
       ∙ ap (map (λ r. r.number)) (sym (left_terminations k new n d a));
   media = λ m q s found there. left_media k new w n d a sound others h m q s found (ap (λ (i : ℕ). find (λ s. eqb s.number m) (media_without i w.media)) (sym (removed_at k new n d a)) ∙ there) (eqb n m) refl;
-  hears = all_hear_still k.rooms new w.edits (those_left k new n d a sound others) h.hears;
+  hears = hears;
 }

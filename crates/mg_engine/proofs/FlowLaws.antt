@@ -1,30 +1,22 @@
 -- Who hears whom in the worlds that an engine stands for.
-use Rattle.std.proofs.Common.{◌≡◌, ◌≢◌, ℕ, ◌&&◌, ◌||◌, not, eqb, Bool, true, false, cond, List, ◌∷◌, Some, None, refl, sym, ap, ◌∙◌}
+use Rattle.std.proofs.Common.{◌≡◌, ◌≢◌, ℕ, ◌&&◌, not, eqb, Bool, true, false, List, Some, Option, refl, sym, ap, subst, ◌∙◌}
+use Rattle.std.specs.Prelude.{is_some}
 use Rattle.std.proofs.lemmas.Bool.{eqb-true, eq-eqb}
-use Rattle.mg_words.specs.declared.mode.Mode.{Mode}
 use Rattle.mg_rooms.specs.declared.record.Record.{Record}
-use Rattle.mg_words.specs.Mode.{talks, listens}
 use Rattle.mg_rooms.specs.Registry as rooms
 use Rattle.mg_rooms.specs.Registry.{record_at}
-use Rattle.mg_engine.specs.Gateway.{Gateway, ContextEdit, Enter, mode_in, mode_of, context_in, context_of}
-use Rattle.mg_engine.specs.Flow.{flow, lets_hear}
-use Rattle.mg_engine.specs.aids.Sending.{flows_now}
-use Rattle.mg_engine.specs.Stands.{EngineState, StandsFor}
-use Rattle.mg_engine.proofs.GatewayLaws.{found_key}
-
--- ## Flow by the records of both
-
-and_true : (b : Bool) → (b && true) ≡ b
-and_true true = refl
-and_true false = refl
-
--- where both share a context, the last word x lets the listener hear
-flow_by : (together same talking listening x : Bool) → (together ≡ true → same ≡ false → x ≡ true)
-    → (together && (not same && (talking && (listening && x)))) ≡ (together && (not same && (talking && listening)))
-flow_by true false talking listening x h =
-    ap (λ (b : Bool). talking && (listening && b)) (h refl refl) ∙ ap (λ (b : Bool). talking && b) (and_true listening)
-flow_by true true talking listening x h = refl
-flow_by false same talking listening x h = refl
+use Rattle.mg_flow.specs.declared.place.Place.{Place}
+use Rattle.mg_flow.specs.Table as flow
+use Rattle.mg_engine.specs.Gateway.{Gateway, mode_in, mode_of, context_in, context_of}
+use Rattle.mg_engine.specs.Flow.{lets_hear, share_context, is_silenced}
+use Rattle.mg_engine.specs.Flow as worlds
+use Rattle.mg_engine.specs.Place.{place_of, IsOnPlace}
+use Rattle.mg_engine.specs.Masks.{TellsFlows}
+use Rattle.mg_engine.specs.Stands.{EngineState, StandsFor, ShareContext}
+use Rattle.mg_engine.specs.aids.Members.{HasMembers}
+use Rattle.mg_engine.specs.aids.Sending.{flows_between, flows_now}
+use Rattle.mg_engine.proofs.MemberLaws.{seats_differ}
+use Rattle.mg_engine.proofs.PlaceLaws.{HaveContexts, OneRoom, OneSeat, on_place, one_place, in_one_room, in_one_context}
 
 unequal : (m n : ℕ) → eqb m n ≡ false → m ≢ n
 unequal m n e same = absurd (neither (sym e ∙ eq-eqb m n same)) where
@@ -34,71 +26,118 @@ unequal m n e same = absurd (neither (sym e ∙ eq-eqb m n same)) where
 pub mode_found : (k : EngineState) (w : Gateway) (n : ℕ) (r : Record) → StandsFor k w → record_at k.rooms n ≡ Some r → mode_of w n ≡ r.mode
 mode_found k w n r h found = ap (λ (x : rooms.Registry). mode_in (record_at x n)) h.rooms ∙ ap mode_in found
 
-context_found : (k : EngineState) (w : Gateway) (n : ℕ) (r : Record) → StandsFor k w → record_at k.rooms n ≡ Some r → context_of w n ≡ r.context
+pub context_found : (k : EngineState) (w : Gateway) (n : ℕ) (r : Record) → StandsFor k w → record_at k.rooms n ≡ Some r → context_of w n ≡ r.context
 context_found k w n r h found = ap (λ (x : rooms.Registry). context_in (record_at x n)) h.rooms ∙ ap context_in found
 
-pub number_found : (w : rooms.Registry) (n : ℕ) (r : Record) → record_at w n ≡ Some r → r.number ≡ n
-number_found w n r found = found_key (λ x. x.number) n w.terminations r found
+differ : (m n : ℕ) → m ≢ n → (b : Bool) → eqb m n ≡ b → b ≡ false
+differ m n apart true e = absurd (apart (eqb-true m n e))
+differ m n apart false e = refl
 
-pub flow_is : (k : EngineState) (w : Gateway) (t l : ℕ) (a b : Record) → StandsFor k w → record_at k.rooms t ≡ Some a → record_at k.rooms l ≡ Some b → flow w t l ≡ flows_now a b
-flow_is k w t l a b h first second =
-    let x = lets_hear w.edits t l in
-    let hears = λ (together : eqb a.context b.context ≡ true) (apart : eqb t l ≡ false). h.hears t l (record {
-      first = a;
-      second = b;
-      is_first = first;
-      is_second = second;
-      same = eqb-true a.context b.context together;
-      apart = unequal t l apart;
-    }) in
-    ap (λ (c : ℕ). eqb c (context_of w l) && (not (eqb t l) && (talks (mode_of w t) && (listens (mode_of w l) && x)))) (context_found k w t a h first)
-    ∙ ap (λ (c : ℕ). eqb a.context c && (not (eqb t l) && (talks (mode_of w t) && (listens (mode_of w l) && x)))) (context_found k w l b h second)
-    ∙ ap (λ (m : Mode). eqb a.context b.context && (not (eqb t l) && (talks m && (listens (mode_of w l) && x)))) (mode_found k w t a h first)
-    ∙ ap (λ (m : Mode). eqb a.context b.context && (not (eqb t l) && (talks a.mode && (listens m && x)))) (mode_found k w l b h second)
-    ∙ flow_by (eqb a.context b.context) (eqb t l) (talks a.mode) (listens b.mode) x hears
-    ∙ ap (λ (n : ℕ). eqb a.context b.context && (not (eqb n l) && (talks a.mode && listens b.mode))) (sym (number_found k.rooms t a first))
-    ∙ ap (λ (n : ℕ). eqb a.context b.context && (not (eqb a.number n) && (talks a.mode && listens b.mode))) (sym (number_found k.rooms l b second))
+-- ## What a table says of two places
 
--- ## Where one of the two is not there
+same_room : (table : List flow.Room) (q p : Place) → q.room ≡ p.room → flow.flows table q p ≡ (flow.talks table p && (flow.listens table q && flow.hears table q p))
+same_room table q p e = refl
 
-none_first : (together apart listening : Bool) → (together && (apart && (false && listening))) ≡ false
-none_first true true listening = refl
-none_first true false listening = refl
-none_first false apart listening = refl
+nobody_hears_itself : (table : List flow.Room) (p : Place) → flow.hears table p p ≡ false
+nobody_hears_itself table p = rw (eq-eqb p.seat p.seat refl) (ends (eqb p.room p.room) (flow.holds table p)) where
+  ends : (a b : Bool) → (a && (b && (b && false))) ≡ false
+  ends true true = refl
+  ends true false = refl
+  ends false b = refl
 
-none_second : (together apart talking x : Bool) → (together && (apart && (talking && (false && x)))) ≡ false
-none_second true true true x = refl
-none_second true true false x = refl
-none_second true false talking x = refl
-none_second false apart talking x = refl
+and_false : (a b : Bool) → (a && (b && false)) ≡ false
+and_false true true = refl
+and_false true false = refl
+and_false false b = refl
 
-pub no_talker : (k : EngineState) (w : Gateway) (t l : ℕ) → StandsFor k w → record_at k.rooms t ≡ None → flow w t l ≡ false
-no_talker k w t l h none =
-    let mode = ap (λ (x : rooms.Registry). mode_in (record_at x t)) h.rooms ∙ ap mode_in none in
-    ap (λ (m : Mode). eqb (context_of w t) (context_of w l) && (not (eqb t l) && (talks m && (listens (mode_of w l) && lets_hear w.edits t l)))) mode
-    ∙ none_first (eqb (context_of w t) (context_of w l)) (not (eqb t l)) (listens (mode_of w l) && lets_hear w.edits t l)
+no_hearing : (table : List flow.Room) (q p : Place) → flow.hears table q p ≡ false → flow.flows table q p ≡ false
+no_hearing table q p e = rw e (and_false (flow.talks table p) (flow.listens table q))
 
-pub no_listener : (k : EngineState) (w : Gateway) (t l : ℕ) → StandsFor k w → record_at k.rooms l ≡ None → flow w t l ≡ false
-no_listener k w t l h none =
-    let mode = ap (λ (x : rooms.Registry). mode_in (record_at x l)) h.rooms ∙ ap mode_in none in
-    ap (λ (m : Mode). eqb (context_of w t) (context_of w l) && (not (eqb t l) && (talks (mode_of w t) && (listens m && lets_hear w.edits t l)))) mode
-    ∙ none_second (eqb (context_of w t) (context_of w l)) (not (eqb t l)) (talks (mode_of w t)) (lets_hear w.edits t l)
+other_room : (table : List flow.Room) (q p : Place) (x : Bool) → eqb q.room p.room ≡ x → x ≡ false → flow.hears table q p ≡ false
+other_room table q p x e none = rw (e ∙ none) refl
 
--- ## The last word after an edit
+-- ## Flow by the places of both
 
-entered_first : (es : List ContextEdit) (t l n : ℕ) → eqb t n ≡ true → lets_hear (Enter n ∷ es) t l ≡ true
-entered_first es t l n e = ap (λ (b : Bool). cond (b || eqb l n) true (lets_hear es t l)) e
+module _ (k : EngineState) (w : Gateway) (one_room : OneRoom k.rooms) (all : HasMembers k.rooms k.flows) (h : StandsFor k w) where
+  pub flow_there : (talker listener : ℕ) (t l : Record) (p q : Place) → ShareContext k.rooms talker listener t l p q → flow.flows k.flows q p ≡ worlds.flow w talker listener
+  flow_there talker listener t l p q s =
+      let from = all.each talker t p s.first in
+      let to = all.each listener l q s.second in
+      rw (from.talks, to.listens, h.hears talker listener t l p q s, context_found k w talker t h s.first.found, context_found k w listener l h s.second.found, mode_found k w talker t h s.first.found, mode_found k w listener l h s.second.found, eq-eqb t.context l.context s.same, differ talker listener s.apart (eqb talker listener) refl) refl
 
-entered_second : (es : List ContextEdit) (t l n : ℕ) (b : Bool) → eqb t n ≡ b → eqb l n ≡ true → lets_hear (Enter n ∷ es) t l ≡ true
-entered_second es t l n true e f = entered_first es t l n e
-entered_second es t l n false e f =
-    ap (λ (b : Bool). cond (b || eqb l n) true (lets_hear es t l)) e ∙ ap (λ (b : Bool). cond b true (lets_hear es t l)) f
+  flow_case : (talker listener : ℕ) (t l : Record) (p q : Place) → IsOnPlace k.rooms talker t p → IsOnPlace k.rooms listener l q → (same together : Bool) → eqb talker listener ≡ same → eqb t.context l.context ≡ together
+      → worlds.flow w talker listener ≡ flow.flows k.flows q p
+  flow_case talker listener t l p q first second true together e f =
+      rw (e, one_place k.rooms talker listener t l p q first second (eqb-true talker listener e)) (none (eqb (context_of w talker) (context_of w listener)) ∙ sym (no_hearing k.flows q q (nobody_hears_itself k.flows q))) where
+        none : (a : Bool) → (a && false) ≡ false
+        none true = refl
+        none false = refl
+  flow_case talker listener t l p q first second false true e f = sym (flow_there talker listener t l p q (record {
+    first = first;
+    second = second;
+    same = eqb-true t.context l.context f;
+    apart = unequal talker listener e;
+  }))
+  flow_case talker listener t l p q first second false false e f =
+      rw (context_found k w talker t h first.found, context_found k w listener l h second.found, f) (sym (no_hearing k.flows q p (other_room k.flows q p (eqb q.room p.room) refl (rooms_differ (eqb q.room p.room) refl)))) where
+        rooms_differ : (b : Bool) → eqb q.room p.room ≡ b → b ≡ false
+        rooms_differ true g = sym (eq-eqb t.context l.context (in_one_context k.rooms t l p q one_room first.place second.place (sym (eqb-true q.room p.room g)))) ∙ f
+        rooms_differ false g = refl
 
--- a newcomer hears all and is heard by all, and between others nothing changes
-pub entered : (es : List ContextEdit) (t l n : ℕ) (b c : Bool) → eqb t n ≡ b → eqb l n ≡ c → (t ≢ n → l ≢ n → lets_hear es t l ≡ true) → lets_hear (Enter n ∷ es) t l ≡ true
-entered es t l n true c e f h = entered_first es t l n e
-entered es t l n false true e f h = entered_second es t l n false e f
-entered es t l n false false e f h =
-    ap (λ (b : Bool). cond (b || eqb l n) true (lets_hear es t l)) e
-    ∙ ap (λ (b : Bool). cond b true (lets_hear es t l)) f
-    ∙ h (unequal t n e) (unequal l n f)
+  pub flow_places : (talker listener : ℕ) (t l : Record) (p q : Place) → IsOnPlace k.rooms talker t p → IsOnPlace k.rooms listener l q → worlds.flow w talker listener ≡ flow.flows k.flows q p
+  flow_places talker listener t l p q first second = flow_case talker listener t l p q first second (eqb talker listener) (eqb t.context l.context) refl refl
+
+  pub flow_is : HaveContexts k.rooms → (talker listener : ℕ) (t l : Record) → record_at k.rooms talker ≡ Some t → record_at k.rooms listener ≡ Some l → worlds.flow w talker listener ≡ flows_now k t l
+  flow_is there talker listener t l first second =
+      let (p, from) = on_place k.rooms talker t there first in
+      let (q, to) = on_place k.rooms listener l there second in
+      flow_places talker listener t l p q from to ∙ ap (flows_between k.flows (Some p)) (sym to.place) ∙ ap (λ (o : Option Place). flows_between k.flows o (place_of k.rooms l)) (sym from.place)
+
+  there_is : (n : ℕ) (r : Record) → record_at k.rooms n ≡ Some r → is_some (record_at w.rooms n) ≡ true
+  there_is n r found = ap (λ (x : rooms.Registry). is_some (record_at x n)) h.rooms ∙ ap is_some found
+
+  shared : (talker listener : ℕ) (t l : Record) → record_at k.rooms talker ≡ Some t → record_at k.rooms listener ≡ Some l → share_context w talker listener ≡ (eqb t.context l.context && not (eqb talker listener))
+  shared talker listener t l first second = rw (there_is talker t first, there_is listener l second, context_found k w talker t h first, context_found k w listener l h second) refl
+
+  -- ## Who hears whom
+
+  hears_case : (talker listener : ℕ) (t l : Record) (p q : Place) → IsOnPlace k.rooms talker t p → IsOnPlace k.rooms listener l q → (same together : Bool) → eqb talker listener ≡ same → eqb t.context l.context ≡ together
+      → flow.hears k.flows q p ≡ worlds.hears w listener talker
+  hears_case talker listener t l p q first second true together e f =
+      rw (shared talker listener t l first.found second.found, e, one_place k.rooms talker listener t l p q first second (eqb-true talker listener e)) (nobody_hears_itself k.flows q ∙ sym (none (eqb t.context l.context))) where
+        none : (a : Bool) → ((a && false) && lets_hear w.edits talker listener) ≡ false
+        none true = refl
+        none false = refl
+  hears_case talker listener t l p q first second false true e f =
+      rw (shared talker listener t l first.found second.found, e, f) (h.hears talker listener t l p q (record {
+        first = first;
+        second = second;
+        same = eqb-true t.context l.context f;
+        apart = unequal talker listener e;
+      }))
+  hears_case talker listener t l p q first second false false e f =
+      rw (shared talker listener t l first.found second.found, f) (other_room k.flows q p (eqb q.room p.room) refl (rooms_differ (eqb q.room p.room) refl)) where
+        rooms_differ : (b : Bool) → eqb q.room p.room ≡ b → b ≡ false
+        rooms_differ true g = sym (eq-eqb t.context l.context (in_one_context k.rooms t l p q one_room first.place second.place (sym (eqb-true q.room p.room g)))) ∙ f
+        rooms_differ false g = refl
+
+  pub hears_places : (talker listener : ℕ) (t l : Record) (p q : Place) → IsOnPlace k.rooms talker t p → IsOnPlace k.rooms listener l q → flow.hears k.flows q p ≡ worlds.hears w listener talker
+  hears_places talker listener t l p q first second = hears_case talker listener t l p q first second (eqb talker listener) (eqb t.context l.context) refl refl
+
+  -- ## The table as a whole
+
+  silenced_there : OneSeat k.rooms → (talker listener : ℕ) (t l : Record) (p q : Place) → ShareContext k.rooms talker listener t l p q → flow.is_silenced k.flows q p ≡ is_silenced w talker listener
+  silenced_there seats talker listener t l p q s =
+      let from = all.each talker t p s.first in
+      let to = all.each listener l q s.second in
+      let room = in_one_room k.rooms l t q p s.second.place s.first.place (sym s.same) in
+      let seat = seats_differ k.rooms talker listener t l p q one_room seats s in
+      rw (h.hears talker listener t l p q s, from.talks, from.held, to.held, eq-eqb q.room p.room room, seat, shared talker listener t l s.first.found s.second.found, eq-eqb t.context l.context s.same, differ talker listener s.apart (eqb talker listener) refl, mode_found k w talker t h s.first.found) refl
+
+  pub tells : OneSeat k.rooms → TellsFlows w k.flows
+  tells seats = record {
+    held = λ n r p on. (all.each n r p (subst (λ (x : rooms.Registry). IsOnPlace x n r p) h.rooms on)).held;
+    nobody = λ p held. let (n, r, on) = all.nobody p held in (n, r, subst (λ (x : rooms.Registry). IsOnPlace x n r p) (sym h.rooms) on);
+    flows = λ talker listener t l p q s. flow_there talker listener t l p q (subst (λ (x : rooms.Registry). ShareContext x talker listener t l p q) h.rooms s);
+    silenced = λ talker listener t l p q s. silenced_there seats talker listener t l p q (subst (λ (x : rooms.Registry). ShareContext x talker listener t l p q) h.rooms s);
+  }

@@ -1,5 +1,11 @@
 pub mod PoolLaws
+pub mod PlaceLaws
+pub mod MemberLaws
+pub mod SeatingLaws
+pub mod TripleLaws
 pub mod SumLaws
+pub mod SeatSums
+pub mod HeardLaws
 pub mod SendingLaws
 pub mod KeyLaws
 pub mod GatewayLaws

@@ -24,7 +24,7 @@ ssrc_of k r = (k.config.ssrc + r.number) % 2 ^ 32
 
 pub packet_is : (k : EngineState) (r : Record) (to : Chosen) (from : ℕ) (bytes payload : List ℕ) (header : Header) (frame : List ℤ) (m : media.SlotMedia)
     → from ≡ slot_port k.rooms.limits r.slot → bytes ≡ header_bytes plain header ++ payload → payload ≡ map (byte_of to.law) frame
-    → frame ≡ mixed_now k.media k.rooms.terminations r → header ≡ media.header m (type_of to.law) (ssrc_of k r) → m ≡ media_at k.media r.slot
+    → frame ≡ mixed_now k r → header ≡ media.header m (type_of to.law) (ssrc_of k r) → m ≡ media_at k.media r.slot
     → datagram to from bytes ≡ packet_now k r to
 packet_is k r to from bytes payload header frame m port joined encoded mixed headed kept =
     let head = headed ∙ ap (λ (x : media.SlotMedia). media.header x (type_of to.law) (ssrc_of k r)) kept in

@@ -11,7 +11,6 @@ use Rattle.mg_sdp.specs.declared.chosen.Chosen.{Chosen}
 use Rattle.mg_words.specs.declared.mode.Mode.{Mode}
 use Rattle.mg_rooms.specs.declared.record.Record.{Record}
 use Rattle.mg_rooms.specs.Limits.{slot_port}
-use Rattle.mg_words.specs.Mode.{talks, listens}
 use Rattle.mg_rooms.specs.Registry.{record_at}
 use Rattle.mg_rooms.specs.Registry as rooms
 use Rattle.mg_engine.specs.declared.config.Config.{Config}
@@ -21,24 +20,16 @@ use Rattle.mg_engine.specs.Mixing.{limited}
 use Rattle.mg_engine.specs.Mix.{sum_of, sample_of, part_of_mix, heard, mix, mixed, is_loopback}
 use Rattle.mg_engine.specs.Media as media
 use Rattle.mg_engine.specs.Tick.{type_of, header_of, packet, packet_to, packet_of, packets, sent_to}
+use Rattle.mg_engine.specs.aids.Members.{HasMembers}
 use Rattle.mg_engine.specs.aids.Sending.{flows_now, sample_at, part_now, heard_now, mix_now, mixed_now, packet_now, packets_now}
 use Rattle.mg_engine.specs.Stands.{EngineState, StandsFor, IsMediaOf, media_at}
+use Rattle.mg_engine.proofs.SumLaws.{sum-cong, map-cong}
 use Rattle.mg_engine.proofs.SendingLaws.{nobody}
 use Rattle.mg_engine.proofs.FlowLaws.{flow_is, mode_found}
+use Rattle.mg_engine.proofs.PlaceLaws.{AreApart, ByNumber}
 use Rattle.mg_engine.proofs.GatewayLaws.{has_media, found_key}
 
 -- ## Sums
-
-sum-cong : {A : Type 0} (f g : A → ℤ) (xs : List A) (d : A) → ((i : ℕ) → i < length xs → f (get_or xs i d) ≡ g (get_or xs i d)) → sum_of f xs ≡ sum_of g xs
-unfolding sum_of
-sum-cong f g [] d h = refl
-sum-cong f g (x ∷ xs) d h =
-    ap (λ (z : ℤ). z +ℤ sum_of f xs) (h 0 (omega arith))
-    ∙ ap (λ (z : ℤ). g x +ℤ z) (sum-cong f g xs d (λ i lt. h (suc i) (omega (arith, lt))))
-
-map-cong : {A B : Type 0} (f g : A → B) (xs : List A) → ((x : A) → f x ≡ g x) → map f xs ≡ map g xs
-map-cong f g [] h = refl
-map-cong f g (x ∷ xs) h = ap (λ (y : _). y ∷ map f xs) (h x) ∙ ap (λ (ys : List _). g x ∷ ys) (map-cong f g xs h)
 
 gathered-cong : {A B : Type 0} (f g : A → Option B) (xs : List A) (d : A) → ((i : ℕ) → i < length xs → f (get_or xs i d) ≡ g (get_or xs i d)) → filter_map f xs ≡ filter_map g xs
 gathered-cong f g [] d h = refl
@@ -48,39 +39,35 @@ gathered-cong f g (x ∷ xs) d h =
 
 -- ## Mixes
 
--- each termination in the list is found by its number
-abbrev pub ByNumber : rooms.Registry → Type 0
-ByNumber w = (i : ℕ) (d : Record) → i < length w.terminations → record_at w (get_or w.terminations i d).number ≡ Some (get_or w.terminations i d)
-
 sample_is : (k : EngineState) (w : Gateway) (r : Record) (i : ℕ) → StandsFor k w → record_at k.rooms r.number ≡ Some r → sample_of w r.number i ≡ sample_at k.media r.slot i
 sample_is k w r i h found =
     let (s, there, is) = has_media k w r.number r h found in
     ap (λ (o : Option TerminationMedia). get_or (frame_in o) i (pos 0)) there ∙ ap (λ (xs : List ℤ). get_or xs i (pos 0)) (sym is.frame)
 
-part_is : (k : EngineState) (w : Gateway) (l t : Record) (i : ℕ) → StandsFor k w → record_at k.rooms l.number ≡ Some l → record_at k.rooms t.number ≡ Some t → part_of_mix w l.number i t.number ≡ part_now k.media l i t
-part_is k w l t i h listens talks =
-    ap (λ (b : Bool). cond b (sample_of w t.number i) (pos 0)) (flow_is k w t.number l.number t l h talks listens)
-    ∙ ap (λ (z : ℤ). cond (flows_now t l) z (pos 0)) (sample_is k w t i h talks)
+part_is : (k : EngineState) (w : Gateway) (l t : Record) (i : ℕ) → AreApart k.rooms → HasMembers k.rooms k.flows → StandsFor k w → record_at k.rooms l.number ≡ Some l → record_at k.rooms t.number ≡ Some t → part_of_mix w l.number i t.number ≡ part_now k l i t
+part_is k w l t i sound members h listens talks =
+    ap (λ (b : Bool). cond b (sample_of w t.number i) (pos 0)) (flow_is k w sound.0 members h sound.1 t.number l.number t l talks listens)
+    ∙ ap (λ (z : ℤ). cond (flows_now k t l) z (pos 0)) (sample_is k w t i h talks)
 
 sum-map : {A : Type 0} (f : ℕ → ℤ) (g : A → ℕ) (xs : List A) → sum_of f (map g xs) ≡ sum_of (λ x. f (g x)) xs
 unfolding sum_of
 sum-map f g [] = refl
 sum-map f g (x ∷ xs) = ap (λ (z : ℤ). f (g x) +ℤ z) (sum-map f g xs)
 
-heard_is : (k : EngineState) (w : Gateway) (l : Record) (i : ℕ) → ByNumber k.rooms → StandsFor k w → record_at k.rooms l.number ≡ Some l → heard w l.number i ≡ heard_now k.media k.rooms.terminations l i
-heard_is k w l i by_number h found =
+heard_is : (k : EngineState) (w : Gateway) (l : Record) (i : ℕ) → AreApart k.rooms → HasMembers k.rooms k.flows → ByNumber k.rooms → StandsFor k w → record_at k.rooms l.number ≡ Some l → heard w l.number i ≡ heard_now k l i
+heard_is k w l i sound members by_number h found =
     ap (λ (x : rooms.Registry). sum_of (part_of_mix w l.number i) (map (λ r. r.number) x.terminations)) h.rooms
     ∙ sum-map (part_of_mix w l.number i) (λ r. r.number) k.rooms.terminations
-    ∙ sum-cong (λ (r : Record). part_of_mix w l.number i r.number) (part_now k.media l i) k.rooms.terminations nobody (λ j lt. part_is k w l (get_or k.rooms.terminations j nobody) i h found (by_number j nobody lt))
+    ∙ sum-cong (λ (r : Record). part_of_mix w l.number i r.number) (part_now k l i) k.rooms.terminations nobody (λ j lt. part_is k w l (get_or k.rooms.terminations j nobody) i sound members h found (by_number j nobody lt))
 
-mix_is : (k : EngineState) (w : Gateway) (l : Record) (i : ℕ) → ByNumber k.rooms → StandsFor k w → record_at k.rooms l.number ≡ Some l → mix w l.number i ≡ mix_now k.media k.rooms.terminations l i
-mix_is k w l i by_number h found =
+mix_is : (k : EngineState) (w : Gateway) (l : Record) (i : ℕ) → AreApart k.rooms → HasMembers k.rooms k.flows → ByNumber k.rooms → StandsFor k w → record_at k.rooms l.number ≡ Some l → mix w l.number i ≡ mix_now k l i
+mix_is k w l i sound members by_number h found =
     ap (λ (m : Mode). cond (is_loopback m) (sample_of w l.number i) (limited (heard w l.number i))) (mode_found k w l.number l h found)
     ∙ ap (λ (z : ℤ). cond (is_loopback l.mode) z (limited (heard w l.number i))) (sample_is k w l i h found)
-    ∙ ap (λ (z : ℤ). cond (is_loopback l.mode) (sample_at k.media l.slot i) (limited z)) (heard_is k w l i by_number h found)
+    ∙ ap (λ (z : ℤ). cond (is_loopback l.mode) (sample_at k.media l.slot i) (limited z)) (heard_is k w l i sound members by_number h found)
 
-pub mixed_is : (k : EngineState) (w : Gateway) (l : Record) → ByNumber k.rooms → StandsFor k w → record_at k.rooms l.number ≡ Some l → mixed w l.number ≡ mixed_now k.media k.rooms.terminations l
-mixed_is k w l by_number h found = map-cong (mix w l.number) (mix_now k.media k.rooms.terminations l) (range_with_len 0 160) (λ i. mix_is k w l i by_number h found)
+pub mixed_is : (k : EngineState) (w : Gateway) (l : Record) → AreApart k.rooms → HasMembers k.rooms k.flows → ByNumber k.rooms → StandsFor k w → record_at k.rooms l.number ≡ Some l → mixed w l.number ≡ mixed_now k l
+mixed_is k w l sound members by_number h found = map-cong (mix w l.number) (mix_now k l) (range_with_len 0 160) (λ i. mix_is k w l i sound members by_number h found)
 
 -- ## Packets
 
@@ -106,14 +93,14 @@ header_is w to n m s is old same =
 abbrev datagram : Chosen → ℕ → List ℕ → Datagram
 datagram to from bytes = record { from = from; to = record { address = to.address; port = to.port }; bytes = bytes }
 
-packet_same : (k : EngineState) (w : Gateway) (r : Record) (to : Chosen) (s : TerminationMedia) → ByNumber k.rooms → StandsFor k w → record_at k.rooms r.number ≡ Some r → media_of w r.number ≡ Some s → 1 ≤ s.ticks → packet w r to s ≡ packet_now k r to
-packet_same k w r to s by_number h found there old =
+packet_same : (k : EngineState) (w : Gateway) (r : Record) (to : Chosen) (s : TerminationMedia) → AreApart k.rooms → HasMembers k.rooms k.flows → ByNumber k.rooms → StandsFor k w → record_at k.rooms r.number ≡ Some r → media_of w r.number ≡ Some s → 1 ≤ s.ticks → packet w r to s ≡ packet_now k r to
+packet_same k w r to s sound members by_number h found there old =
     let is = h.media r.number r s found there in
     let number = found_key (λ x. x.number) r.number w.media s there in
     let mine = subst (λ (x : Config). IsMediaOf x (media_at k.media r.slot) s) (sym h.config) is in
     let head = header_is w to r.number (media_at k.media r.slot) s mine old number
     ∙ ap (λ (x : Config). media.header (media_at k.media r.slot) (type_of to.law) ((x.ssrc + r.number) % 2 ^ 32)) h.config in
-    let body = mixed_is k w r by_number h found in
+    let body = mixed_is k w r sound members by_number h found in
     ap (λ (x : rooms.Registry). datagram to (slot_port x.limits r.slot) (header_bytes plain (header_of w to s) ++ map (byte_of to.law) (mixed w r.number))) h.rooms
     ∙ ap (λ (x : Header). datagram to (slot_port k.rooms.limits r.slot) (header_bytes plain x ++ map (byte_of to.law) (mixed w r.number))) head
     ∙ ap (λ (x : List ℤ). datagram to (slot_port k.rooms.limits r.slot) (header_bytes plain (media.header (media_at k.media r.slot) (type_of to.law) ((k.config.ssrc + r.number) % 2 ^ 32)) ++ map (byte_of to.law) x)) body
@@ -121,14 +108,14 @@ packet_same k w r to s by_number h found there old =
 abbrev some : Datagram → Option Datagram
 some d = Some d
 
-packet_to_is : (k : EngineState) (w : Gateway) (r : Record) (to : Option Chosen) → ByNumber k.rooms → AreOld w → StandsFor k w → record_at k.rooms r.number ≡ Some r → packet_to w r to ≡ option_map (packet_now k r) to
-packet_to_is k w r None by_number old h found = refl
-packet_to_is k w r (Some to) by_number old h found =
+packet_to_is : (k : EngineState) (w : Gateway) (r : Record) (to : Option Chosen) → AreApart k.rooms → HasMembers k.rooms k.flows → ByNumber k.rooms → AreOld w → StandsFor k w → record_at k.rooms r.number ≡ Some r → packet_to w r to ≡ option_map (packet_now k r) to
+packet_to_is k w r None sound members by_number old h found = refl
+packet_to_is k w r (Some to) sound members by_number old h found =
     let (s, there, is) = has_media k w r.number r h found in
-    ap (λ (o : Option TerminationMedia). option_map (packet w r to) o) there ∙ ap (λ (d : Datagram). some d) (packet_same k w r to s by_number h found there (old r.number s there))
+    ap (λ (o : Option TerminationMedia). option_map (packet w r to) o) there ∙ ap (λ (d : Datagram). some d) (packet_same k w r to s sound members by_number h found there (old r.number s there))
 
-pub packets_are : (k : EngineState) (w : Gateway) → ByNumber k.rooms → AreOld w → StandsFor k w → packets w ≡ packets_now k
-packets_are k w by_number old h =
+pub packets_are : (k : EngineState) (w : Gateway) → AreApart k.rooms → HasMembers k.rooms k.flows → ByNumber k.rooms → AreOld w → StandsFor k w → packets w ≡ packets_now k
+packets_are k w sound members by_number old h =
     ap (λ (x : rooms.Registry). filter_map (packet_of w) x.terminations) h.rooms
     ∙ gathered-cong (packet_of w) (λ r. option_map (packet_now k r) (sent_to r)) k.rooms.terminations nobody
-    (λ i lt. let r = get_or k.rooms.terminations i nobody in packet_to_is k w r (sent_to r) by_number old h (by_number i nobody lt))
+    (λ i lt. let r = get_or k.rooms.terminations i nobody in packet_to_is k w r (sent_to r) sound members by_number old h (by_number i nobody lt))

@@ -1,5 +1,5 @@
 -- Sums over lists, one part more at a time.
-use Rattle.std.proofs.Common.{◌≡◌, ℕ, ◌+◌, ◌<◌, ℤ, ◌+ℤ◌, List, [], ◌∷◌, ◌++◌, length, get_or, map, take, sym, ap, ◌∙◌, arith}
+use Rattle.std.proofs.Common.{◌≡◌, ℕ, suc, ◌+◌, ◌<◌, ℤ, ◌+ℤ◌, List, [], ◌∷◌, ◌++◌, length, get_or, map, take, refl, sym, ap, ◌∙◌, arith}
 use Rattle.std.proofs.lemmas.Int.{ints}
 use Rattle.std.specs.List.{range_with_len}
 use Rattle.std.proofs.lemmas.List.{take_more, get_or_default, get_or-map, length-map, same_lists}
@@ -14,6 +14,17 @@ module _ {A : Type 0} (f : A → ℤ) where
 
   pub sum-more : (xs : List A) (k : ℕ) (d : A) → k < length xs → sum_of f (take (k + 1) xs) ≡ sum_of f (take k xs) +ℤ f (get_or xs k d)
   sum-more xs k d lt = ap (sum_of f) (take_more xs k d lt) ∙ sum-push (take k xs) (get_or xs k d)
+
+pub sum-cong : {A : Type 0} (f g : A → ℤ) (xs : List A) (d : A) → ((i : ℕ) → i < length xs → f (get_or xs i d) ≡ g (get_or xs i d)) → sum_of f xs ≡ sum_of g xs
+unfolding sum_of
+sum-cong f g [] d h = refl
+sum-cong f g (x ∷ xs) d h =
+    ap (λ (z : ℤ). z +ℤ sum_of f xs) (h 0 (omega arith))
+    ∙ ap (λ (z : ℤ). g x +ℤ z) (sum-cong f g xs d (λ i lt. h (suc i) (omega (arith, lt))))
+
+pub map-cong : {A B : Type 0} (f g : A → B) (xs : List A) → ((x : A) → f x ≡ g x) → map f xs ≡ map g xs
+map-cong f g [] h = refl
+map-cong f g (x ∷ xs) h = ap (λ (y : _). y ∷ map f xs) (h x) ∙ ap (λ (ys : List _). g x ∷ ys) (map-cong f g xs h)
 
 -- a list of n parts is what it has at each place
 pub list_is : {A : Type 0} (f : ℕ → A) (xs : List A) (n : ℕ) (d : A) → length xs ≡ n → ((i : ℕ) → i < n → get_or xs i d ≡ f i) → xs ≡ map f (range_with_len 0 n)

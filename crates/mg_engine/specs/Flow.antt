@@ -1,9 +1,11 @@
 -- Who hears whom, by modes and by all that happened (RFC 3525, sections 7.1.7 and 7.1.18). That a
 -- newcomer and each member hear each other is this project's own rule.
-use Rattle.std.specs.Prelude.{ℕ, ◌==◌, ◌&&◌, ◌||◌, not, Bool, true, List, [], ◌∷◌, if◌then◌else◌}
+use Rattle.std.specs.Prelude.{ℕ, ◌==◌, ◌&&◌, ◌||◌, not, Bool, true, List, [], ◌∷◌, is_some}
+use Rattle.std.specs.Prelude.{if◌then◌else◌}
 use Rattle.std.specs.List.{list_any}
 use Rattle.mg_topology.specs.Triple.{lets}
 use Rattle.mg_words.specs.Mode.{talks, listens}
+use Rattle.mg_rooms.specs.Registry.{record_at}
 use Rattle.mg_engine.specs.Gateway.{Gateway, ContextEdit, Enter, Leave, Apply, context_of, mode_of}
 
 abbrev pub has : List ℕ → ℕ → Bool
@@ -29,6 +31,25 @@ lets_hear (Apply first second association ∷ es) talker listener =
     if speaks_of first second talker listener
     then lets association (leads first second talker listener)
     else lets_hear es talker listener
+
+-- whether both are terminations, different ones of one context
+abbrev pub share_context : Gateway → ℕ → ℕ → Bool
+share_context w a b =
+    is_some (record_at w.rooms a)
+    && (is_some (record_at w.rooms b)
+    && ((context_of w a == context_of w b) && not (a == b)))
+
+-- whether the listener hears the talker, whatever their modes: they share a context, and the last
+-- word lets it
+abbrev pub hears : Gateway → ℕ → ℕ → Bool
+hears w listener talker = share_context w talker listener && lets_hear w.edits talker listener
+
+-- whether the talker is silenced for the listener: they share a context, it talks, and the last
+-- word keeps it from the listener
+abbrev pub is_silenced : Gateway → ℕ → ℕ → Bool
+is_silenced w talker listener =
+    share_context w talker listener
+    && (talks (mode_of w talker) && not (lets_hear w.edits talker listener))
 
 -- The talker's speech goes to the listener: both are in one context, they differ, the one talks,
 -- the other listens, and the last word lets it. A number that names no termination has no flow, for

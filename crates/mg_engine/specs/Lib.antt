@@ -1,6 +1,8 @@
 pub mod Config
 pub mod Gateway
 pub mod Flow
+pub mod Triples
+pub mod Place
 pub mod Mixing
 pub mod Mix
 pub mod Steps
@@ -10,4 +12,5 @@ pub mod Tick
 pub mod Arrival
 pub mod Media
 pub mod Stands
+pub mod Masks
 pub mod aids

@@ -1,16 +1,25 @@
 -- What becomes of the world by an edit: its refusal, or the world after it with what it was done
 -- on.
 use Rattle.std.specs.Prelude.{ℕ, List, ◌++◌, [], ◌∷◌, Some, None, Result, Ok, Err}
-use Rattle.mg_rooms.specs.declared.done.Done.{Done}
+use Rattle.mg_rooms.specs.declared.done.Done as done
+use Rattle.mg_rooms.specs.declared.target.Target.{Target}
+use Rattle.mg_rooms.specs.declared.target.Target.TheVariants as targets
 use Rattle.mg_words.specs.declared.error_number.ErrorNumber.{ErrorNumber}
+use Rattle.mg_words.specs.declared.error_number.ErrorNumber.TheVariants.{UnknownContext}
+use Rattle.mg_words.specs.ResultSteps.{◌>>=◌}
 use Rattle.mg_rooms.specs.declared.settings.Settings.{Settings}
 use Rattle.mg_rooms.specs.Changes.{change}
 use Rattle.mg_rooms.specs.Registry as rooms
-use Rattle.mg_rooms.specs.Outcome.{add, modify, move_to, subtract}
+use Rattle.mg_rooms.specs.Registry.{members_at}
+use Rattle.mg_rooms.specs.Outcome as outcomes
 use Rattle.mg_engine.specs.declared.edit.Edit.{Edit}
-use Rattle.mg_engine.specs.declared.edit.Edit.TheVariants.{Add, Modify, Move, Subtract}
+use Rattle.mg_engine.specs.declared.edit.Edit.TheVariants.{Add, Modify, Move, Subtract, Triples}
+use Rattle.mg_engine.specs.declared.done.Done.{Done}
+use Rattle.mg_engine.specs.declared.done.Done.TheVariants.{Termination, Topology}
+use Rattle.mg_engine.specs.declared.topology_triple.TopologyTriple.{TopologyTriple}
 use Rattle.mg_engine.specs.Steps.{play_after}
 use Rattle.mg_engine.specs.Gateway.{Gateway, TerminationMedia, Enter, Leave, new_media}
+use Rattle.mg_engine.specs.Triples.{check_triples, with_triples}
 
 -- ## Media
 
@@ -23,48 +32,86 @@ media_with settings n list = change (λ s. s.number) n (λ s. Some (tuned settin
 abbrev pub media_without : ℕ → List TerminationMedia → List TerminationMedia
 media_without n list = change (λ s. s.number) n (λ _. None) list
 
--- ## Outcomes
-
-abbrev pub Outcome : Type 0
-Outcome = Result (Gateway × Done) ErrorNumber
+-- ## Commands on a termination
 
 -- an outcome, once that of the terminations and contexts is known
-abbrev pub done_with : (rooms.Registry → Done → Gateway)
-    → Result (rooms.Registry × Done) ErrorNumber → Outcome
+abbrev pub done_with : (rooms.Registry → done.Done → Gateway)
+    → Result (rooms.Registry × done.Done) ErrorNumber → Result (Gateway × done.Done) ErrorNumber
 done_with f (Ok p) = Ok (f p.0 p.1, p.1)
 done_with f (Err e) = Err e
 
-abbrev pub added : Gateway → Settings → rooms.Registry → Done → Gateway
+abbrev pub added : Gateway → Settings → rooms.Registry → done.Done → Gateway
 added w settings rooms d = record w {
   rooms = rooms;
   media = w.media ++ tuned settings (new_media d.termination) ∷ [];
   edits = Enter d.termination ∷ w.edits;
 }
 
-abbrev pub modified : Gateway → Settings → rooms.Registry → Done → Gateway
+abbrev pub modified : Gateway → Settings → rooms.Registry → done.Done → Gateway
 modified w settings rooms d = record w {
   rooms = rooms;
   media = media_with settings d.termination w.media;
 }
 
-abbrev pub moved : Gateway → Settings → rooms.Registry → Done → Gateway
+abbrev pub moved : Gateway → Settings → rooms.Registry → done.Done → Gateway
 moved w settings rooms d = record w {
   rooms = rooms;
   media = media_with settings d.termination w.media;
   edits = Enter d.termination ∷ Leave d.termination ∷ w.edits;
 }
 
-abbrev pub subtracted : Gateway → rooms.Registry → Done → Gateway
+abbrev pub subtracted : Gateway → rooms.Registry → done.Done → Gateway
 subtracted w rooms d = record w {
   rooms = rooms;
   media = media_without d.termination w.media;
   edits = Leave d.termination ∷ w.edits;
 }
 
+abbrev pub add : Gateway → Target → Settings → Result (Gateway × done.Done) ErrorNumber
+add w target settings = done_with (added w settings) (outcomes.add w.rooms target settings)
+
+abbrev pub modify : Gateway → Target → ℕ → Settings → Result (Gateway × done.Done) ErrorNumber
+modify w target n settings =
+    done_with (modified w settings) (outcomes.modify w.rooms target n settings)
+
+abbrev pub move_to : Gateway → Target → ℕ → Settings → Result (Gateway × done.Done) ErrorNumber
+move_to w target n settings =
+    done_with (moved w settings) (outcomes.move_to w.rooms target n settings)
+
+abbrev pub subtract : Gateway → Target → ℕ → Result (Gateway × done.Done) ErrorNumber
+subtract w target n = done_with (subtracted w) (outcomes.subtract w.rooms target n)
+
+-- ## Triples
+
+-- the number of an action's context that is there
+abbrev pub context_there : rooms.Registry → Target → Result ℕ ErrorNumber
+context_there w targets.Null = Err UnknownContext
+context_there w targets.New = Err UnknownContext
+context_there w (targets.Number c) = do
+  _ ← outcomes.there w c
+  Ok c
+
+-- all triples are applied to the members that are there now, or none
+unfoldable pub apply_triples : Gateway → Target → List TopologyTriple
+    → Result (Gateway × ℕ) ErrorNumber
+apply_triples w target xs = do
+  c ← context_there w.rooms target
+  _ ← check_triples (members_at w.rooms c) xs
+  Ok (record w { edits = with_triples (members_at w.rooms c) xs w.edits }, c)
+
+-- ## Edits
+
+abbrev pub Outcome : Type 0
+Outcome = Result (Gateway × Done) ErrorNumber
+
+-- what was done, in the words of an edit
+abbrev pub done_as : {A : Type 0} → (A → Done) → Result (Gateway × A) ErrorNumber → Outcome
+done_as f (Ok p) = Ok (p.0, f p.1)
+done_as f (Err e) = Err e
+
 abbrev pub outcome : Gateway → Edit → Outcome
-outcome w (Add target settings) = done_with (added w settings) (add w.rooms target settings)
-outcome w (Modify target n settings) =
-    done_with (modified w settings) (modify w.rooms target n settings)
-outcome w (Move target n settings) =
-    done_with (moved w settings) (move_to w.rooms target n settings)
-outcome w (Subtract target n) = done_with (subtracted w) (subtract w.rooms target n)
+outcome w (Add target settings) = done_as Termination (add w target settings)
+outcome w (Modify target n settings) = done_as Termination (modify w target n settings)
+outcome w (Move target n settings) = done_as Termination (move_to w target n settings)
+outcome w (Subtract target n) = done_as Termination (subtract w target n)
+outcome w (Triples target xs) = done_as Topology (apply_triples w target xs.items)

@@ -1,24 +1,26 @@
 -- Which worlds the state of an engine stands for.
-use Rattle.std.specs.Prelude.{◌≡◌, ◌≢◌, ℕ, ◌+◌, ◌*◌, ◌%◌, ◌^◌, true, List, map, Some, Result, Ok}
+use Rattle.std.specs.Prelude.{◌≡◌, ◌≢◌, ℕ, ◌+◌, ◌*◌, ◌%◌, ◌^◌, List, map, Some, Result, Ok}
 use Rattle.std.specs.Prelude.{Err, slice_index_or}
-use Rattle.mg_rooms.specs.declared.done.Done.{Done}
 use Rattle.mg_words.specs.declared.error_number.ErrorNumber.{ErrorNumber}
 use Rattle.mg_rooms.specs.declared.record.Record.{Record}
 use Rattle.mg_rooms.specs.Registry as rooms
 use Rattle.mg_rooms.specs.Registry.{record_at}
+use Rattle.mg_flow.specs.declared.place.Place.{Place}
+use Rattle.mg_flow.specs.Table as flow
 use Rattle.mg_engine.specs.declared.config.Config.{Config}
 use Rattle.mg_engine.specs.Gateway.{Gateway, TerminationMedia, media_of}
 use Rattle.mg_engine.specs.Flow.{lets_hear}
 use Rattle.mg_engine.specs.Media as media
 use Rattle.mg_engine.specs.Media.{timestamp_before}
-use Rattle.mg_engine.specs.Outcome.{Outcome}
+use Rattle.mg_engine.specs.Place.{IsOnPlace}
 
--- what an engine keeps: its configuration, the terminations and contexts, and the media of each
--- slot
+-- what an engine keeps: its configuration, the terminations and contexts, the media of each slot,
+-- and the table of who hears whom
 pub record EngineState : Type 0 where
   pub config : Config
   pub rooms : rooms.Registry
   pub media : List media.SlotMedia
+  pub flows : List flow.Room
 
 -- the media of a slot
 abbrev pub media_at : List media.SlotMedia → ℕ → media.SlotMedia
@@ -34,29 +36,29 @@ pub record IsMediaOf (config : Config) (m : media.SlotMedia) (s : TerminationMed
   pub sequence : m.sequence ≡ (config.sequence + s.packets) % 2 ^ 16
   pub is_sending : m.is_sending ≡ s.sent_last
 
--- two different terminations are in one context
-pub record ShareContext (w : rooms.Registry) (m n : ℕ) : Type 0 where
-  pub first : Record
-  pub second : Record
-  pub is_first : record_at w m ≡ Some first
-  pub is_second : record_at w n ≡ Some second
-  pub same : first.context ≡ second.context
+-- Two different terminations are in one context, each on its place.
+pub record ShareContext (w : rooms.Registry) (m n : ℕ) (a b : Record) (p q : Place) : Type 0 where
+  pub first : IsOnPlace w m a p
+  pub second : IsOnPlace w n b q
+  pub same : a.context ≡ b.context
   pub apart : m ≢ n
 
 -- The configuration, the terminations and the contexts are the world's, and each termination has
--- its stream, whose media are those of its slot. No triple can be applied yet: of each two members
--- of a context, the last word lets each hear the other.
+-- its stream, whose media are those of its slot. Of each two members of a context, the kept table
+-- lets one hear the other exactly where the last word does.
 pub record StandsFor (kept : EngineState) (w : Gateway) : Type 0 where
   pub config : w.config ≡ kept.config
   pub rooms : w.rooms ≡ kept.rooms
   pub numbers : map (λ s. s.number) w.media ≡ map (λ r. r.number) kept.rooms.terminations
   pub media : (n : ℕ) (r : Record) (s : TerminationMedia) → record_at kept.rooms n ≡ Some r
       → media_of w n ≡ Some s → IsMediaOf kept.config (media_at kept.media r.slot) s
-  pub hears : (talker listener : ℕ) → ShareContext kept.rooms talker listener
-      → lets_hear w.edits talker listener ≡ true
+  pub hears : (talker listener : ℕ) (t l : Record) (p q : Place)
+      → ShareContext kept.rooms talker listener t l p q
+      → flow.hears kept.flows q p ≡ lets_hear w.edits talker listener
 
 -- what a call returned is the outcome, and where it was done the engine stands for the world after
 -- it
-abbrev pub IsOutcome : EngineState → Result Done ErrorNumber → Outcome → Type 0
-IsOutcome kept (Ok d) outcome = (w : Gateway) × (outcome ≡ Ok (w, d)) × StandsFor kept w
+abbrev pub IsOutcome : {A : Type 0} → EngineState → Result A ErrorNumber
+    → Result (Gateway × A) ErrorNumber → Type 0
+IsOutcome kept (Ok x) outcome = (w : Gateway) × (outcome ≡ Ok (w, x)) × StandsFor kept w
 IsOutcome kept (Err e) outcome = outcome ≡ Err e

@@ -1,3 +1,4 @@
+use crate::topology_triple::TopologyTriples;
 use mg_rooms::{Settings, Target};
 
 /// What a command asks of the gateway, with the action's context as its target (RFC 3525, section 7.2).
@@ -24,5 +25,10 @@ pub enum Edit {
     Subtract {
         target: Target,
         number: u32,
+    },
+    /// Says who hears whom among the members of the context (RFC 3525, section 7.1.18).
+    Triples {
+        target: Target,
+        triples: TopologyTriples,
     },
 }

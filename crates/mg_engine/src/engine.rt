@@ -1,15 +1,18 @@
-ghost use Rattle.std.specs.Prelude.{◌≡◌, ℕ, [], ◌∷◌, ◌<◌, ◌≤◌, ◌+◌, ◌++◌, ◌↔◌, ◌==◌, not, Err, Some, IfOk, IfSome, OnOk, OnErr, EachIndex, length, map, filter, replicate, slice_set, option_map, option_to_list};
+ghost use Rattle.std.specs.Prelude.{◌≡◌, ℕ, [], ◌∷◌, ◌<◌, ◌≤◌, ◌+◌, ◌++◌, ◌↔◌, ◌==◌, not, Err, Some, IfOk, IfSome, OnOk, OnErr, MatchResult, Ok, EachIndex, length, map, filter, replicate, slice_set, option_map, option_to_list};
 ghost use Rattle.mg_rooms.specs.declared.record.Record.{Record};
 ghost use Rattle.mg_words.specs.declared.limits.TheConstants.{TERMINATIONS};
+ghost use Rattle.std.specs.List.{range_with_len};
 ghost use Rattle.mg_rooms.specs.Registry.{holder_of, record_at};
-ghost use Rattle.mg_rooms.specs.Outcome as rooms;
-ghost use Rattle.mg_engine.specs.Outcome.{outcome, done_with, added, modified, moved, subtracted};
+ghost use Rattle.mg_words.specs.Limits.{context_limit};
+ghost use Rattle.mg_engine.specs.Outcome.{outcome, add, modify, move_to, subtract, context_there, apply_triples};
+ghost use Rattle.mg_engine.specs.aids.Triples.{IsRoomOf};
 ghost use Rattle.mg_rooms.specs.Consistent.{IsConsistent};
-ghost use Rattle.mg_engine.specs.aids.Sending.{packet_now, packets_now, slot_sends, PlacedAt};
+ghost use Rattle.mg_engine.specs.aids.Sending.{heard_now, mixed_now, packet_now, packets_now, slot_sends, PlacedAt};
+ghost use Rattle.mg_engine.specs.Masks.{TellsFlows};
 ghost use Rattle.mg_engine.specs.Tick.{sent_to, sent_in_tick, after_tick};
 ghost use Rattle.mg_rtp.specs.Reading.{reading_of};
 ghost use Rattle.mg_engine.specs.Arrival.{at_port, arrived, Takes};
-ghost use Rattle.mg_engine.specs.Flow.{flow};
+ghost use Rattle.mg_engine.specs.Flow.{flow, hears};
 ghost use Rattle.mg_engine.specs.Mix.{total_at};
 ghost use Rattle.mg_engine.specs.Media.{idle, begun, played, ended, tuned as tuned_media};
 ghost use Rattle.mg_engine.specs.Config.{IsValidConfig};
@@ -19,27 +22,36 @@ ghost use Rattle.mg_engine.specs.Stands.{StandsFor, IsOutcome, media_at};
 use crate::arrival::{frame_in, law_for};
 use crate::config::Config;
 use crate::datagram::{Datagram, Outbox};
+use crate::done::Done;
 use crate::edit::Edit;
 use crate::fault::StartFault;
 use crate::media::Media;
+use crate::membership::{enter, member, place, place_of, take_mode, vacate};
+use crate::mixing::limit;
 use crate::peer::Peer;
 use crate::ports::Ports;
-use crate::sending::{flows, mix, payload_type, sent_to, sum_talking};
+use crate::seating::Seating;
+use crate::sending::{is_loopback, own_frame, payload_type, sent_to, sum_seats, sum_talking};
 use crate::taken::{DropCause, Taken};
+use crate::topology_triple::TopologyTriples;
+use crate::triples::{TopologyRoom, triples_of};
 use arrayvec::ArrayVec;
-use mg_g711::encode_frame;
+use mg_flow::FlowTable;
+use mg_g711::{Frame, encode_frame};
 use mg_rooms::laws::{
-    each_is_found, gateways_are_sound, nothing_is_held_twice, others_are_left_alone,
-    what_is_found_is_within_limits,
+    each_is_found, gateways_are_sound, members_are_those_in_the_context, nothing_is_held_twice,
+    others_are_left_alone, what_is_found_is_within_limits,
 };
-use mg_rooms::{Done, ErrorNumber, Record, Rooms, Settings, TERMINATIONS, Target};
+use mg_rooms::{ErrorNumber, Record, Rooms, Settings, TERMINATIONS, Target};
 use mg_rtp::{Packet, RtpFault, read, write};
 use mg_sdp::Chosen;
+use mg_topology::laws::overlap_is_a_common_seat;
+use mg_topology::{Overlap, mask};
 use mg_words::{SAMPLES, Stats};
 use std::alloc::{AllocError, Global};
 use std::marker::Model;
 
-/// The terminations and contexts of a gateway, with their media.
+/// The terminations and contexts of a gateway, with their media and with who hears whom.
 #[derive(Drop)]
 pub struct Engine {
     config: Config,
@@ -49,6 +61,10 @@ pub struct Engine {
     media: Vec<Media>,
     /// The slots that are held, by rising numbers of their terminations.
     held: ArrayVec<u8, TERMINATIONS>,
+    /// Who hears whom, by the places of members.
+    flows: FlowTable,
+    /// The slot of the member on each place.
+    seating: Seating,
 }
 
 impl Model for Engine {
@@ -57,9 +73,9 @@ impl Model for Engine {
 
     ghost Value = { EngineState };
 
-    ghost view = { λ e. record { config = e.config; rooms = e.rooms; media = e.media.items } };
+    ghost view = { λ e. record { config = e.config; rooms = e.rooms; media = e.media.items; flows = e.flows } };
 
-    ghost invariant = { λ e. IsWhole e.config e.rooms e.ports e.media.items e.held.items };
+    ghost invariant = { λ e. IsWhole e.config e.rooms e.ports e.media.items e.held.items e.flows e.seating };
 }
 
 /// Media of nobody for so many slots.
@@ -87,12 +103,16 @@ impl Engine {
         let rooms = Rooms::new(alloc, config.limits())?;
         let ports = Ports::new(alloc, config.limits())?;
         let media = idle_media(alloc, config.slots)?;
+        let flows = FlowTable::new(alloc)?;
+        let seating = Seating::new(alloc)?;
         Ok(Engine {
             config,
             rooms,
             ports,
             media,
             held: ArrayVec::new(),
+            flows,
+            seating,
         })
     }
 
@@ -110,31 +130,60 @@ impl Engine {
         &self.rooms
     }
 
-    /// Does what a command asks, or refuses it, which changes nothing.
+    /// Who hears whom, by the places of members.
+    pub fn flows(&self) -> &FlowTable
+        ensures value { result.now ≡ self.now.flows }
+        ensures told { (w : Gateway) → StandsFor self.now w → TellsFlows w result.now }
+    {
+        gateways_are_sound(&self.rooms);
+        nothing_is_held_twice();
+        &self.flows
+    }
+
+    /// Does what an edit asks, or refuses it, which changes nothing.
     pub fn edit(&mut self, edit: &Edit) -> Result<Done, ErrorNumber>
         ensures outcome { (w : Gateway) → StandsFor self.old w → IsOutcome self.new result (outcome w edit.now) }
         ensures refused { OnErr result (self.new ≡ self.old) }
     {
         match edit {
-            Edit::Add { target, settings } => self.add(*target, settings),
+            Edit::Add { target, settings } => {
+                let done = self.add(*target, settings)?;
+                Ok(Done::Termination(done))
+            }
             Edit::Modify {
                 target,
                 number,
                 settings,
-            } => self.modify(*target, *number, settings),
+            } => {
+                let done = self.modify(*target, *number, settings)?;
+                Ok(Done::Termination(done))
+            }
             Edit::Move {
                 target,
                 number,
                 settings,
-            } => self.move_to(*target, *number, settings),
-            Edit::Subtract { target, number } => self.subtract(*target, *number),
+            } => {
+                let done = self.move_to(*target, *number, settings)?;
+                Ok(Done::Termination(done))
+            }
+            Edit::Subtract { target, number } => {
+                let done = self.subtract(*target, *number)?;
+                Ok(Done::Termination(done))
+            }
+            Edit::Triples { target, triples } => {
+                let context = self.apply_triples(*target, triples)?;
+                Ok(Done::Topology(context))
+            }
         }
     }
 
-    /// Makes a termination.
-    fn add(&mut self, target: Target, settings: &Settings) -> Result<Done, ErrorNumber>
-        ensures outcome { (w : Gateway) → StandsFor self.old w →
-            IsOutcome self.new result (done_with (added w settings.now) (rooms.add w.rooms target settings.now)) }
+    /// Makes a termination in the action's context, and the context too where it is new (RFC 3525, section 7.2.1).
+    pub fn add(
+        &mut self,
+        target: Target,
+        settings: &Settings,
+    ) -> Result<mg_rooms::Done, ErrorNumber>
+        ensures outcome { (w : Gateway) → StandsFor self.old w → IsOutcome self.new result (add w target settings.now) }
         ensures refused { OnErr result (self.new ≡ self.old) }
     {
         gateways_are_sound(&self.rooms);
@@ -143,23 +192,24 @@ impl Engine {
         what_is_found_is_within_limits();
         nothing_is_held_twice();
         others_are_left_alone();
+        members_are_those_in_the_context();
         each_is_found();
         let number = done.termination;
         begin(&self.rooms, &mut self.media, number, &self.config);
         tune(&self.rooms, &mut self.media, number, settings.depth);
         hold(&self.rooms, &mut self.held, number);
+        enter(&self.rooms, &mut self.flows, &mut self.seating, number);
         Ok(done)
     }
 
-    /// Changes a member of the action's context.
-    fn modify(
+    /// Changes a member of the action's context (RFC 3525, section 7.2.2).
+    pub fn modify(
         &mut self,
         target: Target,
         number: u32,
         settings: &Settings,
-    ) -> Result<Done, ErrorNumber>
-        ensures outcome { (w : Gateway) → StandsFor self.old w →
-            IsOutcome self.new result (done_with (modified w settings.now) (rooms.modify w.rooms target number settings.now)) }
+    ) -> Result<mg_rooms::Done, ErrorNumber>
+        ensures outcome { (w : Gateway) → StandsFor self.old w → IsOutcome self.new result (modify w target number settings.now) }
         ensures refused { OnErr result (self.new ≡ self.old) }
     {
         gateways_are_sound(&self.rooms);
@@ -168,43 +218,76 @@ impl Engine {
         what_is_found_is_within_limits();
         nothing_is_held_twice();
         others_are_left_alone();
+        members_are_those_in_the_context();
         tune(&self.rooms, &mut self.media, number, settings.depth);
+        take_mode(&self.rooms, &mut self.flows, number);
         Ok(done)
     }
 
-    /// Takes a termination into another context.
-    fn move_to(
+    /// Takes a termination into the action's context, out of the one that it is in, which ends where it was the last
+    /// there (RFC 3525, section 7.2.4).
+    pub fn move_to(
         &mut self,
         target: Target,
         number: u32,
         settings: &Settings,
-    ) -> Result<Done, ErrorNumber>
-        ensures outcome { (w : Gateway) → StandsFor self.old w →
-            IsOutcome self.new result (done_with (moved w settings.now) (rooms.move_to w.rooms target number settings.now)) }
+    ) -> Result<mg_rooms::Done, ErrorNumber>
+        ensures outcome { (w : Gateway) → StandsFor self.old w → IsOutcome self.new result (move_to w target number settings.now) }
         ensures refused { OnErr result (self.new ≡ self.old) }
     {
         gateways_are_sound(&self.rooms);
+        let from = place(&self.rooms, number);
         let done = self.rooms.move_to(target, number, settings)?;
         gateways_are_sound(&self.rooms);
         what_is_found_is_within_limits();
         nothing_is_held_twice();
         others_are_left_alone();
+        members_are_those_in_the_context();
         tune(&self.rooms, &mut self.media, number, settings.depth);
+        vacate(&mut self.flows, from);
+        enter(&self.rooms, &mut self.flows, &mut self.seating, number);
         Ok(done)
     }
 
-    /// Ends a member of the action's context.
-    fn subtract(&mut self, target: Target, number: u32) -> Result<Done, ErrorNumber>
-        ensures outcome { (w : Gateway) → StandsFor self.old w →
-            IsOutcome self.new result (done_with (subtracted w) (rooms.subtract w.rooms target number)) }
+    /// Takes a member out of the action's context and ends it. The context ends with its last member (RFC 3525, section
+    /// 7.2.3).
+    pub fn subtract(&mut self, target: Target, number: u32) -> Result<mg_rooms::Done, ErrorNumber>
+        ensures outcome { (w : Gateway) → StandsFor self.old w → IsOutcome self.new result (subtract w target number) }
         ensures refused { OnErr result (self.new ≡ self.old) }
     {
         gateways_are_sound(&self.rooms);
+        what_is_found_is_within_limits();
+        nothing_is_held_twice();
         others_are_left_alone();
+        members_are_those_in_the_context();
         let slot = slot_of(&self.rooms, number);
+        let place = place(&self.rooms, number);
         let done = self.rooms.subtract(target, number)?;
+        gateways_are_sound(&self.rooms);
         leave(&mut self.held, slot);
+        vacate(&mut self.flows, place);
         Ok(done)
+    }
+
+    /// Applies all triples to the members that the action's context has now, in order, or none of them, by the first
+    /// fault. The answer is the context's number (RFC 3525, section 7.1.18).
+    pub fn apply_triples(
+        &mut self,
+        target: Target,
+        triples: &TopologyTriples,
+    ) -> Result<u32, ErrorNumber>
+        ensures outcome { (w : Gateway) → StandsFor self.old w → IsOutcome self.new result (apply_triples w target triples.now.items) }
+        ensures refused { OnErr result (self.new ≡ self.old) }
+    {
+        gateways_are_sound(&self.rooms);
+        nothing_is_held_twice();
+        overlap_is_a_common_seat();
+        let at = topology_room(&self.rooms, target)?;
+        let by_seats = triples_of(&self.rooms, &self.flows, at, triples.as_slice())?;
+        match self.flows.on_triples(at.room, by_seats.as_slice()) {
+            Ok(()) => Ok(at.context),
+            Err(Overlap) => Err(ErrorNumber::IllegalCombination),
+        }
     }
 
     /// The termination that has a port.
@@ -231,6 +314,7 @@ impl Engine {
         requires slot { termination.now.slot < length self.old.media }
         ensures config { self.new.config ≡ self.old.config }
         ensures rooms { self.new.rooms ≡ self.old.rooms }
+        ensures flows { self.new.flows ≡ self.old.flows }
         ensures taken { PlacedAt self.old.media self.new.media termination.now.slot (arrived termination.now source.address (reading_of packet.entry)) result }
     {
         let law = match law_for(termination, source) {
@@ -267,13 +351,27 @@ impl Engine {
     pub fn flow(&self, talker: u32, listener: u32) -> bool
         ensures value { (w : Gateway) → StandsFor self.now w → result ≡ flow w talker listener }
     {
-        let Some(first) = self.rooms.record(talker) else {
-            return false;
-        };
-        let Some(second) = self.rooms.record(listener) else {
-            return false;
-        };
-        flows(&first, &second)
+        gateways_are_sound(&self.rooms);
+        nothing_is_held_twice();
+        match (member(&self.rooms, talker), member(&self.rooms, listener)) {
+            (Some((_, from)), Some((_, to))) => {
+                from.room == to.room && mask::has_seat(*self.flows.open(to), usize::from(from.seat))
+            }
+            _ => false,
+        }
+    }
+
+    /// Whether a listener hears a talker, whatever their modes: both are different members of one context, and the last
+    /// word on the two lets it.
+    pub fn hears(&self, listener: u32, talker: u32) -> bool
+        ensures value { (w : Gateway) → StandsFor self.now w → result ≡ hears w listener talker }
+    {
+        gateways_are_sound(&self.rooms);
+        nothing_is_held_twice();
+        match (member(&self.rooms, talker), member(&self.rooms, listener)) {
+            (Some((_, from)), Some((_, to))) => self.flows.hears(to, from),
+            _ => false,
+        }
     }
 
     /// The plain sum of a sample of this tick, the i-th of 160, over the members of a context that talk. There is none
@@ -320,6 +418,8 @@ impl Engine {
         gateways_are_sound(&self.rooms);
         each_is_found();
         what_is_found_is_within_limits();
+        nothing_is_held_twice();
+        members_are_those_in_the_context();
         play_all(&mut self.media);
         self.send_all(outbox);
         end_all(&self.rooms, &mut self.media);
@@ -335,14 +435,15 @@ impl Engine {
 
     /// The packet of this tick from a termination to its peer.
     fn packet(&self, sender: &Record, to: Chosen) -> Datagram
-        requires slot { sender.now.slot < self.now.rooms.limits.slots }
+        requires member { record_at self.now.rooms sender.now.number ≡ Some sender.now }
         ensures value { result ≡ packet_now self.now sender.now to }
     {
         gateways_are_sound(&self.rooms);
+        what_is_found_is_within_limits();
         let media = self.media.as_slice();
         let ssrc = self.config.ssrc.wrapping_add(sender.number);
         let header = media[usize::from(sender.slot)].header(payload_type(to.law), ssrc);
-        let frame = mix(media, &self.rooms, self.held.as_slice(), sender);
+        let frame = self.mix(sender);
         let bytes = write(header, &encode_frame(to.law, &frame));
         let address = to.address;
         let port = to.port;
@@ -353,6 +454,38 @@ impl Engine {
         }
     }
 
+    /// The plain sum of what a member hears, sample by sample.
+    fn sum_heard(&self, listener: &Record) -> [i32; SAMPLES]
+        requires member { record_at self.now.rooms listener.now.number ≡ Some listener.now }
+        ensures value { result ≡ map (heard_now self.now listener.now) (range_with_len 0 160) }
+    {
+        gateways_are_sound(&self.rooms);
+        each_is_found();
+        what_is_found_is_within_limits();
+        nothing_is_held_twice();
+        members_are_those_in_the_context();
+        match place_of(&self.rooms, listener) {
+            Some(place) => {
+                let open = *self.flows.open(place);
+                sum_seats(self.media.as_slice(), &self.seating, place.room, open)
+            }
+            None => [0; SAMPLES],
+        }
+    }
+
+    /// What a member is sent: itself in a loopback, else all that flow to it.
+    fn mix(&self, listener: &Record) -> Frame
+        requires member { record_at self.now.rooms listener.now.number ≡ Some listener.now }
+        ensures value { result ≡ mixed_now self.now listener.now }
+    {
+        gateways_are_sound(&self.rooms);
+        what_is_found_is_within_limits();
+        if is_loopback(listener.mode) {
+            return own_frame(self.media.as_slice(), listener.slot);
+        }
+        limit(&self.sum_heard(listener))
+    }
+
     /// Puts the packet of the termination that holds a slot, if it sends.
     fn put_packet(&self, slot: u8, outbox: &mut Outbox)
         requires room { length outbox.old.items < TERMINATIONS }
@@ -360,6 +493,8 @@ impl Engine {
             outbox.new.items ≡ outbox.old.items ++ option_to_list (option_map (packet_now self.now r) (sent_to r)) }
         ensures few { length outbox.new.items ≤ length outbox.old.items + 1 }
     {
+        gateways_are_sound(&self.rooms);
+        each_is_found();
         let Some(sender) = self.rooms.held(slot) else {
             return;
         };
@@ -421,6 +556,24 @@ fn stats_in(media: &[Media], slot: u8) -> Stats
     ensures value { result ≡ (media_at media.now slot).stats }
 {
     media[usize::from(slot)].stats()
+}
+
+/// The context of an action that is there, and its room.
+fn topology_room(rooms: &Rooms, target: Target) -> Result<TopologyRoom, ErrorNumber>
+    ensures value { MatchResult result
+        (λ at. (context_there rooms.now target ≡ Ok at.context) × IsRoomOf rooms.now at.context at.room)
+        (λ e. context_there rooms.now target ≡ Err e) }
+    ensures room { IfOk result (λ at. at.room < context_limit) }
+{
+    gateways_are_sound(rooms);
+    what_is_found_is_within_limits();
+    match target {
+        Target::Number(context) => match rooms.room(context) {
+            Some(room) => Ok(TopologyRoom { context, room }),
+            None => Err(ErrorNumber::UnknownContext),
+        },
+        Target::Null | Target::New => Err(ErrorNumber::UnknownContext),
+    }
 }
 
 /// The slot of a termination.

@@ -5,8 +5,7 @@
 //!
 //! ```rust
 //! let mut engine = Engine::new(alloc, Config::default())?;
-//! let edit = Edit::Add { target: Target::New, settings: Settings::default() };
-//! let done = engine.edit(&edit)?;
+//! let done = engine.add(Target::New, &Settings::default())?;
 //! assert_eq!(rt; engine.rooms().members(done.context), [done.termination].as_slice());
 //! ```
 //!
@@ -18,28 +17,37 @@
 mod arrival;
 mod config;
 mod datagram;
+mod done;
 mod edit;
 mod engine;
 mod fault;
 pub mod laws;
 pub mod media;
+mod membership;
 pub mod mixing;
 mod peer;
 pub mod ports;
+mod seating;
 pub mod sending;
 mod taken;
 #[cfg(test)]
 mod tests;
+mod topology_triple;
+mod triple_term;
+mod triples;
 
 pub use crate::config::Config;
 pub use crate::datagram::{Datagram, Outbox};
+pub use crate::done::Done;
 pub use crate::edit::Edit;
 pub use crate::engine::Engine;
 pub use crate::fault::StartFault;
 pub use crate::peer::Peer;
 pub use crate::taken::{DropCause, Taken};
+pub use crate::topology_triple::{TRIPLES, TopologyTriple, TopologyTriples};
+pub use crate::triple_term::TripleTerm;
 pub use mg_rooms::{
-    Done, ErrorNumber, Limits, MediaSetting, Mode, Record, Rooms, Settings, Target, mode_listens,
+    ErrorNumber, Limits, MediaSetting, Mode, Record, Rooms, Settings, Target, mode_listens,
     mode_talks,
 };
-pub use mg_words::Stats;
+pub use mg_words::{Association, Stats};

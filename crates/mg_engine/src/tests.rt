@@ -1,5 +1,6 @@
 use crate::{
-    Config, DropCause, Edit, Engine, MediaSetting, Mode, Outbox, Peer, Settings, Taken, Target,
+    Association, Config, Done, DropCause, Edit, Engine, ErrorNumber, MediaSetting, Mode, Outbox,
+    Peer, Settings, Taken, Target, TopologyTriple, TopologyTriples, TripleTerm,
 };
 use mg_playout::Placed;
 use mg_rtp::{Header, RtpFault, write};
@@ -51,9 +52,7 @@ fn conference(alloc: Global, callers: usize) -> Result<Engine, Fail> {
     let mut target = Target::New;
     for remote in REMOTES.iter().take(callers) {
         let settings = caller(Mode::SendReceive, MU, remote)?;
-        let done = engine
-            .edit(&Edit::Add { target, settings })
-            .map_err(|_| "an Add")?;
+        let done = engine.add(target, &settings).map_err(|_| "an Add")?;
         target = Target::Number(done.context);
     }
     Ok(engine)
@@ -115,12 +114,9 @@ fn mixes_the_others(rt: HostRuntime) -> Result<(), Fail> {
         .map(|last| (last.from, last.to.port));
     assert_eq!(rt; last, Some((30006, 40006)));
     assert_eq!(rt; engine.total(1, 0), Some(32124));
-    let away = Edit::Move {
-        target: Target::New,
-        number: 3,
-        settings: Settings::default(),
-    };
-    engine.edit(&away).map_err(|_| "a Move")?;
+    engine
+        .move_to(Target::New, 3, &Settings::default())
+        .map_err(|_| "a Move")?;
     assert_eq!(rt; engine.total(1, 0), Some(64248));
     assert_eq!(rt; engine.total(2, 0), Some(-32124));
     assert_eq!(rt; engine.total(3, 0), None);
@@ -145,7 +141,12 @@ fn loops_back(rt: HostRuntime) -> Result<(), Fail> {
         number: 1,
         settings,
     };
-    engine.edit(&edit).map_err(|_| "a Modify")?;
+    let done = engine.edit(&edit).map_err(|_| "a Modify")?;
+    let member = mg_rooms::Done {
+        context: 1,
+        termination: 1,
+    };
+    assert_eq!(rt; done, Done::Termination(member));
     engine.media(30000, CALLER, &packet(0x80));
     engine.media(30002, CALLER, &packet(0x00));
     for _ in 0..3 {
@@ -216,11 +217,9 @@ fn drops_what_comes_to_nobody(rt: HostRuntime) -> Result<(), Fail> {
     let nobody: [(&[u8], DropCause); 1] = [(&bytes, DropCause::NoTermination)];
     assert_eq!(rt; first_wrong(&mut engine, 30002, CALLER, &nobody), None);
     assert_eq!(rt; first_wrong(&mut engine, 30001, CALLER, &nobody), None);
-    let plain = Edit::Add {
-        target: Target::New,
-        settings: Settings::default(),
-    };
-    engine.edit(&plain).map_err(|_| "an Add")?;
+    engine
+        .add(Target::New, &Settings::default())
+        .map_err(|_| "an Add")?;
     let deaf: [(&[u8], DropCause); 1] = [(&bytes, DropCause::NoLocal)];
     assert_eq!(rt; first_wrong(&mut engine, 30002, CALLER, &deaf), None);
     Ok(())
@@ -239,11 +238,7 @@ fn numbers_packets(rt: HostRuntime) -> Result<(), Fail> {
         ..Settings::default()
     };
     engine
-        .edit(&Edit::Modify {
-            target: Target::Number(1),
-            number: 1,
-            settings: quiet,
-        })
+        .modify(Target::Number(1), 1, &quiet)
         .map_err(|_| "a Modify")?;
     engine.tick(&mut outbox);
     assert!(rt; outbox.is_empty());
@@ -252,11 +247,7 @@ fn numbers_packets(rt: HostRuntime) -> Result<(), Fail> {
         ..Settings::default()
     };
     engine
-        .edit(&Edit::Modify {
-            target: Target::Number(1),
-            number: 1,
-            settings: loud,
-        })
+        .modify(Target::Number(1), 1, &loud)
         .map_err(|_| "a Modify")?;
     engine.tick(&mut outbox);
     let head: &[u8] = &[0x80, 0x80, 0, 1, 0, 0, 1, 0x40, 0, 0, 0, 1];
@@ -290,11 +281,7 @@ fn waits_for_half_of_the_depth(rt: HostRuntime) -> Result<(), Fail> {
         ..Settings::default()
     };
     engine
-        .edit(&Edit::Modify {
-            target: Target::Number(1),
-            number: 1,
-            settings: short,
-        })
+        .modify(Target::Number(1), 1, &short)
         .map_err(|_| "a Modify")?;
     engine.media(30000, CALLER, &packet(0x80));
     for last in [0xff, 0x80] {
@@ -312,17 +299,11 @@ fn newcomer_says_nothing_of_its_forerunner(rt: HostRuntime) -> Result<(), Fail> 
     let mut outbox = Outbox::new();
     engine.media(30000, CALLER, &packet(0x80));
     engine
-        .edit(&Edit::Subtract {
-            target: Target::Number(1),
-            number: 1,
-        })
+        .subtract(Target::Number(1), 1)
         .map_err(|_| "a Subtract")?;
     let settings = caller(Mode::SendReceive, MU, REMOTES[0])?;
     let done = engine
-        .edit(&Edit::Add {
-            target: Target::Number(1),
-            settings,
-        })
+        .add(Target::Number(1), &settings)
         .map_err(|_| "an Add")?;
     assert_eq!(rt; done.termination, 3);
     for _ in 0..3 {
@@ -330,5 +311,134 @@ fn newcomer_says_nothing_of_its_forerunner(rt: HostRuntime) -> Result<(), Fail> 
         let want: &[u8] = &[0xff, 0xff];
         assert_eq!(rt; payloads(alloc, &outbox)?.as_slice(), want);
     }
+    Ok(())
+}
+
+/// A triple of two terms.
+fn triple(first: TripleTerm, second: TripleTerm, association: Association) -> TopologyTriple {
+    TopologyTriple {
+        first,
+        second,
+        association,
+    }
+}
+
+/// Triples as an edit has them.
+fn triples(list: &[TopologyTriple]) -> TopologyTriples {
+    let mut triples = TopologyTriples::new();
+    for triple in list {
+        let _ = triples.try_push(*triple);
+    }
+    triples
+}
+
+/// What becomes of triples in the first context.
+fn apply(engine: &mut Engine, list: &[TopologyTriple]) -> Result<u32, ErrorNumber> {
+    engine.apply_triples(Target::Number(1), &triples(list))
+}
+
+/// The first of some lists of triples that isn't refused for its fault.
+fn first_let_pass(
+    engine: &mut Engine,
+    cases: &[(&[TopologyTriple], ErrorNumber)],
+) -> Option<usize> {
+    for (i, (list, fault)) in cases.iter().enumerate() {
+        if apply(engine, list) != Err(*fault) {
+            return Some(i);
+        }
+    }
+    None
+}
+
+/// The first bytes of the payloads in the third tick after the first caller spoke.
+fn third_payloads(alloc: Global, engine: &mut Engine) -> Result<Vec<u8>, Fail> {
+    let mut outbox = Outbox::new();
+    engine.media(30000, CALLER, &packet(0x80));
+    for _ in 0..3 {
+        engine.tick(&mut outbox);
+    }
+    payloads(alloc, &outbox)
+}
+
+const FIRST: TripleTerm = TripleTerm::Number(1);
+
+const THIRD: TripleTerm = TripleTerm::Number(3);
+
+#[test]
+fn isolates_by_an_edit(rt: HostRuntime) -> Result<(), Fail> {
+    let mut engine = conference(rt.alloc(), 3)?;
+    let isolate = Edit::Triples {
+        target: Target::Number(1),
+        triples: triples(&[triple(FIRST, THIRD, Association::Isolate)]),
+    };
+    assert_eq!(rt; engine.edit(&isolate), Ok(Done::Topology(1)));
+    let want: &[u8] = &[0xff, 0x80, 0xff];
+    assert_eq!(rt; third_payloads(rt.alloc(), &mut engine)?.as_slice(), want);
+    assert_eq!(rt; engine.total(1, 0), Some(32124));
+    assert!(rt; !engine.flow(1, 3) && !engine.flow(3, 1) && engine.flow(1, 2));
+    Ok(())
+}
+
+#[test]
+fn leads_one_way(rt: HostRuntime) -> Result<(), Fail> {
+    let mut engine = conference(rt.alloc(), 3)?;
+    let oneway = triple(FIRST, THIRD, Association::Oneway);
+    assert_eq!(rt; apply(&mut engine, &[oneway]), Ok(1));
+    let want: &[u8] = &[0xff, 0x80, 0x80];
+    assert_eq!(rt; third_payloads(rt.alloc(), &mut engine)?.as_slice(), want);
+    assert!(rt; engine.flow(1, 3) && !engine.flow(3, 1));
+    assert!(rt; engine.hears(3, 1) && !engine.hears(1, 3) && !engine.hears(1, 1));
+    Ok(())
+}
+
+#[test]
+fn refuses_triples_whole(rt: HostRuntime) -> Result<(), Fail> {
+    let mut engine = conference(rt.alloc(), 2)?;
+    let every = TripleTerm::Every;
+    let isolate = triple(FIRST, TripleTerm::Number(2), Association::Isolate);
+    let overlap = triple(every, FIRST, Association::Oneway);
+    let stranger = triple(TripleTerm::Stranger, every, Association::Isolate);
+    let unknown = triple(TripleTerm::Number(9), every, Association::Isolate);
+    let barred = triple(
+        TripleTerm::Barred,
+        TripleTerm::Stranger,
+        Association::Isolate,
+    );
+    let cases: [(&[TopologyTriple], ErrorNumber); 5] = [
+        (&[isolate, overlap], ErrorNumber::IllegalCombination),
+        (&[isolate, stranger], ErrorNumber::NotInContext),
+        (&[unknown, barred], ErrorNumber::NotInContext),
+        (&[barred, unknown], ErrorNumber::IdentifierNotAllowed),
+        (&[isolate, barred], ErrorNumber::IdentifierNotAllowed),
+    ];
+    assert_eq!(rt; first_let_pass(&mut engine, &cases), None);
+    assert!(rt; engine.hears(1, 2) && engine.hears(2, 1));
+    Ok(())
+}
+
+#[test]
+fn topology_needs_its_context(rt: HostRuntime) -> Result<(), Fail> {
+    let mut engine = conference(rt.alloc(), 2)?;
+    let none = triples(&[]);
+    let absent = Err(ErrorNumber::UnknownContext);
+    assert_eq!(rt; engine.apply_triples(Target::Number(2), &none), absent);
+    assert_eq!(rt; engine.apply_triples(Target::Null, &none), absent);
+    assert_eq!(rt; engine.apply_triples(Target::Number(1), &none), Ok(1));
+    Ok(())
+}
+
+#[test]
+fn who_comes_back_hears_all(rt: HostRuntime) -> Result<(), Fail> {
+    let mut engine = conference(rt.alloc(), 3)?;
+    let isolate = triple(FIRST, TripleTerm::Every, Association::Isolate);
+    assert_eq!(rt; apply(&mut engine, &[isolate]), Ok(1));
+    assert!(rt; !engine.hears(2, 1) && !engine.hears(3, 1) && engine.hears(2, 3));
+    let plain = Settings::default();
+    let away = engine.move_to(Target::New, 1, &plain);
+    assert_eq!(rt; away.map(|done| done.context), Ok(2));
+    assert!(rt; !engine.hears(2, 1) && !engine.flow(1, 2));
+    let back = engine.move_to(Target::Number(1), 1, &plain);
+    assert_eq!(rt; back.map(|done| done.context), Ok(1));
+    assert!(rt; engine.hears(2, 1) && engine.hears(1, 3) && engine.hears(2, 3));
     Ok(())
 }

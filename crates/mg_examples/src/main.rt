@@ -14,7 +14,7 @@ struct Example {
     output: &'static str,
 }
 
-const EXAMPLES: [Example; 2] = [
+const EXAMPLES: [Example; 3] = [
     Example {
         script: "conference.txt",
         output: "conference.out",
@@ -22,6 +22,10 @@ const EXAMPLES: [Example; 2] = [
     Example {
         script: "speech.txt",
         output: "speech.out",
+    },
+    Example {
+        script: "coaching.txt",
+        output: "coaching.out",
     },
 ];
 

@@ -5,6 +5,10 @@ use Rattle.mg_topology.specs.declared.triple.Triple.{Triple}
 use Rattle.mg_words.specs.declared.association.Association.{Association}
 use Rattle.mg_words.specs.declared.association.Association.TheVariants.{Isolate, Oneway, Bothway}
 
+-- a triple that speaks of no pair
+abbrev pub unsaid : Triple
+unsaid = record { first = 0; second = 0; association = Bothway }
+
 -- the triple's own direction leads from the talker to the listener, from its first set to its
 -- second
 abbrev pub leads : Triple → ℕ → ℕ → Bool

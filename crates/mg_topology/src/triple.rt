@@ -19,12 +19,28 @@ pub struct Triple {
     pub association: Association,
 }
 
+/// One that speaks of no pair.
+impl Default for Triple {
+    ghost use Rattle.std.specs.Prelude.{◌≡◌};
+    ghost use Rattle.mg_topology.specs.Triple.{unsaid};
+
+    ghost is_default = { λ triple. triple ≡ unsaid };
+
+    fn default() -> Self {
+        Triple {
+            first: mask::EMPTY,
+            second: mask::EMPTY,
+            association: Association::Bothway,
+        }
+    }
+}
+
 impl Triple {
     ghost use Rattle.mg_topology.specs.Triple.{overlaps};
     ghost use Rattle.mg_topology.specs.aids.Word.{word_after};
 
-    /// Whether it is a Oneway triple with a seat in both of its sets.
-    pub(crate) fn overlaps(&self) -> bool
+    /// Whether it is a Oneway triple with a seat in both of its sets, which a topology refuses.
+    pub fn overlaps(&self) -> bool
         ensures { result ≡ overlaps self.now }
     {
         match self.association {

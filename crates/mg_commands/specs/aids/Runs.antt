@@ -1,24 +1,28 @@
 -- What the program has of an action and of a transaction under way, and which of those it stands
 -- for: the engine for the gateway, the reply for the items, put into it one after another.
-use Rattle.std.specs.Prelude.{◌≡◌, Result, Ok, Err}
+use Rattle.std.specs.Prelude.{◌≡◌, Bool, true, false, List, Result, Ok, Err}
 use Rattle.mg_words.specs.declared.error_number.ErrorNumber.{ErrorNumber}
-use Rattle.mg_reply.specs.Reply.{Answered, after_all}
-use Rattle.mg_rooms.specs.declared.target.Target.{Target}
+use Rattle.mg_reply.specs.declared.item.Item.{Item}
+use Rattle.mg_reply.specs.declared.item.Item.TheVariants.{Fault}
+use Rattle.mg_reply.specs.Reply.{Answered, after_put, after_all}
 use Rattle.mg_engine.specs.Gateway.{Gateway}
 use Rattle.mg_engine.specs.Stands.{EngineState, StandsFor}
+use Rattle.mg_commands.specs.declared.progress.Progress.{Progress}
 use Rattle.mg_commands.specs.Transaction.{ActionState, TransactionState}
 
 pub record ActionKept : Type 0 where
   pub engine : EngineState
-  pub target : Target
+  pub progress : Progress
   pub reply : Answered
 
-abbrev pub action_kept : EngineState → Target → Answered → ActionKept
-action_kept engine target reply = record { engine = engine; target = target; reply = reply }
+abbrev pub action_kept : EngineState → Progress → Answered → ActionKept
+action_kept engine progress reply =
+    record { engine = engine; progress = progress; reply = reply }
 
 pub record IsAction (base : Answered) (kept : ActionKept) (run : ActionState) : Type 0 where
   pub gateway : StandsFor kept.engine run.gateway
-  pub target : run.target ≡ kept.target
+  pub target : run.target ≡ kept.progress.target
+  pub made : run.made ≡ kept.progress.made
   pub reply : kept.reply ≡ after_all base run.items
 
 pub record TransactionKept : Type 0 where
@@ -33,9 +37,11 @@ pub record IsTransaction (base : Answered) (kept : TransactionKept) (s : Transac
   pub gateway : StandsFor kept.engine s.gateway
   pub reply : kept.reply ≡ after_all base s.items
 
--- what a call returned is what the command came to, and where it was done the engine stands for the
--- world after it
-abbrev pub Comes : {A : Type 0} → EngineState → Result A ErrorNumber
-    → Result (Gateway × A) ErrorNumber → Type 0
-Comes kept (Ok x) came = (w : Gateway) × (came ≡ Ok (w, x)) × StandsFor kept w
-Comes kept (Err e) came = came ≡ Err e
+-- what was told of the properties of an action, and the engine stands for the world after it, by
+-- what came of them in a world
+abbrev pub Tells : EngineState → Answered → Answered → Bool → Gateway
+    → Result (Gateway × List Item) ErrorNumber → Type 0
+Tells kept before told is_done w (Ok p) =
+    (is_done ≡ true) × (told ≡ after_all before p.1) × StandsFor kept p.0
+Tells kept before told is_done w (Err e) =
+    (is_done ≡ false) × (told ≡ after_put before (Fault e)) × StandsFor kept w

@@ -1,6 +1,5 @@
--- What is sent in a tick, by what an engine keeps: no triple was applied, so all members of a
--- context hear each other.
-use Rattle.std.specs.Prelude.{◌≡◌, ℕ, ℤ, pos, ◌+◌, ◌%◌, ◌^◌, ◌==◌, ◌&&◌, not, Bool, List, ◌++◌, map}
+-- What is sent in a tick, by what an engine keeps.
+use Rattle.std.specs.Prelude.{◌≡◌, ℕ, ℤ, pos, ◌+◌, ◌%◌, ◌^◌, Bool, false, List, ◌++◌, map}
 use Rattle.std.specs.Prelude.{filter_map, Option, Some, None, slice_index_or, slice_set, Ok, Err}
 use Rattle.std.specs.Prelude.{if◌then◌else◌}
 use Rattle.std.specs.List.{range_with_len}
@@ -11,13 +10,16 @@ use Rattle.mg_sdp.specs.declared.chosen.Chosen.{Chosen}
 use Rattle.mg_rooms.specs.declared.record.Record.{Record}
 use Rattle.mg_rooms.specs.Limits.{slot_port}
 use Rattle.mg_rooms.specs.Registry as rooms
-use Rattle.mg_words.specs.Mode.{talks, listens}
+use Rattle.mg_words.specs.Mode.{talks}
+use Rattle.mg_flow.specs.declared.place.Place.{Place}
+use Rattle.mg_flow.specs.Table as flow
 use Rattle.mg_engine.specs.declared.datagram.Datagram.{Datagram}
 use Rattle.mg_engine.specs.declared.taken.Taken.{Taken}
 use Rattle.mg_engine.specs.declared.taken.Taken.TheVariants.{Placed, Dropped}
 use Rattle.mg_engine.specs.Arrival.{Arrived}
 use Rattle.mg_engine.specs.Media as media
 use Rattle.mg_engine.specs.Mixing.{limited}
+use Rattle.mg_engine.specs.Place.{place_of}
 use Rattle.mg_engine.specs.Mix.{sum_of, is_loopback}
 use Rattle.mg_engine.specs.Stands.{EngineState, media_at}
 use Rattle.mg_engine.specs.Tick.{type_of, sent_to, is_sender}
@@ -30,22 +32,27 @@ abbrev pub talking_now : List media.SlotMedia → ℕ → Option Record → ℤ
 talking_now kept i None = pos 0
 talking_now kept i (Some r) = if talks r.mode then sample_at kept r.slot i else pos 0
 
-abbrev pub flows_now : Record → Record → Bool
-flows_now t l =
-    (t.context == l.context) && (not (t.number == l.number) && (talks t.mode && listens l.mode))
+-- whether the speech of one on a place goes to one on another; nowhere else does any
+abbrev pub flows_between : List flow.Room → Option Place → Option Place → Bool
+flows_between table (Some p) (Some q) = flow.flows table q p
+flows_between table (Some p) None = false
+flows_between table None q = false
 
-abbrev pub part_now : List media.SlotMedia → Record → ℕ → Record → ℤ
-part_now kept l i t = if flows_now t l then sample_at kept t.slot i else pos 0
+abbrev pub flows_now : EngineState → Record → Record → Bool
+flows_now k t l = flows_between k.flows (place_of k.rooms t) (place_of k.rooms l)
 
-abbrev pub heard_now : List media.SlotMedia → List Record → Record → ℕ → ℤ
-heard_now kept rs l i = sum_of (part_now kept l i) rs
+abbrev pub part_now : EngineState → Record → ℕ → Record → ℤ
+part_now k l i t = if flows_now k t l then sample_at k.media t.slot i else pos 0
 
-abbrev pub mix_now : List media.SlotMedia → List Record → Record → ℕ → ℤ
-mix_now kept rs l i =
-    if is_loopback l.mode then sample_at kept l.slot i else limited (heard_now kept rs l i)
+abbrev pub heard_now : EngineState → Record → ℕ → ℤ
+heard_now k l i = sum_of (part_now k l i) k.rooms.terminations
 
-abbrev pub mixed_now : List media.SlotMedia → List Record → Record → List ℤ
-mixed_now kept rs l = map (mix_now kept rs l) (range_with_len 0 160)
+abbrev pub mix_now : EngineState → Record → ℕ → ℤ
+mix_now k l i =
+    if is_loopback l.mode then sample_at k.media l.slot i else limited (heard_now k l i)
+
+abbrev pub mixed_now : EngineState → Record → List ℤ
+mixed_now k l = map (mix_now k l) (range_with_len 0 160)
 
 abbrev pub packet_now : EngineState → Record → Chosen → Datagram
 packet_now k r to = record {
@@ -53,7 +60,7 @@ packet_now k r to = record {
   to = record { address = to.address; port = to.port };
   bytes = header_bytes plain (media.header (media_at k.media r.slot) (type_of to.law)
       ((k.config.ssrc + r.number) % 2 ^ 32))
-      ++ map (byte_of to.law) (mixed_now k.media k.rooms.terminations r);
+      ++ map (byte_of to.law) (mixed_now k r);
 }
 
 abbrev pub packets_now : EngineState → List Datagram

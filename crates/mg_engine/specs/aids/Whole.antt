@@ -4,13 +4,20 @@ use Rattle.mg_rooms.specs.declared.limits.Limits.{Limits}
 use Rattle.mg_rooms.specs.Registry as rooms
 use Rattle.mg_engine.specs.declared.config.Config.{Config}
 use Rattle.mg_engine.specs.Config.{limits_of}
+use Rattle.mg_flow.specs.Table as flow
 use Rattle.mg_engine.specs.Media as media
+use Rattle.mg_engine.specs.aids.Members.{HasMembers}
+use Rattle.mg_engine.specs.aids.Seating.{AreSeated}
 
--- all parts are made by one configuration, each slot has its media, and the slots that are held are
--- in the order of their terminations' numbers
+-- all parts are made by one configuration, each slot has its media, the slots that are held are in
+-- the order of their terminations' numbers, and each member is on its place
 pub record IsWhole (config : Config) (rooms : rooms.Registry) (pool : Limits)
-    (kept : List media.SlotMedia) (slots : List ℕ) : Type 0 where
+    (kept : List media.SlotMedia) (slots : List ℕ) (flows : List flow.Room)
+    (seating : List ℕ) : Type 0 where
   pub limits : rooms.limits ≡ limits_of config
   pub ports : pool ≡ limits_of config
   pub media : length kept ≡ config.slots
   pub held : slots ≡ map (λ r. r.slot) rooms.terminations
+  pub members : HasMembers rooms flows
+  pub seats : AreSeated rooms seating
+  pub places : length seating ≡ 2048

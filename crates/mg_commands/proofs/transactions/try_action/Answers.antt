@@ -2,14 +2,27 @@ use Rattle.std.proofs.Common.{sym, ap, ◌∙◌}
 use Rattle.mg_words.specs.declared.context_id.ContextId.{ContextId}
 use Rattle.mg_reply.specs.declared.item.Item.TheVariants as replies
 use Rattle.mg_reply.specs.Reply.{after_put}
-use Rattle.mg_commands.proofs.RunLaws.{action_refused, action_ended}
+use Rattle.mg_commands.proofs.RunLaws.{action_refused, action_stopped, action_finished}
 use Rattle.mg_commands.proofs.transactions.try_action.Goals as goal
+use Rattle.mg_commands.proofs.transactions.try_action.Goals.{then-were_done, else-were_done}
 
-pub returns-then-is_refused-clause-ran : goal.returns-then-is_refused-clause-ran
-returns-then-is_refused-clause-ran c = action_refused c.args.source.now c.args.action.now c.args.engine.now c.args.reply.now c.put.new.self c.put-then-is_refused.new.self (sym c.is_refused.ensures.value ∙ c.if-is_refused.true) c.put.ensures.value c.put-then-is_refused.ensures.value
+pub returns-in-Some-clause-ran : goal.returns-in-Some-clause-ran
+returns-in-Some-clause-ran c = action_refused c.args.source.now c.args.action.now c.args.engine.now c.args.reply.now c.put.new.self c.put-in-Some.new.self c.in-Some.fault (sym c.action_fault.ensures.value ∙ c.in-Some.is) c.put.ensures.value c.put-in-Some.ensures.value
 
 pub returns-clause-ran : goal.returns-clause-ran
-returns-clause-ran c = action_ended c.args.source.now c.args.action.now c.args.engine.now c.try_commands-target.new.engine c.args.reply.now c.try_commands-target.new.reply c.put-2.new.self c.try_commands-target.result.0 c.try_commands-target.result.1
-    (sym c.is_refused.ensures.value ∙ c.if-is_refused.false)
-    (c.put-2.ensures.value ∙ ap (λ (id : ContextId). after_put c.try_commands-target.new.reply (replies.Action id)) c.id_of.ensures.value)
-    (rw (sym c.as_slice-commands.ensures.value, sym c.target_of-target.ensures.value) c.try_commands-target.ensures.ran)
+returns-clause-ran c =
+    let source = c.args.source.now in
+    let action = c.args.action.now in
+    let tried = c.try_commands-were_done in
+    let none = sym c.action_fault.ensures.value ∙ c.in_default.is in
+    let ran = rw (c.as_slice-commands.ensures.value, c.target_of.ensures.value) at tried.ensures.ran in
+    let last = c.put-2.ensures.value ∙ ap (λ (id : ContextId). after_put c.if-were_done.reply (replies.Action id)) c.id_of.ensures.value in
+    elim c.if-were_done.branch [
+      | then-were_done w ↦
+          let tells = rw (c.as_slice-properties.ensures.value, sym w.engine-is, sym w.reply-is, sym w.is_done-is) at w.try_properties-is_done.ensures.came in
+          action_finished source action c.args.engine.now tried.new.engine c.args.reply.now tried.new.reply tried.result.0 tried.result.1 none ran
+          c.if-were_done.engine c.if-were_done.reply c.put-2.new.self c.if-were_done.is_done w.if-were_done.true tells last
+      | else-were_done w ↦
+          action_stopped source action c.args.engine.now tried.new.engine c.args.reply.now tried.new.reply tried.result.0 tried.result.1 none ran
+          c.if-were_done.engine c.if-were_done.reply c.put-2.new.self c.if-were_done.is_done w.if-were_done.false w.is_done-is w.engine-is w.reply-is last
+    ]

@@ -31,6 +31,6 @@ returns-in-Some c = record {
       let here = ap (λ (x : rooms.Registry). at_port x c.args.port) h.rooms ∙ sym c.at_port.ensures.value ∙ c.in-Some.is in (
         now,
         (reading, is_reading c.args.bytes.now c.read-packet.result c.read-packet.ensures.found c.read-packet.ensures.fault, ap (λ (o : Option Record). taken_by w o c.args.source.address reading) here ∙ came),
-        subst (λ (x : EngineState). StandsFor x now) (media_alone k c.place.new.self c.place.ensures.config c.place.ensures.rooms) stands,
+        subst (λ (x : EngineState). StandsFor x now) (media_alone k c.place.new.self c.place.ensures.config c.place.ensures.rooms c.place.ensures.flows) stands,
       );
 }

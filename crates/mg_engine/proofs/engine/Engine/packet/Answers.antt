@@ -2,6 +2,7 @@ use Rattle.std.proofs.Common.{ℕ, ◌+◌, ◌%◌, ◌^◌, ◌<◌, length, L
 use Rattle.std.proofs.lemmas.List.{get_or_default}
 use Rattle.mg_rooms.specs.declared.limits.Limits.{Limits}
 use Rattle.mg_rooms.specs.Limits.{slot_port}
+use Rattle.mg_rooms.specs.Registry.{record_at}
 use Rattle.mg_engine.specs.Media as media
 use Rattle.mg_engine.specs.Media.{idle}
 use Rattle.mg_engine.specs.aids.Sending.{mixed_now, packet_now}
@@ -11,20 +12,29 @@ use Rattle.mg_engine.proofs.engine.Engine.packet.Goals as goal
 
 pub returns : goal.returns
 returns c =
-    let k : EngineState = record { config = c.self.inside.config; rooms = c.self.inside.rooms; media = c.self.inside.media.items } in
+    let k : EngineState = record { config = c.self.inside.config; rooms = c.self.inside.rooms; media = c.self.inside.media.items; flows = c.self.inside.flows } in
     let r = c.args.sender.now in
     let to = c.args.to in
     let all = c.as_slice-media.ensures.value in
-    let seen = ap (λ (x : EngineState). x.rooms.limits.slots) c.self.view_is in
     let slots = ap (λ (l : Limits). l.slots) c.self.invariant.limits in
-    let within : r.slot < length k.media = omega (arith, c.requires.slot, seen, slots, c.self.invariant.media) in
+    let found = ap (λ (x : EngineState). record_at x.rooms r.number) c.self.view_is ∙ c.requires.member in
+    let (number, is) = c.what_is_found_is_within_limits.ensures.termination k.rooms r.number r c.gateways_are_sound.ensures.sound found in
+    let within : r.slot < length k.media = omega (arith, is.slot, slots, c.self.invariant.media) in
     let place = c.index-media-from.is
     ∙ ap (λ (n : ℕ). get_or c.as_slice-media.result.now n c.index-media-from.result) c.from.ensures
     ∙ ap (λ (ms : List media.SlotMedia). get_or ms r.slot c.index-media-from.result) all
     ∙ get_or_default k.media r.slot c.index-media-from.result idle within in
     let port = c.slot_port.ensures.value ∙ ap (λ (l : Limits). slot_port l r.slot) (c.limits.ensures.value ∙ sym c.self.invariant.limits) in
-    let mixed = c.mix-frame.ensures.value ∙ ap (λ (ms : List media.SlotMedia). mixed_now ms k.rooms.terminations r) all in
+    let mixed = c.mix-frame.ensures.value ∙ ap (λ (x : EngineState). mixed_now x r) (sym c.self.view_is) in
     let head = c.header-header.ensures.value ∙ ap (λ (t : ℕ). media.header c.index-media-from.result t ((k.config.ssrc + r.number) % 2 ^ 32)) c.payload_type.ensures.value in
     let made = packet_is k r to c.slot_port.result c.write-bytes.result c.encode_frame.result c.header-header.result c.mix-frame.result c.index-media-from.result port c.write-bytes.ensures.bytes c.encode_frame.ensures mixed head place in record {
       value = made ∙ ap (λ (x : EngineState). packet_now x r to) c.self.view_is;
     }
+
+pub slot_port-requires-clause-slot : goal.slot_port-requires-clause-slot
+slot_port-requires-clause-slot c =
+    let w = c.self.inside.rooms in
+    let r = c.args.sender.now in
+    let found = ap (λ (x : EngineState). record_at x.rooms r.number) c.self.view_is ∙ c.requires.member in
+    let (number, is) = c.what_is_found_is_within_limits.ensures.termination w r.number r c.gateways_are_sound.ensures.sound found in
+    omega (arith, is.slot, ap (λ (l : Limits). l.slots) c.self.invariant.limits, ap (λ (l : Limits). l.slots) c.limits.ensures.value)

@@ -5,11 +5,18 @@ use Rattle.mg_sdp.specs.declared.chosen.Chosen.{Chosen}
 use Rattle.mg_rooms.specs.declared.record.Record.{Record}
 use Rattle.mg_engine.specs.declared.datagram.Datagram.{Datagram}
 use Rattle.mg_engine.specs.aids.Sending.{packet_now}
-use Rattle.mg_rooms.specs.Registry.{holder_of}
+use Rattle.mg_rooms.specs.Registry.{holder_of, record_at}
 use Rattle.mg_engine.specs.Stands.{EngineState}
 use Rattle.mg_engine.specs.Tick.{sent_to}
 use Rattle.mg_engine.proofs.SendingLaws.{found_is}
 use Rattle.mg_engine.proofs.engine.Engine.put_packet.Goals as goal
+
+pub packet-requires : goal.packet-requires
+packet-requires c =
+    let w = c.self.inside.rooms in
+    let r = c.in-Some.sender in
+    let (found, same) = c.each_is_found.ensures.by_number w c.args.slot r c.gateways_are_sound.ensures.sound (sym c.held.ensures.value ∙ c.in-Some.is) in
+    record { member = ap (λ (x : EngineState). record_at x.rooms r.number) (sym c.self.view_is) ∙ found }
 
 pub returns-in-Some-sent_to-clause-put : goal.returns-in-Some-sent_to-clause-put
 returns-in-Some-sent_to-clause-put c r holds =

@@ -11,7 +11,7 @@ use Rattle.mg_engine.proofs.engine.Engine.total.Goals as goal
 pub returns-in-Some : goal.returns-in-Some
 returns-in-Some c = record {
   value = λ w h.
-      let k : EngineState = record { config = c.self.inside.config; rooms = c.self.inside.rooms; media = c.self.inside.media.items } in
+      let k : EngineState = record { config = c.self.inside.config; rooms = c.self.inside.rooms; media = c.self.inside.media.items; flows = c.self.inside.flows } in
       let stands = subst (λ (x : EngineState). StandsFor x w) (sym c.self.view_is) h in
       let lt : c.args.i < 160 = omega (arith, c.if-i-ge-SAMPLES.false) in
       let sum = c.sum_talking.ensures.value

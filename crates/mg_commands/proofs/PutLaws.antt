@@ -1,0 +1,42 @@
+-- Items put into a reply, one after another.
+use Rattle.std.proofs.Common.{◌≡◌, ℕ, ◌+◌, ◌<◌, ◌≤◌, List, [], ◌∷◌, ◌++◌, length, map, get_or, drop, refl, sym, ap, ◌∙◌}
+use Rattle.std.proofs.lemmas.List.{drop_more, drop_all}
+use Rattle.mg_reply.specs.declared.item.Item.{Item}
+use Rattle.mg_reply.specs.Reply.{Answered, after_put, after_all}
+use Rattle.mg_engine.specs.Gateway.{Gateway}
+use Rattle.mg_commands.specs.ContextProperties.{audit_pair, audit_pairs}
+
+pub after_all-append : (base : Answered) (xs ys : List Item) → after_all base (xs ++ ys) ≡ after_all (after_all base xs) ys
+after_all-append base [] ys = refl
+after_all-append base (x ∷ xs) ys = after_all-append (after_put base x) xs ys
+
+-- an item put after others
+pub put_next : (base before : Answered) (xs : List Item) (x : Item) → before ≡ after_all base xs → after_put before x ≡ after_all base (xs ++ x ∷ [])
+put_next base before xs x h = ap (λ (r : Answered). after_put r x) h ∙ sym (after_all-append base xs (x ∷ []))
+
+-- items put after others
+pub put_more : (base before told : Answered) (xs ys : List Item) → before ≡ after_all base xs → told ≡ after_all before ys → told ≡ after_all base (xs ++ ys)
+put_more base before told xs ys h put = put ∙ ap (λ (r : Answered). after_all r ys) h ∙ sym (after_all-append base xs ys)
+
+-- ## The loop over the members that entered later
+
+pub pair_told : (f : ℕ → Item) (xs : List ℕ) (i d : ℕ) (before told whole : Answered) → i < length xs → told ≡ after_put before (f (get_or xs i d)) → after_all before (map f (drop i xs)) ≡ whole → after_all told (map f (drop (i + 1) xs)) ≡ whole
+pair_told f xs i d before told whole lt put h =
+    let split = ap (λ (ys : List ℕ). after_all before (map f ys)) (drop_more xs i d lt) in
+    ap (λ (r : Answered). after_all r (map f (drop (i + 1) xs))) put ∙ sym split ∙ h
+
+pub pairs_told : (f : ℕ → Item) (xs : List ℕ) (i : ℕ) (told whole : Answered) → length xs ≤ i → after_all told (map f (drop i xs)) ≡ whole → told ≡ whole
+pairs_told f xs i told whole le h = sym (ap (λ (ys : List ℕ). after_all told (map f ys)) (drop_all i xs le)) ∙ h
+
+-- ## The loop over members
+
+pub member_told : (w : Gateway) (xs : List ℕ) (i d : ℕ) (before told whole : Answered) → i < length xs → told ≡ after_all before (map (audit_pair w (get_or xs i d)) (drop (i + 1) xs)) → after_all before (audit_pairs w (drop i xs)) ≡ whole → after_all told (audit_pairs w (drop (i + 1) xs)) ≡ whole
+unfolding audit_pairs
+member_told w xs i d before told whole lt put h =
+    let rest = audit_pairs w (drop (i + 1) xs) in
+    let split = ap (λ (ys : List ℕ). after_all before (audit_pairs w ys)) (drop_more xs i d lt) in
+    ap (λ (r : Answered). after_all r rest) put ∙ sym (after_all-append before (map (audit_pair w (get_or xs i d)) (drop (i + 1) xs)) rest) ∙ sym split ∙ h
+
+pub members_told : (w : Gateway) (xs : List ℕ) (i : ℕ) (told whole : Answered) → length xs ≤ i → after_all told (audit_pairs w (drop i xs)) ≡ whole → told ≡ whole
+unfolding audit_pairs
+members_told w xs i told whole le h = sym (ap (λ (ys : List ℕ). after_all told (audit_pairs w ys)) (drop_all i xs le)) ∙ h

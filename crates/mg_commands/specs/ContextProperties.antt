@@ -1,0 +1,139 @@
+-- What an action asks of its context as a whole, besides its commands (RFC 3525, sections 7.1.18
+-- and 8.2.1): a topology, and an audit of it. The numbers of errors and the order of the checks
+-- are this project's own.
+use Rattle.std.specs.Prelude.{ℕ, nat_lt, Bool, true, false, not, List, [], ◌∷◌, ◌++◌, length}
+use Rattle.std.specs.Prelude.{map, Option, Some, None, Result, Ok, if◌then◌else◌}
+use Rattle.std.specs.List.{list_any}
+use Rattle.mg_scan.specs.Span.{text_of}
+use Rattle.mg_words.specs.ResultSteps.{◌>>=◌}
+use Rattle.mg_words.specs.Term.{rtp_name}
+use Rattle.mg_words.specs.declared.association.Association.TheVariants.{Isolate, Oneway, Bothway}
+use Rattle.mg_words.specs.declared.context_id.ContextId.{ContextId}
+use Rattle.mg_words.specs.declared.context_id.ContextId.TheVariants as contexts
+use Rattle.mg_words.specs.declared.error_number.ErrorNumber.{ErrorNumber}
+use Rattle.mg_words.specs.declared.error_number.ErrorNumber.TheVariants.{DescriptorTwice}
+use Rattle.mg_words.specs.declared.error_number.ErrorNumber.TheVariants.{DescriptorNotServed}
+use Rattle.mg_words.specs.declared.error_number.ErrorNumber.TheVariants.{NotServed}
+use Rattle.mg_reply.specs.declared.item.Item.{Item}
+use Rattle.mg_reply.specs.declared.item.Item.TheVariants as replies
+use Rattle.mg_rooms.specs.declared.target.Target.{Target}
+use Rattle.mg_rooms.specs.Registry.{members_at}
+use Rattle.mg_engine.specs.declared.topology_triple.TopologyTriple.{TopologyTriple}
+use Rattle.mg_engine.specs.declared.triple_term.TripleTerm.{TripleTerm}
+use Rattle.mg_engine.specs.declared.triple_term.TripleTerm.TheVariants as terms
+use Rattle.mg_engine.specs.Gateway.{Gateway}
+use Rattle.mg_engine.specs.Flow.{hears}
+use Rattle.mg_engine.specs.Outcome.{apply_triples}
+use Rattle.mg_engine.specs.Triples.{triple_limit}
+use Rattle.mg_text.specs.declared.context_property.ContextProperty.{ContextProperty}
+use Rattle.mg_text.specs.declared.context_property.ContextProperty.TheVariants as properties
+use Rattle.mg_text.specs.declared.context_property.ContextWord.{ContextWord}
+use Rattle.mg_text.specs.declared.context_property.ContextWord.TheVariants as words
+use Rattle.mg_text.specs.declared.context_property.Triple.{Triple}
+use Rattle.mg_text.specs.declared.request.Action.{Action}
+use Rattle.mg_commands.specs.declared.name.Name.{Name}
+use Rattle.mg_commands.specs.declared.name.Name.TheVariants as names
+use Rattle.mg_commands.specs.Name.{name_of}
+use Rattle.mg_commands.specs.Search.{first_of, first_after}
+
+-- ## Before the commands
+
+abbrev pub is_topology : ContextProperty → Bool
+is_topology (properties.Topology xs) = true
+is_topology _ = false
+
+abbrev pub is_context_audit : ContextProperty → Bool
+is_context_audit (properties.ContextAudit ws) = true
+is_context_audit _ = false
+
+-- the topology alone is told of a context
+abbrev pub is_topology_word : ContextWord → Bool
+is_topology_word words.Topology = true
+is_topology_word _ = false
+
+-- refuses where the test holds
+abbrev pub refused_if : Bool → ErrorNumber → Option ErrorNumber
+refused_if true e = Some e
+refused_if false e = None
+
+-- the fault of a property after those before it: a second of its word, or what isn't served
+abbrev pub context_property_fault : List ContextProperty → ContextProperty
+    → Option ErrorNumber
+context_property_fault before (properties.Topology xs) =
+    if list_any is_topology before then Some DescriptorTwice
+    else refused_if (nat_lt triple_limit (length xs)) NotServed
+context_property_fault before (properties.ContextAudit ws) =
+    if list_any is_context_audit before then Some DescriptorTwice
+    else refused_if (list_any (λ w. not (is_topology_word w)) ws) DescriptorNotServed
+context_property_fault before (properties.Priority word) = Some DescriptorNotServed
+context_property_fault before (properties.Emergency word) = Some DescriptorNotServed
+
+abbrev pub is_all : ContextId → Bool
+is_all contexts.All = true
+is_all _ = false
+
+-- why an action is refused as a whole, if it is: it is one of all contexts, or has a property at
+-- fault, of which the first in the text counts
+abbrev pub action_fault : Action → Option ErrorNumber
+action_fault a =
+    if is_all a.context then Some NotServed else first_after context_property_fault [] a.properties
+
+-- ## After the commands
+
+-- What a name in a triple stands for: $ for the termination that the action's first Add made.
+abbrev pub term_of : Option ℕ → Name → TripleTerm
+term_of made names.Root = terms.Barred
+term_of (Some n) names.Choose = terms.Number n
+term_of None names.Choose = terms.Barred
+term_of made names.All = terms.Every
+term_of made (names.Number n) = terms.Number n
+term_of made names.Other = terms.Stranger
+
+abbrev pub triple_of : List ℕ → Option ℕ → Triple → TopologyTriple
+triple_of source made x =
+    record {
+      first = term_of made (name_of (text_of source x.first));
+      second = term_of made (name_of (text_of source x.second));
+      association = x.association;
+    }
+
+abbrev pub triples_in : ContextProperty → Option (List Triple)
+triples_in (properties.Topology xs) = Some xs
+triples_in _ = None
+
+abbrev pub triples_or_none : Option (List Triple) → List Triple
+triples_or_none (Some xs) = xs
+triples_or_none None = []
+
+-- the triples of the topology, if there is one
+abbrev pub triples_of : List ℕ → Option ℕ → List ContextProperty → List TopologyTriple
+triples_of source made ps = map (triple_of source made) (triples_or_none (first_of triples_in ps))
+
+-- how two members hear each other: whether b hears a, and whether a hears b
+abbrev pub pair_item : Bool → Bool → ℕ → ℕ → Item
+pair_item true true a b = replies.Triple (rtp_name a) (rtp_name b) Bothway
+pair_item true false a b = replies.Triple (rtp_name a) (rtp_name b) Oneway
+pair_item false true a b = replies.Triple (rtp_name b) (rtp_name a) Oneway
+pair_item false false a b = replies.Triple (rtp_name a) (rtp_name b) Isolate
+
+abbrev pub audit_pair : Gateway → ℕ → ℕ → Item
+audit_pair w a b = pair_item (hears w b a) (hears w a b) a b
+
+-- each pair of members, in the order of their entry
+unfoldable pub audit_pairs : Gateway → List ℕ → List Item
+audit_pairs w [] = []
+audit_pairs w (a ∷ members) = map (audit_pair w a) members ++ audit_pairs w members
+
+-- what an audit tells of a context, if one is asked for
+abbrev pub audit_items : List ContextProperty → Gateway → ℕ → List Item
+audit_items ps w c =
+    if list_any is_context_audit ps then audit_pairs w (members_at w.rooms c) else []
+
+-- what comes of the properties of an action, if it has any: its triples are applied, and then its
+-- audit is answered
+abbrev pub context_outcome : List ℕ → Option ℕ → List ContextProperty → Gateway → Target
+    → Result (Gateway × List Item) ErrorNumber
+context_outcome source made [] w target = Ok (w, [])
+context_outcome source made (x ∷ ps) w target = do
+  p ← apply_triples w target (triples_of source made (x ∷ ps))
+  Ok (p.0, audit_items (x ∷ ps) p.0 p.1)

@@ -1,0 +1,114 @@
+//! What comes of the properties of an action, after its commands.
+
+ghost use Rattle.std.specs.Prelude.{◌≡◌, ◌≤◌, OnErr, length, map};
+ghost use Rattle.mg_reply.specs.Reply.{after_all};
+ghost use Rattle.mg_engine.specs.Gateway.{Gateway};
+ghost use Rattle.mg_engine.specs.Outcome.{apply_triples};
+ghost use Rattle.mg_engine.specs.Stands.{StandsFor, IsOutcome};
+ghost use Rattle.mg_engine.specs.Triples.{triple_limit};
+ghost use Rattle.mg_commands.specs.ContextProperties.{term_of, triple_of, triples_in, triples_or_none, triples_of, audit_items, context_outcome};
+ghost use Rattle.mg_commands.specs.Search.{first_of};
+ghost use Rattle.mg_commands.specs.aids.Runs.{Tells};
+
+use crate::action_fault::has_context_audit;
+use crate::context_audit::put_pairs;
+use crate::name::{Name, name_of};
+use crate::progress::Progress;
+use mg_engine::{Engine, TopologyTriple, TopologyTriples, TripleTerm};
+use mg_text::{ContextProperty, ErrorNumber, Item, Reply, Triple};
+
+/// What a name in a triple stands for.
+fn term_of(made: Option<u32>, name: Name) -> TripleTerm
+    ensures value { result ≡ term_of made name }
+{
+    match (name, made) {
+        (Name::Choose, Some(number)) | (Name::Number(number), _) => TripleTerm::Number(number),
+        (Name::Root, _) | (Name::Choose, None) => TripleTerm::Barred,
+        (Name::All, _) => TripleTerm::Every,
+        (Name::Other, _) => TripleTerm::Stranger,
+    }
+}
+
+fn triple_of(source: &[u8], made: Option<u32>, triple: &Triple) -> TopologyTriple
+    ensures value { result ≡ triple_of source.now made triple.now }
+{
+    TopologyTriple {
+        first: term_of(made, name_of(triple.first.text(source))),
+        second: term_of(made, name_of(triple.second.text(source))),
+        association: triple.association,
+    }
+}
+
+fn triples_of(source: &[u8], made: Option<u32>, triples: &[Triple]) -> TopologyTriples
+    requires few { length triples.now ≤ triple_limit }
+    ensures value { result.items ≡ map (triple_of source.now made) triples.now }
+{
+    let mut topology = TopologyTriples::new();
+    for triple in triples {
+        topology.push(triple_of(source, made, triple));
+    }
+    topology
+}
+
+/// The triples of the first Topology among properties, if there is one.
+fn topology_in(properties: &[ContextProperty]) -> &[Triple]
+    ensures value { result.now ≡ triples_or_none (first_of triples_in properties.now) }
+{
+    for property in properties {
+        if let ContextProperty::Topology(triples) = property {
+            return triples.as_slice();
+        }
+    }
+    &[]
+}
+
+/// Applies the triples of an action's topology to its context, of which the answer is the number.
+fn apply_topology(
+    engine: &mut Engine,
+    source: &[u8],
+    properties: &[ContextProperty],
+    progress: Progress,
+) -> Result<u32, ErrorNumber>
+    requires few { length (triples_or_none (first_of triples_in properties.now)) ≤ triple_limit }
+    ensures came { (w : Gateway) → StandsFor engine.old w → IsOutcome engine.new result (apply_triples w progress.target (triples_of source.now progress.made properties.now)) }
+    ensures refused { OnErr result (engine.new ≡ engine.old) }
+{
+    let triples = triples_of(source, progress.made, topology_in(properties));
+    engine.apply_triples(progress.target, &triples)
+}
+
+/// Answers the audit of a context, if one is asked for.
+fn answer_audit(engine: &Engine, properties: &[ContextProperty], context: u32, reply: &mut Reply)
+    ensures value { (w : Gateway) → StandsFor engine.now w → reply.new ≡ after_all reply.old (audit_items properties.now w context) }
+{
+    if has_context_audit(properties) {
+        put_pairs(engine, engine.rooms().members(context), reply);
+    }
+}
+
+/// Does what the properties of an action ask of its context. The answer is whether it was done.
+pub fn try_properties(
+    engine: &mut Engine,
+    source: &[u8],
+    properties: &[ContextProperty],
+    progress: Progress,
+    reply: &mut Reply,
+) -> bool
+    requires few { length (triples_or_none (first_of triples_in properties.now)) ≤ triple_limit }
+    ensures came { (w : Gateway) → StandsFor engine.old w → Tells engine.new reply.old reply.new result w
+        (context_outcome source.now progress.made properties.now w progress.target) }
+{
+    if properties.is_empty() {
+        return true;
+    }
+    match apply_topology(engine, source, properties, progress) {
+        Ok(context) => {
+            answer_audit(engine, properties, context, reply);
+            true
+        }
+        Err(number) => {
+            reply.put(Item::Fault(number));
+            false
+        }
+    }
+}

@@ -1,0 +1,153 @@
+-- Sums over the seats of a room, and over the terminations that are on them.
+use Rattle.std.proofs.Common.{◌≡◌, ℕ, zero, suc, ◌+◌, ◌<◌, ◌≤◌, ◌&&◌, eqb, Bool, true, false, cond, ℤ, pos, ◌+ℤ◌, List, [], ◌∷◌, inl, inr, length, get_or, Option, Some, refl, sym, ap, ◌∙◌, arith}
+use Rattle.std.specs.Prelude.{find}
+use Rattle.std.specs.List.{count_by, filter, range_with_len}
+use Rattle.std.proofs.lemmas.Int.{ints}
+use Rattle.std.proofs.lemmas.Bool.{cases_eq, eq-eqb}
+use Rattle.std.proofs.lemmas.Bool.Decides.{nat_tests}
+use Rattle.std.proofs.lemmas.List.Sums.{sum_by-cons}
+use Rattle.mg_topology.specs.Mask.{has_seat, seats_of}
+use Rattle.mg_engine.specs.Mix.{sum_of}
+use Rattle.mg_engine.proofs.SumLaws.{sum-cong}
+
+-- ## Sums of sums
+
+sum-same : {A : Type 0} (f g : A → ℤ) (xs : List A) → ((x : A) → f x ≡ g x) → sum_of f xs ≡ sum_of g xs
+unfolding sum_of
+sum-same f g [] h = refl
+sum-same f g (x ∷ xs) h = omega (arith, ints, h x, sum-same f g xs h)
+
+sum-none : {A : Type 0} (f : A → ℤ) (xs : List A) → ((x : A) → f x ≡ pos 0) → sum_of f xs ≡ pos 0
+unfolding sum_of
+sum-none f [] h = refl
+sum-none f (x ∷ xs) h = omega (arith, ints, h x, sum-none f xs h)
+
+sum-plus : {A : Type 0} (f g h : A → ℤ) (xs : List A) → ((x : A) → f x ≡ g x +ℤ h x) → sum_of f xs ≡ sum_of g xs +ℤ sum_of h xs
+unfolding sum_of
+sum-plus f g h [] e = refl
+sum-plus f g h (x ∷ xs) e = omega (arith, ints, e x, sum-plus f g h xs e)
+
+sum-cons : {A : Type 0} (f : A → ℤ) (x : A) (xs : List A) → sum_of f (x ∷ xs) ≡ f x +ℤ sum_of f xs
+unfolding sum_of
+sum-cons f x xs = refl
+
+sum-nil : {A : Type 0} (f : A → ℤ) → sum_of f [] ≡ pos 0
+unfolding sum_of
+sum-nil f = refl
+
+swapped : {A : Type 0} (f : A → ℕ → ℤ) (rs : List A) (ks : List ℕ) → sum_of (λ k. sum_of (λ t. f t k) rs) ks ≡ sum_of (λ t. sum_of (f t) ks) rs
+swapped f [] ks = sum-none (λ k. sum_of (λ t. f t k) []) ks (λ k. sum-nil (λ t. f t k)) ∙ sym (sum-nil (λ t. sum_of (f t) ks))
+swapped f (r ∷ rs) ks =
+    sum-plus (λ k. sum_of (λ t. f t k) (r ∷ rs)) (f r) (λ k. sum_of (λ t. f t k) rs) ks (λ k. sum-cons (λ t. f t k) r rs)
+    ∙ ap (λ (z : ℤ). sum_of (f r) ks +ℤ z) (swapped f rs ks)
+    ∙ sym (sum-cons (λ t. sum_of (f t) ks) r rs)
+
+one_filtered : {A : Type 0} (b : Bool) (f : A → ℤ) (x : A) (xs : List A) (n : ℤ) → sum_of f xs ≡ n → sum_of f (cond b (x ∷ xs) xs) ≡ cond b (f x) (pos 0) +ℤ n
+unfolding sum_of
+one_filtered true f x xs n h = ap (λ m. f x +ℤ m) h
+one_filtered false f x xs n h = omega (arith, ints, h)
+
+-- the sum over those that pass a test counts the others as 0
+sum-filter : {A : Type 0} (p : A → Bool) (f : A → ℤ) (xs : List A) → sum_of f (filter p xs) ≡ sum_of (λ x. cond (p x) (f x) (pos 0)) xs
+unfolding sum_of
+sum-filter p f [] = refl
+sum-filter p f (x ∷ xs) = one_filtered (p x) f x (filter p xs) (sum_of (λ y. cond (p y) (f y) (pos 0)) xs) (sum-filter p f xs)
+
+-- what seats of a mask add up to, over all seats
+pub sum-seats_of : (mask : ℕ) (f : ℕ → ℤ) → sum_of f (seats_of mask) ≡ sum_of (λ seat. cond (has_seat mask seat) (f seat) (pos 0)) (range_with_len 0 32)
+unfolding seats_of
+sum-seats_of mask f = sum-filter (has_seat mask) f (range_with_len 0 32)
+
+-- ## One seat among those of a range
+
+abbrev alone : (ℕ → ℤ) → ℕ → ℕ → ℤ
+alone h s k = cond (eqb s k) (h k) (pos 0)
+
+alone_at : (h : ℕ → ℤ) (s k : ℕ) (b : Bool) → eqb s k ≡ b → alone h s k ≡ cond b (h k) (pos 0)
+alone_at h s k b e = ap (λ (x : Bool). cond x (h k) (pos 0)) e
+
+none_above : (h : ℕ → ℤ) (s a n : ℕ) → s < a → sum_of (alone h s) (range_with_len a n) ≡ pos 0
+none_above h s a zero l = sum-nil (alone h s)
+none_above h s a (suc n) l =
+    let no : eqb s a ≡ false = grind (arith, nat_tests) in
+    let here = alone_at h s a false no in
+    let rest = none_above h s (a + 1) n (omega (arith, l)) in
+    sum-cons (alone h s) a (range_with_len (a + 1) n) ∙ omega (arith, ints, here, rest)
+
+one_among : (h : ℕ → ℤ) (s a n : ℕ) → a ≤ s → s < a + n → sum_of (alone h s) (range_with_len a n) ≡ h s
+one_among h s a zero l r = absurd (omega (arith, l, r))
+one_among h s a (suc n) l r = elim (cases_eq s a) [
+  | inl e ↦
+      (let here = alone_at h s a true (eq-eqb s a e) ∙ ap h (sym e) in
+      let rest = none_above h s (a + 1) n (omega (arith, e)) in
+      sum-cons (alone h s) a (range_with_len (a + 1) n) ∙ omega (arith, ints, here, rest))
+  | inr ne ↦
+      (let no : eqb s a ≡ false = grind (arith, nat_tests) in
+      let here = alone_at h s a false no in
+      let rest = one_among h s (a + 1) n (omega (arith, l, ne)) (omega (arith, r)) in
+      sum-cons (alone h s) a (range_with_len (a + 1) n) ∙ omega (arith, ints, here, rest))
+]
+
+part_among : (b : Bool) (h : ℕ → ℤ) (s n : ℕ) → s < n → sum_of (λ k. cond (b && eqb s k) (h k) (pos 0)) (range_with_len 0 n) ≡ cond b (h s) (pos 0)
+part_among true h s n lt = one_among h s 0 n (omega arith) (omega (arith, lt))
+part_among false h s n lt = sum-none (λ (k : ℕ). pos 0) (range_with_len 0 n) (λ k. refl)
+
+-- ## One that passes a test
+
+none_at : (b : Bool) (z rest : ℤ) (n : ℕ) → cond b 1 0 + n ≡ 0 → (n ≡ 0 → rest ≡ pos 0) → cond b z (pos 0) +ℤ rest ≡ pos 0
+none_at true z rest n e h = absurd (omega (arith, e))
+none_at false z rest n e h = omega (arith, ints, h (omega (arith, e)))
+
+one_at : (b : Bool) (z rest : ℤ) (n : ℕ) → cond b 1 0 + n ≡ 1 → (n ≡ 0 → rest ≡ pos 0) → (n ≡ 1 → rest ≡ z) → cond b z (pos 0) +ℤ rest ≡ z
+one_at true z rest n e none one = omega (arith, ints, none (omega (arith, e)))
+one_at false z rest n e none one = omega (arith, ints, one (omega (arith, e)))
+
+module _ {A : Type 0} (p : A → Bool) (z : ℤ) where
+  abbrev at : A → ℤ
+  at t = cond (p t) z (pos 0)
+
+  none_pass : (rs : List A) → count_by p rs ≡ 0 → sum_of at rs ≡ pos 0
+  none_pass [] e = sum-nil at
+  none_pass (r ∷ rs) e = sum-cons at r rs ∙ none_at (p r) z (sum_of at rs) (count_by p rs) (sym (sum_by-cons (λ x. cond (p x) 1 0) r rs) ∙ e) (none_pass rs)
+
+  one_passes : (rs : List A) → count_by p rs ≡ 1 → sum_of at rs ≡ z
+  one_passes [] e = absurd (omega (arith, e))
+  one_passes (r ∷ rs) e = sum-cons at r rs ∙ one_at (p r) z (sum_of at rs) (count_by p rs) (sym (sum_by-cons (λ x. cond (p x) 1 0) r rs) ∙ e) (none_pass rs) (one_passes rs)
+
+  by_count : (rs : List A) (n : ℕ) → count_by p rs ≡ n → n ≤ 1 → (n ≡ 0 → z ≡ pos 0) → z ≡ sum_of at rs
+  by_count rs zero e few none = none refl ∙ sym (none_pass rs e)
+  by_count rs (suc n) e few none = sym (one_passes rs (e ∙ omega (arith, few)))
+
+counts_first : {A : Type 0} (p : A → Bool) (y : A) (xs : List A) → p y ≡ true → 1 ≤ count_by p (y ∷ xs)
+counts_first p y xs e = omega (arith, sum_by-cons (λ x. cond (p x) 1 0) y xs, ap {B = ℕ} (λ (b : Bool). cond b 1 0) e)
+
+counts_later : {A : Type 0} (p : A → Bool) (y : A) (xs : List A) → 1 ≤ count_by p xs → 1 ≤ count_by p (y ∷ xs)
+counts_later p y xs h = omega (arith, sum_by-cons (λ x. cond (p x) 1 0) y xs, h)
+
+found_at : {A : Type 0} (p : A → Bool) (b : Bool) (x y : A) (xs : List A) (later : Option A) → cond b (Some y) later ≡ Some x → p x ≡ true → (later ≡ Some x → 1 ≤ count_by p xs) → 1 ≤ count_by p (y ∷ xs)
+found_at p true x y xs later e h rest =
+    let same : y ≡ x = cc e in
+    counts_first p y xs (ap p same ∙ h)
+found_at p false x y xs later e h rest = counts_later p y xs (rest e)
+
+-- what is found is counted by a test that it passes
+pub found_counts : {A : Type 0} (q p : A → Bool) (x : A) (xs : List A) → find q xs ≡ Some x → p x ≡ true → 1 ≤ count_by p xs
+found_counts q p x [] e h = absurd (cc e)
+found_counts q p x (y ∷ ys) e h = found_at p (q y) x y ys (find q ys) e h (λ later. found_counts q p x ys later h)
+
+-- ## Seats and those who are on them
+
+-- Each of those that are in has a seat below n, no two have the same, and a seat that nobody is on
+-- adds nothing.
+pub seat_sums : {A : Type 0} (rs : List A) (is_in : A → Bool) (seat : A → ℕ) (n : ℕ) (h : ℕ → ℤ) (g : A → ℤ) (d : A)
+    → ((i : ℕ) → i < length rs → seat (get_or rs i d) < n)
+    → ((i : ℕ) → i < length rs → g (get_or rs i d) ≡ cond (is_in (get_or rs i d)) (h (seat (get_or rs i d))) (pos 0))
+    → ((s : ℕ) → count_by (λ t. is_in t && eqb (seat t) s) rs ≤ 1)
+    → ((s : ℕ) → count_by (λ t. is_in t && eqb (seat t) s) rs ≡ 0 → h s ≡ pos 0)
+    → sum_of h (range_with_len 0 n) ≡ sum_of g rs
+seat_sums {A} rs is_in seat n h g d below parts once none =
+    let part = λ (t : A). λ (k : ℕ). cond (is_in t && eqb (seat t) k) (h k) (pos 0) in
+    sum-same h (λ k. sum_of (λ t. part t k) rs) (range_with_len 0 n) (λ k. by_count (λ t. is_in t && eqb (seat t) k) (h k) rs (count_by (λ t. is_in t && eqb (seat t) k) rs) refl (once k) (none k))
+    ∙ swapped part rs (range_with_len 0 n)
+    ∙ sum-cong (λ t. sum_of (part t) (range_with_len 0 n)) g rs d
+    (λ i lt. let t = get_or rs i d in part_among (is_in t) h (seat t) n (below i lt) ∙ sym (parts i lt))

@@ -1,0 +1,55 @@
+use Rattle.std.proofs.Common.{rules, ◌≡◌, List, false, Ok, refl, sym, ap, subst, ◌∙◌}
+use Rattle.std.specs.Prelude.{Any}
+use Rattle.std.specs.List.{list_any}
+use Rattle.mg_topology.specs.declared.triple.Triple.{Triple}
+use Rattle.mg_topology.specs.Triple.{Overlaps, overlaps}
+use Rattle.mg_flow.specs.Table.{hears, hears_after}
+use Rattle.mg_rooms.specs.Registry.{members_at}
+use Rattle.mg_engine.specs.Triples.{check_triples, with_triples}
+use Rattle.mg_engine.specs.aids.Triples.{AreMatched}
+use Rattle.mg_engine.specs.Stands.{EngineState, StandsFor}
+use Rattle.mg_engine.proofs.TripleLaws.{refused_there, refused_triples, done_triples, err_is, ok_is, has_still, hears_triples, words_stand, absurd_overlap}
+use Rattle.mg_engine.proofs.engine.Engine.apply_triples.Goals.{in-Ok, in-Err}
+use Rattle.mg_engine.proofs.engine.Engine.apply_triples.Goals as goal
+
+pub returns-in_err-at-clause-outcome : goal.returns-in_err-at-clause-outcome
+returns-in_err-at-clause-outcome c w h =
+    let k : EngineState = record { config = c.self.inside.config; rooms = c.self.inside.rooms; media = c.self.inside.media.items; flows = c.self.inside.flows } in
+    let stands = subst (λ (x : EngineState). StandsFor x w) (sym c.self.view_is) h in
+    err_is c.args.self.now c.from_residual.result _ c.in_err-at.field-0.0 (search rules) (refused_there k w c.args.target c.args.triples.now.items c.in_err-at.field-0.0 stands c.in_err-at.ensures.value)
+
+pub returns-in_err-by_seats-clause-outcome : goal.returns-in_err-by_seats-clause-outcome
+returns-in_err-by_seats-clause-outcome c w h =
+    let k : EngineState = record { config = c.self.inside.config; rooms = c.self.inside.rooms; media = c.self.inside.media.items; flows = c.self.inside.flows } in
+    let stands = subst (λ (x : EngineState). StandsFor x w) (sym c.self.view_is) h in
+    err_is c.args.self.now c.from_residual-in_err-by_seats.result _ c.in_err-by_seats.field-0.0 (search rules) (refused_triples k w c.args.target c.args.triples.now.items c.in_ok-at.at.context c.in_err-by_seats.field-0.0 stands c.in_ok-at.ensures.value.0 (rw (sym c.as_slice.ensures.value) c.in_err-by_seats.ensures.value))
+
+pub invariant_of-self : goal.invariant_of-self
+invariant_of-self c = record {
+  limits = c.self.invariant.limits;
+  ports = c.self.invariant.ports;
+  media = c.self.invariant.media;
+  held = c.self.invariant.held;
+  members = has_still c.self.inside.rooms c.self.inside.flows c.on_triples.new.self c.on_triples.ensures.places c.self.invariant.members;
+  seats = c.self.invariant.seats;
+  places = c.self.invariant.places;
+}
+
+pub returns-clause-outcome : goal.returns-clause-outcome
+returns-clause-outcome c w h =
+    let k : EngineState = record { config = c.self.inside.config; rooms = c.self.inside.rooms; media = c.self.inside.media.items; flows = c.self.inside.flows } in
+    let stands = subst (λ (x : EngineState). StandsFor x w) (sym c.self.view_is) h in
+    let at = c.in_ok-at.at in
+    let xs = c.args.triples.now.items in
+    let ys = c.in_ok-by_seats.by_seats.items in
+    let members = members_at k.rooms at.context in
+    let parts : (check_triples members xs ≡ Ok tt) × AreMatched k.rooms at.context members xs ys × (list_any overlaps ys ≡ false) = rw (sym c.as_slice.ensures.value) c.in_ok-by_seats.ensures.value in
+    let (checked, matched, none) = parts in
+    let es = with_triples (members_at k.rooms at.context) xs w.edits in
+    elim c.match-on_triples.branch [
+      | in-Ok b ↦
+          (let heard = hears_triples k.rooms at.context at.room k.flows c.on_triples.new.self xs ys w.edits (λ x y u v. c.nothing_is_held_twice.ensures.room k.rooms x y u v c.gateways_are_sound.ensures.sound) (λ x y u v. c.nothing_is_held_twice.ensures.seat k.rooms x y u v c.gateways_are_sound.ensures.sound) c.in_ok-at.ensures.value.1 matched c.self.invariant.members c.on_triples.ensures.others
+          (λ l t same together. b.in-Ok.ensures.hears l t same together ∙ ap (λ (zs : List Triple). hears_after zs l.seat t.seat (hears k.flows l t)) c.as_slice-2.ensures.value) stands.hears in
+          ok_is _ c.match-on_triples.result _ at.context (record w { edits = es }) b.result-is (done_triples k w c.args.target xs at.context stands c.in_ok-at.ensures.value.0 checked) (words_stand k c.on_triples.new.self w es stands heard))
+      | in-Err b ↦ absurd (absurd_overlap ys none (c.overlap_is_a_common_seat.ensures.any ys) (subst (λ (zs : List Triple). Any Overlaps zs) c.as_slice-2.ensures.value (b.in-Err.ensures.overlap.0 refl)))
+    ]

@@ -1,0 +1,41 @@
+use Rattle.std.proofs.Common.{sym, ◌∙◌, refl}
+use Rattle.mg_topology.specs.declared.triple.Triple.{Triple}
+use Rattle.mg_rooms.specs.Registry.{members_at}
+use Rattle.mg_engine.specs.aids.Triples.{IsMatched}
+use Rattle.mg_engine.proofs.TripleLaws.{overlaps_are, not_barred}
+use Rattle.mg_engine.proofs.triples.triple_of.Goals as goal
+
+pub returns-then-overlaps : goal.returns-then-overlaps
+returns-then-overlaps c =
+    let w = c.args.rooms.now in
+    let x = c.args.triple.now in
+    let members = members_at w c.args.at.context in
+    let y : Triple = record { first = c.in-Some.first; second = c.in-Some-seats_of.second; association = x.association } in
+    let same = overlaps_are w c.args.at.context members x y (c.overlap_is_a_common_seat.ensures.one y) (record {
+      association = refl;
+      first = c.in-Some.ensures.some.1;
+      second = c.in-Some-seats_of.ensures.some.1;
+    }) in
+    record {
+      value = not_barred members x (sym c.is_barred.ensures.value ∙ c.if-is_barred.false) (sym c.is_barred-else-is_barred.ensures.value ∙ c.if-is_barred-2.false) c.in-Some.ensures.some.0 c.in-Some-seats_of.ensures.some.0 _ (same ∙ sym c.overlaps.ensures ∙ c.if-overlaps.true);
+    }
+
+pub returns : goal.returns
+returns c =
+    let w = c.args.rooms.now in
+    let x = c.args.triple.now in
+    let members = members_at w c.args.at.context in
+    let y : Triple = record { first = c.in-Some.first; second = c.in-Some-seats_of.second; association = x.association } in
+    let is : IsMatched w c.args.at.context members x y = record {
+      association = refl;
+      first = c.in-Some.ensures.some.1;
+      second = c.in-Some-seats_of.ensures.some.1;
+    } in
+    let same = overlaps_are w c.args.at.context members x y (c.overlap_is_a_common_seat.ensures.one y) is in
+    record {
+      value = (
+        not_barred members x (sym c.is_barred.ensures.value ∙ c.if-is_barred.false) (sym c.is_barred-else-is_barred.ensures.value ∙ c.if-is_barred-2.false) c.in-Some.ensures.some.0 c.in-Some-seats_of.ensures.some.0 _ (same ∙ sym c.overlaps.ensures ∙ c.if-overlaps.false),
+        is,
+        sym c.overlaps.ensures ∙ c.if-overlaps.false,
+      );
+    }

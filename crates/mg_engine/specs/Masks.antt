@@ -1,0 +1,24 @@
+-- What the table of who hears whom says of a world: for each member, whose speech goes to it, and
+-- who is silenced for it (this project's own).
+use Rattle.std.specs.Prelude.{◌≡◌, ℕ, IsTrue, List}
+use Rattle.mg_rooms.specs.declared.record.Record.{Record}
+use Rattle.mg_flow.specs.declared.place.Place.{Place}
+use Rattle.mg_flow.specs.Table as table
+use Rattle.mg_engine.specs.Gateway.{Gateway}
+use Rattle.mg_engine.specs.Flow.{flow, is_silenced}
+use Rattle.mg_engine.specs.Place.{IsOnPlace}
+use Rattle.mg_engine.specs.Stands.{ShareContext}
+
+-- Each member's place is held, and no other. Of each two members of a context, the one's speech
+-- goes to the other, and the one is silenced for the other, exactly where the world says so.
+pub record TellsFlows (w : Gateway) (rooms : List table.Room) : Type 0 where
+  pub held : (n : ℕ) (r : Record) (p : Place) → IsOnPlace w.rooms n r p
+      → IsTrue (table.holds rooms p)
+  pub nobody : (p : Place) → IsTrue (table.holds rooms p)
+      → (n : ℕ) × (r : Record) × IsOnPlace w.rooms n r p
+  pub flows : (talker listener : ℕ) (t l : Record) (p q : Place)
+      → ShareContext w.rooms talker listener t l p q
+      → table.flows rooms q p ≡ flow w talker listener
+  pub silenced : (talker listener : ℕ) (t l : Record) (p q : Place)
+      → ShareContext w.rooms talker listener t l p q
+      → table.is_silenced rooms q p ≡ is_silenced w talker listener

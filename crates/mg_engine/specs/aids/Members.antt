@@ -1,0 +1,39 @@
+-- What the table of who hears whom has of members, and what one of them changes.
+use Rattle.std.specs.Prelude.{◌≡◌, ℕ, ◌||◌, true, false, IsTrue, List, if◌then◌else◌}
+use Rattle.mg_words.specs.declared.mode.Mode.{Mode}
+use Rattle.mg_words.specs.Mode as mode
+use Rattle.mg_rooms.specs.declared.record.Record.{Record}
+use Rattle.mg_rooms.specs.Registry.{Registry}
+use Rattle.mg_flow.specs.declared.place.Place.{Place}
+use Rattle.mg_flow.specs.Place.{is_same, are_together}
+use Rattle.mg_flow.specs.Table.{Room, holds, talks, listens, hears, SetsPlace}
+use Rattle.mg_engine.specs.Place.{IsOnPlace}
+
+-- one enters on a place with a mode, and it and each other member of the room hear each other
+pub record Enters (old new : List Room) (at : Place) (m : Mode) : Type 0 where
+  pub place : SetsPlace old new at true (mode.talks m) (mode.listens m)
+  pub hears : (l t : Place) → hears new l t
+      ≡ (if is_same l at || is_same t at then are_together (holds new) l t else hears old l t)
+
+-- the one on a place leaves
+pub record Leaves (old new : List Room) (at : Place) : Type 0 where
+  pub place : SetsPlace old new at false false false
+  pub hears : (l t : Place) → hears new l t
+      ≡ (if is_same l at || is_same t at then false else hears old l t)
+
+-- the one on a place has a mode from now on
+pub record TakesMode (old new : List Room) (at : Place) (m : Mode) : Type 0 where
+  pub place : SetsPlace old new at true (mode.talks m) (mode.listens m)
+  pub hears : (l t : Place) → hears new l t ≡ hears old l t
+
+-- what a table says of the place of one with this record
+pub record SaysOf (table : List Room) (r : Record) (p : Place) : Type 0 where
+  pub held : IsTrue (holds table p)
+  pub talks : talks table p ≡ mode.talks r.mode
+  pub listens : listens table p ≡ mode.listens r.mode
+
+-- each termination's place is held by it, with its mode, and no other place is held
+pub record HasMembers (w : Registry) (table : List Room) : Type 0 where
+  pub each : (n : ℕ) (r : Record) (p : Place) → IsOnPlace w n r p → SaysOf table r p
+  pub nobody : (p : Place) → IsTrue (holds table p)
+      → (n : ℕ) × (r : Record) × IsOnPlace w n r p

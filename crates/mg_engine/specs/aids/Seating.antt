@@ -1,0 +1,19 @@
+-- The slots of the members by their places.
+use Rattle.std.specs.Prelude.{◌≡◌, ℕ, ◌+◌, ◌*◌, List, slice_index_or}
+use Rattle.mg_rooms.specs.declared.record.Record.{Record}
+use Rattle.mg_rooms.specs.Registry.{Registry}
+use Rattle.mg_flow.specs.declared.place.Place.{Place}
+use Rattle.mg_engine.specs.Place.{IsOnPlace}
+
+-- where a place stands among those of all rooms
+abbrev pub index_of : Place → ℕ
+index_of place = place.room * 32 + place.seat
+
+-- the slot on a place
+abbrev pub slot_at : List ℕ → Place → ℕ
+slot_at seating place = slice_index_or seating (index_of place) 0
+
+-- each member's place has its slot
+abbrev pub AreSeated : Registry → List ℕ → Type 0
+AreSeated w seating =
+    (n : ℕ) (r : Record) (p : Place) → IsOnPlace w n r p → slot_at seating p ≡ r.slot

@@ -1,0 +1,142 @@
+//! Triples of a topology by the seats of the members that their terms match.
+
+ghost use Rattle.std.specs.Prelude.{◌≡◌, ◌≤◌, [], ◌∷◌, length, Ok, Err, true, false, IfSome, IfNone, MatchResult, IsTrue, IsFalse};
+ghost use Rattle.std.specs.List.{list_any};
+ghost use Rattle.mg_topology.specs.Triple.{overlaps};
+ghost use Rattle.mg_rooms.specs.Registry.{members_at};
+ghost use Rattle.mg_engine.specs.declared.topology_triple.TheConstants.{TRIPLES};
+ghost use Rattle.mg_engine.specs.Flow.{has};
+ghost use Rattle.mg_engine.specs.Triples.{is_barred, names_others, matched, check_triple, check_triples};
+ghost use Rattle.mg_engine.specs.aids.Members.{HasMembers};
+ghost use Rattle.mg_engine.specs.aids.Triples.{IsRoomOf, Matches, IsMatched, AreMatched};
+
+use crate::topology_triple::{TRIPLES, TopologyTriple};
+use crate::triple_term::TripleTerm;
+use arrayvec::ArrayVec;
+use mg_flow::FlowTable;
+use mg_rooms::laws::{
+    gateways_are_sound, members_are_those_in_the_context, nothing_is_held_twice,
+    what_is_found_is_within_limits,
+};
+use mg_rooms::{ErrorNumber, Rooms};
+use mg_topology::Triple;
+use mg_topology::laws::{masks_are_sets, overlap_is_a_common_seat};
+use mg_topology::mask::{self, Mask};
+
+/// A context that is there, and the room of its topology.
+#[derive(Clone, Copy)]
+pub struct TopologyRoom {
+    pub context: u32,
+    pub room: u8,
+}
+
+/// Whether a term may not stand in a triple.
+fn is_barred(term: TripleTerm) -> bool
+    ensures value { result ≡ is_barred term }
+{
+    matches!(term, TripleTerm::Barred)
+}
+
+/// The seat of a member by its number.
+fn seat_of(rooms: &Rooms, context: u32, number: u32) -> Option<Mask>
+    ensures some { IfSome result (λ seats. IsTrue (has (members_at rooms.now context) number)
+        × Matches rooms.now context (number ∷ []) seats) }
+    ensures none { IfNone result (IsFalse (has (members_at rooms.now context) number)) }
+{
+    gateways_are_sound(rooms);
+    what_is_found_is_within_limits();
+    nothing_is_held_twice();
+    members_are_those_in_the_context();
+    match rooms.record(number) {
+        Some(record) => {
+            if record.context == context {
+                Some(mask::of_seat(usize::from(record.seat)))
+            } else {
+                None
+            }
+        }
+        None => None,
+    }
+}
+
+/// The seats of the members that a term matches. There are none where it names something else.
+fn seats_of(rooms: &Rooms, flows: &FlowTable, at: TopologyRoom, term: TripleTerm) -> Option<Mask>
+    requires room { IsRoomOf rooms.now at.context at.room }
+    requires members { HasMembers rooms.now flows.now }
+    ensures some { IfSome result (λ seats. (names_others (members_at rooms.now at.context) term ≡ false)
+        × Matches rooms.now at.context (matched (members_at rooms.now at.context) term) seats) }
+    ensures none { IfNone result (names_others (members_at rooms.now at.context) term ≡ true) }
+{
+    gateways_are_sound(rooms);
+    nothing_is_held_twice();
+    members_are_those_in_the_context();
+    masks_are_sets();
+    match term {
+        TripleTerm::Every => Some(flows.held(at.room)),
+        TripleTerm::Number(number) => seat_of(rooms, at.context, number),
+        TripleTerm::Barred => Some(mask::EMPTY),
+        TripleTerm::Stranger => None,
+    }
+}
+
+/// A triple by seats, or its first fault.
+fn triple_of(
+    rooms: &Rooms,
+    flows: &FlowTable,
+    at: TopologyRoom,
+    triple: &TopologyTriple,
+) -> Result<Triple, ErrorNumber>
+    requires room { IsRoomOf rooms.now at.context at.room }
+    requires members { HasMembers rooms.now flows.now }
+    ensures value { MatchResult result
+        (λ by_seats. (check_triple (members_at rooms.now at.context) triple.now ≡ Ok tt)
+        × IsMatched rooms.now at.context (members_at rooms.now at.context) triple.now by_seats
+        × (overlaps by_seats ≡ false))
+        (λ e. check_triple (members_at rooms.now at.context) triple.now ≡ Err e) }
+{
+    gateways_are_sound(rooms);
+    nothing_is_held_twice();
+    overlap_is_a_common_seat();
+    if is_barred(triple.first) || is_barred(triple.second) {
+        return Err(ErrorNumber::IdentifierNotAllowed);
+    }
+    let Some(first) = seats_of(rooms, flows, at, triple.first) else {
+        return Err(ErrorNumber::NotInContext);
+    };
+    let Some(second) = seats_of(rooms, flows, at, triple.second) else {
+        return Err(ErrorNumber::NotInContext);
+    };
+    let association = triple.association;
+    let by_seats = Triple {
+        first,
+        second,
+        association,
+    };
+    if by_seats.overlaps() {
+        return Err(ErrorNumber::IllegalCombination);
+    }
+    Ok(by_seats)
+}
+
+/// The triples of an edit by seats, in order, or the first fault.
+pub fn triples_of(
+    rooms: &Rooms,
+    flows: &FlowTable,
+    at: TopologyRoom,
+    triples: &[TopologyTriple],
+) -> Result<ArrayVec<Triple, TRIPLES>, ErrorNumber>
+    requires few { length triples.now ≤ TRIPLES }
+    requires room { IsRoomOf rooms.now at.context at.room }
+    requires members { HasMembers rooms.now flows.now }
+    ensures value { MatchResult result
+        (λ by_seats. (check_triples (members_at rooms.now at.context) triples.now ≡ Ok tt)
+        × AreMatched rooms.now at.context (members_at rooms.now at.context) triples.now by_seats.items
+        × (list_any overlaps by_seats.items ≡ false))
+        (λ e. check_triples (members_at rooms.now at.context) triples.now ≡ Err e) }
+{
+    let mut by_seats = ArrayVec::new();
+    for triple in triples {
+        by_seats.push(triple_of(rooms, flows, at, triple)?);
+    }
+    Ok(by_seats)
+}

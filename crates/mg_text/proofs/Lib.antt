@@ -16,3 +16,4 @@ pub mod ReadLaws
 pub mod OneReading
 pub mod ProperLaws
 pub mod KeywordLaws
+pub mod SenderLaws

@@ -42,6 +42,10 @@ command_limit = 64
 abbrev pub name_limit : ℕ
 name_limit = 64
 
+-- bytes of a sender's name: a domain name in angle brackets, a colon and a port of five digits
+abbrev pub sender_limit : ℕ
+sender_limit = 72
+
 -- alternatives of a session description
 abbrev pub alternative_limit : ℕ
 alternative_limit = 8
@@ -49,6 +53,10 @@ alternative_limit = 8
 -- bytes of a reply
 abbrev pub reply_limit : ℕ
 reply_limit = 16000
+
+-- replies that are kept for requests that come again
+abbrev pub kept_limit : ℕ
+kept_limit = 32
 
 -- the greatest number of a termination
 abbrev pub last_termination : ℕ

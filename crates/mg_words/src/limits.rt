@@ -1,5 +1,5 @@
 ghost use Rattle.std.specs.Prelude.{◌≡◌};
-ghost use Rattle.mg_words.specs.Limits.{member_limit, context_limit, termination_limit, least_depth, greatest_depth, first_depth, frame_samples, message_limit, request_limit, command_limit, name_limit, alternative_limit, reply_limit, last_termination, last_context};
+ghost use Rattle.mg_words.specs.Limits.{member_limit, context_limit, termination_limit, least_depth, greatest_depth, first_depth, frame_samples, message_limit, request_limit, command_limit, name_limit, sender_limit, alternative_limit, reply_limit, kept_limit, last_termination, last_context};
 
 /// The most members of a context.
 pub const MEMBERS: usize = 32;
@@ -34,11 +34,18 @@ pub const COMMAND_LIMIT: usize = 64;
 /// The bytes of the longest name of a termination.
 pub const TERM_LIMIT: usize = 64;
 
+/// The bytes of the longest name of a sender: a domain name of 64 bytes in angle brackets, a colon and a port of five
+/// digits.
+pub const SENDER_LIMIT: usize = 72;
+
 /// The most alternatives of a session description.
 pub const ALTERNATIVE_LIMIT: usize = 8;
 
 /// The bytes of the longest reply.
 pub const REPLY_LIMIT: usize = 16000;
+
+/// The most replies that are kept for requests that come again.
+pub const KEPT_REPLIES: usize = 32;
 
 /// The greatest number of a termination.
 pub const LAST_TERMINATION: u32 = 4294967295;
@@ -57,7 +64,9 @@ pub fn constants_are_limits()
     ensures requests { REQUEST_LIMIT ≡ request_limit }
     ensures commands { COMMAND_LIMIT ≡ command_limit }
     ensures names { TERM_LIMIT ≡ name_limit }
+    ensures senders { SENDER_LIMIT ≡ sender_limit }
     ensures alternatives { ALTERNATIVE_LIMIT ≡ alternative_limit }
     ensures reply { REPLY_LIMIT ≡ reply_limit }
+    ensures kept { KEPT_REPLIES ≡ kept_limit }
     ensures numbers { (LAST_TERMINATION ≡ last_termination) × (LAST_CONTEXT ≡ last_context) }
 {}

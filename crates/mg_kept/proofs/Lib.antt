@@ -1,0 +1,4 @@
+pub mod FindLaws
+pub mod KeepLaws
+pub mod AckLaws
+pub mod PlaceLaws

@@ -1,0 +1,3 @@
+pub mod KeptReplies
+pub mod Theorems
+pub mod aids

@@ -1,0 +1,60 @@
+-- What holds of the replies that are kept.
+use Rattle.std.specs.Prelude.{◌≡◌, ℕ, ◌<◌, ◌≤◌, ◌⊎◌, true, false, List, ◌∷◌, length, Some, None}
+use Rattle.std.specs.Str.{str_eq_ignore_ascii_case}
+use Rattle.mg_words.specs.Limits.{kept_limit}
+use Rattle.mg_kept.specs.KeptReplies.{KeptReply, AreKept, is_from, is_reply_to, kept_text}
+use Rattle.mg_kept.specs.KeptReplies.{with_reply, without_range}
+
+-- A reply that was kept is found by its sender, in letters of any case.
+abbrev pub KeptIsFound : Type 0
+KeptIsFound =
+    (replies : List KeptReply) (reply : KeptReply) (sender : List ℕ)
+    → kept_text replies reply.sender reply.number ≡ None → is_from sender reply ≡ true
+    → kept_text (with_reply reply replies) sender reply.number ≡ Some reply.text
+
+-- Where there is room for one more reply, what is found for other requests stays.
+abbrev pub OthersStay : Type 0
+OthersStay =
+    (replies : List KeptReply) (reply : KeptReply) (sender : List ℕ) (number : ℕ)
+    → length replies < kept_limit → is_reply_to sender number reply ≡ false
+    → kept_text (with_reply reply replies) sender number ≡ kept_text replies sender number
+
+-- Where there is none, it stays for all requests but the one that the oldest answers.
+abbrev pub OldestAloneGoes : Type 0
+OldestAloneGoes =
+    (oldest : KeptReply) (rest : List KeptReply) (reply : KeptReply) (sender : List ℕ) (number : ℕ)
+    → length (oldest ∷ rest) ≡ kept_limit → is_reply_to sender number oldest ≡ false
+    → is_reply_to sender number reply ≡ false
+    → kept_text (with_reply reply (oldest ∷ rest)) sender number
+    ≡ kept_text (oldest ∷ rest) sender number
+
+-- A reply that was pushed out isn't found.
+abbrev pub OldestIsGone : Type 0
+OldestIsGone =
+    (oldest : KeptReply) (rest : List KeptReply) (reply : KeptReply) (sender : List ℕ)
+    → AreKept (oldest ∷ rest) → length (oldest ∷ rest) ≡ kept_limit
+    → is_from sender oldest ≡ true → is_reply_to sender oldest.number reply ≡ false
+    → kept_text (with_reply reply (oldest ∷ rest)) sender oldest.number ≡ None
+
+-- A reply that was acknowledged isn't found.
+abbrev pub AcknowledgedIsGone : Type 0
+AcknowledgedIsGone =
+    (replies : List KeptReply) (sender same : List ℕ) (first last number : ℕ)
+    → str_eq_ignore_ascii_case same sender ≡ true → first ≤ number → number ≤ last
+    → kept_text (without_range sender first last replies) same number ≡ None
+
+-- What an acknowledgement doesn't name is still found: requests of another sender, and those with
+-- a number outside its range.
+abbrev pub OtherSendersStay : Type 0
+OtherSendersStay =
+    (replies : List KeptReply) (sender other : List ℕ) (first last number : ℕ)
+    → str_eq_ignore_ascii_case other sender ≡ false
+    → kept_text (without_range sender first last replies) other number
+    ≡ kept_text replies other number
+
+abbrev pub OtherNumbersStay : Type 0
+OtherNumbersStay =
+    (replies : List KeptReply) (sender other : List ℕ) (first last number : ℕ)
+    → ((number < first) ⊎ (last < number))
+    → kept_text (without_range sender first last replies) other number
+    ≡ kept_text replies other number

@@ -3,6 +3,7 @@ use Rattle.std.proofs.Common.{◌≡◌, ℕ, ◌<◌, eqb, Bool, true, false, L
 use Rattle.std.specs.Prelude.{find, IfOk, ◌↔◌}
 use Rattle.std.specs.Option.{option_map}
 use Rattle.std.proofs.lemmas.Bool.{eqb-true}
+use Rattle.std.proofs.lemmas.Option.{same_Some}
 use Rattle.std.proofs.lemmas.List.{get_or-set_same}
 use Rattle.mg_rtp.specs.declared.header.Header.{Header}
 use Rattle.mg_rtp.specs.declared.packet.Packet.{Packet}
@@ -30,7 +31,7 @@ use Rattle.mg_engine.specs.Stands.{EngineState, StandsFor, IsMediaOf, media_at}
 use Rattle.mg_engine.proofs.EditLaws.{Slots, others_kept, apart_from}
 use Rattle.mg_engine.proofs.KeyLaws.{found_changed, found_other, mapped_kept}
 use Rattle.mg_engine.proofs.TickLaws.{with_media}
-use Rattle.mg_engine.proofs.GatewayLaws.{has_media, some_is}
+use Rattle.mg_engine.proofs.GatewayLaws.{has_media}
 
 pub is_reading : (bytes : List ℕ) (r : Result Packet RtpFault) → IfOk r (λ packet. IsPacket bytes packet.header packet.payload.now) → ((f : RtpFault) → (r ≡ Err f) ↔ IsFault bytes f) → IsReading bytes (reading_of r)
 is_reading bytes (Ok packet) found fault = found
@@ -53,8 +54,8 @@ module _ (k : EngineState) (w : Gateway) (r : Record) (f : TerminationMedia → 
   media_placed : (n : ℕ) (q : Record) (t : TerminationMedia) → record_at k.rooms n ≡ Some q → find (λ x. eqb x.number n) (change (λ x. x.number) r.number (λ x. Some (f x)) w.media) ≡ Some t → (b : Bool) → eqb r.number n ≡ b → IsMediaOf k.config (media_at (set k.media r.slot m) q.slot) t
   media_placed n q t at now true e =
       let same : r.number ≡ n = eqb-true r.number n e in
-      let record_is : r ≡ q = some_is r q (sym found ∙ ap (record_at k.rooms) same ∙ at) in
-      let media_is : f s ≡ t = some_is (f s) t (ap (option_map f) (sym there) ∙ sym (found_changed (λ x. x.number) f r.number w.media keeps) ∙ ap (λ (i : ℕ). find (λ x. eqb x.number i) (change (λ x. x.number) r.number (λ x. Some (f x)) w.media)) same ∙ now) in
+      let record_is : r ≡ q = same_Some r q (sym found ∙ ap (record_at k.rooms) same ∙ at) in
+      let media_is : f s ≡ t = same_Some (f s) t (ap (option_map f) (sym there) ∙ sym (found_changed (λ x. x.number) f r.number w.media keeps) ∙ ap (λ (i : ℕ). find (λ x. eqb x.number i) (change (λ x. x.number) r.number (λ x. Some (f x)) w.media)) same ∙ now) in
       let kept : media_at (set k.media r.slot m) q.slot ≡ m = ap (λ (x : Record). media_at (set k.media r.slot m) x.slot) (sym record_is) ∙ get_or-set_same k.media r.slot m idle lt in
       subst (λ (x : media.SlotMedia). IsMediaOf k.config x t) (sym kept) (subst (λ (x : TerminationMedia). IsMediaOf k.config m x) media_is is)
   media_placed n q t at now false e =

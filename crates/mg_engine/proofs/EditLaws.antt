@@ -3,6 +3,7 @@ use Rattle.std.proofs.Common.{◌≡◌, ◌≢◌, ℕ, ◌+◌, ◌<◌, ◌�
 use Rattle.std.specs.Prelude.{find, filter, count_by}
 use Rattle.std.specs.Option.{option_map}
 use Rattle.std.proofs.lemmas.Bool.{eqb-true, eq-eqb}
+use Rattle.std.proofs.lemmas.Option.{same_Some}
 use Rattle.std.proofs.lemmas.List.{length-map, map-append, get_or-set_same, get_or-set_other, set-set}
 use Rattle.mg_playout.specs.Playout.{PlayList}
 use Rattle.mg_rooms.specs.declared.done.Done.{Done}
@@ -25,15 +26,12 @@ use Rattle.mg_engine.specs.Stands.{EngineState, StandsFor, IsMediaOf, media_at}
 use Rattle.mg_engine.specs.aids.Members.{HasMembers}
 use Rattle.mg_engine.specs.aids.Seating.{AreSeated}
 use Rattle.mg_engine.specs.aids.Whole.{IsWhole}
-use Rattle.mg_engine.proofs.MemberLaws.{Others, Hears}
+use Rattle.mg_engine.proofs.MemberLaws.{Others, Hears, no_record, unequal}
 use Rattle.mg_engine.proofs.KeyLaws.{none_before_last, found_push, found_push_other, found_changed, found_other, found_replaced, none_left, mapped_kept, keys_left, spots_left}
 use Rattle.mg_engine.proofs.OutcomeLaws.{Adds, Changes, Removes}
 use Rattle.mg_engine.proofs.PlaceLaws.{ByNumber}
 use Rattle.mg_engine.proofs.SendingLaws.{nobody}
-use Rattle.mg_engine.proofs.GatewayLaws.{found_too, found_key, has_media, some_is}
-
-abbrev some_record : Record → Option Record
-some_record r = Some r
+use Rattle.mg_engine.proofs.GatewayLaws.{found_too, found_key, has_media}
 
 -- ## Media of the termination that an edit is done on
 
@@ -120,16 +118,10 @@ pub none_too : (k : EngineState) (w : Gateway) (n : ℕ) → map (λ s. s.number
 none_too k w n same none None e = refl
 none_too k w n same none (Some s) e =
     let (r, found) = found_too (λ s. s.number) (λ r. r.number) n w.media k.rooms.terminations same s e in
-    absurd (neither r (sym found ∙ none)) where
-      neither : (r : Record) → Option.Some r ≡ None → ⊥
-      neither r h = cc h
+    absurd (no_record r (sym found ∙ none))
 
 abbrev pub Slots : rooms.Registry → Type 0
 Slots w = (a b : ℕ) (r s : Record) → record_at w a ≡ Some r → record_at w b ≡ Some s → r.slot ≡ s.slot → a ≡ b
-
-same_case : (m n : ℕ) (b : Bool) → eqb m n ≡ b → (m ≡ n → ⊥) → b ≡ false
-same_case m n true e h = absurd (h (eqb-true m n e))
-same_case m n false e h = refl
 
 -- the media of other terminations stay
 pub others_kept : (w : rooms.Registry) (kept : List media.SlotMedia) (m : media.SlotMedia) (n x : ℕ) (r q : Record) → Slots w → record_at w x ≡ Some r → record_at w n ≡ Some q → n ≢ x → media_at (set kept r.slot m) q.slot ≡ media_at kept q.slot
@@ -137,9 +129,7 @@ others_kept w kept m n x r q slots found there apart =
     get_or-set_other kept r.slot q.slot m idle (λ same. apart (slots n x q r there found same))
 
 pub apart_from : (m n : ℕ) → eqb n m ≡ false → m ≢ n
-apart_from m n e same = neither (sym e ∙ eq-eqb n m (sym same)) where
-  neither : false ≡ true → ⊥
-  neither h = cc h
+apart_from m n e same = unequal n m e (sym same)
 
 abbrev newcomer : Settings → Done → TerminationMedia
 newcomer settings d = tuned settings (new_media d.termination)
@@ -152,10 +142,10 @@ added_media : (k : EngineState) (new : rooms.Registry) (after : List media.SlotM
     → (m : ℕ) (q : Record) (s : TerminationMedia) → record_at new m ≡ Some q → find (λ s. eqb s.number m) (w.media ++ newcomer settings d ∷ []) ≡ Some s → (b : Bool) → eqb d.termination m ≡ b → IsMediaOf k.config (media_at after q.slot) s
 added_media k new after w settings d r a sound slots others made lt set_to h m q s found there true e =
     let same : d.termination ≡ m = eqb-true d.termination m e in
-    let is : r ≡ q = some_is r q (sym made ∙ ap (record_at new) same ∙ found) in
+    let is : r ≡ q = same_Some r q (sym made ∙ ap (record_at new) same ∙ found) in
     let none = none_too k w d.termination h.numbers (unknown_before k.rooms new d a sound) (media_of w d.termination) refl in
     let pushed = found_push (λ s. s.number) m w.media (newcomer settings d) e (ap (media_of w) (sym same) ∙ none) in
-    let stream : newcomer settings d ≡ s = some_is (newcomer settings d) s (sym pushed ∙ there) in
+    let stream : newcomer settings d ≡ s = same_Some (newcomer settings d) s (sym pushed ∙ there) in
     let kept : media_at after q.slot ≡ media.tuned settings.depth (media.begun k.config) =
     ap (λ (x : Record). media_at after x.slot) (sym is) ∙ ap (λ (ms : List media.SlotMedia). media_at ms r.slot) set_to ∙ get_or-set_same k.media r.slot (media.tuned settings.depth (media.begun k.config)) idle lt in
     subst (λ (x : media.SlotMedia). IsMediaOf k.config x s) (sym kept) (subst (λ (x : TerminationMedia). IsMediaOf k.config (media.tuned settings.depth (media.begun k.config)) x) stream (tuned_is k.config settings (media.begun k.config) (new_media d.termination) (begun_is k.config d.termination)))
@@ -180,9 +170,6 @@ added_stands k new after flows w settings d r a sound slots others made lt set_t
   media = λ m q s found there. added_media k new after w settings d r a sound slots others made lt set_to h m q s found there (eqb d.termination m) refl;
   hears = hears;
 }
-
-no_record : (r : Record) → some_record r ≡ None → ⊥
-no_record r h = cc h
 
 -- ## A Modify and a Move
 
@@ -223,11 +210,11 @@ tuned_media : (k : EngineState) (new : rooms.Registry) (after : List media.SlotM
     → (m : ℕ) (q : Record) (s : TerminationMedia) → record_at new m ≡ Some q → find (λ s. eqb s.number m) (media_with settings n w.media) ≡ Some s → (b : Bool) → eqb n m ≡ b → IsMediaOf k.config (media_at after q.slot) s
 tuned_media k new after w settings n d a slots others lt set_to h m q s found there true e =
     let same : n ≡ m = eqb-true n m e in
-    let is : a.changed ≡ q = some_is a.changed q (sym (changed_is k new n d a) ∙ ap (record_at new) same ∙ found) in
+    let is : a.changed ≡ q = same_Some a.changed q (sym (changed_is k new n d a) ∙ ap (record_at new) same ∙ found) in
     let (t, was, stream) = has_media k w n a.was h a.there in
     let changed = ap (λ (x : ℕ). find (λ s. eqb s.number x) (media_with settings n w.media)) same ∙ there in
     let now = sym (found_changed (λ s. s.number) (tuned settings) n w.media (λ x. refl)) ∙ changed in
-    let s_is : tuned settings t ≡ s = some_is (tuned settings t) s (ap (option_map (tuned settings)) (sym was) ∙ now) in
+    let s_is : tuned settings t ≡ s = same_Some (tuned settings t) s (ap (option_map (tuned settings)) (sym was) ∙ now) in
     let old = media_at k.media a.changed.slot in
     let kept : media_at after q.slot ≡ media.tuned settings.depth old =
     ap (λ (x : Record). media_at after x.slot) (sym is) ∙ ap (λ (ms : List media.SlotMedia). media_at ms a.changed.slot) set_to ∙ get_or-set_same k.media a.changed.slot (media.tuned settings.depth old) idle lt in

@@ -1,7 +1,8 @@
 -- Who hears whom in the worlds that an engine stands for.
-use Rattle.std.proofs.Common.{◌≡◌, ◌≢◌, ℕ, ◌&&◌, not, eqb, Bool, true, false, List, Some, Option, refl, sym, ap, subst, ◌∙◌}
+use Rattle.std.proofs.Common.{◌≡◌, ℕ, ◌&&◌, not, eqb, Bool, true, false, List, Some, Option, refl, sym, ap, subst, ◌∙◌}
 use Rattle.std.specs.Prelude.{is_some}
-use Rattle.std.proofs.lemmas.Bool.{eqb-true, eq-eqb}
+use Rattle.std.proofs.Math.Bool.{and-false}
+use Rattle.std.proofs.lemmas.Bool.{eqb-true, eq-eqb, ne_eqb}
 use Rattle.mg_rooms.specs.declared.record.Record.{Record}
 use Rattle.mg_rooms.specs.Registry as rooms
 use Rattle.mg_rooms.specs.Registry.{record_at}
@@ -15,23 +16,14 @@ use Rattle.mg_engine.specs.Masks.{TellsFlows}
 use Rattle.mg_engine.specs.Stands.{EngineState, StandsFor, ShareContext}
 use Rattle.mg_engine.specs.aids.Members.{HasMembers}
 use Rattle.mg_engine.specs.aids.Sending.{flows_between, flows_now}
-use Rattle.mg_engine.proofs.MemberLaws.{seats_differ}
-use Rattle.mg_engine.proofs.PlaceLaws.{HaveContexts, OneRoom, OneSeat, on_place, one_place, in_one_room, in_one_context}
-
-unequal : (m n : ℕ) → eqb m n ≡ false → m ≢ n
-unequal m n e same = absurd (neither (sym e ∙ eq-eqb m n same)) where
-  neither : false ≡ true → ⊥
-  neither h = cc h
+use Rattle.mg_engine.proofs.MemberLaws.{seats_differ, unequal}
+use Rattle.mg_engine.proofs.PlaceLaws.{HaveContexts, OneRoom, OneSeat, on_place, one_place, in_one_room, in_one_context, hears_apart, no_hearing}
 
 pub mode_found : (k : EngineState) (w : Gateway) (n : ℕ) (r : Record) → StandsFor k w → record_at k.rooms n ≡ Some r → mode_of w n ≡ r.mode
 mode_found k w n r h found = ap (λ (x : rooms.Registry). mode_in (record_at x n)) h.rooms ∙ ap mode_in found
 
 pub context_found : (k : EngineState) (w : Gateway) (n : ℕ) (r : Record) → StandsFor k w → record_at k.rooms n ≡ Some r → context_of w n ≡ r.context
 context_found k w n r h found = ap (λ (x : rooms.Registry). context_in (record_at x n)) h.rooms ∙ ap context_in found
-
-differ : (m n : ℕ) → m ≢ n → (b : Bool) → eqb m n ≡ b → b ≡ false
-differ m n apart true e = absurd (apart (eqb-true m n e))
-differ m n apart false e = refl
 
 -- ## What a table says of two places
 
@@ -45,17 +37,6 @@ nobody_hears_itself table p = rw (eq-eqb p.seat p.seat refl) (ends (eqb p.room p
   ends true false = refl
   ends false b = refl
 
-and_false : (a b : Bool) → (a && (b && false)) ≡ false
-and_false true true = refl
-and_false true false = refl
-and_false false b = refl
-
-no_hearing : (table : List flow.Room) (q p : Place) → flow.hears table q p ≡ false → flow.flows table q p ≡ false
-no_hearing table q p e = rw e (and_false (flow.talks table p) (flow.listens table q))
-
-other_room : (table : List flow.Room) (q p : Place) (x : Bool) → eqb q.room p.room ≡ x → x ≡ false → flow.hears table q p ≡ false
-other_room table q p x e none = rw (e ∙ none) refl
-
 -- ## Flow by the places of both
 
 module _ (k : EngineState) (w : Gateway) (one_room : OneRoom k.rooms) (all : HasMembers k.rooms k.flows) (h : StandsFor k w) where
@@ -63,15 +44,16 @@ module _ (k : EngineState) (w : Gateway) (one_room : OneRoom k.rooms) (all : Has
   flow_there talker listener t l p q s =
       let from = all.each talker t p s.first in
       let to = all.each listener l q s.second in
-      rw (from.talks, to.listens, h.hears talker listener t l p q s, context_found k w talker t h s.first.found, context_found k w listener l h s.second.found, mode_found k w talker t h s.first.found, mode_found k w listener l h s.second.found, eq-eqb t.context l.context s.same, differ talker listener s.apart (eqb talker listener) refl) refl
+      rw (from.talks, to.listens, h.hears talker listener t l p q s, context_found k w talker t h s.first.found, context_found k w listener l h s.second.found, mode_found k w talker t h s.first.found, mode_found k w listener l h s.second.found, eq-eqb t.context l.context s.same, ne_eqb talker listener s.apart) refl
+
+  -- members of different contexts are in different rooms
+  rooms_differ : (talker listener : ℕ) (t l : Record) (p q : Place) → IsOnPlace k.rooms talker t p → IsOnPlace k.rooms listener l q → eqb t.context l.context ≡ false → eqb q.room p.room ≡ false
+  rooms_differ talker listener t l p q first second f = ne_eqb q.room p.room (λ same. unequal t.context l.context f (in_one_context k.rooms t l p q one_room first.place second.place (sym same)))
 
   flow_case : (talker listener : ℕ) (t l : Record) (p q : Place) → IsOnPlace k.rooms talker t p → IsOnPlace k.rooms listener l q → (same together : Bool) → eqb talker listener ≡ same → eqb t.context l.context ≡ together
       → worlds.flow w talker listener ≡ flow.flows k.flows q p
   flow_case talker listener t l p q first second true together e f =
-      rw (e, one_place k.rooms talker listener t l p q first second (eqb-true talker listener e)) (none (eqb (context_of w talker) (context_of w listener)) ∙ sym (no_hearing k.flows q q (nobody_hears_itself k.flows q))) where
-        none : (a : Bool) → (a && false) ≡ false
-        none true = refl
-        none false = refl
+      rw (e, one_place k.rooms talker listener t l p q first second (eqb-true talker listener e)) (and-false (eqb (context_of w talker) (context_of w listener)) ∙ sym (no_hearing k.flows q q (nobody_hears_itself k.flows q)))
   flow_case talker listener t l p q first second false true e f = sym (flow_there talker listener t l p q (record {
     first = first;
     second = second;
@@ -79,10 +61,7 @@ module _ (k : EngineState) (w : Gateway) (one_room : OneRoom k.rooms) (all : Has
     apart = unequal talker listener e;
   }))
   flow_case talker listener t l p q first second false false e f =
-      rw (context_found k w talker t h first.found, context_found k w listener l h second.found, f) (sym (no_hearing k.flows q p (other_room k.flows q p (eqb q.room p.room) refl (rooms_differ (eqb q.room p.room) refl)))) where
-        rooms_differ : (b : Bool) → eqb q.room p.room ≡ b → b ≡ false
-        rooms_differ true g = sym (eq-eqb t.context l.context (in_one_context k.rooms t l p q one_room first.place second.place (sym (eqb-true q.room p.room g)))) ∙ f
-        rooms_differ false g = refl
+      rw (context_found k w talker t h first.found, context_found k w listener l h second.found, f) (sym (no_hearing k.flows q p (hears_apart k.flows q p (rooms_differ talker listener t l p q first second f))))
 
   pub flow_places : (talker listener : ℕ) (t l : Record) (p q : Place) → IsOnPlace k.rooms talker t p → IsOnPlace k.rooms listener l q → worlds.flow w talker listener ≡ flow.flows k.flows q p
   flow_places talker listener t l p q first second = flow_case talker listener t l p q first second (eqb talker listener) (eqb t.context l.context) refl refl
@@ -104,10 +83,7 @@ module _ (k : EngineState) (w : Gateway) (one_room : OneRoom k.rooms) (all : Has
   hears_case : (talker listener : ℕ) (t l : Record) (p q : Place) → IsOnPlace k.rooms talker t p → IsOnPlace k.rooms listener l q → (same together : Bool) → eqb talker listener ≡ same → eqb t.context l.context ≡ together
       → flow.hears k.flows q p ≡ worlds.hears w listener talker
   hears_case talker listener t l p q first second true together e f =
-      rw (shared talker listener t l first.found second.found, e, one_place k.rooms talker listener t l p q first second (eqb-true talker listener e)) (nobody_hears_itself k.flows q ∙ sym (none (eqb t.context l.context))) where
-        none : (a : Bool) → ((a && false) && lets_hear w.edits talker listener) ≡ false
-        none true = refl
-        none false = refl
+      rw (shared talker listener t l first.found second.found, e, one_place k.rooms talker listener t l p q first second (eqb-true talker listener e)) (nobody_hears_itself k.flows q ∙ sym (ap (λ (b : Bool). b && lets_hear w.edits talker listener) (and-false (eqb t.context l.context))))
   hears_case talker listener t l p q first second false true e f =
       rw (shared talker listener t l first.found second.found, e, f) (h.hears talker listener t l p q (record {
         first = first;
@@ -116,10 +92,7 @@ module _ (k : EngineState) (w : Gateway) (one_room : OneRoom k.rooms) (all : Has
         apart = unequal talker listener e;
       }))
   hears_case talker listener t l p q first second false false e f =
-      rw (shared talker listener t l first.found second.found, f) (other_room k.flows q p (eqb q.room p.room) refl (rooms_differ (eqb q.room p.room) refl)) where
-        rooms_differ : (b : Bool) → eqb q.room p.room ≡ b → b ≡ false
-        rooms_differ true g = sym (eq-eqb t.context l.context (in_one_context k.rooms t l p q one_room first.place second.place (sym (eqb-true q.room p.room g)))) ∙ f
-        rooms_differ false g = refl
+      rw (shared talker listener t l first.found second.found, f) (hears_apart k.flows q p (rooms_differ talker listener t l p q first second f))
 
   pub hears_places : (talker listener : ℕ) (t l : Record) (p q : Place) → IsOnPlace k.rooms talker t p → IsOnPlace k.rooms listener l q → flow.hears k.flows q p ≡ worlds.hears w listener talker
   hears_places talker listener t l p q first second = hears_case talker listener t l p q first second (eqb talker listener) (eqb t.context l.context) refl refl
@@ -132,7 +105,7 @@ module _ (k : EngineState) (w : Gateway) (one_room : OneRoom k.rooms) (all : Has
       let to = all.each listener l q s.second in
       let room = in_one_room k.rooms l t q p s.second.place s.first.place (sym s.same) in
       let seat = seats_differ k.rooms talker listener t l p q one_room seats s in
-      rw (h.hears talker listener t l p q s, from.talks, from.held, to.held, eq-eqb q.room p.room room, seat, shared talker listener t l s.first.found s.second.found, eq-eqb t.context l.context s.same, differ talker listener s.apart (eqb talker listener) refl, mode_found k w talker t h s.first.found) refl
+      rw (h.hears talker listener t l p q s, from.talks, from.held, to.held, eq-eqb q.room p.room room, seat, shared talker listener t l s.first.found s.second.found, eq-eqb t.context l.context s.same, ne_eqb talker listener s.apart, mode_found k w talker t h s.first.found) refl
 
   pub tells : OneSeat k.rooms → TellsFlows w k.flows
   tells seats = record {

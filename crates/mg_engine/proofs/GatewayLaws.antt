@@ -3,6 +3,7 @@ use Rattle.std.proofs.Common.{◌≡◌, ℕ, eqb, Bool, true, false, cond, List
 use Rattle.std.specs.Prelude.{find}
 use Rattle.std.specs.Option.{option_map}
 use Rattle.std.proofs.lemmas.Bool.{eqb-true}
+use Rattle.std.proofs.lemmas.Option.{same_Some}
 use Rattle.mg_rooms.specs.declared.record.Record.{Record}
 use Rattle.mg_rooms.specs.Registry.{record_at}
 use Rattle.mg_engine.specs.Gateway.{Gateway, TerminationMedia, media_of}
@@ -10,9 +11,6 @@ use Rattle.mg_engine.specs.Stands.{EngineState, StandsFor, IsMediaOf, media_at}
 
 abbrev some : {A : Type 0} → A → Option A
 some x = Some x
-
-pub some_is : {A : Type 0} (x y : A) → some x ≡ some y → x ≡ y
-some_is x y h = cc h
 
 -- ## What is found by a key
 
@@ -28,7 +26,7 @@ module _ {A : Type 0} (key : A → ℕ) where
       found_at f n x (find (λ x. eqb (key x) n) xs) (find (λ x. eqb (key x) n) (map f xs)) (eqb (key x) n) (eqb (key (f x)) n) (ap (λ (k : ℕ). eqb k n) (same x)) (found_in_map f n xs same)
 
   key_at : (n : ℕ) (x y : A) (xs : List A) (b : Bool) → eqb (key x) n ≡ b → cond b (some x) (find (λ x. eqb (key x) n) xs) ≡ Some y → (find (λ x. eqb (key x) n) xs ≡ Some y → key y ≡ n) → key y ≡ n
-  key_at n x y xs true e h rest = ap key (sym (some_is x y h)) ∙ eqb-true (key x) n e
+  key_at n x y xs true e h rest = ap key (sym (same_Some x y h)) ∙ eqb-true (key x) n e
   key_at n x y xs false e h rest = rest h
 
   pub found_key : (n : ℕ) (xs : List A) (y : A) → find (λ x. eqb (key x) n) xs ≡ Some y → key y ≡ n
@@ -64,7 +62,7 @@ has_media k w n r h found =
 -- ## The slot of a termination
 
 pub with_slot : (o : Option Record) (slot : ℕ) → option_map (λ r. r.slot) o ≡ Some slot → (r : Record) × (o ≡ Some r) × (r.slot ≡ slot)
-with_slot (Some r) slot h = (r, refl, some_is r.slot slot h)
+with_slot (Some r) slot h = (r, refl, same_Some r.slot slot h)
 with_slot None slot h = absurd (cc h)
 
 pub with_no_slot : (o : Option Record) → option_map (λ r. r.slot) o ≡ None → o ≡ None

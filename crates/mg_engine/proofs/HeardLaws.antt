@@ -5,7 +5,7 @@ use Rattle.std.specs.List.{count_by, range_with_len}
 use Rattle.std.specs.Option.{option_map}
 use Rattle.std.proofs.lemmas.Bool.{cases_eq, eqb-true, eq-eqb}
 use Rattle.std.proofs.lemmas.Bool.Decides.{nat_tests}
-use Rattle.mg_topology.specs.Mask.{has_seat, seats_of}
+use Rattle.mg_topology.specs.Mask.{seat_limit, has_seat, seats_of}
 use Rattle.mg_rooms.specs.declared.record.Record.{Record}
 use Rattle.mg_rooms.specs.declared.context.Context.{Context}
 use Rattle.mg_rooms.specs.Registry as rooms
@@ -22,7 +22,7 @@ use Rattle.mg_engine.specs.aids.Sending.{sample_at, flows_between, part_now, hea
 use Rattle.mg_engine.specs.Stands.{EngineState}
 use Rattle.mg_engine.proofs.SendingLaws.{nobody}
 use Rattle.mg_engine.proofs.SumLaws.{map-cong}
-use Rattle.mg_engine.proofs.PlaceLaws.{ByNumber, HaveContexts, OneRoom, seated, place, hears_apart}
+use Rattle.mg_engine.proofs.PlaceLaws.{ByNumber, HaveContexts, OneRoom, seated, place, hears_apart, no_hearing}
 use Rattle.mg_engine.proofs.SeatSums.{sum-seats_of, found_counts, seat_sums}
 
 -- ## Places
@@ -46,20 +46,14 @@ somewhere seat None h e = absurd (cc h)
 -- ## Who is heard
 
 abbrev SeatWithin : rooms.Registry → Type 0
-SeatWithin w = (n : ℕ) (r : Record) → record_at w n ≡ Some r → r.seat < 32
-
-no_flow : (talks listens : Bool) → (talks && (listens && false)) ≡ false
-no_flow true true = refl
-no_flow true false = refl
-no_flow false listens = refl
+SeatWithin w = (n : ℕ) (r : Record) → record_at w n ≡ Some r → r.seat < seat_limit
 
 both_true : (a b : Bool) → a ≡ true → b ≡ true → (a && b) ≡ true
 both_true a b h k = ap (λ (x : Bool). x && b) h ∙ k
 
 -- nobody is heard from another room
 apart : (table : List flow.Room) (p q : Place) → eqb p.room q.room ≡ false → flow.flows table p q ≡ false
-apart table p q e =
-    ap (λ (b : Bool). flow.talks table q && (flow.listens table p && b)) (hears_apart table p q e) ∙ no_flow (flow.talks table q) (flow.listens table p)
+apart table p q e = no_hearing table p q (hears_apart table p q e)
 
 module _ (k : EngineState) (seating : List ℕ) (l : Record) (p : Place) (y : Context) (mask : ℕ) (sound : IsConsistent k.rooms) (members : HasMembers k.rooms k.flows) (seats : AreSeated k.rooms seating) (by_number : ByNumber k.rooms) (there : HaveContexts k.rooms) (one_room : OneRoom k.rooms) (within : SeatWithin k.rooms) (context : context_at k.rooms l.context ≡ Some y) (is : seated l.seat y ≡ p) (kept : (seat : ℕ) → has_seat mask seat ≡ flow.flows k.flows p (beside p seat)) (held : (seat : ℕ) → IsTrue (has_seat mask seat) → IsTrue (flow.holds k.flows (beside p seat))) where
   abbrev on_seat : ℕ → ℕ → ℤ
@@ -123,7 +117,7 @@ module _ (k : EngineState) (seating : List ℕ) (l : Record) (p : Place) (y : Co
   heard_by_seats i =
       let rs = k.rooms.terminations in
       sum-seats_of mask (on_seat i)
-      ∙ seat_sums rs is_in (λ t. t.seat) 32 (heard_on i) (part_now k l i) nobody
+      ∙ seat_sums rs is_in (λ t. t.seat) seat_limit (heard_on i) (part_now k l i) nobody
       (λ j lt. within (get_or rs j nobody).number (get_or rs j nobody) (by_number j nobody lt))
       (λ j lt. part_is i (get_or rs j nobody) (eqb (get_or rs j nobody).context l.context) (by_number j nobody lt) refl)
       (λ seat. sound.terminations.one_seat l.context seat)

@@ -17,3 +17,4 @@ pub mod EditLaws
 pub mod ArrivalLaws
 pub mod PortLaws
 pub mod OutcomeLaws
+pub mod IsolationLaws

@@ -1,5 +1,5 @@
 -- The table of who hears whom when one member enters, leaves or has another mode.
-use Rattle.std.proofs.Common.{◌≡◌, ◌≢◌, ℕ, eqb, ◌&&◌, ◌||◌, Bool, true, false, cond, List, [], ◌∷◌, Option, Some, None, refl, sym, ap, subst, ◌∙◌}
+use Rattle.std.proofs.Common.{◌≡◌, ◌≢◌, ℕ, eqb, ◌||◌, Bool, true, false, cond, List, [], ◌∷◌, Option, Some, None, refl, sym, ap, subst, ◌∙◌}
 use Rattle.std.specs.Prelude.{IsTrue, IsFalse, is_some}
 use Rattle.std.specs.Option.{option_map}
 use Rattle.std.proofs.lemmas.Bool.{eqb-true, eq-eqb}
@@ -17,15 +17,10 @@ use Rattle.mg_engine.specs.Place.{place_of, IsOnPlace}
 use Rattle.mg_engine.specs.Stands.{ShareContext}
 use Rattle.mg_engine.specs.aids.Seating.{AreSeated}
 use Rattle.mg_engine.specs.aids.Members.{Enters, Leaves, TakesMode, SaysOf, HasMembers}
-use Rattle.mg_engine.proofs.PlaceLaws.{HaveContexts, OneSeat, OneRoom, at, one_record, one_place, one_member, in_one_room, apart_places}
+use Rattle.mg_engine.proofs.PlaceLaws.{HaveContexts, OneSeat, OneRoom, at, one_record, one_place, one_member, in_one_room, both, apart_places}
 
 same_is : (p : Place) → is_same p p ≡ true
 same_is p = rw (eq-eqb p.room p.room refl, eq-eqb p.seat p.seat refl) refl
-
-both : (a b : Bool) → (a && b) ≡ true → (a ≡ true) × (b ≡ true)
-both true true h = (refl, refl)
-both true false h = absurd (cc h)
-both false b h = absurd (cc h)
 
 is_place : (p q : Place) → is_same p q ≡ true → p ≡ q
 is_place p q h =
@@ -33,7 +28,7 @@ is_place p q h =
     ap (λ (x : ℕ). let y : Place = record { room = x; seat = p.seat } in y) (eqb-true p.room q.room room)
     ∙ ap (λ (x : ℕ). let y : Place = record { room = q.room; seat = x } in y) (eqb-true p.seat q.seat seat)
 
-neither : true ≡ false → ⊥
+pub neither : true ≡ false → ⊥
 neither h = cc h
 
 -- two members of one context are on different seats
@@ -114,7 +109,7 @@ hears_carry old new n table es same h talker listener t l p q one two s = h talk
   apart = s.apart;
 })
 
-no_record : (r : Record) → Option.Some r ≡ None → ⊥
+pub no_record : (r : Record) → Option.Some r ≡ None → ⊥
 no_record r h = cc h
 
 -- one that isn't there is none of the members

@@ -3,13 +3,14 @@ use Rattle.std.proofs.Common.{arith, ◌≡◌, ◌≢◌, ℕ, ◌<◌, eqb, �
 use Rattle.std.specs.Prelude.{is_some, IsSome, IfSome, IsTrue}
 use Rattle.std.specs.Option.{option_map}
 use Rattle.std.proofs.lemmas.Bool.{eqb-true}
+use Rattle.std.proofs.lemmas.Option.{same_Some}
 use Rattle.mg_rooms.specs.declared.context.Context.{Context}
 use Rattle.mg_rooms.specs.declared.record.Record.{Record}
 use Rattle.mg_rooms.specs.Consistent.{IsTermination, IsContext}
 use Rattle.mg_rooms.specs.Registry.{Registry, record_at, context_at}
 use Rattle.mg_flow.specs.declared.place.Place.{Place}
 use Rattle.mg_flow.specs.Place.{IsWithinLimits, is_same}
-use Rattle.mg_flow.specs.Table.{Room, room_at, holds, hears}
+use Rattle.mg_flow.specs.Table.{Room, room_at, holds, talks, listens, hears, flows}
 use Rattle.mg_topology.specs.Topology as topology
 use Rattle.mg_engine.specs.Place.{place_of, IsOnPlace}
 use Rattle.mg_engine.specs.aids.Members.{HasMembers}
@@ -46,6 +47,15 @@ place p = Some p
 pub hears_apart : (t : List Room) (l k : Place) → eqb l.room k.room ≡ false → hears t l k ≡ false
 hears_apart t l k e = ap (λ (b : Bool). b && topology.hears (room_at t l.room).topology l.seat k.seat) e
 
+and_false : (a b : Bool) → (a && (b && false)) ≡ false
+and_false true true = refl
+and_false true false = refl
+and_false false b = refl
+
+-- who isn't heard has no speech that flows
+pub no_hearing : (t : List Room) (l k : Place) → hears t l k ≡ false → flows t l k ≡ false
+no_hearing t l k e = rw e (and_false (talks t k) (listens t l))
+
 no_place : (o : Option Context) (r : Record) → is_some o ≡ true → option_map (seated r.seat) o ≡ None → ⊥
 no_place (Some x) r h none = cc none
 no_place None r h none = cc h
@@ -60,12 +70,9 @@ pub record At (w : Registry) (r : Record) (p : Place) : Type 0 where
   pub room : p.room ≡ context.room
   pub seat : p.seat ≡ r.seat
 
-some_is : (p q : Place) → Option.Some p ≡ Some q → p ≡ q
-some_is p q h = cc h
-
 at_by : (w : Registry) (r : Record) (p : Place) (o : Option Context) → context_at w r.context ≡ o → option_map (seated r.seat) o ≡ Some p → At w r p
 at_by w r p (Some x) is h =
-    let same = some_is (seated r.seat x) p h in
+    let same = same_Some (seated r.seat x) p h in
     record { context = x; found = is; room = ap (λ (q : Place). q.room) (sym same); seat = ap (λ (q : Place). q.seat) (sym same) }
 at_by w r p None is h = absurd (cc h)
 
@@ -84,28 +91,16 @@ within w n r p h termination context =
 
 -- ## Two members
 
-abbrev fine : Record → Option Record
-fine r = Option.Some r
-
-pub same_record : (r q : Record) → fine r ≡ fine q → r ≡ q
-same_record r q h = cc h
-
 -- one termination has one record
 pub one_record : (w : Registry) (m n : ℕ) (r q : Record) → record_at w m ≡ Some r → record_at w n ≡ Some q → m ≡ n → r ≡ q
-one_record w m n r q found there same = same_record r q (sym found ∙ ap (record_at w) same ∙ there)
-
-abbrev whole : Context → Option Context
-whole x = Option.Some x
-
-same_context : (x y : Context) → whole x ≡ whole y → x ≡ y
-same_context x y h = cc h
+one_record w m n r q found there same = same_Some r q (sym found ∙ ap (record_at w) same ∙ there)
 
 -- members of one context are in one room
 pub in_one_room : (w : Registry) (a b : Record) (p q : Place) → place_of w a ≡ Some p → place_of w b ≡ Some q → a.context ≡ b.context → p.room ≡ q.room
 in_one_room w a b p q first second same =
     let x = at w a p first in
     let y = at w b q second in
-    x.room ∙ ap (λ (z : Context). z.room) (same_context x.context y.context (sym x.found ∙ ap (context_at w) same ∙ y.found)) ∙ sym y.room
+    x.room ∙ ap (λ (z : Context). z.room) (same_Some x.context y.context (sym x.found ∙ ap (context_at w) same ∙ y.found)) ∙ sym y.room
 
 -- members in one room are in one context
 pub in_one_context : (w : Registry) (a b : Record) (p q : Place) → OneRoom w → place_of w a ≡ Some p → place_of w b ≡ Some q → p.room ≡ q.room → a.context ≡ b.context
@@ -120,7 +115,7 @@ one_member w m n a b p q rooms seats first second room seat =
     seats m n a b first.found second.found (in_one_context w a b p q rooms first.place second.place room)
     (sym (at w a p first.place).seat ∙ seat ∙ (at w b q second.place).seat)
 
-both : (a b : Bool) → (a && b) ≡ true → (a ≡ true) × (b ≡ true)
+pub both : (a b : Bool) → (a && b) ≡ true → (a ≡ true) × (b ≡ true)
 both true true h = (refl, refl)
 both true false h = absurd (cc h)
 both false b h = absurd (cc h)
@@ -135,13 +130,10 @@ same_case w m n a b p q rooms seats first second apart false e = refl
 pub apart_places : (w : Registry) (m n : ℕ) (a b : Record) (p q : Place) → OneRoom w → OneSeat w → IsOnPlace w m a p → IsOnPlace w n b q → m ≢ n → is_same p q ≡ false
 apart_places w m n a b p q rooms seats first second apart = same_case w m n a b p q rooms seats first second apart (is_same p q) refl
 
-pub same_place : (p q : Place) → place p ≡ place q → p ≡ q
-same_place p q h = cc h
-
 -- one member is on one place
 pub one_place : (w : Registry) (m n : ℕ) (a b : Record) (p q : Place) → IsOnPlace w m a p → IsOnPlace w n b q → m ≡ n → p ≡ q
 one_place w m n a b p q first second same =
-    same_place p q (sym first.place ∙ ap (place_of w) (one_record w m n a b first.found second.found same) ∙ second.place)
+    same_Some p q (sym first.place ∙ ap (place_of w) (one_record w m n a b first.found second.found same) ∙ second.place)
 
 seated_by : (w : Registry) (n : ℕ) (r : Record) (o : Option Place) → place_of w r ≡ o → HaveContexts w → record_at w n ≡ Some r → (p : Place) × IsOnPlace w n r p
 seated_by w n r (Some p) is has found = (p, record { found = found; place = is })

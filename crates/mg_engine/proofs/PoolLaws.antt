@@ -3,6 +3,7 @@ use Rattle.std.proofs.Common.{inl, inr, ◌⊎◌, ◌≡◌, ℕ, zero, suc, �
 use Rattle.std.specs.Prelude.{find}
 use Rattle.std.specs.List.{range_with_len}
 use Rattle.std.specs.Option.{option_or}
+use Rattle.std.specs.Cmp.{both_ways}
 use Rattle.std.proofs.lemmas.Bool.{eqb-true, eq-eqb}
 use Rattle.std.specs.List.{AllByRecursion}
 use Rattle.mg_rooms.specs.declared.limits.Limits.{Limits}
@@ -83,14 +84,9 @@ module _ (limits : Limits) where
   abbrev here : ℕ → Record → Bool
   here port r = eqb (slot_port limits r.slot) port
 
-  same_bool : (a b : Bool) → (a ≡ true → b ≡ true) → (b ≡ true → a ≡ true) → a ≡ b
-  same_bool true b to from = sym (to refl)
-  same_bool false true to from = from refl
-  same_bool false false to from = refl
-
   same_slot : (port slot : ℕ) (r : Record) → slot_port limits slot ≡ port → here port r ≡ eqb r.slot slot
   same_slot port slot r is =
-      same_bool (here port r) (eqb r.slot slot)
+      both_ways (here port r) (eqb r.slot slot)
       (λ h. eq-eqb r.slot slot (omega (arith, is, eqb-true (slot_port limits r.slot) port h)))
       (λ h. eq-eqb (slot_port limits r.slot) port (omega (arith, is, eqb-true r.slot slot h)))
 

@@ -6,7 +6,7 @@ use Rattle.std.proofs.lemmas.Int.{ints}
 use Rattle.std.proofs.lemmas.Bool.{cases_eq, eq-eqb}
 use Rattle.std.proofs.lemmas.Bool.Decides.{nat_tests}
 use Rattle.std.proofs.lemmas.List.Sums.{sum_by-cons}
-use Rattle.mg_topology.specs.Mask.{has_seat, seats_of}
+use Rattle.mg_topology.specs.Mask.{seat_limit, has_seat, seats_of}
 use Rattle.mg_engine.specs.Mix.{sum_of}
 use Rattle.mg_engine.proofs.SumLaws.{sum-cong}
 
@@ -54,9 +54,9 @@ sum-filter p f [] = refl
 sum-filter p f (x ∷ xs) = one_filtered (p x) f x (filter p xs) (sum_of (λ y. cond (p y) (f y) (pos 0)) xs) (sum-filter p f xs)
 
 -- what seats of a mask add up to, over all seats
-pub sum-seats_of : (mask : ℕ) (f : ℕ → ℤ) → sum_of f (seats_of mask) ≡ sum_of (λ seat. cond (has_seat mask seat) (f seat) (pos 0)) (range_with_len 0 32)
+pub sum-seats_of : (mask : ℕ) (f : ℕ → ℤ) → sum_of f (seats_of mask) ≡ sum_of (λ seat. cond (has_seat mask seat) (f seat) (pos 0)) (range_with_len 0 seat_limit)
 unfolding seats_of
-sum-seats_of mask f = sum-filter (has_seat mask) f (range_with_len 0 32)
+sum-seats_of mask f = sum-filter (has_seat mask) f (range_with_len 0 seat_limit)
 
 -- ## One seat among those of a range
 

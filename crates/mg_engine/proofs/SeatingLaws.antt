@@ -1,15 +1,15 @@
 -- The slots of members by their places.
-use Rattle.std.proofs.Common.{arith, ◌≡◌, ◌≢◌, ℕ, ◌<◌, eqb, Bool, true, false, List, length, set, Option, None, refl, sym, ap, ◌∙◌}
-use Rattle.std.proofs.lemmas.Bool.{eqb-true, eq-eqb}
+use Rattle.std.proofs.Common.{arith, ◌≡◌, ◌≢◌, ℕ, ◌<◌, eqb, Bool, true, false, List, length, set, None, refl, sym, ap, ◌∙◌}
+use Rattle.std.proofs.lemmas.Bool.{eqb-true}
 use Rattle.std.proofs.lemmas.List.{get_or-set_same, get_or-set_other}
 use Rattle.mg_rooms.specs.declared.record.Record.{Record}
 use Rattle.mg_rooms.specs.Registry.{Registry, record_at}
 use Rattle.mg_flow.specs.declared.place.Place.{Place}
 use Rattle.mg_flow.specs.Place.{IsWithinLimits}
 use Rattle.mg_engine.specs.Place.{IsOnPlace}
-use Rattle.mg_engine.specs.aids.Seating.{index_of, slot_at, AreSeated}
+use Rattle.mg_engine.specs.aids.Seating.{place_count, index_of, slot_at, AreSeated}
 use Rattle.mg_engine.proofs.PlaceLaws.{OneRoom, OneSeat, one_member, one_place, one_record}
-use Rattle.mg_engine.proofs.MemberLaws.{SameOthers}
+use Rattle.mg_engine.proofs.MemberLaws.{SameOthers, no_record, unequal}
 
 abbrev pub AreWithin : Registry → Type 0
 AreWithin w = (n : ℕ) (r : Record) (p : Place) → IsOnPlace w n r p → IsWithinLimits p
@@ -21,12 +21,7 @@ OthersSeated w n seating = (m : ℕ) (x : Record) (q : Place) → m ≢ n → Is
 pub carry_seats : (old new : Registry) (n : ℕ) (seating : List ℕ) → SameOthers old new n → AreSeated old seating → OthersSeated new n seating
 carry_seats old new n seating same h m x q apart on = h m x q ((same m x q apart).1 on)
 
-unequal : (m n : ℕ) → eqb m n ≡ false → m ≢ n
-unequal m n e same = neither (sym (eq-eqb m n same) ∙ e) where
-  neither : true ≡ false → ⊥
-  neither h = cc h
-
-module _ (w : Registry) (n : ℕ) (r : Record) (p : Place) (seating : List ℕ) (long : length seating ≡ 2048) (rooms : OneRoom w) (seats : OneSeat w) (within : AreWithin w) (on : IsOnPlace w n r p) where
+module _ (w : Registry) (n : ℕ) (r : Record) (p : Place) (seating : List ℕ) (long : length seating ≡ place_count) (rooms : OneRoom w) (seats : OneSeat w) (within : AreWithin w) (on : IsOnPlace w n r p) where
   put_case : OthersSeated w n seating → (m : ℕ) (x : Record) (q : Place) → IsOnPlace w m x q → (b : Bool) → eqb m n ≡ b → slot_at (set seating (index_of p) r.slot) q ≡ x.slot
   put_case h m x q there true e =
       let same = eqb-true m n e in
@@ -46,9 +41,6 @@ module _ (w : Registry) (n : ℕ) (r : Record) (p : Place) (seating : List ℕ) 
 
   pub seated_put : OthersSeated w n seating → AreSeated w (set seating (index_of p) r.slot)
   seated_put h m x q there = put_case h m x q there (eqb m n) refl
-
-no_record : (r : Record) → Option.Some r ≡ None → ⊥
-no_record r h = cc h
 
 -- where one isn't there, the others are all
 pub seated_all : (w : Registry) (n : ℕ) (seating : List ℕ) → record_at w n ≡ None → OthersSeated w n seating → AreSeated w seating

@@ -2,6 +2,7 @@
 use Rattle.std.proofs.Common.{◌≡◌, ℕ, ◌<◌, ◌≤◌, eqb, Bool, true, false, List, [], ◌∷◌, length, map, Option, Some, None, refl, sym, ap, subst, ◌∙◌, arith}
 use Rattle.std.specs.Prelude.{find}
 use Rattle.std.specs.Option.{option_map}
+use Rattle.std.proofs.lemmas.Option.{same_Some}
 use Rattle.std.proofs.lemmas.Simd.{map-map}
 use Rattle.std.proofs.lemmas.List.{get_or-map, length-map}
 use Rattle.mg_playout.specs.Playout as play_lists
@@ -18,7 +19,7 @@ use Rattle.mg_engine.specs.Tick.{played, all_played, sent, is_sender, sends_at, 
 use Rattle.mg_engine.specs.aids.Sending.{slot_sends}
 use Rattle.mg_engine.specs.Stands.{EngineState, StandsFor, IsMediaOf, media_at}
 use Rattle.mg_engine.proofs.SentLaws.{AreOld}
-use Rattle.mg_engine.proofs.GatewayLaws.{found_in_map, found_key, some_is}
+use Rattle.mg_engine.proofs.GatewayLaws.{found_in_map, found_key}
 
 -- each termination's slot has media
 abbrev pub HasMedia : EngineState → Type 0
@@ -40,7 +41,7 @@ played_is config m s h = record {
 }
 
 from_mapped : (f : TerminationMedia → TerminationMedia) (P : TerminationMedia → Type 0) (o : Option TerminationMedia) (s : TerminationMedia) → option_map f o ≡ Some s → ((t : TerminationMedia) → o ≡ Some t → P (f t)) → P s
-from_mapped f P (Some t) s e h = subst P (some_is (f t) s e) (h t refl)
+from_mapped f P (Some t) s e h = subst P (same_Some (f t) s e) (h t refl)
 from_mapped f P None s e h = absurd (cc e)
 
 pub played_stands : (k : EngineState) (w : Gateway) → HasMedia k → StandsFor k w → StandsFor (with_media k (map media.played k.media)) (all_played w)

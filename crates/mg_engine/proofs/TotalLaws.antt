@@ -2,6 +2,7 @@
 use Rattle.std.proofs.Common.{◌≡◌, ℕ, ◌<◌, ◌&&◌, Bool, true, false, cond, ℤ, ◌+ℤ◌, pos, List, [], ◌∷◌, get_or, Option, Some, None, refl, sym, ap, ◌∙◌, nat_lt}
 use Rattle.std.specs.Prelude.{is_some}
 use Rattle.std.specs.Option.{option_map}
+use Rattle.std.proofs.Math.Bool.{and-false}
 use Rattle.std.proofs.lemmas.Bool.{lt-ltb}
 use Rattle.mg_rooms.specs.declared.context.Context.{Context}
 use Rattle.mg_rooms.specs.declared.record.Record.{Record}
@@ -55,9 +56,5 @@ total_nowhere k w c i h none =
     ap (λ (b : Bool). cond (b && nat_lt i 160) (some (total w c i)) None) (sym (none_is (context_at k.rooms c) none))
     ∙ ap (λ (x : rooms.Registry). cond (is_some (context_at x c) && nat_lt i 160) (some (total w c i)) None) (sym h.rooms)
 
-and_false : (b : Bool) → (b && false) ≡ false
-and_false true = refl
-and_false false = refl
-
 pub total_beyond : (w : Gateway) (c i : ℕ) → nat_lt i 160 ≡ false → None ≡ total_at w c i
-total_beyond w c i late = sym (ap (λ (b : Bool). cond (is_some (context_at w.rooms c) && b) (some (total w c i)) None) late ∙ ap (λ (b : Bool). cond b (some (total w c i)) None) (and_false (is_some (context_at w.rooms c))))
+total_beyond w c i late = sym (ap (λ (b : Bool). cond (is_some (context_at w.rooms c) && b) (some (total w c i)) None) late ∙ ap (λ (b : Bool). cond b (some (total w c i)) None) (and-false (is_some (context_at w.rooms c))))

@@ -2,8 +2,10 @@
 use Rattle.std.proofs.Common.{◌≡◌, ℕ, ◌+◌, ◌<◌, ◌≤◌, eqb, ◌&&◌, ◌||◌, Bool, true, false, cond, List, [], ◌∷◌, ◌++◌, ◌==◌, length, get_or, take, drop, Option, Some, None, Result, Ok, Err, refl, sym, ap, subst, ◌∙◌}
 use Rattle.std.specs.Prelude.{IsTrue, ◌↔◌, Any}
 use Rattle.std.specs.List.{list_any}
+use Rattle.std.specs.Cmp.{both_ways}
 use Rattle.std.specs.Option.{option_map}
 use Rattle.std.proofs.lemmas.Bool.{eqb-true, eq-eqb}
+use Rattle.std.proofs.lemmas.Option.{same_Some}
 use Rattle.std.proofs.lemmas.List.{drop_more, drop_all, take_more}
 use Rattle.mg_topology.specs.declared.triple.Triple.{Triple}
 use Rattle.mg_topology.specs.Mask.{has_seat}
@@ -34,8 +36,8 @@ use Rattle.mg_engine.specs.declared.topology_triple.TopologyTriple.{TopologyTrip
 use Rattle.mg_engine.specs.Triples as terms
 use Rattle.mg_engine.specs.Triples.{with_triples, matched, is_barred, names_others, check_triple, check_triples}
 use Rattle.mg_engine.specs.aids.Triples.{IsRoomOf, IsSeated, Matches, IsMatched, AreMatched}
-use Rattle.mg_engine.proofs.MemberLaws.{Hears, seats_differ, unequal}
-use Rattle.mg_engine.proofs.PlaceLaws.{HaveContexts, OneSeat, OneRoom, at, on_place, one_record, in_one_room}
+use Rattle.mg_engine.proofs.MemberLaws.{Hears, seats_differ, neither, unequal}
+use Rattle.mg_engine.proofs.PlaceLaws.{HaveContexts, OneSeat, OneRoom, at, on_place, one_record, in_one_room, both}
 
 abbrev pub AreMembers : Registry → ℕ → Type 0
 AreMembers w c = (n : ℕ) → IsTrue (list_any (λ m. eqb m n) (members_at w c)) ↔ IsMember w c n
@@ -55,8 +57,8 @@ module _ (w : Registry) (c number mask : ℕ) (r : Record) (seats : OneSeat w) (
   same_seat n seat q p on here is false e = apart (eqb seat r.seat) refl where
     apart : (b : Bool) → eqb seat r.seat ≡ b → b ≡ false
     apart true h =
-        let both = seats number n r q found on.found (context ∙ sym here) (sym (eqb-true seat r.seat h) ∙ sym is ∙ (at w q p on.place).seat) in
-        sym (eq-eqb number n both) ∙ e
+        let one = seats number n r q found on.found (context ∙ sym here) (sym (eqb-true seat r.seat h) ∙ sym is ∙ (at w q p on.place).seat) in
+        sym (eq-eqb number n one) ∙ e
     apart false h = refl
 
   pub matches_number : HaveContexts w → Matches w c (number ∷ []) mask
@@ -74,9 +76,7 @@ module _ (w : Registry) (c number mask : ℕ) (r : Record) (seats : OneSeat w) (
 room_is : (w : Registry) (c room : ℕ) (r : Record) (p : Place) → IsRoomOf w c room → place_of w r ≡ Some p → r.context ≡ c → p.room ≡ room
 room_is w c room r p is place here =
     let a = at w r p place in
-    a.room ∙ some_room a.context.room room (ap (option_map (λ x. x.room)) (sym a.found ∙ ap (context_at w) here) ∙ is) where
-      some_room : (m n : ℕ) → Option.Some m ≡ Some n → m ≡ n
-      some_room m n h = cc h
+    a.room ∙ same_Some a.context.room room (ap (option_map (λ x. x.room)) (sym a.found ∙ ap (context_at w) here) ∙ is)
 
 context_by : (w : Registry) (c room : ℕ) (o : Option Context) → context_at w c ≡ o → option_map (λ x. x.room) o ≡ Some room → (x : Context) × (context_at w c ≡ Some x) × (x.room ≡ room)
 context_by w c room (Some x) is h = (x, is, cc h)
@@ -129,20 +129,10 @@ some_named : (xs ys : List ℕ) → list_any (has ys) xs ≡ true → AreNamed x
 some_named [] ys h = absurd (cc h)
 some_named (x ∷ xs) ys h = some_first x xs ys (some_named xs ys) (has ys x) refl h
 
-both : (a b : Bool) → (a && b) ≡ true → (a ≡ true) × (b ≡ true)
-both true true h = (refl, refl)
-both true false h = absurd (cc h)
-both false b h = absurd (cc h)
-
 oneway_is : (a : Association) → is_oneway a ≡ true → a ≡ Oneway
 oneway_is Isolate h = absurd (cc h)
 oneway_is Oneway h = refl
 oneway_is Bothway h = absurd (cc h)
-
-same_test : (a b : Bool) → (a ≡ true → b ≡ true) → (b ≡ true → a ≡ true) → a ≡ b
-same_test true b h k = sym (h refl)
-same_test false true h k = k refl
-same_test false false h k = refl
 
 -- a member matches both terms where some seat is in both masks
 module _ (w : Registry) (c : ℕ) (members : List ℕ) (x : TopologyTriple) (y : Triple) (law : IsTrue (overlaps y) ↔ Overlaps y) (m : IsMatched w c members x y) where
@@ -169,7 +159,7 @@ module _ (w : Registry) (c : ℕ) (members : List ℕ) (x : TopologyTriple) (y :
       ap (λ (z : Bool). z && list_any (has (matched members x.second)) (matched members x.first)) (ap is_oneway (sym m.association ∙ oneway)) ∙ any_named (matched members x.first) (matched members x.second) n a b
 
   pub overlaps_are : terms.overlaps members x ≡ overlaps y
-  overlaps_are = same_test (terms.overlaps members x) (overlaps y) by_terms by_seats
+  overlaps_are = both_ways (terms.overlaps members x) (overlaps y) by_terms by_seats
 
 -- ## Checks
 
@@ -339,6 +329,4 @@ words_stand k flows w es h hears = record {
 }
 
 pub absurd_overlap : (ys : List Triple) → list_any overlaps ys ≡ false → (IsTrue (list_any overlaps ys) ↔ Any Overlaps ys) → Any Overlaps ys → ⊥
-absurd_overlap ys none law some = neither (sym (law.1 some) ∙ none) where
-  neither : true ≡ false → ⊥
-  neither h = cc h
+absurd_overlap ys none law some = neither (sym (law.1 some) ∙ none)

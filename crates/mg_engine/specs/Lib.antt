@@ -13,4 +13,5 @@ pub mod Arrival
 pub mod Media
 pub mod Stands
 pub mod Masks
+pub mod Isolation
 pub mod aids

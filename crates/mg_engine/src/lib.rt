@@ -1,7 +1,7 @@
 //! The state of a conference media gateway: its terminations and contexts, and what edits do to them.
 //!
-//! An [`Engine`] takes all its memory when it is made. A controller's commands come to it as [`Edit`]s, each of which
-//! is done or refused with a [`ErrorNumber`](mg_rooms::ErrorNumber), and a refused one changes nothing:
+//! An [`Engine`] takes all its memory when it is made. A controller's commands come to it as calls, or as [`Edit`]s,
+//! each of which is done or refused with an [`ErrorNumber`](mg_rooms::ErrorNumber), and a refused one changes nothing:
 //!
 //! ```rust
 //! let mut engine = Engine::new(alloc, Config::default())?;
@@ -22,13 +22,13 @@ mod edit;
 mod engine;
 mod fault;
 pub mod laws;
-pub mod media;
+mod media;
 mod membership;
-pub mod mixing;
+mod mixing;
 mod peer;
-pub mod ports;
+mod ports;
 mod seating;
-pub mod sending;
+mod sending;
 mod taken;
 #[cfg(test)]
 mod tests;

@@ -1,6 +1,6 @@
 ghost use Rattle.std.specs.Prelude.{◌≡◌, ◌<◌, ◌+◌, ◌*◌, IfOk, replicate, slice_set};
 ghost use Rattle.mg_flow.specs.Place.{IsWithinLimits};
-ghost use Rattle.mg_engine.specs.aids.Seating.{slot_at, index_of};
+ghost use Rattle.mg_engine.specs.aids.Seating.{slot_at, index_of, place_count};
 
 use mg_flow::Place;
 use mg_words::{CONTEXTS, MEMBERS};
@@ -15,19 +15,20 @@ pub struct Seating {
 
 impl Model for Seating {
     ghost use Rattle.std.specs.Prelude.{◌≡◌, ℕ, List, length};
+    ghost use Rattle.mg_engine.specs.aids.Seating.{place_count};
 
     ghost Value = { List ℕ };
 
     ghost view = { λ seating. seating.slots.items };
 
-    ghost invariant = { λ seating. length seating.slots.items ≡ 2048 };
+    ghost invariant = { λ seating. length seating.slots.items ≡ place_count };
 }
 
 /// Where a place stands among those of all rooms.
 fn index_of(place: Place) -> usize
     requires within { IsWithinLimits place }
     ensures value { result ≡ index_of place }
-    ensures within { result < 2048 }
+    ensures within { result < place_count }
 {
     usize::from(place.room) * MEMBERS + usize::from(place.seat)
 }
@@ -35,7 +36,7 @@ fn index_of(place: Place) -> usize
 impl Seating {
     /// Nobody is on any place. It takes the memory for all places.
     pub fn new(alloc: Global) -> Result<Self, AllocError>
-        ensures value { IfOk result (λ seating. seating ≡ replicate 2048 0) }
+        ensures value { IfOk result (λ seating. seating ≡ replicate place_count 0) }
     {
         let mut slots = Vec::new(alloc);
         for _ in 0..CONTEXTS * MEMBERS {

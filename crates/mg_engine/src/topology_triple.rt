@@ -1,6 +1,3 @@
-ghost use Rattle.std.specs.Prelude.{◌≡◌};
-ghost use Rattle.mg_engine.specs.Triples.{triple_limit};
-
 use crate::triple_term::TripleTerm;
 use arrayvec::ArrayVec;
 use mg_words::Association;
@@ -37,8 +34,3 @@ impl Default for TopologyTriple {
 
 /// The triples of one edit, in order.
 pub type TopologyTriples = ArrayVec<TopologyTriple, TRIPLES>;
-
-/// The constant is the limit that the definitions speak of.
-pub fn constant_is_limit()
-    ensures { TRIPLES ≡ triple_limit }
-{}

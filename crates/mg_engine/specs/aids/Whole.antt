@@ -7,7 +7,7 @@ use Rattle.mg_engine.specs.Config.{limits_of}
 use Rattle.mg_flow.specs.Table as flow
 use Rattle.mg_engine.specs.Media as media
 use Rattle.mg_engine.specs.aids.Members.{HasMembers}
-use Rattle.mg_engine.specs.aids.Seating.{AreSeated}
+use Rattle.mg_engine.specs.aids.Seating.{AreSeated, place_count}
 
 -- all parts are made by one configuration, each slot has its media, the slots that are held are in
 -- the order of their terminations' numbers, and each member is on its place
@@ -20,4 +20,4 @@ pub record IsWhole (config : Config) (rooms : rooms.Registry) (pool : Limits)
   pub held : slots ≡ map (λ r. r.slot) rooms.terminations
   pub members : HasMembers rooms flows
   pub seats : AreSeated rooms seating
-  pub places : length seating ≡ 2048
+  pub places : length seating ≡ place_count

@@ -1,6 +1,7 @@
 use Rattle.std.proofs.Common.{ℕ, length, map, sym, ap, ◌∙◌}
 use Rattle.std.proofs.lemmas.List.{length-replicate}
 use Rattle.mg_rooms.specs.Registry as rooms
+use Rattle.mg_engine.specs.aids.Seating.{place_count}
 use Rattle.mg_engine.proofs.MemberLaws.{has_nobody, nobody_seated}
 use Rattle.mg_engine.proofs.engine.Engine.new.Goals as goal
 
@@ -12,5 +13,5 @@ invariant_of-result c = record {
   held = c.new-5.ensures ∙ ap (λ (w : rooms.Registry). map (λ r. r.slot) w.terminations) (sym c.in_ok-rooms.ensures.start);
   members = has_nobody c.in_ok-rooms.rooms c.limits.result c.in_ok-flows.flows c.in_ok-rooms.ensures.start c.in_ok-flows.ensures.edits;
   seats = nobody_seated c.in_ok-rooms.rooms c.limits.result c.in_ok-seating.seating c.in_ok-rooms.ensures.start;
-  places = ap length c.in_ok-seating.ensures.value ∙ length-replicate {A = ℕ} 2048 0;
+  places = ap length c.in_ok-seating.ensures.value ∙ length-replicate {A = ℕ} place_count 0;
 }

@@ -1,0 +1,70 @@
+-- Who isn't heard, in plain words: what follows from the definitions of flow, mix and packet.
+use Rattle.std.specs.Prelude.{◌≡◌, ℕ, ℤ, ◌+◌, ◌<◌, ◌==◌, ◌&&◌, ◌||◌, not, Bool, true, false, List}
+use Rattle.std.specs.Prelude.{◌∷◌, ◌++◌, map, slice_index, if◌then◌else◌}
+use Rattle.std.specs.List.{list_all}
+use Rattle.mg_g711.specs.Law.{byte_of}
+use Rattle.mg_sdp.specs.declared.chosen.Chosen.{Chosen}
+use Rattle.mg_words.specs.declared.association.Association.TheVariants.{Isolate}
+use Rattle.mg_rooms.specs.declared.record.Record.{Record}
+use Rattle.mg_engine.specs.Gateway.{Gateway, TerminationMedia, ContextEdit, Enter, Leave, Apply}
+use Rattle.mg_engine.specs.Gateway.{mode_of}
+use Rattle.mg_engine.specs.Flow.{flow, speaks_of}
+use Rattle.mg_engine.specs.Mix.{mix, is_loopback}
+use Rattle.mg_engine.specs.Tick.{packet, packet_of}
+
+-- nobody hears himself: no termination's own speech goes to it
+abbrev pub NobodyHearsHimself : Type 0
+NobodyHearsHimself = (w : Gateway) (n : ℕ) → flow w n n ≡ false
+
+-- ## An isolated participant isn't heard
+
+-- an edit leaves two who were isolated so, unless one of them enters a context by it, or it speaks
+-- of the two
+abbrev pub leaves_isolated : ℕ → ℕ → ContextEdit → Bool
+leaves_isolated a b (Enter n) = not (a == n || b == n)
+leaves_isolated a b (Leave n) = true
+leaves_isolated a b (Apply first second association) = not (speaks_of first second a b)
+
+-- two were isolated from each other, and all that happened since leaves them so
+pub record AreIsolated (w : Gateway) (a b : ℕ) : Type 0 where
+  pub since : List ContextEdit
+  pub first : List ℕ
+  pub second : List ℕ
+  pub before : List ContextEdit
+  pub edits : w.edits ≡ since ++ Apply first second Isolate ∷ before
+  pub isolated : speaks_of first second a b ≡ true
+  pub left : list_all (leaves_isolated a b) since ≡ true
+
+-- the speech of neither goes to the other
+abbrev pub IsolatedAreNotHeard : Type 0
+IsolatedAreNotHeard =
+    (w : Gateway) (a b : ℕ) → AreIsolated w a b → (flow w a b ≡ false) × (flow w b a ≡ false)
+
+-- ## Who isn't heard leaves no trace
+
+abbrev pub replayed : ℕ → List ℤ → TerminationMedia → TerminationMedia
+replayed n frame s = if s.number == n then record s { frame = frame } else s
+
+-- the gateway as it would be if this tick played another frame of a termination
+abbrev pub with_frame : Gateway → ℕ → List ℤ → Gateway
+with_frame w n frame = record w { media = map (replayed n frame) w.media }
+
+-- a termination is sent its own speech in a loopback alone
+abbrev pub hears_itself : Gateway → ℕ → Bool
+hears_itself w n = is_loopback (mode_of w n)
+
+-- Whatever a talker says, the packet to a listener to whom its speech doesn't go is the same, byte
+-- for byte. (In a loopback a termination is its own listener.)
+abbrev pub UnheardChangesNoPacket : Type 0
+UnheardChangesNoPacket =
+    (w : Gateway) (talker : ℕ) (frame : List ℤ) (r : Record) → flow w talker r.number ≡ false
+    → ((r.number == talker) && hears_itself w r.number) ≡ false
+    → packet_of (with_frame w talker frame) r ≡ packet_of w r
+
+-- ## What a packet carries
+
+-- after the twelve bytes of its header, the encoding of each sample of what the listener is sent
+abbrev pub PayloadsAreMixes : Type 0
+PayloadsAreMixes =
+    (w : Gateway) (r : Record) (to : Chosen) (s : TerminationMedia) (i : ℕ) → i < 160
+    → slice_index (packet w r to s).bytes (12 + i) ≡ byte_of to.law (mix w r.number i)

@@ -6,5 +6,6 @@ pub mod PutLaws
 pub mod PropertySteps
 pub mod RunLaws
 pub mod WideLaws
+pub mod RefusalLaws
 pub mod Rows
 pub mod StreamSteps

@@ -1,11 +1,12 @@
 -- What comes of the commands and actions of a request, step by step.
-use Rattle.std.proofs.Common.{◌≡◌, ℕ, ◌+◌, ◌<◌, ◌≤◌, Bool, true, false, List, [], ◌∷◌, ◌++◌, length, get_or, drop, Option, Some, None, Result, Ok, Err, refl, sym, ap, subst, ◌∙◌, append_assoc}
+use Rattle.std.proofs.Common.{◌≡◌, ℕ, ◌+◌, ◌<◌, ◌≤◌, Bool, true, false, ◌&&◌, ◌||◌, List, [], ◌∷◌, ◌++◌, length, map, get_or, drop, Option, Some, None, Result, Ok, Err, refl, sym, ap, subst, ◌∙◌, append_assoc}
 use Rattle.std.specs.List.{list_all}
 use Rattle.std.specs.Option.{option_or}
 use Rattle.std.proofs.lemmas.List.{drop_more, drop_all}
 use Rattle.std.proofs.lemmas.List.Folds.{list_all_at}
 use Rattle.mg_scan.specs.Span.{text_of}
 use Rattle.mg_words.specs.Leads.{Leads}
+use Rattle.mg_words.specs.ResultSteps.{◌>>=◌}
 use Rattle.mg_words.specs.declared.error_number.ErrorNumber.{ErrorNumber}
 use Rattle.mg_reply.specs.declared.item.Item.{Item}
 use Rattle.mg_reply.specs.declared.item.Item.TheVariants as replies
@@ -18,14 +19,17 @@ use Rattle.mg_text.specs.declared.command.Command.{Command}
 use Rattle.mg_text.specs.declared.request.Action.{Action}
 use Rattle.mg_text.specs.declared.request.Request.{Request}
 use Rattle.mg_text.specs.Proper.{command_is_proper, action_is_proper}
+use Rattle.mg_commands.specs.declared.command_parameters.CommandParameters.{CommandParameters}
+use Rattle.mg_commands.specs.declared.name.Name.{Name}
+use Rattle.mg_commands.specs.declared.name.Name.TheVariants as names
 use Rattle.mg_commands.specs.declared.progress.Progress.{Progress}
 use Rattle.mg_commands.specs.declared.served.Served.{Served}
 use Rattle.mg_commands.specs.ContextProperties.{action_fault, context_outcome}
-use Rattle.mg_commands.specs.Name.{written_name}
-use Rattle.mg_commands.specs.Outcome.{outcome}
+use Rattle.mg_commands.specs.Name.{name_of, written_as, written_name}
+use Rattle.mg_commands.specs.Outcome.{Trial, outcome, check_command, all_names, names_for}
 use Rattle.mg_commands.specs.Search.{or_else}
-use Rattle.mg_commands.specs.Transaction.{ActionState, TransactionState, after_command, with_command, with_commands, action_start, id_of, target_of, ended, after_properties, after_commands, action_unless, with_action, with_actions, replied}
-use Rattle.mg_commands.specs.aids.Runs.{ActionKept, action_kept, IsAction, TransactionKept, transaction_kept, IsTransaction, Tells}
+use Rattle.mg_commands.specs.Transaction.{ActionState, TransactionState, after_outcome, with_name, and_then, with_names, with_trial, with_command, unless_optional, go_on, with_commands, action_start, id_of, target_of, ended, after_properties, after_commands, action_unless, with_action, with_actions, replied}
+use Rattle.mg_commands.specs.aids.Runs.{ActionKept, action_kept, IsAction, with_all, TransactionKept, transaction_kept, IsTransaction, Tells}
 use Rattle.mg_commands.proofs.PutLaws.{put_next, put_more}
 
 value_cases : (b : Bool) → (b ≡ false → true ≡ false) → b ≡ true
@@ -41,47 +45,163 @@ action_proper source xs i d lt all = value_cases (action_is_proper source (get_o
 
 pub ruleset propers = (command_proper, action_proper)
 
--- ## A command
+-- ## A command for one name
 
 abbrev item_done : Command → Served → Item
 item_done c s = replies.Command c.word s.term (Done s.parts)
 
-abbrev item_failed : List ℕ → Command → ErrorNumber → Item
-item_failed source c e = replies.Command c.word (written_name (text_of source c.term)) (Failed e)
+abbrev item_failed : Command → List ℕ → ErrorNumber → Item
+item_failed c term e = replies.Command c.word term (Failed e)
 
-with_outcome : (source : List ℕ) (c : Command) (run : ActionState) (target : Target) → run.target ≡ target → with_command source c run ≡ after_command source run c (outcome source run.gateway target c)
-with_outcome source c run target h = ap (λ (t : Target). after_command source run c (outcome source run.gateway t c)) h
+abbrev name_told : List ℕ → Command → Name → List ℕ
+name_told source c name = written_as (text_of source c.term) name
+
+with_outcome : (source : List ℕ) (c : Command) (parameters : CommandParameters) (name : Name) (run : ActionState) (target : Target) → run.target ≡ target → with_name source c parameters name run ≡ after_outcome c.word (name_told source c name) run (outcome c.word run.gateway target name parameters)
+with_outcome source c parameters name run target h = ap (λ (t : Target). after_outcome c.word (name_told source c name) run (outcome c.word run.gateway t name parameters)) h
 
 made_first : (a b made : Option ℕ) (told : Option ℕ) → a ≡ b → told ≡ option_or b made → or_else a made ≡ told
 made_first a (Some n) made told h e = ap (λ (o : Option ℕ). or_else o made) h ∙ sym e
 made_first a None made told h e = ap (λ (o : Option ℕ). or_else o made) h ∙ sym e
 
-pub command_done : (source : List ℕ) (c : Command) (old new : EngineState) (progress : Progress) (before told : Answered) (s : Served) (made : Option ℕ) → ((w : Gateway) → StandsFor old w → IsOutcome new (Ok s) (outcome source w progress.target c)) → made ≡ option_or progress.made s.made → told ≡ after_put before (item_done c s)
-    → (base : Answered) → Leads (IsAction base) (action_kept old progress before) (action_kept new (record { target = s.target; made = made }) told) (λ run next. with_command source c run ≡ (next, true))
-command_done source c old new progress before told s made came is put base run h =
+pub name_done : (source : List ℕ) (c : Command) (parameters : CommandParameters) (name : Name) (old new : EngineState) (progress : Progress) (before told : Answered) (s : Served) (made : Option ℕ) → ((w : Gateway) → StandsFor old w → IsOutcome new (Ok s) (outcome c.word w progress.target name parameters)) → made ≡ option_or progress.made s.made → told ≡ after_put before (item_done c s)
+    → (base : Answered) → Leads (IsAction base) (action_kept old progress before) (action_kept new (record { target = s.target; made = made }) told) (λ run next. with_name source c parameters name run ≡ (next, true))
+name_done source c parameters name old new progress before told s made came is put base run h =
     let (w, did, stands) = came run.gateway h.gateway in (
       record { gateway = w; target = s.target; made = or_else run.made s.made; items = run.items ++ item_done c s ∷ [] },
-      with_outcome source c run progress.target h.target ∙ ap (after_command source run c) did,
+      with_outcome source c parameters name run progress.target h.target ∙ ap (after_outcome c.word (name_told source c name) run) did,
       record { gateway = stands; target = refl; made = made_first run.made progress.made s.made made h.made is; reply = put ∙ put_next base before run.items (item_done c s) h.reply },
     )
 
-pub command_failed : (source : List ℕ) (c : Command) (old new : EngineState) (progress : Progress) (before told : Answered) (e : ErrorNumber) → ((w : Gateway) → StandsFor old w → IsOutcome new (Err e) (outcome source w progress.target c)) → new ≡ old → told ≡ after_put before (item_failed source c e)
-    → (base : Answered) → Leads (IsAction base) (action_kept old progress before) (action_kept new progress told) (λ run next. with_command source c run ≡ (next, false))
-command_failed source c old new progress before told e came same put base run h = (
-  record { gateway = run.gateway; target = run.target; made = run.made; items = run.items ++ item_failed source c e ∷ [] },
-  with_outcome source c run progress.target h.target ∙ ap (after_command source run c) (came run.gateway h.gateway),
-  record { gateway = rw same h.gateway; target = h.target; made = h.made; reply = put ∙ put_next base before run.items (item_failed source c e) h.reply },
+-- an action after one more item that tells an error stands where it stood
+failed_stands : (c : Command) (term : List ℕ) (old new : EngineState) (progress : Progress) (before told : Answered) (e : ErrorNumber) → new ≡ old → told ≡ after_put before (item_failed c term e)
+    → (base : Answered) (run : ActionState) → IsAction base (action_kept old progress before) run → IsAction base (action_kept new progress told) (record run { items = run.items ++ item_failed c term e ∷ [] })
+failed_stands c term old new progress before told e same put base run h =
+    record { gateway = rw same h.gateway; target = h.target; made = h.made; reply = put ∙ put_next base before run.items (item_failed c term e) h.reply }
+
+pub name_failed : (source : List ℕ) (c : Command) (parameters : CommandParameters) (name : Name) (old new : EngineState) (progress : Progress) (before told : Answered) (e : ErrorNumber) → ((w : Gateway) → StandsFor old w → IsOutcome new (Err e) (outcome c.word w progress.target name parameters)) → new ≡ old → told ≡ after_put before (item_failed c (name_told source c name) e)
+    → (base : Answered) → Leads (IsAction base) (action_kept old progress before) (action_kept new progress told) (λ run next. with_name source c parameters name run ≡ (next, false))
+name_failed source c parameters name old new progress before told e came same put base run h = (
+  record run { items = run.items ++ item_failed c (name_told source c name) e ∷ [] },
+  with_outcome source c parameters name run progress.target h.target ∙ ap (after_outcome c.word (name_told source c name) run) (came run.gateway h.gateway),
+  failed_stands c (name_told source c name) old new progress before told e same put base run h,
 )
+
+-- ## A command for members
+
+next_member : (source : List ℕ) (c : Command) (parameters : CommandParameters) (members : List ℕ) (i d : ℕ) (run next : ActionState) (is_done : Bool) → i < length members → with_name source c parameters (names.Number (get_or members i d)) run ≡ (next, is_done)
+    → with_names source c parameters (map names.Number (drop i members)) run ≡ and_then (with_names source c parameters (map names.Number (drop (i + 1) members))) (next, is_done)
+unfolding with_names
+next_member source c parameters members i d run next is_done lt e = rw (drop_more members i d lt, e) refl
+
+members_end : (source : List ℕ) (c : Command) (parameters : CommandParameters) (members : List ℕ) (i : ℕ) (run : ActionState) → length members ≤ i → with_names source c parameters (map names.Number (drop i members)) run ≡ (run, true)
+unfolding with_names
+members_end source c parameters members i run le = rw (drop_all i members le) refl
+
+-- what was done of the first, of the second and of the rest
+and_then_twice : (rest : ActionState → ActionState × Bool) (a b : Bool) (run : ActionState) → and_then (λ x. and_then rest (x, b)) (run, a) ≡ and_then rest (run, a && b)
+and_then_twice rest true b run = refl
+and_then_twice rest false b run = refl
+
+was_done : (run : ActionState) (a : Bool) → (let x : ActionState × Bool = (run, a && true) in x) ≡ (run, a)
+was_done run true = refl
+was_done run false = refl
+
+-- The loop over members, at the member i. What it was entered with stood for actions; each came to one of those for
+-- which what it has now stands.
+module _ (source : List ℕ) (c : Command) (parameters : CommandParameters) (members : List ℕ) (base : Answered) (entered kept : ActionKept) (i : ℕ) (were_done : Bool)
+    (inside : Leads (IsAction base) entered kept (λ run now. with_names source c parameters (map names.Number members) run ≡ and_then (with_names source c parameters (map names.Number (drop i members))) (now, were_done))) where
+  pub members_go_on : (n d : ℕ) (new : ActionKept) (is_done are_done : Bool) → i < length members → n ≡ get_or members i d → are_done ≡ (were_done && is_done) → Leads (IsAction base) kept new (λ run next. with_name source c parameters (names.Number n) run ≡ (next, is_done)) → Leads (IsAction base) entered new (λ run now. with_names source c parameters (map names.Number members) run ≡ and_then (with_names source c parameters (map names.Number (drop (i + 1) members))) (now, are_done))
+  members_go_on n d new is_done are_done lt is all step run h =
+      let (now, came, stands) = inside run h in
+      let (next, did, left) = step now stands in
+      let rest = with_names source c parameters (map names.Number (drop (i + 1) members)) in
+      let one = next_member source c parameters members i d now next is_done lt (ap (λ (n : ℕ). with_name source c parameters (names.Number n) now) (sym is) ∙ did) in (
+        next,
+        came ∙ ap (λ (x : ActionState × Bool). (x.0, were_done && x.1)) one ∙ and_then_twice rest were_done is_done next ∙ ap (λ (b : Bool). and_then rest (next, b)) (sym all),
+        left,
+      )
+
+  pub members_finish : length members ≤ i → Leads (IsAction base) entered kept (λ run next. with_names source c parameters (map names.Number members) run ≡ (next, were_done))
+  members_finish le run h =
+      let (now, came, stands) = inside run h in
+      (now, came ∙ ap (λ (x : ActionState × Bool). (x.0, were_done && x.1)) (members_end source c parameters members i now le) ∙ was_done now were_done, stands)
+
+-- ## A command for all members
+
+abbrev tried_on : CommandParameters → Result (List Name) ErrorNumber → Result Trial ErrorNumber
+tried_on parameters r = do
+  xs ← r
+  Ok (record { parameters = parameters; names = xs })
+
+with_matches : (source : List ℕ) (c : Command) (parameters : CommandParameters) (run : ActionState) (target : Target) (r : Result (List Name) ErrorNumber) → run.target ≡ target → all_names run.gateway target c.word ≡ r → with_all source c parameters run ≡ with_trial source c run (tried_on parameters r)
+with_matches source c parameters run target r h is = ap (λ (t : Target). with_trial source c run (tried_on parameters (all_names run.gateway t c.word))) h ∙ ap (λ (r : Result (List Name) ErrorNumber). with_trial source c run (tried_on parameters r)) is
+
+pub all_refused : (source : List ℕ) (c : Command) (parameters : CommandParameters) (kept : EngineState) (progress : Progress) (before told : Answered) (e : ErrorNumber) → ((w : Gateway) → StandsFor kept w → all_names w progress.target c.word ≡ Err e) → told ≡ after_put before (item_failed c (written_name (text_of source c.term)) e)
+    → (base : Answered) → Leads (IsAction base) (action_kept kept progress before) (action_kept kept progress told) (λ run next. with_all source c parameters run ≡ (next, false))
+all_refused source c parameters kept progress before told e found put base run h =
+    let term = written_name (text_of source c.term) in (
+      record run { items = run.items ++ item_failed c term e ∷ [] },
+      with_matches source c parameters run progress.target (Err e) h.target (found run.gateway h.gateway),
+      failed_stands c term kept kept progress before told e refl put base run h,
+    )
+
+-- ## A command
+
+abbrev tried_with : Gateway → Target → Command → Name → Result CommandParameters ErrorNumber → Result Trial ErrorNumber
+tried_with w target c name r = do
+  parameters ← r
+  xs ← names_for w target c.word name
+  Ok (record { parameters = parameters; names = xs })
+
+with_checked : (source : List ℕ) (c : Command) (run : ActionState) (name : Name) (r : Result CommandParameters ErrorNumber) → check_command source c ≡ r → name_of (text_of source c.term) ≡ name → with_command source c run ≡ with_trial source c run (tried_with run.gateway run.target c name r)
+with_checked source c run name r h is = ap (λ (r : Result CommandParameters ErrorNumber). with_trial source c run (tried_with run.gateway run.target c (name_of (text_of source c.term)) r)) h ∙ ap (λ (name : Name). with_trial source c run (tried_with run.gateway run.target c name r)) is
+
+-- a command for one name
+alone : (x : ActionState × Bool) → (let y : ActionState × Bool = (x.0, x.1 && true) in y) ≡ x
+alone (run, is_done) = was_done run is_done
+
+for_one : (source : List ℕ) (c : Command) (parameters : CommandParameters) (name : Name) (run : ActionState) → with_names source c parameters (name ∷ []) run ≡ with_name source c parameters name run
+unfolding with_names
+for_one source c parameters name run = alone (with_name source c parameters name run)
+
+one_tried : (source : List ℕ) (c : Command) (parameters : CommandParameters) (name : Name) (run : ActionState) → (name ≡ names.All → ⊥) → with_trial source c run (tried_with run.gateway run.target c name (Ok parameters)) ≡ with_name source c parameters name run
+one_tried source c parameters names.Root run h = for_one source c parameters names.Root run
+one_tried source c parameters names.Choose run h = for_one source c parameters names.Choose run
+one_tried source c parameters names.All run h = absurd (h refl)
+one_tried source c parameters (names.Number n) run h = for_one source c parameters (names.Number n) run
+one_tried source c parameters names.Other run h = for_one source c parameters names.Other run
+
+pub command_for_one : (source : List ℕ) (c : Command) (parameters : CommandParameters) (name : Name) (kept new : ActionKept) (is_done : Bool) → check_command source c ≡ Ok parameters → name_of (text_of source c.term) ≡ name → (name ≡ names.All → ⊥)
+    → ((base : Answered) → Leads (IsAction base) kept new (λ run next. with_name source c parameters name run ≡ (next, is_done)))
+    → (base : Answered) → Leads (IsAction base) kept new (λ run next. with_command source c run ≡ (next, is_done))
+command_for_one source c parameters name kept new is_done checked is not_all ran base run h =
+    let (next, did, stands) = ran base run h in
+    (next, with_checked source c run name (Ok parameters) checked is ∙ one_tried source c parameters name run not_all ∙ did, stands)
+
+pub command_refused : (source : List ℕ) (c : Command) (kept : EngineState) (progress : Progress) (before told : Answered) (e : ErrorNumber) → check_command source c ≡ Err e → told ≡ after_put before (item_failed c (written_name (text_of source c.term)) e)
+    → (base : Answered) → Leads (IsAction base) (action_kept kept progress before) (action_kept kept progress told) (λ run next. with_command source c run ≡ (next, false))
+command_refused source c kept progress before told e checked put base run h =
+    let term = written_name (text_of source c.term) in (
+      record run { items = run.items ++ item_failed c term e ∷ [] },
+      with_checked source c run (name_of (text_of source c.term)) (Err e) checked refl,
+      failed_stands c term kept kept progress before told e refl put base run h,
+    )
 
 -- ## Commands
 
-next_done : (source : List ℕ) (cs : List Command) (i : ℕ) (d : Command) (run next : ActionState) → i < length cs → with_command source (get_or cs i d) run ≡ (next, true) → with_commands source (drop i cs) run ≡ with_commands source (drop (i + 1) cs) next
-unfolding with_commands
-next_done source cs i d run next lt e = rw (drop_more cs i d lt, e) refl
+passed : (source : List ℕ) (c : Command) (run next : ActionState) (is_done : Bool) → with_command source c run ≡ (next, is_done) → (c.is_optional || is_done) ≡ true → unless_optional c (with_command source c run) ≡ (next, true)
+passed source c run next is_done e goes_on = ap (unless_optional c) e ∙ ap (λ (b : Bool). (next, b)) goes_on
 
-next_failed : (source : List ℕ) (cs : List Command) (i : ℕ) (d : Command) (run next : ActionState) → i < length cs → with_command source (get_or cs i d) run ≡ (next, false) → with_commands source (drop i cs) run ≡ (next, false)
+stopped : (source : List ℕ) (c : Command) (run next : ActionState) (is_done : Bool) → with_command source c run ≡ (next, is_done) → (c.is_optional || is_done) ≡ false → unless_optional c (with_command source c run) ≡ (next, false)
+stopped source c run next is_done e goes_on = ap (unless_optional c) e ∙ ap (λ (b : Bool). (next, b)) goes_on
+
+next_done : (source : List ℕ) (cs : List Command) (i : ℕ) (d : Command) (run next : ActionState) → i < length cs → unless_optional (get_or cs i d) (with_command source (get_or cs i d) run) ≡ (next, true) → with_commands source (drop i cs) run ≡ with_commands source (drop (i + 1) cs) next
 unfolding with_commands
-next_failed source cs i d run next lt e = rw (drop_more cs i d lt, e) refl
+next_done source cs i d run next lt e = ap (λ (xs : List Command). with_commands source xs run) (drop_more cs i d lt) ∙ ap (go_on (with_commands source (drop (i + 1) cs))) e
+
+next_failed : (source : List ℕ) (cs : List Command) (i : ℕ) (d : Command) (run next : ActionState) → i < length cs → unless_optional (get_or cs i d) (with_command source (get_or cs i d) run) ≡ (next, false) → with_commands source (drop i cs) run ≡ (next, false)
+unfolding with_commands
+next_failed source cs i d run next lt e = ap (λ (xs : List Command). with_commands source xs run) (drop_more cs i d lt) ∙ ap (go_on (with_commands source (drop (i + 1) cs))) e
 
 commands_end : (source : List ℕ) (cs : List Command) (i : ℕ) (run : ActionState) → length cs ≤ i → with_commands source (drop i cs) run ≡ (run, true)
 unfolding with_commands
@@ -91,17 +211,17 @@ commands_end source cs i run le = rw (drop_all i cs le) refl
 -- which what it has now stands.
 module _ (source : List ℕ) (cs : List Command) (base : Answered) (entered kept : ActionKept) (i : ℕ)
     (inside : Leads (IsAction base) entered kept (λ run now. with_commands source cs run ≡ with_commands source (drop i cs) now)) where
-  pub commands_go_on : (c d : Command) (new : ActionKept) → i < length cs → c ≡ get_or cs i d → Leads (IsAction base) kept new (λ run next. with_command source c run ≡ (next, true)) → Leads (IsAction base) entered new (λ run now. with_commands source cs run ≡ with_commands source (drop (i + 1) cs) now)
-  commands_go_on c d new lt is step run h =
+  pub commands_go_on : (c d : Command) (new : ActionKept) (is_done : Bool) → i < length cs → c ≡ get_or cs i d → (c.is_optional || is_done) ≡ true → Leads (IsAction base) kept new (λ run next. with_command source c run ≡ (next, is_done)) → Leads (IsAction base) entered new (λ run now. with_commands source cs run ≡ with_commands source (drop (i + 1) cs) now)
+  commands_go_on c d new is_done lt is goes_on step run h =
       let (now, came, stands) = inside run h in
       let (next, did, left) = step now stands in
-      (next, came ∙ next_done source cs i d now next lt (ap (λ (c : Command). with_command source c now) (sym is) ∙ did), left)
+      (next, came ∙ next_done source cs i d now next lt (ap (λ (c : Command). unless_optional c (with_command source c now)) (sym is) ∙ passed source c now next is_done did goes_on), left)
 
-  pub commands_stop : (c d : Command) (new : ActionKept) → i < length cs → c ≡ get_or cs i d → Leads (IsAction base) kept new (λ run next. with_command source c run ≡ (next, false)) → Leads (IsAction base) entered new (λ run next. with_commands source cs run ≡ (next, false))
-  commands_stop c d new lt is step run h =
+  pub commands_stop : (c d : Command) (new : ActionKept) (is_done : Bool) → i < length cs → c ≡ get_or cs i d → (c.is_optional || is_done) ≡ false → Leads (IsAction base) kept new (λ run next. with_command source c run ≡ (next, is_done)) → Leads (IsAction base) entered new (λ run next. with_commands source cs run ≡ (next, false))
+  commands_stop c d new is_done lt is goes_on step run h =
       let (now, came, stands) = inside run h in
       let (next, did, left) = step now stands in
-      (next, came ∙ next_failed source cs i d now next lt (ap (λ (c : Command). with_command source c now) (sym is) ∙ did), left)
+      (next, came ∙ next_failed source cs i d now next lt (ap (λ (c : Command). unless_optional c (with_command source c now)) (sym is) ∙ stopped source c now next is_done did goes_on), left)
 
   pub commands_finish : length cs ≤ i → Leads (IsAction base) entered kept (λ run next. with_commands source cs run ≡ (next, true))
   commands_finish le run h =

@@ -1,5 +1,5 @@
 -- A stream whose number is greater than those before stands in none of them.
-use Rattle.std.proofs.Common.{◌≡◌, ℕ, ◌+◌, ◌==◌, ◌<◌, max, Bool, false, List, [], ◌∷◌, ◌++◌, length, get_or, take, Option, refl, ap, arith}
+use Rattle.std.proofs.Common.{◌≡◌, ℕ, ◌+◌, ◌==◌, ◌<◌, max, false, List, [], ◌∷◌, ◌++◌, length, get_or, take, Option, refl, ap, arith}
 use Rattle.std.proofs.lemmas.List.{take_more}
 use Rattle.std.proofs.lemmas.Bool.{ne_eqb}
 use Rattle.std.specs.List.{list_any}
@@ -8,7 +8,7 @@ use Rattle.mg_text.specs.declared.media.StreamPart.{StreamPart}
 use Rattle.mg_text.specs.declared.media.MediaPart.{MediaPart}
 use Rattle.mg_text.specs.declared.media.MediaPart.TheVariants as media
 use Rattle.mg_commands.specs.declared.part.Part.{Part}
-use Rattle.mg_commands.specs.Search.{first_after, or_else}
+use Rattle.mg_commands.specs.Search.{first_after}
 use Rattle.mg_commands.specs.aids.Levels.{stands_in, stream_level, media_level, stream_of, greatest_stream}
 
 pub greatest_push : (xs : List MediaPart) (x : MediaPart) → greatest_stream (xs ++ x ∷ []) ≡ max (greatest_stream xs) (stream_of x)

@@ -37,17 +37,17 @@ use Rattle.mg_rooms.specs.Registry.{members_at}
 use Rattle.mg_text.specs.declared.context_property.ContextProperty.{ContextProperty}
 use Rattle.mg_text.specs.declared.command.Command.{Command}
 use Rattle.mg_text.specs.declared.request.Action.{Action}
-use Rattle.mg_text.specs.Proper.{property_is_proper, command_is_proper, action_is_proper}
+use Rattle.mg_text.specs.Proper.{action_is_proper}
 use Rattle.mg_commands.specs.declared.command_parameters.CommandParameters.{CommandParameters}
 use Rattle.mg_commands.specs.declared.name.Name.{Name}
 use Rattle.mg_commands.specs.declared.name.Name.TheVariants as names
 use Rattle.mg_commands.specs.declared.served.Served.{Served}
 use Rattle.mg_commands.specs.Name.{name_of, written_as, written_name}
 use Rattle.mg_commands.specs.ContextProperties.{is_context_audit, action_fault, triples_of, pair_item, audit_pair, audit_pairs, audit_items, context_outcome}
-use Rattle.mg_commands.specs.Outcome.{CommandOutcome, check_command, check_new_name, number_in, in_same_world, outcome_by_word, outcome, reply_parts, served_at, made_at}
+use Rattle.mg_commands.specs.Outcome.{CommandOutcome, Trial, check_new_name, number_in, in_same_world, outcome, trial_of, reply_parts, served_at, made_at}
 use Rattle.mg_commands.specs.ReplyDescriptors.{descriptors_after, descriptors_before}
 use Rattle.mg_commands.specs.Theorems.{ItemsAreWide, ItemsAreWhole}
-use Rattle.mg_commands.specs.Transaction.{ActionState, TransactionState, after_command, with_command, go_on, with_commands, action_start, ended, after_properties, after_commands, refusal, action_unless, with_action, rest_of, with_actions, replied}
+use Rattle.mg_commands.specs.Transaction.{ActionState, TransactionState, after_outcome, with_name, with_names, with_trial, with_command, unless_optional, go_on, with_commands, action_start, ended, after_properties, after_commands, refusal, action_unless, with_action, rest_of, with_actions, replied}
 
 -- ## Texts
 
@@ -160,19 +160,16 @@ audit_is_long : (w : Gateway) (r : Result Served ErrorNumber) → IsLong words.A
 audit_is_long w (Ok s) = done (w, s) (omega (arith, audit_long))
 audit_is_long w (Err e) = failed e
 
-by_word_long : (word : CommandWord) (w : Gateway) (target : Target) (name : Name) (parameters : CommandParameters) → IsLong word (outcome_by_word word w target name parameters)
-by_word_long words.Add w target name parameters = by_bind (IsLong words.Add) (check_new_name w name) _ (λ u. by_bind (IsLong words.Add) (add w target parameters.settings) _ (λ p. made words.Add p.0 (targets.Number p.1.context) p.1.termination (reply_parts (descriptors_after parameters) p.0 p.1.termination)) failed) failed
-by_word_long words.Modify w target name parameters = by_bind (IsLong words.Modify) (number_in name) _ (λ n. by_bind (IsLong words.Modify) (modify w target n parameters.settings) _ (λ p. named words.Modify p.0 target n (reply_parts (descriptors_after parameters) p.0 n)) failed) failed
-by_word_long words.Move w target name parameters = by_bind (IsLong words.Move) (number_in name) _ (λ n. by_bind (IsLong words.Move) (move_to w target n parameters.settings) _ (λ p. named words.Move p.0 (targets.Number p.1.context) n (reply_parts (descriptors_after parameters) p.0 n)) failed) failed
-by_word_long words.Subtract w target name parameters = by_bind (IsLong words.Subtract) (number_in name) _ (λ n. by_bind (IsLong words.Subtract) (subtract w target n) _ (λ p. named words.Subtract p.0 target n (reply_parts (descriptors_before parameters) w n)) failed) failed
-by_word_long words.AuditValue w target name parameters = audit_is_long w _
-by_word_long words.AuditCapability w target name parameters = failed NotServed
-by_word_long words.Notify w target name parameters = failed NotServed
-by_word_long words.ServiceChange w target name parameters = failed NotServed
-
-outcome_long : (source : List ℕ) (w : Gateway) (target : Target) (c : Command) → IsLong c.word (outcome source w target c)
+outcome_long : (word : CommandWord) (w : Gateway) (target : Target) (name : Name) (parameters : CommandParameters) → IsLong word (outcome word w target name parameters)
 unfolding outcome
-outcome_long source w target c = by_bind (IsLong c.word) (check_command source (name_of (text_of source c.term)) c) _ (λ parameters. by_word_long c.word w target (name_of (text_of source c.term)) parameters) failed
+outcome_long words.Add w target name parameters = by_bind (IsLong words.Add) (check_new_name w name) _ (λ u. by_bind (IsLong words.Add) (add w target parameters.settings) _ (λ p. made words.Add p.0 (targets.Number p.1.context) p.1.termination (reply_parts (descriptors_after parameters) p.0 p.1.termination)) failed) failed
+outcome_long words.Modify w target name parameters = by_bind (IsLong words.Modify) (number_in name) _ (λ n. by_bind (IsLong words.Modify) (modify w target n parameters.settings) _ (λ p. named words.Modify p.0 target n (reply_parts (descriptors_after parameters) p.0 n)) failed) failed
+outcome_long words.Move w target name parameters = by_bind (IsLong words.Move) (number_in name) _ (λ n. by_bind (IsLong words.Move) (move_to w target n parameters.settings) _ (λ p. named words.Move p.0 (targets.Number p.1.context) n (reply_parts (descriptors_after parameters) p.0 n)) failed) failed
+outcome_long words.Subtract w target name parameters = by_bind (IsLong words.Subtract) (number_in name) _ (λ n. by_bind (IsLong words.Subtract) (subtract w target n) _ (λ p. named words.Subtract p.0 target n (reply_parts (descriptors_before parameters) w n)) failed) failed
+outcome_long words.AuditValue w target name parameters = audit_is_long w _
+outcome_long words.AuditCapability w target name parameters = failed NotServed
+outcome_long words.Notify w target name parameters = failed NotServed
+outcome_long words.ServiceChange w target name parameters = failed NotServed
 
 -- ## Items of a run
 
@@ -186,23 +183,31 @@ both_true false b h k = h
 wide_last : (xs : List Item) (x : Item) → AreWide xs → is_wide x ≡ true → AreWide (xs ++ x ∷ [])
 wide_last xs x h k = list_all-append is_wide xs (x ∷ []) ∙ both_true (list_all is_wide xs) (is_wide x && true) h (both_true (is_wide x) true k refl)
 
-after_command_wide : (source : List ℕ) (run : ActionState) (c : Command) (r : CommandOutcome) → IsLong c.word r → command_is_proper source c ≡ true → AreWide run.items → AreWide (after_command source run c r).0.items
-after_command_wide source run c (Ok p) (done _ h) proper wide = wide_last run.items (replies.Command c.word p.1.term (Done p.1.parts)) wide (command_wide c.word p.1.term (Done p.1.parts) (omega (arith, h)))
-after_command_wide source run c (Err e) (failed _) proper wide = wide_last run.items (replies.Command c.word (written_name (text_of source c.term)) (Failed e)) wide (command_wide c.word (written_name (text_of source c.term)) (Failed e) (omega (arith, failed_long e)))
+after_outcome_wide : (word : CommandWord) (name : List ℕ) (run : ActionState) (r : CommandOutcome) → IsLong word r → AreWide run.items → AreWide (after_outcome word name run r).0.items
+after_outcome_wide word name run (Ok p) (done _ h) wide = wide_last run.items (replies.Command word p.1.term (Done p.1.parts)) wide (command_wide word p.1.term (Done p.1.parts) (omega (arith, h)))
+after_outcome_wide word name run (Err e) (failed _) wide = wide_last run.items (replies.Command word name (Failed e)) wide (command_wide word name (Failed e) (omega (arith, failed_long e)))
 
-with_command_wide : (source : List ℕ) (run : ActionState) (c : Command) → command_is_proper source c ≡ true → AreWide run.items → AreWide (with_command source c run).0.items
-with_command_wide source run c proper wide = after_command_wide source run c (outcome source run.gateway run.target c) (outcome_long source run.gateway run.target c) proper wide
+with_name_wide : (source : List ℕ) (c : Command) (parameters : CommandParameters) (name : Name) (run : ActionState) → AreWide run.items → AreWide (with_name source c parameters name run).0.items
+with_name_wide source c parameters name run wide = after_outcome_wide c.word (written_as (text_of source c.term) name) run (outcome c.word run.gateway run.target name parameters) (outcome_long c.word run.gateway run.target name parameters) wide
+
+with_names_wide : (source : List ℕ) (c : Command) (parameters : CommandParameters) (xs : List Name) (run : ActionState) → AreWide run.items → AreWide (with_names source c parameters xs run).0.items
+unfolding with_names
+with_names_wide source c parameters [] run wide = wide
+with_names_wide source c parameters (x ∷ xs) run wide = with_names_wide source c parameters xs (with_name source c parameters x run).0 (with_name_wide source c parameters x run wide)
+
+with_trial_wide : (source : List ℕ) (c : Command) (run : ActionState) (r : Result Trial ErrorNumber) → AreWide run.items → AreWide (with_trial source c run r).0.items
+with_trial_wide source c run (Ok trial) wide = with_names_wide source c trial.parameters trial.names run wide
+with_trial_wide source c run (Err e) wide = after_outcome_wide c.word (written_name (text_of source c.term)) run (Err e) (failed e) wide
 
 go_on_wide : (rest : ActionState → ActionState × Bool) (x : ActionState × Bool) → AreWide x.0.items → ((run : ActionState) → AreWide run.items → AreWide (rest run).0.items) → AreWide (go_on rest x).0.items
 go_on_wide rest (run, true) h k = k run h
 go_on_wide rest (run, false) h k = h
 
-commands_wide : (source : List ℕ) (cs : List Command) (run : ActionState) → list_all (command_is_proper source) cs ≡ true → AreWide run.items → AreWide (with_commands source cs run).0.items
+commands_wide : (source : List ℕ) (cs : List Command) (run : ActionState) → AreWide run.items → AreWide (with_commands source cs run).0.items
 unfolding with_commands
-commands_wide source [] run proper wide = wide
-commands_wide source (c ∷ cs) run proper wide =
-    let two = and_parts (command_is_proper source c) (list_all (command_is_proper source) cs) proper in
-    go_on_wide (with_commands source cs) (with_command source c run) (with_command_wide source run c two.0 wide) (λ next h. commands_wide source cs next two.1 h)
+commands_wide source [] run wide = wide
+commands_wide source (c ∷ cs) run wide =
+    go_on_wide (with_commands source cs) (unless_optional c (with_command source c run)) (with_trial_wide source c run (trial_of source run.gateway run.target c) wide) (commands_wide source cs)
 
 wide_more : (xs ys : List Item) → AreWide xs → AreWide ys → AreWide (xs ++ ys)
 wide_more xs ys h k = list_all-append is_wide xs ys ∙ both_true (list_all is_wide xs) (list_all is_wide ys) h k
@@ -256,31 +261,25 @@ after_commands_wide source ps (run, false) h = ended_wide run run.gateway [] h r
 refusal_wide : (a : Action) (s : TransactionState) (e : ErrorNumber) → AreWide s.items → AreWide (refusal a s e).0.items
 refusal_wide a s e h = list_all-append is_wide s.items (replies.Fault e ∷ replies.Action a.context ∷ []) ∙ both_true (list_all is_wide s.items) _ h (both_true (is_wide (replies.Fault e)) _ (fault_wide e) (both_true (is_wide (replies.Action a.context)) true (action_wide a.context) refl))
 
-unless_wide : (o : Option ErrorNumber) (source : List ℕ) (a : Action) (s : TransactionState) → list_all (command_is_proper source) a.commands ≡ true → AreWide s.items → AreWide (action_unless o source a s).0.items
-unless_wide (Some e) source a s proper wide = refusal_wide a s e wide
-unless_wide None source a s proper wide = after_commands_wide source a.properties (with_commands source a.commands (action_start a s)) (commands_wide source a.commands (action_start a s) proper wide)
+unless_wide : (o : Option ErrorNumber) (source : List ℕ) (a : Action) (s : TransactionState) → AreWide s.items → AreWide (action_unless o source a s).0.items
+unless_wide (Some e) source a s wide = refusal_wide a s e wide
+unless_wide None source a s wide = after_commands_wide source a.properties (with_commands source a.commands (action_start a s)) (commands_wide source a.commands (action_start a s) wide)
 
-with_action_wide : (source : List ℕ) (a : Action) (s : TransactionState) → action_is_proper source a ≡ true → AreWide s.items → AreWide (with_action source a s).0.items
+with_action_wide : (source : List ℕ) (a : Action) (s : TransactionState) → AreWide s.items → AreWide (with_action source a s).0.items
 unfolding with_action
-with_action_wide source a s proper wide =
-    let two = and_parts (list_all (property_is_proper source) a.properties) (list_all (command_is_proper source) a.commands) proper in
-    unless_wide (action_fault a) source a s two.1 wide
+with_action_wide source a s wide = unless_wide (action_fault a) source a s wide
 
 rest_of_holds : (P : TransactionState → Type 0) (rest : TransactionState → TransactionState) (x : TransactionState × Bool) → P x.0 → ((s : TransactionState) → P s → P (rest s)) → P (rest_of rest x)
 rest_of_holds P rest (s, true) h k = k s h
 rest_of_holds P rest (s, false) h k = h
 
-actions_wide : (source : List ℕ) (xs : List Action) (s : TransactionState) → list_all (action_is_proper source) xs ≡ true → AreWide s.items → AreWide (with_actions source xs s).items
+actions_wide : (source : List ℕ) (xs : List Action) (s : TransactionState) → AreWide s.items → AreWide (with_actions source xs s).items
 unfolding with_actions
-actions_wide source [] s proper wide = wide
-actions_wide source (a ∷ xs) s proper wide =
-    let two = and_parts (action_is_proper source a) (list_all (action_is_proper source) xs) proper in
-    rest_of_holds (λ (s : TransactionState). AreWide s.items) (with_actions source xs) (with_action source a s) (with_action_wide source a s two.0 wide) (λ next h. actions_wide source xs next two.1 h)
+actions_wide source [] s wide = wide
+actions_wide source (a ∷ xs) s wide = rest_of_holds (λ (s : TransactionState). AreWide s.items) (with_actions source xs) (with_action source a s) (with_action_wide source a s wide) (actions_wide source xs)
 
 pub items_are_wide : ItemsAreWide
-items_are_wide source request w proper =
-    let two = and_parts (not (length request.actions == 0)) (list_all (action_is_proper source) request.actions) proper in
-    actions_wide source request.actions (record { gateway = w; items = [] }) two.1 refl
+items_are_wide source request w proper = actions_wide source request.actions (record { gateway = w; items = [] }) refl
 
 -- ## The last item
 

@@ -2,8 +2,8 @@
 -- section 7.2). The numbers of errors and the order of the checks are this project's own: what
 -- isn't served, the descriptors, the properties, the name, and then those of the terminations and
 -- contexts.
-use Rattle.std.specs.Prelude.{ℕ, ◌||◌, not, Bool, true, false, List, Option, Some, None}
-use Rattle.std.specs.Prelude.{is_some, Result, Ok, Err, codes, if◌then◌else◌}
+use Rattle.std.specs.Prelude.{ℕ, ◌&&◌, not, Bool, true, false, List, [], ◌∷◌, map, Option, Some}
+use Rattle.std.specs.Prelude.{None, is_some, Result, Ok, Err, codes, if◌then◌else◌}
 use Rattle.std.specs.Option.{option_map}
 use Rattle.mg_scan.specs.Span.{text_of}
 use Rattle.mg_sdp.specs.declared.chosen.Chosen.{Chosen}
@@ -20,7 +20,7 @@ use Rattle.mg_rooms.specs.declared.record.Record.{Record}
 use Rattle.mg_rooms.specs.declared.target.Target.{Target}
 use Rattle.mg_rooms.specs.declared.target.Target.TheVariants as targets
 use Rattle.mg_rooms.specs.Outcome.{member}
-use Rattle.mg_rooms.specs.Registry.{record_at}
+use Rattle.mg_rooms.specs.Registry.{members_at, record_at}
 use Rattle.mg_engine.specs.Outcome as engine
 use Rattle.mg_engine.specs.Gateway.{Gateway, stats_of}
 use Rattle.mg_text.specs.declared.command.Command.{Command}
@@ -55,14 +55,9 @@ is_served_word words.AuditCapability = false
 is_served_word words.Notify = false
 is_served_word words.ServiceChange = false
 
-abbrev pub is_all : Name → Bool
-is_all names.All = true
-is_all _ = false
-
--- one reply for all matches, an optional command and a name for all terminations aren't served
-abbrev pub is_served : Name → Command → Bool
-is_served name c =
-    not (not (is_served_word c.word) || c.wants_wildcard || c.is_optional || is_all name)
+-- one reply for all that match isn't served (RFC 3525, section 8.2.2, W-)
+abbrev pub is_served : Command → Bool
+is_served c = is_served_word c.word && not c.wants_wildcard
 
 abbrev pub if_served : Bool → Result (Unit {0}) ErrorNumber
 if_served true = Ok tt
@@ -76,10 +71,48 @@ check_descriptors source xs = do
   Ok (parameters_of source xs)
 
 -- what a command asks for, if its text is served
-abbrev pub check_command : List ℕ → Name → Command → Result CommandParameters ErrorNumber
-check_command source name c = do
-  _ ← if_served (is_served name c)
+abbrev pub check_command : List ℕ → Command → Result CommandParameters ErrorNumber
+check_command source c = do
+  _ ← if_served (is_served c)
   check_descriptors source c.descriptors
+
+-- ## What a command is tried on
+
+-- a Modify, Subtract or AuditValue may be for all members of its context
+abbrev pub takes_all : CommandWord → Bool
+takes_all words.Modify = true
+takes_all words.Subtract = true
+takes_all words.AuditValue = true
+takes_all words.Add = false
+takes_all words.Move = false
+takes_all words.AuditCapability = false
+takes_all words.Notify = false
+takes_all words.ServiceChange = false
+
+-- the members of an action's context, in the order of their entry; one that isn't there has none
+abbrev pub members_in : Gateway → Target → List ℕ
+members_in w targets.Null = []
+members_in w targets.New = []
+members_in w (targets.Number c) = members_at w.rooms c
+
+-- at least one has to match
+abbrev pub if_some : List Name → Result (List Name) ErrorNumber
+if_some [] = Err errors.WildcardMatchedNone
+if_some (x ∷ xs) = Ok (x ∷ xs)
+
+abbrev pub all_names : Gateway → Target → CommandWord → Result (List Name) ErrorNumber
+all_names w target word =
+    if takes_all word then if_some (map names.Number (members_in w target))
+    else Err errors.IdentifierNotAllowed
+
+-- The names that a command is tried on, one after another: its own, or with * those of the members
+-- that are there when it begins (RFC 3525, section 6.2.2).
+abbrev pub names_for : Gateway → Target → CommandWord → Name → Result (List Name) ErrorNumber
+names_for w target word names.All = all_names w target word
+names_for w target word names.Root = Ok (names.Root ∷ [])
+names_for w target word names.Choose = Ok (names.Choose ∷ [])
+names_for w target word (names.Number n) = Ok (names.Number n ∷ [])
+names_for w target word names.Other = Ok (names.Other ∷ [])
 
 -- ## Checks of the name
 
@@ -216,22 +249,28 @@ abbrev pub in_same_world : Gateway → Result Served ErrorNumber → CommandOutc
 in_same_world w (Ok s) = Ok (w, s)
 in_same_world w (Err e) = Err e
 
-abbrev pub outcome_by_word : CommandWord → Gateway → Target → Name → CommandParameters
+-- what a command comes to for one name, its text having been checked
+unfoldable pub outcome : CommandWord → Gateway → Target → Name → CommandParameters
     → CommandOutcome
-outcome_by_word words.Add w target name parameters = add_outcome w target name parameters
-outcome_by_word words.Modify w target name parameters = modify_outcome w target name parameters
-outcome_by_word words.Move w target name parameters = move_outcome w target name parameters
-outcome_by_word words.Subtract w target name parameters = subtract_outcome w target name parameters
-outcome_by_word words.AuditValue w target name parameters =
+outcome words.Add w target name parameters = add_outcome w target name parameters
+outcome words.Modify w target name parameters = modify_outcome w target name parameters
+outcome words.Move w target name parameters = move_outcome w target name parameters
+outcome words.Subtract w target name parameters = subtract_outcome w target name parameters
+outcome words.AuditValue w target name parameters =
     in_same_world w (audit_outcome w target name parameters)
-outcome_by_word words.AuditCapability w target name parameters = Err errors.NotServed
-outcome_by_word words.Notify w target name parameters = Err errors.NotServed
-outcome_by_word words.ServiceChange w target name parameters = Err errors.NotServed
+outcome words.AuditCapability w target name parameters = Err errors.NotServed
+outcome words.Notify w target name parameters = Err errors.NotServed
+outcome words.ServiceChange w target name parameters = Err errors.NotServed
 
-abbrev pub outcome_as : List ℕ → Gateway → Target → Command → Name → CommandOutcome
-outcome_as source w target c name = do
-  parameters ← check_command source name c
-  outcome_by_word c.word w target name parameters
+-- what a command asks for, and on which names it is tried
+pub record Trial : Type 0 where
+  pub parameters : CommandParameters
+  pub names : List Name
 
-unfoldable pub outcome : List ℕ → Gateway → Target → Command → CommandOutcome
-outcome source w target c = outcome_as source w target c (name_of (text_of source c.term))
+-- The checks that come before any name is tried: what isn't served, the descriptors, the
+-- properties, and for * the identifier.
+abbrev pub trial_of : List ℕ → Gateway → Target → Command → Result Trial ErrorNumber
+trial_of source w target c = do
+  parameters ← check_command source c
+  xs ← names_for w target c.word (name_of (text_of source c.term))
+  Ok (record { parameters = parameters; names = xs })

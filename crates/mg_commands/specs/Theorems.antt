@@ -1,12 +1,29 @@
--- What holds of the items of each reply: a reply is too long by its text alone.
-use Rattle.std.specs.Prelude.{◌≡◌, ℕ, ◌||◌, true, false, List}
+-- What holds of each transaction: a reply is too long by its text alone, and what is refused
+-- changes nothing.
+use Rattle.std.specs.Prelude.{◌≡◌, ℕ, ◌||◌, true, false, List, [], ◌∷◌, ◌++◌, Some, None, Err}
 use Rattle.std.specs.List.{list_all}
+use Rattle.mg_scan.specs.Span.{text_of}
+use Rattle.mg_words.specs.declared.command_word.CommandWord.{CommandWord}
+use Rattle.mg_words.specs.declared.error_number.ErrorNumber.{ErrorNumber}
+use Rattle.mg_reply.specs.declared.item.Item.TheVariants as replies
+use Rattle.mg_reply.specs.declared.outcome.Outcome.TheVariants.{Failed}
 use Rattle.mg_reply.specs.Reply.{is_refusal, last_is_action}
 use Rattle.mg_reply.specs.Theorems.{is_wide}
 use Rattle.mg_engine.specs.Gateway.{Gateway}
+use Rattle.mg_text.specs.declared.command.Command.{Command}
+use Rattle.mg_text.specs.declared.request.Action.{Action}
 use Rattle.mg_text.specs.declared.request.Request.{Request}
 use Rattle.mg_text.specs.Proper.{request_is_proper}
-use Rattle.mg_commands.specs.Transaction.{replied}
+use Rattle.mg_commands.specs.declared.command_parameters.CommandParameters.{CommandParameters}
+use Rattle.mg_commands.specs.declared.name.Name.{Name}
+use Rattle.mg_commands.specs.Name.{written_as, written_name}
+use Rattle.mg_commands.specs.ContextProperties.{action_fault, context_outcome}
+use Rattle.mg_commands.specs.Outcome.{outcome, trial_of}
+use Rattle.mg_commands.specs.Transaction.{ActionState, TransactionState, action_start, id_of}
+use Rattle.mg_commands.specs.Transaction.{with_name, with_names, with_command, with_commands}
+use Rattle.mg_commands.specs.Transaction.{with_action, replied}
+
+-- ## Items
 
 -- each has at least 10 bytes with its comma
 abbrev pub ItemsAreWide : Type 0
@@ -20,3 +37,62 @@ ItemsAreWhole =
     (source : List ℕ) (request : Request) (w : Gateway) → request_is_proper source request ≡ true
     → (is_refusal (replied source request w).items
     || last_is_action false (replied source request w).items) ≡ true
+
+-- ## Refusals
+
+-- an action with one item more, which tells the error of a command: its gateway, its context and
+-- what $ names are as they were
+abbrev pub with_error : ActionState → CommandWord → List ℕ → ErrorNumber → ActionState
+with_error run word name e =
+    record run { items = run.items ++ replies.Command word name (Failed e) ∷ [] }
+
+-- a command that is refused for a name adds the item that tells its error, and changes nothing
+abbrev pub RefusedNamesChangeNothing : Type 0
+RefusedNamesChangeNothing =
+    (source : List ℕ) (c : Command) (parameters : CommandParameters) (name : Name)
+    (run : ActionState) (e : ErrorNumber)
+    → outcome c.word run.gateway run.target name parameters ≡ Err e
+    → with_name source c parameters name run
+    ≡ (with_error run c.word (written_as (text_of source c.term) name) e, false)
+
+-- so does one that may not be tried at all
+abbrev pub RefusedCommandsChangeNothing : Type 0
+RefusedCommandsChangeNothing =
+    (source : List ℕ) (c : Command) (run : ActionState) (e : ErrorNumber)
+    → trial_of source run.gateway run.target c ≡ Err e
+    → with_command source c run
+    ≡ (with_error run c.word (written_name (text_of source c.term)) e, false)
+
+-- an action that is refused as a whole before its commands changes nothing
+abbrev pub RefusedActionsChangeNothing : Type 0
+RefusedActionsChangeNothing =
+    (source : List ℕ) (a : Action) (s : TransactionState) (e : ErrorNumber)
+    → action_fault a ≡ Some e
+    → with_action source a s
+    ≡ (record s { items = s.items ++ replies.Fault e ∷ replies.Action a.context ∷ [] }, false)
+
+-- an action whose topology is refused after its commands leaves the gateway that they left
+abbrev pub RefusedTopologiesChangeNothing : Type 0
+RefusedTopologiesChangeNothing =
+    (source : List ℕ) (a : Action) (s : TransactionState) (run : ActionState) (e : ErrorNumber)
+    → action_fault a ≡ None → with_commands source a.commands (action_start a s) ≡ (run, true)
+    → context_outcome source run.made a.properties run.gateway run.target ≡ Err e
+    → with_action source a s
+    ≡ (
+      record {
+        gateway = run.gateway;
+        items = run.items ++ replies.Fault e ∷ replies.Action (id_of run.target) ∷ [];
+      },
+      false,
+    )
+
+-- Of the names that a command is tried on, one that is refused doesn't keep the others from being
+-- tried, on the same gateway, and the command isn't done.
+abbrev pub OthersAreTried : Type 0
+OthersAreTried =
+    (source : List ℕ) (c : Command) (parameters : CommandParameters) (x : Name) (xs : List Name)
+    (run : ActionState) (e : ErrorNumber)
+    → outcome c.word run.gateway run.target x parameters ≡ Err e
+    → let told : ActionState = with_error run c.word (written_as (text_of source c.term) x) e in
+    with_names source c parameters (x ∷ xs) run
+    ≡ ((with_names source c parameters xs told).0, false)

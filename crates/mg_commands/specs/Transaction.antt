@@ -1,8 +1,9 @@
 -- A transaction: what comes of the commands of a request, action by action (RFC 3525, section
 -- 8.2.2).
-use Rattle.std.specs.Prelude.{ℕ, Bool, true, false, List, [], ◌∷◌, ◌++◌, Option, Some, None}
-use Rattle.std.specs.Prelude.{Result, Ok, Err}
+use Rattle.std.specs.Prelude.{ℕ, Bool, ◌&&◌, ◌||◌, true, false, List, [], ◌∷◌, ◌++◌, Option, Some}
+use Rattle.std.specs.Prelude.{None, Result, Ok, Err}
 use Rattle.mg_scan.specs.Span.{text_of}
+use Rattle.mg_words.specs.declared.command_word.CommandWord.{CommandWord}
 use Rattle.mg_words.specs.declared.context_id.ContextId.{ContextId}
 use Rattle.mg_words.specs.declared.context_id.ContextId.TheVariants as contexts
 use Rattle.mg_words.specs.declared.error_number.ErrorNumber.{ErrorNumber}
@@ -16,10 +17,12 @@ use Rattle.mg_text.specs.declared.command.Command.{Command}
 use Rattle.mg_text.specs.declared.context_property.ContextProperty.{ContextProperty}
 use Rattle.mg_text.specs.declared.request.Action.{Action}
 use Rattle.mg_text.specs.declared.request.Request.{Request}
-use Rattle.mg_commands.specs.Name.{written_name}
+use Rattle.mg_commands.specs.declared.command_parameters.CommandParameters.{CommandParameters}
+use Rattle.mg_commands.specs.declared.name.Name.{Name}
+use Rattle.mg_commands.specs.Name.{written_as, written_name}
 use Rattle.mg_commands.specs.Search.{or_else}
 use Rattle.mg_commands.specs.ContextProperties.{context_outcome, action_fault}
-use Rattle.mg_commands.specs.Outcome.{CommandOutcome, outcome}
+use Rattle.mg_commands.specs.Outcome.{CommandOutcome, Trial, outcome, trial_of}
 
 -- ## Commands
 
@@ -31,40 +34,63 @@ pub record ActionState : Type 0 where
   pub made : Option ℕ
   pub items : List Item
 
--- an action after a command, and whether the command was done
-abbrev pub after_command : List ℕ → ActionState → Command → CommandOutcome → ActionState × Bool
-after_command source run c (Ok p) = (
+-- an action after a command for one name, which the reply writes so, and whether it was done
+abbrev pub after_outcome : CommandWord → List ℕ → ActionState → CommandOutcome → ActionState × Bool
+after_outcome word name run (Ok p) = (
   record {
     gateway = p.0;
     target = p.1.target;
     made = or_else run.made p.1.made;
-    items = run.items ++ replies.Command c.word p.1.term (Done p.1.parts) ∷ [];
+    items = run.items ++ replies.Command word p.1.term (Done p.1.parts) ∷ [];
   },
   true,
 )
-after_command source run c (Err e) = (
-  record {
-    gateway = run.gateway;
-    target = run.target;
-    made = run.made;
-    items = run.items
-        ++ replies.Command c.word (written_name (text_of source c.term)) (Failed e) ∷ [];
-  },
-  false,
-)
+after_outcome word name run (Err e) =
+    (record run { items = run.items ++ replies.Command word name (Failed e) ∷ [] }, false)
+
+abbrev pub with_name : List ℕ → Command → CommandParameters → Name → ActionState
+    → ActionState × Bool
+with_name source c parameters name run =
+    after_outcome c.word (written_as (text_of source c.term) name) run
+    (outcome c.word run.gateway run.target name parameters)
+
+-- what was done of the first and of the rest, whether or not the first was done
+abbrev pub and_then : (ActionState → ActionState × Bool) → ActionState × Bool → ActionState × Bool
+and_then rest (run, is_done) = ((rest run).0, is_done && (rest run).1)
+
+-- an action after a command for each of some names, and whether it was done for all: one for which
+-- it fails doesn't keep the others from being tried
+unfoldable pub with_names : List ℕ → Command → CommandParameters → List Name → ActionState
+    → ActionState × Bool
+with_names source c parameters [] run = (run, true)
+with_names source c parameters (x ∷ xs) run =
+    and_then (with_names source c parameters xs) (with_name source c parameters x run)
+
+-- an action after a command, if it may be tried at all
+abbrev pub with_trial : List ℕ → Command → ActionState → Result Trial ErrorNumber
+    → ActionState × Bool
+with_trial source c run (Ok trial) = with_names source c trial.parameters trial.names run
+with_trial source c run (Err e) =
+    after_outcome c.word (written_name (text_of source c.term)) run (Err e)
 
 abbrev pub with_command : List ℕ → Command → ActionState → ActionState × Bool
-with_command source c run = after_command source run c (outcome source run.gateway run.target c)
+with_command source c run = with_trial source c run (trial_of source run.gateway run.target c)
+
+-- an optional command (O-) ends nothing, whatever it comes to
+abbrev pub unless_optional : Command → ActionState × Bool → ActionState × Bool
+unless_optional c (run, is_done) = (run, c.is_optional || is_done)
 
 -- what comes of the rest, unless a command failed
 abbrev pub go_on : (ActionState → ActionState × Bool) → ActionState × Bool → ActionState × Bool
 go_on rest (run, true) = rest run
 go_on rest (run, false) = (run, false)
 
--- an action after commands, up to the first that fails, and whether all were done
+-- an action after commands, up to the first that fails and isn't optional, and whether there was
+-- none
 unfoldable pub with_commands : List ℕ → List Command → ActionState → ActionState × Bool
 with_commands source [] run = (run, true)
-with_commands source (c ∷ cs) run = go_on (with_commands source cs) (with_command source c run)
+with_commands source (c ∷ cs) run =
+    go_on (with_commands source cs) (unless_optional c (with_command source c run))
 
 -- ## Actions
 

@@ -25,15 +25,11 @@ fn is_served_word(word: CommandWord) -> bool
     }
 }
 
-/// Whether a command is served at all. For now an optional one isn't, nor one for all terminations; one reply for
-/// all that match never is.
-fn is_served(name: Name, command: &Command) -> bool
-    ensures value { result ≡ is_served name command.now }
+/// Whether a command is served at all. One reply for all that match (`W-`) isn't.
+fn is_served(command: &Command) -> bool
+    ensures value { result ≡ is_served command.now }
 {
-    !(!is_served_word(command.word)
-        || command.wants_wildcard
-        || command.is_optional
-        || matches!(name, Name::All))
+    is_served_word(command.word) && !command.wants_wildcard
 }
 
 fn if_served(is_served: bool) -> Result<(), ErrorNumber>
@@ -68,14 +64,10 @@ fn check_descriptors(
 }
 
 /// What a command asks for, if its text is served.
-pub fn check_command(
-    source: &[u8],
-    name: Name,
-    command: &Command,
-) -> Result<CommandParameters, ErrorNumber>
-    ensures value { result ≡ check_command source.now name command.now }
+pub fn check_command(source: &[u8], command: &Command) -> Result<CommandParameters, ErrorNumber>
+    ensures value { result ≡ check_command source.now command.now }
 {
-    if_served(is_served(name, command))?;
+    if_served(is_served(command))?;
     check_descriptors(source, command.descriptors.as_slice())
 }
 

@@ -11,7 +11,17 @@
 //!
 //! The commands of a request are tried in their order, action by action, up to the first that fails. What was not
 //! tried isn't told. A command that is refused leaves the engine as it was. What an action asks of its context as a
-//! whole, a topology and an audit of it, is done after its commands, if none failed.
+//! whole, a topology and an audit of it, is done after its commands, if none ended it.
+//!
+//! A Modify, Subtract or AuditValue of `*` (RFC 3525, section 6.2.2) is for each member that the action's context has
+//! when the command begins, in the order of their entry. The reply has an item for each. An error at one doesn't keep
+//! the others from being tried, but afterwards the command counts as failed. Where it may not be tried at all, as with
+//! a descriptor at fault or in a context without members, the reply has one item, named `*`.
+//!
+//! A command marked `O-` (section 8.2.2) is optional: where it fails, the reply tells its error, and the commands after
+//! it are still tried. It doesn't save an action that is refused as a whole, which always ends the request.
+//!
+//! [`Kept`] keeps the replies for requests that come again.
 #![tactic(auto)]
 
 mod action_fault;
@@ -22,6 +32,7 @@ mod context_properties;
 mod descriptor_fault;
 mod descriptor_parts;
 pub mod laws;
+mod members;
 mod name;
 mod outcomes;
 mod part;
@@ -36,3 +47,4 @@ mod transactions;
 
 pub use crate::name::{Name, name_of, written_name};
 pub use crate::transactions::transaction;
+pub use mg_kept::Kept;

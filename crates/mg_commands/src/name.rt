@@ -1,6 +1,6 @@
 ghost use Rattle.std.specs.Prelude.{◌≡◌, true, Some, None, MatchOption};
 ghost use Rattle.mg_words.specs.Term.{is_term};
-ghost use Rattle.mg_commands.specs.Name.{after_rtp, name_in_rtp, name_of, written_name};
+ghost use Rattle.mg_commands.specs.Name.{after_rtp, name_in_rtp, name_of, written_as, written_name};
 
 use mg_text::Term;
 use mg_words::number_of;
@@ -70,6 +70,20 @@ pub fn name_of(text: &[u8]) -> Name
     }
 }
 
+/// A name as a reply has it: in its own form where it reads as something, any other as it stands in the request.
+pub fn written_as(text: &[u8], name: Name) -> Term
+    requires term { is_term text.now ≡ true }
+    ensures value { result ≡ written_as text.now name }
+{
+    match name {
+        Name::Root => Term::root(),
+        Name::Choose => Term::choose(),
+        Name::All => Term::all(),
+        Name::Number(number) => Term::rtp(number),
+        Name::Other => Term::new(text).unwrap(),
+    }
+}
+
 /// The name as a reply has it: one that reads as `RTP/n`, `ROOT`, `$` or `*` is written so, any other as it
 /// stands in the request.
 #[tactic(auto, unfolding(crate::specs::Name::written_name))]
@@ -77,11 +91,5 @@ pub fn written_name(text: &[u8]) -> Term
     requires term { is_term text.now ≡ true }
     ensures value { result ≡ written_name text.now }
 {
-    match name_of(text) {
-        Name::Root => Term::root(),
-        Name::Choose => Term::choose(),
-        Name::All => Term::all(),
-        Name::Number(number) => Term::rtp(number),
-        Name::Other => Term::new(text).unwrap(),
-    }
+    written_as(text, name_of(text))
 }

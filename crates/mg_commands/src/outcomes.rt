@@ -3,16 +3,16 @@
 ghost use Rattle.std.specs.Prelude.{◌≡◌, OnErr};
 ghost use Rattle.mg_engine.specs.Gateway.{Gateway};
 ghost use Rattle.mg_engine.specs.Stands.{StandsFor, IsOutcome};
-ghost use Rattle.mg_commands.specs.Outcome.{served_at, made_at, add_outcome, modify_outcome, move_outcome, subtract_outcome, audit_termination, audit_root, audit_outcome, outcome_by_word, outcome};
+ghost use Rattle.mg_commands.specs.Outcome.{served_at, made_at, add_outcome, modify_outcome, move_outcome, subtract_outcome, audit_termination, audit_root, audit_outcome, outcome};
 
-use crate::checks::{check_command, check_new_name, number_in};
+use crate::checks::{check_new_name, number_in};
 use crate::command_parameters::CommandParameters;
-use crate::name::{Name, name_of};
+use crate::name::Name;
 use crate::reply_descriptors::ReplyDescriptors;
 use crate::reply_parts::reply_parts;
 use crate::served::Served;
 use mg_engine::{Engine, Target};
-use mg_text::{Command, CommandWord, ErrorNumber, Parts, Term};
+use mg_text::{CommandWord, ErrorNumber, Parts, Term};
 
 /// What is told of the termination with a number.
 fn served_at(target: Target, number: u32, parts: Parts) -> Served
@@ -43,13 +43,13 @@ fn add_outcome(
     engine: &mut Engine,
     target: Target,
     name: Name,
-    parameters: CommandParameters,
+    parameters: &CommandParameters,
 ) -> Result<Served, ErrorNumber>
-    ensures came { (w : Gateway) → StandsFor engine.old w → IsOutcome engine.new result (add_outcome w target name parameters) }
+    ensures came { (w : Gateway) → StandsFor engine.old w → IsOutcome engine.new result (add_outcome w target name parameters.now) }
     ensures refused { OnErr result (engine.new ≡ engine.old) }
 {
     check_new_name(engine, name)?;
-    let descriptors = ReplyDescriptors::after(&parameters);
+    let descriptors = ReplyDescriptors::after(parameters);
     let done = engine.add(target, &parameters.settings)?;
     let parts = reply_parts(engine, done.termination, descriptors);
     Ok(made_at(Target::Number(done.context), done.termination, parts))
@@ -60,13 +60,13 @@ fn modify_outcome(
     engine: &mut Engine,
     target: Target,
     name: Name,
-    parameters: CommandParameters,
+    parameters: &CommandParameters,
 ) -> Result<Served, ErrorNumber>
-    ensures came { (w : Gateway) → StandsFor engine.old w → IsOutcome engine.new result (modify_outcome w target name parameters) }
+    ensures came { (w : Gateway) → StandsFor engine.old w → IsOutcome engine.new result (modify_outcome w target name parameters.now) }
     ensures refused { OnErr result (engine.new ≡ engine.old) }
 {
     let number = number_in(name)?;
-    let descriptors = ReplyDescriptors::after(&parameters);
+    let descriptors = ReplyDescriptors::after(parameters);
     engine.modify(target, number, &parameters.settings)?;
     let parts = reply_parts(engine, number, descriptors);
     Ok(served_at(target, number, parts))
@@ -77,13 +77,13 @@ fn move_outcome(
     engine: &mut Engine,
     target: Target,
     name: Name,
-    parameters: CommandParameters,
+    parameters: &CommandParameters,
 ) -> Result<Served, ErrorNumber>
-    ensures came { (w : Gateway) → StandsFor engine.old w → IsOutcome engine.new result (move_outcome w target name parameters) }
+    ensures came { (w : Gateway) → StandsFor engine.old w → IsOutcome engine.new result (move_outcome w target name parameters.now) }
     ensures refused { OnErr result (engine.new ≡ engine.old) }
 {
     let number = number_in(name)?;
-    let descriptors = ReplyDescriptors::after(&parameters);
+    let descriptors = ReplyDescriptors::after(parameters);
     let done = engine.move_to(target, number, &parameters.settings)?;
     let parts = reply_parts(engine, number, descriptors);
     Ok(served_at(Target::Number(done.context), number, parts))
@@ -155,41 +155,26 @@ fn audit_outcome(
     }
 }
 
-/// What a command comes to whose text was checked.
-fn outcome_by_word(
+/// What a command comes to for one name, its text having been checked. A refused one changes nothing.
+#[tactic(auto, unfolding(crate::specs::Outcome::outcome))]
+pub fn outcome(
     engine: &mut Engine,
     word: CommandWord,
     target: Target,
     name: Name,
-    parameters: CommandParameters,
+    parameters: &CommandParameters,
 ) -> Result<Served, ErrorNumber>
-    ensures came { (w : Gateway) → StandsFor engine.old w → IsOutcome engine.new result (outcome_by_word word w target name parameters) }
+    ensures came { (w : Gateway) → StandsFor engine.old w → IsOutcome engine.new result (outcome word w target name parameters.now) }
     ensures refused { OnErr result (engine.new ≡ engine.old) }
 {
     match word {
         CommandWord::Add => add_outcome(engine, target, name, parameters),
         CommandWord::Modify => modify_outcome(engine, target, name, parameters),
         CommandWord::Move => move_outcome(engine, target, name, parameters),
-        CommandWord::Subtract => subtract_outcome(engine, target, name, &parameters),
-        CommandWord::AuditValue => audit_outcome(engine, target, name, &parameters),
+        CommandWord::Subtract => subtract_outcome(engine, target, name, parameters),
+        CommandWord::AuditValue => audit_outcome(engine, target, name, parameters),
         CommandWord::AuditCapability | CommandWord::Notify | CommandWord::ServiceChange => {
             Err(ErrorNumber::NotServed)
         }
     }
-}
-
-/// What a command of the message that stands in `source` comes to. A refused one changes nothing.
-#[tactic(auto, unfolding(crate::specs::Outcome::outcome))]
-pub fn outcome(
-    engine: &mut Engine,
-    source: &[u8],
-    target: Target,
-    command: &Command,
-) -> Result<Served, ErrorNumber>
-    ensures came { (w : Gateway) → StandsFor engine.old w → IsOutcome engine.new result (outcome source.now w target command.now) }
-    ensures refused { OnErr result (engine.new ≡ engine.old) }
-{
-    let name = name_of(command.term.text(source));
-    let parameters = check_command(source, name, command)?;
-    outcome_by_word(engine, command.word, target, name, parameters)
 }

@@ -248,3 +248,127 @@ fn refuses_an_action_as_a_whole(rt: HostRuntime) -> Result<(), Fail> {
     assert!(rt; are_answered(rt.alloc(), &cases)?);
     Ok(())
 }
+
+#[test]
+fn passes_over_optional_commands(rt: HostRuntime) -> Result<(), Fail> {
+    let cases: [(&[u8], &[u8]); 8] = [
+        (
+            b"!/1 a T=7{C=${O-MF=RTP/9,A=$}}",
+            b"Reply=7{Context=1{Modify=RTP/9{Error=430{\"unknown termination\"}},Add=RTP/1}}",
+        ),
+        (
+            b"!/1 a T=8{C=${MF=RTP/9,A=$}}",
+            b"Reply=8{Context=${Modify=RTP/9{Error=430{\"unknown termination\"}}}}",
+        ),
+        (
+            b"!/1 a T=9{C=1{MF=RTP/9,O-S=*}}",
+            b"Reply=9{Context=1{Modify=RTP/9{Error=430{\"unknown termination\"}}}}",
+        ),
+        (
+            b"!/1 a T=10{C=1{PR=1,O-A=$},C=-{AV=ROOT}}",
+            b"Reply=10{Context=1{Error=444{\"descriptor not served\"}}}",
+        ),
+        (
+            b"!/1 a T=11{C=1{TP{ROOT,*,IS},O-MF=RTP/9},C=-{AV=ROOT}}",
+            b"Reply=11{Context=1{Modify=RTP/9{Error=430{\"unknown termination\"}},Error=410{\"identifier not allowed here\"}}}",
+        ),
+        (
+            b"!/1 a T=12{C=1{O-MF=*{M{L{v=0\nm=audio 30002 RTP/AVP 0\n}}},A=$}}",
+            b"Reply=12{Context=1{Modify=RTP/1{Error=515{\"no media that can be served\"}},Add=RTP/2}}",
+        ),
+        (
+            b"!/1 a T=13{C=1{O-MF=RTP/9,O-S=*{AT{}}},C=-{AV=ROOT}}",
+            b"Reply=13{Context=1{Modify=RTP/9{Error=430{\"unknown termination\"}},Subtract=RTP/1,Subtract=RTP/2},Context=-{AuditValue=ROOT}}",
+        ),
+        (
+            b"!/1 a T=14{C=1{O-A=$},C=-{AV=ROOT}}",
+            b"Reply=14{Context=1{Add=${Error=411{\"unknown context\"}}},Context=-{AuditValue=ROOT}}",
+        ),
+    ];
+    assert!(rt; are_answered(rt.alloc(), &cases)?);
+    Ok(())
+}
+
+#[test]
+fn tries_all_members(rt: HostRuntime) -> Result<(), Fail> {
+    let cases: [(&[u8], &[u8]); 8] = [
+        (
+            b"!/1 a T=1{C=${A=$,A=$}}",
+            b"Reply=1{Context=1{Add=RTP/1,Add=RTP/2}}",
+        ),
+        (
+            b"!/1 a T=2{C=1{MF=*{M{L{v=0\nm=audio 30000 RTP/AVP 0\n}}},A=$}}",
+            b"Reply=2{Context=1{Modify=RTP/1{Media{Stream=1{Local{v=0\r\nc=IN IP4 127.0.0.1\r\nm=audio 30000 RTP/AVP 0\r\na=ptime:20\r\n}}}},Modify=RTP/2{Error=515{\"no media that can be served\"}}}}",
+        ),
+        (
+            b"!/1 a T=3{C=1{MF=*{M{L{v=0\nm=audio 30002 RTP/AVP 0\n}}},A=$}}",
+            b"Reply=3{Context=1{Modify=RTP/1{Error=515{\"no media that can be served\"}},Modify=RTP/2{Media{Stream=1{Local{v=0\r\nc=IN IP4 127.0.0.1\r\nm=audio 30002 RTP/AVP 0\r\na=ptime:20\r\n}}}}}}",
+        ),
+        (
+            b"!/1 a T=4{C=${MV=RTP/1},C=1{MV=RTP/1,AV=RTP/*{AT{}}}}",
+            b"Reply=4{Context=2{Move=RTP/1},Context=1{Move=RTP/1,AuditValue=RTP/2,AuditValue=RTP/1}}",
+        ),
+        (
+            b"!/1 a T=5{C=${MV=RTP/1,S=RTP/1{AT{}}},C=1{MF=*}}",
+            b"Reply=5{Context=3{Move=RTP/1,Subtract=RTP/1},Context=1{Modify=RTP/2}}",
+        ),
+        (
+            b"!/1 a T=6{C=1{S=*}}",
+            b"Reply=6{Context=1{Subtract=RTP/2{Statistics{rtp/ps=0,rtp/pr=0,nt/os=0,nt/or=0}}}}",
+        ),
+        (
+            b"!/1 a T=7{C=1{AV=*{AT{}}}}",
+            b"Reply=7{Context=1{AuditValue=*{Error=431{\"wildcard matched none\"}}}}",
+        ),
+        (
+            b"!/1 a T=8{C=${A=$,S=*{AT{}},MF=*}}",
+            b"Reply=8{Context=4{Add=RTP/3,Subtract=RTP/3,Modify=*{Error=431{\"wildcard matched none\"}}}}",
+        ),
+    ];
+    assert!(rt; are_answered(rt.alloc(), &cases)?);
+    Ok(())
+}
+
+#[test]
+fn refuses_all_members_at_once(rt: HostRuntime) -> Result<(), Fail> {
+    let cases: [(&[u8], &[u8]); 9] = [
+        (
+            b"!/1 a T=1{C=${A=$,A=$}}",
+            b"Reply=1{Context=1{Add=RTP/1,Add=RTP/2}}",
+        ),
+        (
+            b"!/1 a T=2{C=1{A=*}}",
+            b"Reply=2{Context=1{Add=*{Error=410{\"identifier not allowed here\"}}}}",
+        ),
+        (
+            b"!/1 a T=3{C=${MV=RTP/*}}",
+            b"Reply=3{Context=${Move=*{Error=410{\"identifier not allowed here\"}}}}",
+        ),
+        (
+            b"!/1 a T=4{C=-{MF=*}}",
+            b"Reply=4{Context=-{Modify=*{Error=431{\"wildcard matched none\"}}}}",
+        ),
+        (
+            b"!/1 a T=5{C=${MF=*}}",
+            b"Reply=5{Context=${Modify=*{Error=431{\"wildcard matched none\"}}}}",
+        ),
+        (
+            b"!/1 a T=6{C=1{W-MF=*}}",
+            b"Reply=6{Context=1{Modify=*{Error=501{\"not served\"}}}}",
+        ),
+        (
+            b"!/1 a T=7{C=1{MF=rtp/*{Signals{x}}}}",
+            b"Reply=7{Context=1{Modify=*{Error=444{\"descriptor not served\"}}}}",
+        ),
+        (
+            b"!/1 a T=8{C=-{A=*{M{O{rv=ON}}}}}",
+            b"Reply=8{Context=-{Add=*{Error=501{\"not served\"}}}}",
+        ),
+        (
+            b"!/1 a T=9{C=*{O-S=*},C=1{S=*}}",
+            b"Reply=9{Context=*{Error=501{\"not served\"}}}",
+        ),
+    ];
+    assert!(rt; are_answered(rt.alloc(), &cases)?);
+    Ok(())
+}

@@ -1,21 +1,127 @@
-ghost use Rattle.std.specs.Prelude.{◌≡◌, ◌⊎◌, ◌<◌, length, true, None};
+ghost use Rattle.std.specs.Prelude.{◌≡◌, ◌⊎◌, ◌<◌, length, map, true, None};
 ghost use Rattle.std.specs.List.{list_all};
 ghost use Rattle.mg_words.specs.Leads.{Leads};
-ghost use Rattle.mg_reply.specs.Reply.{Answered, IsWhole, started, after_all};
+ghost use Rattle.mg_reply.specs.Reply.{Answered, IsWhole, started, after_put, after_all};
 ghost use Rattle.mg_engine.specs.Stands.{StandsFor};
+ghost use Rattle.mg_scan.specs.Span.{text_of};
 ghost use Rattle.mg_text.specs.Proper.{command_is_proper, action_is_proper, request_is_proper};
-ghost use Rattle.mg_commands.specs.Transaction.{target_of, id_of, with_command, with_commands, with_action, with_actions, replied};
-ghost use Rattle.mg_commands.specs.aids.Runs.{IsAction, action_kept, IsTransaction, transaction_kept};
+ghost use Rattle.mg_commands.specs.Name.{written_name};
+ghost use Rattle.mg_commands.specs.Transaction.{target_of, id_of, with_name, with_names, with_command, with_commands, with_action, with_actions, replied};
+ghost use Rattle.mg_commands.specs.aids.Runs.{IsAction, action_kept, with_all, IsTransaction, transaction_kept};
 
 use crate::action_fault::action_fault;
+use crate::checks::check_command;
+use crate::command_parameters::CommandParameters;
 use crate::context_properties::try_properties;
-use crate::name::written_name;
+use crate::members::{all_members, copy_of};
+use crate::name::{Name, name_of, written_as, written_name};
 use crate::outcomes::outcome;
 use crate::progress::Progress;
 use mg_engine::{Engine, Target};
-use mg_text::{Action, Command, ContextId, Item, Outcome, Reply, Request};
+use mg_text::{Action, Command, ContextId, ErrorNumber, Item, Outcome, Reply, Request};
 
-/// Tries a command of an action that has come so far. The answer is how far it comes, and whether the command was done.
+/// Tries a command for one name, in an action that has come so far. The answer is how far it comes, and whether the
+/// command was done.
+fn try_name(
+    engine: &mut Engine,
+    source: &[u8],
+    command: &Command,
+    parameters: &CommandParameters,
+    name: Name,
+    progress: Progress,
+    reply: &mut Reply,
+) -> (Progress, bool)
+    requires proper { command_is_proper source.now command.now ≡ true }
+    ensures ran { (base : Answered) → Leads (IsAction base) (action_kept engine.old progress reply.old)
+        (action_kept engine.new result.0 reply.new)
+        (λ run next. with_name source.now command.now parameters.now name run ≡ (next, result.1)) }
+{
+    match outcome(engine, command.word, progress.target, name, parameters) {
+        Ok(served) => {
+            let next = Progress {
+                target: served.target,
+                made: progress.made.or(served.made),
+            };
+            let done = Outcome::Done(served.parts);
+            reply.put(Item::Command(command.word, served.term, done));
+            (next, true)
+        }
+        Err(number) => {
+            let term = written_as(command.term.text(source), name);
+            reply.put(Item::Command(command.word, term, Outcome::Failed(number)));
+            (progress, false)
+        }
+    }
+}
+
+/// Tries a command for each of some members, one after another. One for which it fails doesn't keep the others from
+/// being tried. The answer is how far the action comes, and whether the command was done for all.
+fn try_members(
+    engine: &mut Engine,
+    source: &[u8],
+    command: &Command,
+    parameters: &CommandParameters,
+    members: &[u32],
+    progress: Progress,
+    reply: &mut Reply,
+) -> (Progress, bool)
+    requires proper { command_is_proper source.now command.now ≡ true }
+    ensures ran { (base : Answered) → Leads (IsAction base) (action_kept engine.old progress reply.old)
+        (action_kept engine.new result.0 reply.new)
+        (λ run next. with_names source.now command.now parameters.now (map Name.Number members.now) run ≡ (next, result.1)) }
+{
+    let mut progress = progress;
+    let mut were_done = true;
+    for number in members {
+        let name = Name::Number(*number);
+        let (next, is_done) = try_name(engine, source, command, parameters, name, progress, reply);
+        progress = next;
+        were_done = were_done && is_done;
+    }
+    (progress, were_done)
+}
+
+/// Tells that a command may not be tried at all.
+fn put_refusal(source: &[u8], command: &Command, number: ErrorNumber, reply: &mut Reply)
+    requires proper { command_is_proper source.now command.now ≡ true }
+    ensures value { reply.new ≡ after_put reply.old
+        (Item.Command command.now.word (written_name (text_of source.now command.now.term)) (Outcome.Failed number)) }
+{
+    let term = written_name(command.term.text(source));
+    reply.put(Item::Command(command.word, term, Outcome::Failed(number)));
+}
+
+/// Tries a command for all members that its context has when it begins, in the order of their entry.
+fn try_all(
+    engine: &mut Engine,
+    source: &[u8],
+    command: &Command,
+    parameters: &CommandParameters,
+    progress: Progress,
+    reply: &mut Reply,
+) -> (Progress, bool)
+    requires proper { command_is_proper source.now command.now ≡ true }
+    ensures ran { (base : Answered) → Leads (IsAction base) (action_kept engine.old progress reply.old)
+        (action_kept engine.new result.0 reply.new)
+        (λ run next. with_all source.now command.now parameters.now run ≡ (next, result.1)) }
+{
+    match all_members(engine, progress.target, command.word) {
+        Ok(members) => {
+            let copy = copy_of(members);
+            let members = &copy[..members.len()];
+            try_members(
+                engine, source, command, parameters, members, progress, reply,
+            )
+        }
+        Err(number) => {
+            put_refusal(source, command, number, reply);
+            (progress, false)
+        }
+    }
+}
+
+/// Tries a command of an action that has come so far: for the name that it has, or with `*` for all members. The answer
+/// is how far it comes, and whether the command was done.
 fn try_command(
     engine: &mut Engine,
     source: &[u8],
@@ -27,25 +133,20 @@ fn try_command(
     ensures ran { (base : Answered) → Leads (IsAction base) (action_kept engine.old progress reply.old)
         (action_kept engine.new result.0 reply.new) (λ run next. with_command source.now command.now run ≡ (next, result.1)) }
 {
-    match outcome(engine, source, progress.target, command) {
-        Ok(served) => {
-            let next = Progress {
-                target: served.target,
-                made: progress.made.or(served.made),
-            };
-            let done = Outcome::Done(served.parts);
-            reply.put(Item::Command(command.word, served.term, done));
-            (next, true)
-        }
+    match check_command(source, command) {
+        Ok(parameters) => match name_of(command.term.text(source)) {
+            Name::All => try_all(engine, source, command, &parameters, progress, reply),
+            name => try_name(engine, source, command, &parameters, name, progress, reply),
+        },
         Err(number) => {
-            let term = written_name(command.term.text(source));
-            reply.put(Item::Command(command.word, term, Outcome::Failed(number)));
+            put_refusal(source, command, number, reply);
             (progress, false)
         }
     }
 }
 
-/// Tries the commands of an action up to the first that fails.
+/// Tries the commands of an action up to the first that fails and isn't optional. The answer is how far they come, and
+/// whether there was none such.
 #[tactic(auto, using(crate::proofs::RunLaws::propers))]
 fn try_commands(
     engine: &mut Engine,
@@ -61,7 +162,8 @@ fn try_commands(
     let mut progress = progress;
     for command in commands {
         let (next, is_done) = try_command(engine, source, command, progress, reply);
-        if !is_done {
+        let goes_on = command.is_optional || is_done;
+        if !goes_on {
             return (next, false);
         }
         progress = next;
@@ -133,9 +235,10 @@ fn try_actions(engine: &mut Engine, source: &[u8], actions: &[Action], reply: &m
 }
 
 /// Runs a request of the message that stands in `source`: tries its commands in their order up to the first
-/// that fails, and puts what came of them into the reply, which is emptied before. After the commands of an action
-/// come its triples, all or none, and then its audit. An action that is refused as a whole, before its commands or
-/// after them, ends the request too.
+/// that fails, and puts what came of them into the reply, which is emptied before. A command for all members (`*`)
+/// fails where it fails for one of them, after all were tried. An optional one (`O-`) may fail: it ends nothing. After
+/// the commands of an action come its triples, all or none, and then its audit. An action that is refused as a whole,
+/// before its commands or after them, ends the request too, whatever its commands are marked with.
 pub fn transaction(engine: &mut Engine, source: &[u8], request: &Request, reply: &mut Reply)
     requires proper { request_is_proper source.now request.now ≡ true }
     ensures ran { Leads StandsFor engine.old engine.new (λ w next. ((replied source.now request.now w).gateway ≡ next)

@@ -5,4 +5,5 @@ pub mod OutputLaws
 pub mod WriterLaws
 pub mod LineLaws
 pub mod RunLaws
+pub mod HeadlineLaws
 pub mod ScriptLaws

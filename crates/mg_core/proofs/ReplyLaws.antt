@@ -22,7 +22,9 @@ use Rattle.mg_core.specs.World.{World, StandsFor}
 use Rattle.mg_core.specs.aids.Steps.{Puts, put_text}
 use Rattle.mg_reply.specs.Reply.{Answered, started, is_action, is_refusal, last_is_action, with_item, after_put, after_all}
 use Rattle.mg_reply.specs.Reply.{marked as marked_long}
+use Rattle.mg_text.specs.declared.body.Range.{Range}
 use Rattle.mg_text.specs.declared.request.Request.{Request}
+use Rattle.mg_kept.specs.KeptReplies.{KeptReply, kept_text, with_reply, without_range}
 use Rattle.mg_commands.specs.Theorems.{ItemsAreWide, ItemsAreWhole}
 use Rattle.mg_commands.specs.Transaction.{replied}
 use Rattle.mg_engine.specs.Gateway.{Gateway}
@@ -30,7 +32,7 @@ use Rattle.mg_words.specs.Leads.{Leads}
 use Rattle.mg_words.specs.Limits.{reply_limit}
 use Rattle.mg_reply.specs.declared.item.Item.{Item}
 use Rattle.mg_reply.specs.Theorems.{TextAlone, AllThere, is_wide, is_too_long}
-use Rattle.mg_core.specs.Answer.{with_front, has_requests, head_of, if_asked, item_replied, mark_after, marked, replied_to, sent_text, to_message}
+use Rattle.mg_core.specs.Answer.{with_front, has_requests, head_of, if_asked, item_replied, mark_after, replied_to, request_replied, run_and_kept, sent_text, to_message, unless_kept, without_ranges}
 
 -- the error in the place of a reply is short
 pub refusal_short : (n : ℕ) → n < 2 ^ 32 → length (reply_text n (Fault ReplyTooLong ∷ [])) ≤ 16000
@@ -94,27 +96,71 @@ put_is_sent alone there n xs wide whole =
     sent_is (ltb reply_limit (length (reply_text n xs))) n (after_all (started n) xs) xs (number_kept n (started n) xs refl)
     (alone n xs wide whole) refl (there n xs)
 
--- a request that was run and whose reply was written with a mark in front; what else is kept stays
-pub request_put : TextAlone → AllThere → ItemsAreWide → ItemsAreWhole → (source sender mark : List ℕ) (request : Request) (old new : CoreState) (reply : Answered) (before text : List ℕ)
+-- a request that was run, and whose reply was written and kept
+pub request_run : TextAlone → AllThere → ItemsAreWide → ItemsAreWhole → (source sender : List ℕ) (request : Request) (old new : CoreState) (reply : Answered) (before text : List ℕ)
     → new.counts ≡ old.counts → request_is_proper source request ≡ true
     → Leads engine_stands.StandsFor old.engine new.engine (λ w next. ((replied source request w).gateway ≡ next) × (reply ≡ after_all (started request.number) (replied source request w).items))
-    → text ≡ before ++ (mark ++ put_text reply) → Puts old new before text (item_replied source sender mark (items.Request request))
-request_put alone there wide whole source sender mark request old new reply before text same proper ran is w h =
+    → new.kept ≡ with_reply (record { sender = sender; number = request.number; text = put_text reply }) old.kept
+    → text ≡ before ++ put_text reply → Puts old new before text (λ w. run_and_kept sender request.number w (replied source request w.gateway))
+request_run alone there wide whole source sender request old new reply before text same proper ran keeps is w h =
     let (next, came, stands) = ran w.gateway h.gateway in
     let xs = (replied source request w.gateway).items in
     let sent : put_text reply ≡ sent_text request.number xs = ap put_text came.1 ∙ put_is_sent alone there request.number xs (wide source request w.gateway proper) (whole source request w.gateway proper) in
-    let written = mark ++ sent_text request.number xs in (
-      record w { gateway = next },
-      (written, ap (λ (g : Gateway). writing written (record w { gateway = g })) came.0, is ∙ ap (λ (l : List ℕ). before ++ (mark ++ l)) sent),
-      record { gateway = stands; replies = h.replies; counts = same ∙ h.counts },
+    let kept = λ (l : List ℕ). let r : KeptReply = record { sender = sender; number = request.number; text = l } in r in
+    let text_is = sent_text request.number xs in (
+      record w { gateway = next; replies = with_reply (kept text_is) w.replies },
+      (text_is, ap (λ (g : Gateway). writing text_is (record w { gateway = g; replies = with_reply (kept text_is) w.replies })) came.0, is ∙ ap (λ (l : List ℕ). before ++ l) sent),
+      record {
+        gateway = stands;
+        replies = ap (with_reply (kept text_is)) h.replies ∙ ap (λ (l : List ℕ). with_reply (kept l) old.kept) (sym sent) ∙ sym keeps;
+        counts = same ∙ h.counts;
+      },
     )
 
--- where there is no request, nothing is written
-pub no_request : (source sender mark : List ℕ) (xs : List MessageItem) (w : World) → has_requests xs ≡ false → replied_to source sender mark xs w ≡ ([], w)
-unfolding replied_to
-no_request source sender mark [] w h = refl
-no_request source sender mark (items.Request r ∷ xs) w h = absurd (cc h)
-no_request source sender mark (items.Acknowledgement r ∷ xs) w h = ap (with_front []) (no_request source sender mark xs w h)
+kept_in : (state : CoreState) (w : World) (sender : List ℕ) (n : ℕ) (o : Option (List ℕ)) → StandsFor state w → kept_text state.kept sender n ≡ o → kept_text w.replies sender n ≡ o
+kept_in state w sender n o h is = ap (λ (l : List KeptReply). kept_text l sender n) h.replies ∙ is
+
+-- a request that came again, for which the kept text was written
+pub request_again : (source sender : List ℕ) (request : Request) (state : CoreState) (before told text : List ℕ) → kept_text state.kept sender request.number ≡ Some told
+    → text ≡ before ++ told → Puts state state before text (request_replied source sender request)
+request_again source sender request state before told text kept is w h =
+    (w, (told, ap (λ (o : Option (List ℕ)). unless_kept o source sender request w) (kept_in state w sender request.number (Some told) h kept), is), h)
+
+-- one for which none is kept
+pub request_new : (source sender : List ℕ) (request : Request) (old new : CoreState) (before text : List ℕ) → kept_text old.kept sender request.number ≡ None
+    → Puts old new before text (λ w. run_and_kept sender request.number w (replied source request w.gateway)) → Puts old new before text (request_replied source sender request)
+request_new source sender request old new before text none ran w h =
+    let (next, wrote, stands) = ran w h in
+    let (out, came, is) = wrote in
+    (next, (out, ap (λ (o : Option (List ℕ)). unless_kept o source sender request w) (kept_in old w sender request.number None h none) ∙ came, is), stands)
+
+-- with its mark in front
+pub request_put : (source sender mark : List ℕ) (request : Request) (old new : CoreState) (before text : List ℕ)
+    → Puts old new (before ++ mark) text (request_replied source sender request) → Puts old new before text (item_replied source sender mark (items.Request request))
+request_put source sender mark request old new before text ran w h =
+    let (next, wrote, stands) = ran w h in
+    let (out, came, is) = wrote in
+    (next, (mark ++ out, ap (with_front mark) came, is ∙ append_assoc before mark out), stands)
+
+-- replies that were acknowledged
+pub ranges_taken : (source sender mark : List ℕ) (ranges : List Range) (old new : CoreState) (text : List ℕ) → new.engine ≡ old.engine → new.counts ≡ old.counts → new.kept ≡ without_ranges sender ranges old.kept
+    → Puts old new text text (item_replied source sender mark (items.Acknowledgement ranges))
+ranges_taken source sender mark ranges old new text engine counts kept w h = (
+  record w { replies = without_ranges sender ranges w.replies },
+  ([], refl, sym (append-nil text)),
+  record { gateway = rw engine h.gateway; replies = ap (without_ranges sender ranges) h.replies ∙ sym kept; counts = counts ∙ h.counts },
+)
+
+-- ## The loop over ranges
+
+pub next_range : (sender : List ℕ) (xs : List Range) (i : ℕ) (d : Range) (kept new whole : List KeptReply) → i < length xs → new ≡ without_range sender (get_or xs i d).first (get_or xs i d).last kept
+    → without_ranges sender (drop i xs) kept ≡ whole → without_ranges sender (drop (i + 1) xs) new ≡ whole
+next_range sender xs i d kept new whole lt is h =
+    ap (λ (l : List KeptReply). without_ranges sender (drop (i + 1) xs) l) is
+    ∙ sym (ap (λ (l : List Range). without_ranges sender l kept) (drop_more xs i d lt)) ∙ h
+
+pub no_range : (sender : List ℕ) (xs : List Range) (i : ℕ) (kept whole : List KeptReply) → length xs ≤ i → without_ranges sender (drop i xs) kept ≡ whole → kept ≡ whole
+no_range sender xs i kept whole le h = sym (ap (λ (l : List Range). without_ranges sender l kept) (drop_all i xs le)) ∙ h
 
 pub is_proper : (source : List ℕ) (xs : List MessageItem) (i : ℕ) (d : MessageItem) → i < length xs → are_proper source xs ≡ true → item_is_proper source (get_or xs i d) ≡ true
 is_proper source xs i d lt all = value_cases (item_is_proper source (get_or xs i d)) (λ h. sym all ∙ list_all_at (item_is_proper source) xs i d lt h)
@@ -132,11 +178,10 @@ requests_from xs i d lt = ap requests_in (drop_more xs i d lt) ∙ requests_more
 abbrev pub answering : Option (List ℕ) → World → Option (List ℕ) × World
 answering answer w = (answer, w)
 
-pub silent_message : (source : List ℕ) (m : Message) (w : World) → has_requests (items_of m.body) ≡ false → to_message source m w ≡ answering None w
-silent_message source m w h =
-    let sender = text_of source m.sender in
-    ap (λ (b : Bool). if_asked b (head_of w) (replied_to source sender [] (items_of m.body) w)) h
-    ∙ ap (λ (p : List ℕ × World). if_asked false (head_of w) p) (no_request source sender [] (items_of m.body) w h)
+pub silent_message : (source : List ℕ) (m : Message) (w next : World) (out : List ℕ) → has_requests (items_of m.body) ≡ false → replied_to source (text_of source m.sender) [] (items_of m.body) w ≡ writing out next → to_message source m w ≡ answering None next
+silent_message source m w next out h came =
+    ap (λ (b : Bool). if_asked b (head_of w) (replied_to source (text_of source m.sender) [] (items_of m.body) w)) h
+    ∙ ap (λ (p : List ℕ × World). if_asked false (head_of w) p) came
 
 pub asked_message : (source : List ℕ) (m : Message) (w next : World) (head out text : List ℕ) → has_requests (items_of m.body) ≡ true → replied_to source (text_of source m.sender) [] (items_of m.body) w ≡ writing out next → head ≡ head_of w → text ≡ head ++ out → to_message source m w ≡ answering (Some text) next
 asked_message source m w next head out text h came front is =

@@ -3,7 +3,10 @@ use Rattle.std.specs.Prelude.{◌≡◌, ℕ, nat_lt, Bool, true, false, List, [
 use Rattle.std.specs.Prelude.{Option, Some, None, if◌then◌else◌}
 use Rattle.std.specs.List.{list_any}
 use Rattle.mg_scan.specs.Span.{text_of}
+use Rattle.mg_kept.specs.KeptReplies.{KeptReply, kept_text, with_reply, without_range}
 use Rattle.mg_text.specs.declared.message.Message.{Message}
+use Rattle.mg_text.specs.declared.body.Range.{Range}
+use Rattle.mg_text.specs.declared.request.Request.{Request}
 use Rattle.mg_text.specs.declared.body.MessageItem.{MessageItem}
 use Rattle.mg_text.specs.declared.body.MessageItem.TheVariants as items
 use Rattle.mg_text.specs.Message.{items_of}
@@ -38,26 +41,55 @@ is_request (items.Acknowledgement ranges) = false
 abbrev pub has_requests : List MessageItem → Bool
 has_requests xs = list_any is_request xs
 
--- a mark and the reply after it, and the world with what the request left of the gateway
-abbrev pub marked : List ℕ → World → ℕ → TransactionState → List ℕ × World
-marked mark w n s = (mark ++ sent_text n s.items, record w { gateway = s.gateway })
+-- ## A request
+
+-- the reply to a request that is run, and the world after it: what its commands left of the
+-- gateway, and the reply kept
+abbrev pub run_and_kept : List ℕ → ℕ → World → TransactionState → List ℕ × World
+run_and_kept sender n w s =
+    let text = sent_text n s.items in (
+      text,
+      record w {
+        gateway = s.gateway;
+        replies = with_reply (record { sender = sender; number = n; text = text }) w.replies;
+      },
+    )
+
+-- a request comes again while its reply is kept: that is sent, and the world stays as it was
+abbrev pub unless_kept : Option (List ℕ) → List ℕ → List ℕ → Request → World → List ℕ × World
+unless_kept (Some text) source sender request w = (text, w)
+unless_kept None source sender request w =
+    run_and_kept sender request.number w (replied source request w.gateway)
+
+-- the reply to a request of a sender, and the world after it (RFC 3525, section 8.2)
+abbrev pub request_replied : List ℕ → List ℕ → Request → World → List ℕ × World
+request_replied source sender request w =
+    unless_kept (kept_text w.replies sender request.number) source sender request w
+
+-- ## An item of a message
+
+-- what is left of kept replies when a sender tells that those with numbers in these ranges came
+abbrev pub without_ranges : List ℕ → List Range → List KeptReply → List KeptReply
+without_ranges sender [] replies = replies
+without_ranges sender (x ∷ xs) replies =
+    without_ranges sender xs (without_range sender x.first x.last replies)
+
+-- what is written, with a text in front of it
+abbrev pub with_front : List ℕ → List ℕ × World → List ℕ × World
+with_front text p = (text ++ p.0, p.1)
 
 -- What is written for an item that came from a sender, and the world after it: a mark and the
--- reply, if it is a request. For now an acknowledgement leaves the world as it was, since no reply
--- is kept.
+-- reply, if it is a request; nothing, if it acknowledges replies.
 abbrev pub item_replied : List ℕ → List ℕ → List ℕ → MessageItem → World → List ℕ × World
 item_replied source sender mark (items.Request request) w =
-    marked mark w request.number (replied source request w.gateway)
-item_replied source sender mark (items.Acknowledgement ranges) w = ([], w)
+    with_front mark (request_replied source sender request w)
+item_replied source sender mark (items.Acknowledgement ranges) w =
+    ([], record w { replies = without_ranges sender ranges w.replies })
 
 -- the mark of the next reply: a line feed after the first
 abbrev pub mark_after : List ℕ → MessageItem → List ℕ
 mark_after mark (items.Request request) = 10 ∷ []
 mark_after mark (items.Acknowledgement ranges) = mark
-
--- what is written, with a text in front of it
-abbrev pub with_front : List ℕ → List ℕ × World → List ℕ × World
-with_front text p = (text ++ p.0, p.1)
 
 -- what is written after what was, in the world that it came to
 abbrev pub followed : (World → List ℕ × World) → List ℕ × World → List ℕ × World

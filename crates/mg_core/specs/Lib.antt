@@ -5,4 +5,6 @@ pub mod Answer
 pub mod Step
 pub mod Script
 pub mod Run
+pub mod Headline
+pub mod Repeats
 pub mod aids

@@ -1,6 +1,7 @@
 -- What a bridge is, seen from outside, and which worlds the state of a core stands for.
 use Rattle.std.specs.Prelude.{◌≡◌, ℕ, ◌+◌, ◌-◌, ◌^◌, min, List, [], map, replicate, slice_index}
 use Rattle.std.specs.Prelude.{slice_set}
+use Rattle.mg_kept.specs.KeptReplies.{KeptReply}
 use Rattle.mg_playout.specs.declared.placed.Placed.{Placed}
 use Rattle.mg_playout.specs.declared.placed.Placed.TheVariants as placed
 use Rattle.mg_engine.specs.declared.config.Config.{Config}
@@ -16,13 +17,6 @@ use Rattle.mg_engine.specs.Gateway as engine
 use Rattle.mg_engine.specs.Stands as engine_stands
 use Rattle.mg_core.specs.declared.counts.Counts.{Counts}
 use Rattle.mg_core.specs.declared.state.CoreState.{CoreState}
-
--- A reply that is kept for a request that comes again: the sender's name in small letters, the
--- request's number, and the reply's text (RFC 3525, section 8.2 and annex D.1).
-pub record KeptReply : Type 0 where
-  pub sender : List ℕ
-  pub number : ℕ
-  pub text : List ℕ
 
 -- How many control datagrams, RTP datagrams and ticks came. Of the RTP datagrams, how many a play
 -- list answered Started, Placed, Pushed, Again and Late; and how many were dropped for
@@ -117,8 +111,9 @@ packets_of w = sent_in_tick w.gateway
 
 -- ## Which worlds a state stands for
 
--- For now no reply is kept: each request is run.
+-- The engine stands for the gateway, the replies that it keeps are the world's, and its counts are
+-- those of the events that came.
 pub record StandsFor (state : CoreState) (w : World) : Type 0 where
   pub gateway : engine_stands.StandsFor state.engine w.gateway
-  pub replies : w.replies ≡ []
+  pub replies : w.replies ≡ state.kept
   pub counts : state.counts ≡ counts_of w.tally

@@ -1,24 +1,25 @@
-ghost use Rattle.std.specs.Prelude.{◌≡◌, ◌≤◌, ◌+◌, ◌*◌, ◌++◌, [], ◌∷◌, true, length};
-ghost use Rattle.mg_scan.specs.Span.{text_of};
+ghost use Rattle.std.specs.Prelude.{◌≡◌, ◌≤◌, ◌+◌, ◌*◌, ◌++◌, [], ◌∷◌, true, length, None};
+ghost use Rattle.mg_commands.specs.Transaction.{replied};
+ghost use Rattle.mg_kept.specs.KeptReplies.{kept_text};
 ghost use Rattle.mg_reply.specs.Bytes.{appended};
 ghost use Rattle.mg_words.specs.ErrorNumber.{error_text};
 ghost use Rattle.mg_reply.specs.Reply.{IsWhole};
 ghost use Rattle.mg_reply.specs.Written.{head_text};
 ghost use Rattle.mg_text.specs.Message.{items_of, requests_in};
-ghost use Rattle.mg_text.specs.Proper.{are_proper, item_is_proper};
-ghost use Rattle.mg_core.specs.Answer.{has_requests, item_replied, mark_after, replied_to};
+ghost use Rattle.mg_text.specs.Proper.{are_proper, item_is_proper, request_is_proper};
+ghost use Rattle.mg_core.specs.Answer.{has_requests, item_replied, mark_after, replied_to, request_replied, run_and_kept, without_ranges};
 ghost use Rattle.mg_core.specs.aids.Steps.{Puts, put_text, refusal_of};
 
 use crate::state::CoreState;
 use mg_commands::laws::items_are_wide_and_whole;
-use mg_commands::transaction;
+use mg_commands::{Kept, transaction};
 use mg_engine::Config;
 use mg_reply::theorems::too_long_by_text_alone;
-use mg_scan::Span;
 use mg_text::{
-    Body, Bytes, ErrorNumber, Item, MessageItem, REPLY_LIMIT, ReadFault, Reply, write_error,
-    write_head, write_reply,
+    Body, Bytes, ErrorNumber, Item, MessageItem, REPLY_LIMIT, Range, ReadFault, Reply, Request,
+    write_error, write_head, write_reply,
 };
+use mg_words::SENDER_LIMIT;
 
 /// The error that a message is refused with, where it was not want of memory that kept it from being read.
 pub fn refusal_of(fault: ReadFault) -> Option<ErrorNumber>
@@ -80,56 +81,115 @@ fn put_reply(reply: &mut Reply, answer: &mut Bytes)
     write_reply(reply, answer).unwrap();
 }
 
-/// Runs an item of the message that stands in `source` and came from a sender, and writes its reply with a mark before
-/// it, if it is a request. What is answered is the mark of the next reply.
+/// Runs a request of a sender, and writes and keeps what it comes to. None may be kept for it.
+fn run_request(
+    state: &mut CoreState,
+    source: &[u8],
+    sender: &[u8],
+    request: &Request,
+    reply: &mut Reply,
+    answer: &mut Bytes,
+)
+    requires proper { request_is_proper source.now request.now ≡ true }
+    requires sender { length sender.now ≤ SENDER_LIMIT }
+    requires room { REPLY_LIMIT ≤ answer.old.room }
+    requires new { kept_text state.old.kept sender.now request.now.number ≡ None }
+    ensures ran { Puts state.old state.new answer.old.text answer.new.text (λ w.
+        run_and_kept sender.now request.now.number w (replied source.now request.now w.gateway)) }
+    ensures total { answer.new.room + length answer.new.text ≡ answer.old.room + length answer.old.text }
+    ensures short { length answer.new.text ≤ length answer.old.text + REPLY_LIMIT }
+{
+    let start = answer.as_slice().len();
+    transaction(&mut state.engine, source, request, reply);
+    items_are_wide_and_whole();
+    too_long_by_text_alone();
+    put_reply(reply, answer);
+    let (_, text) = answer.as_slice().split_at(start);
+    state.kept.keep(sender, request.number, text);
+}
+
+/// Writes the reply to a request of a sender: the one that is kept, if it comes again, or else what it comes to.
+fn put_request(
+    state: &mut CoreState,
+    source: &[u8],
+    sender: &[u8],
+    request: &Request,
+    reply: &mut Reply,
+    answer: &mut Bytes,
+)
+    requires proper { request_is_proper source.now request.now ≡ true }
+    requires sender { length sender.now ≤ SENDER_LIMIT }
+    requires room { REPLY_LIMIT ≤ answer.old.room }
+    ensures ran { Puts state.old state.new answer.old.text answer.new.text (request_replied source.now sender.now request.now) }
+    ensures total { answer.new.room + length answer.new.text ≡ answer.old.room + length answer.old.text }
+    ensures short { length answer.new.text ≤ length answer.old.text + REPLY_LIMIT }
+{
+    match state.kept.find(sender, request.number) {
+        Some(text) => answer.push(text),
+        None => run_request(state, source, sender, request, reply, answer),
+    }
+}
+
+/// Takes the replies to a sender with these numbers out of those that are kept.
+fn acknowledge(kept: &mut Kept, sender: &[u8], ranges: &[Range])
+    ensures value { kept.new ≡ without_ranges sender.now ranges.now kept.old }
+{
+    for range in ranges {
+        kept.ack(sender, range.first, range.last);
+    }
+}
+
+/// Does what an item asks that came from a sender in the message that stands in `source`, and writes its reply with a
+/// mark before it, if it is a request. What is answered is the mark of the next reply.
 #[tactic(auto, using(crate::proofs::ReplyLaws::one_reply))]
 fn put_item<'m>(
     state: &mut CoreState,
     source: &[u8],
-    sender: Span,
+    sender: &[u8],
     item: &MessageItem,
     mark: &'m [u8],
     reply: &mut Reply,
     answer: &mut Bytes,
 ) -> &'m [u8]
     requires proper { item_is_proper source.now item.now ≡ true }
+    requires sender { length sender.now ≤ SENDER_LIMIT }
     requires room { 16001 * requests_in (item.now ∷ []) + length mark.now ≤ 1 + answer.old.room }
     ensures ran { Puts state.old state.new answer.old.text answer.new.text
-        (item_replied source.now (text_of source.now sender) mark.now item.now) }
+        (item_replied source.now sender.now mark.now item.now) }
     ensures mark { result.now ≡ mark_after mark.now item.now }
     ensures total { answer.new.room + length answer.new.text ≡ answer.old.room + length answer.old.text }
     ensures short { length answer.new.text + length result.now
         ≤ length answer.old.text + length mark.now + 16001 * requests_in (item.now ∷ []) }
 {
-    let _ = sender;
     match item {
         MessageItem::Request(request) => {
-            transaction(&mut state.engine, source, request, reply);
-            items_are_wide_and_whole();
-            too_long_by_text_alone();
             answer.push(mark);
-            put_reply(reply, answer);
+            put_request(state, source, sender, request, reply, answer);
             b"\n"
         }
-        MessageItem::Acknowledgement(_) => mark,
+        MessageItem::Acknowledgement(ranges) => {
+            acknowledge(&mut state.kept, sender, ranges.as_slice());
+            mark
+        }
     }
 }
 
-/// Writes the replies to the requests among some items of the message that stands in `source` and came from a sender,
-/// with a line feed between each two.
+/// Does what the items ask that came from a sender in the message that stands in `source`, and writes the replies to the
+/// requests among them, with a line feed between each two.
 #[tactic(auto, using(crate::proofs::ReplyLaws::replying))]
 pub fn put_replies(
     state: &mut CoreState,
     source: &[u8],
-    sender: Span,
+    sender: &[u8],
     items: &[MessageItem],
     reply: &mut Reply,
     answer: &mut Bytes,
 )
     requires proper { are_proper source.now items.now ≡ true }
+    requires sender { length sender.now ≤ SENDER_LIMIT }
     requires room { 16001 * requests_in items.now ≤ 1 + answer.old.room }
     ensures ran { Puts state.old state.new answer.old.text answer.new.text
-        (replied_to source.now (text_of source.now sender) [] items.now) }
+        (replied_to source.now sender.now [] items.now) }
     ensures total { answer.new.room + length answer.new.text ≡ answer.old.room + length answer.old.text }
 {
     let mut mark: &[u8] = b"";

@@ -2,6 +2,8 @@
 
 ghost use Rattle.std.specs.Prelude.{◌≡◌, List};
 ghost use Rattle.mg_core.specs.declared.event.Event.{Event};
+ghost use Rattle.mg_core.specs.Headline.{OneGatewayOneFuture};
+ghost use Rattle.mg_core.specs.Repeats.{KeptRepliesAreSent, RepetitionsAreAnsweredAlike, OthersAreRun};
 ghost use Rattle.mg_core.specs.Step.{Sent, Step, Run};
 ghost use Rattle.mg_core.specs.World.{World};
 
@@ -27,4 +29,22 @@ pub fn outcomes_are_one()
 {
     mg_text::laws::one_reading(b"");
     mg_engine::laws::one_arrival(b"");
+}
+
+/// What a refused command leaves is the gateway as it was, so no flow, total or later packet differs by it: these are of
+/// the gateway alone, whatever replies are kept.
+pub fn refused_commands_change_no_packet()
+    ensures law { OneGatewayOneFuture }
+{
+    mg_engine::laws::one_arrival(b"");
+}
+
+/// A request that comes again while its reply is kept is answered alike, and nothing is done a second time; any other is
+/// run.
+pub fn repetitions_are_answered_alike()
+    ensures kept { KeptRepliesAreSent }
+    ensures again { RepetitionsAreAnsweredAlike }
+    ensures others { OthersAreRun }
+{
+    mg_kept::laws::kept_reply_is_found();
 }

@@ -1,4 +1,4 @@
-ghost use Rattle.std.specs.Prelude.{◌≡◌, ◌≤◌, ◌+◌, ◌↔◌, [], true, length, IfOk, OnOk, OnErr, Option, List, ℕ};
+ghost use Rattle.std.specs.Prelude.{◌≡◌, ◌≤◌, ◌+◌, ◌↔◌, [], true, length, IfOk, OnOk, OnErr, Option, List, map, ℕ};
 ghost use Rattle.mg_engine.specs.Config.{IsValidConfig};
 ghost use Rattle.mg_engine.specs.Flow.{flow};
 ghost use Rattle.mg_engine.specs.Mix.{total_at};
@@ -7,7 +7,8 @@ ghost use Rattle.mg_text.specs.Message.{IsMessage, items_of};
 ghost use Rattle.mg_text.specs.Proper.{are_proper};
 ghost use Rattle.mg_core.specs.declared.event.Event.TheVariants as events;
 ghost use Rattle.mg_core.specs.Answer.{to_message, refused};
-ghost use Rattle.mg_core.specs.Step.{Step, answer_to, told};
+ghost use Rattle.mg_core.specs.Headline.{CameTo, GoesOn, FlowIsAnew, TotalIsAnew, PacketsAreAnew};
+ghost use Rattle.mg_core.specs.Step.{Step, Packet, answer_to, told};
 ghost use Rattle.mg_words.specs.Leads.{Leads};
 ghost use Rattle.mg_core.specs.World.{World, StandsFor, Took, counts_of, packets_of, start_of, ticked, with_control};
 
@@ -16,8 +17,10 @@ use crate::answering::{has_requests, items_of, put_error, put_replies, refusal_o
 use crate::counts::Counts;
 use crate::fault::NoMemory;
 use crate::state::CoreState;
+use mg_commands::Kept;
 use mg_engine::{Config, Datagram, Engine, Outbox, Peer, Rooms, StartFault, Stats, Taken};
 use mg_rooms::TERMINATIONS;
+use mg_text::laws::senders_are_short;
 use mg_text::{Bytes, ErrorNumber, Message, Reply, read, write_head};
 use std::alloc::Global;
 use std::marker::Model;
@@ -54,12 +57,14 @@ impl Core {
     pub fn new(alloc: Global, config: Config) -> Result<Self, StartFault>
         ensures bad { (result ≡ Err StartFault.BadConfig) ↔ ¬ IsValidConfig config }
         ensures started { IfOk result (λ core. (core.answer ≡ []) × (core.outbox ≡ []) × StandsFor core.state (start_of config)) }
+        ensures headline { IfOk result (λ core. CameTo config [] [] (start_of config) core.state) }
         ensures sound { OnOk result (IsValidConfig config) }
     {
         let engine = Engine::new(alloc, config)?;
         Ok(Core {
             state: CoreState {
                 engine,
+                kept: Kept::new(alloc)?,
                 counts: Counts::new(),
             },
             reply: Reply::new(alloc)?,
@@ -73,6 +78,8 @@ impl Core {
     pub fn control(&mut self, alloc: Global, source: Peer, bytes: &[u8]) -> Result<Answer, NoMemory>
         ensures answered { IfOk result (λ answer. Leads StandsFor self.old.state self.new.state (λ w next.
             Step w (events.Control source bytes.now) (answer_to source (told answer self.new.answer)) next)) }
+        ensures headline { IfOk result (λ answer. GoesOn self.old.state self.new.state
+            (events.Control source bytes.now) (answer_to source (told answer self.new.answer))) }
         ensures silent { result ≡ Ok Answer.Silent → self.new.answer ≡ [] }
         ensures no_memory { OnErr result (self.new ≡ record self.old { answer = [] }) }
         ensures outbox { self.new.outbox ≡ self.old.outbox }
@@ -96,7 +103,7 @@ impl Core {
         }
     }
 
-    /// Answers a message, whose requests are run one after another.
+    /// Does what a message asks, item by item, and answers its requests.
     fn reply_to(&mut self, source: &[u8], message: &Message) -> Answer
         requires message { IsMessage source.now message.now }
         requires proper { are_proper source.now (items_of message.now.body) ≡ true }
@@ -107,21 +114,23 @@ impl Core {
         ensures outbox { self.new.outbox ≡ self.old.outbox }
         ensures short { length self.new.answer ≤ ANSWER_LIMIT }
     {
+        senders_are_short();
         let items = items_of(&message.body);
-        if !has_requests(items) {
-            return Answer::Silent;
-        }
         let config = *self.state.engine.config();
         write_head(config.address, config.control_port, &mut self.answer);
         put_replies(
             &mut self.state,
             source,
-            message.sender,
+            message.sender.text(source),
             items,
             &mut self.reply,
             &mut self.answer,
         );
-        Answer::Send
+        if has_requests(items) {
+            return Answer::Send;
+        }
+        self.answer.clear();
+        Answer::Silent
     }
 
     /// Answers a datagram that is no message to be served.
@@ -148,6 +157,7 @@ impl Core {
     pub fn media(&mut self, port: u16, source: Peer, bytes: &[u8]) -> Taken
         ensures taken { Leads StandsFor self.old.state self.new.state (λ w next.
             Took w port source bytes.now next result) }
+        ensures headline { GoesOn self.old.state self.new.state (events.Media port source bytes.now) [] }
         ensures answer { self.new.answer ≡ self.old.answer }
         ensures outbox { self.new.outbox ≡ self.old.outbox }
     {
@@ -160,6 +170,8 @@ impl Core {
     pub fn tick(&mut self)
         ensures sent { (w : World) → StandsFor self.old.state w → self.new.outbox ≡ packets_of w }
         ensures next { (w : World) → StandsFor self.old.state w → StandsFor self.new.state (ticked w) }
+        ensures packets { PacketsAreAnew self.old.state self.new.outbox }
+        ensures headline { GoesOn self.old.state self.new.state events.Tick (map Packet self.new.outbox) }
         ensures answer { self.new.answer ≡ self.old.answer }
     {
         self.state.engine.tick(&mut self.outbox);
@@ -177,6 +189,7 @@ impl Core {
     /// Whether a talker's speech goes to a listener. It is false for a number that names no termination.
     pub fn flow(&self, talker: u32, listener: u32) -> bool
         ensures value { (w : World) → StandsFor self.now.state w → result ≡ flow w.gateway talker listener }
+        ensures headline { FlowIsAnew self.now.state talker listener result }
     {
         self.state.engine.flow(talker, listener)
     }
@@ -185,6 +198,7 @@ impl Core {
     /// where the context isn't there, or where a frame has no such sample.
     pub fn total(&self, context: u32, i: usize) -> Option<i32>
         ensures value { (w : World) → StandsFor self.now.state w → result ≡ total_at w.gateway context i }
+        ensures headline { TotalIsAnew self.now.state context i result }
     {
         self.state.engine.total(context, i)
     }

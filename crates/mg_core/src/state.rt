@@ -2,12 +2,15 @@ ghost use Rattle.std.specs.Prelude.{◌≡◌, ◌+◌};
 ghost use Rattle.mg_core.specs.World.{World, StandsFor, with_control, with_taken};
 
 use crate::counts::Counts;
+use mg_commands::Kept;
 use mg_engine::{Engine, Taken};
 
-/// What a gateway keeps from one event to the next: its terminations and contexts, and how many events came.
+/// What a gateway keeps from one event to the next: its terminations and contexts, the replies that it may have to send
+/// again, and how many events came.
 #[derive(Drop)]
 pub struct CoreState {
     pub engine: Engine,
+    pub kept: Kept,
     /// Of events alone: lines, sent and failed stay 0.
     pub counts: Counts,
 }
@@ -16,6 +19,7 @@ impl CoreState {
     /// Counts a control datagram.
     pub fn count_control(&mut self)
         ensures engine { self.new.engine ≡ self.old.engine }
+        ensures kept { self.new.kept ≡ self.old.kept }
         ensures counted { (w : World) → StandsFor self.old w → StandsFor self.new (with_control w) }
     {
         self.counts.count_control();
@@ -24,6 +28,7 @@ impl CoreState {
     /// Counts what became of an RTP datagram.
     pub fn count_media(&mut self, taken: Taken)
         ensures engine { self.new.engine ≡ self.old.engine }
+        ensures kept { self.new.kept ≡ self.old.kept }
         ensures counted { (w : World) → StandsFor self.old w → StandsFor self.new (record w { tally = with_taken taken w.tally }) }
     {
         self.counts.count_media(taken);
@@ -32,6 +37,7 @@ impl CoreState {
     /// Counts a tick.
     pub fn count_tick(&mut self)
         ensures engine { self.new.engine ≡ self.old.engine }
+        ensures kept { self.new.kept ≡ self.old.kept }
         ensures counted { (w : World) → StandsFor self.old w →
             StandsFor self.new (record w { tally = record w.tally { ticks = w.tally.ticks + 1 } }) }
     {

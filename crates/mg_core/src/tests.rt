@@ -34,6 +34,35 @@ fn first_wrong(
     Ok(None)
 }
 
+/// What stands before a text, and then the text.
+fn with_front(alloc: Global, front: &[u8], text: &[u8]) -> Result<Vec<u8>, AllocError> {
+    let mut whole = Vec::from_slice(alloc, front)?;
+    whole.extend_from_slice(text)?;
+    Ok(whole)
+}
+
+/// Whether a core answers a request of the controller so.
+fn is_replied(alloc: Global, core: &mut Core, request: &[u8], reply: &[u8]) -> Result<bool, Fail> {
+    let message = with_front(alloc, b"MEGACO/1 [127.0.0.1]:2945 ", request)?;
+    let answer = with_front(alloc, b"MEGACO/1 [127.0.0.1]:2944\n", reply)?;
+    let is_same = is_answered(alloc, core, message.as_slice(), answer.as_slice())?;
+    Ok(is_same)
+}
+
+/// The first of some requests, one after another, that a core doesn't answer so.
+fn first_wrong_request(
+    alloc: Global,
+    core: &mut Core,
+    cases: &[(&[u8], &[u8])],
+) -> Result<Option<usize>, Fail> {
+    for (i, (request, reply)) in cases.iter().enumerate() {
+        if !is_replied(alloc, core, request, reply)? {
+            return Ok(Some(i));
+        }
+    }
+    Ok(None)
+}
+
 /// The first of some requests of the controller, one after another, that a new bridge doesn't answer so.
 fn first_wrong_reply(
     alloc: Global,
@@ -41,17 +70,7 @@ fn first_wrong_reply(
     cases: &[(&[u8], &[u8])],
 ) -> Result<Option<usize>, Fail> {
     let mut core = Core::new(alloc, config)?;
-    for (i, (request, reply)) in cases.iter().enumerate() {
-        let mut message = Vec::from_slice(alloc, b"MEGACO/1 [127.0.0.1]:2945 ")?;
-        message.extend_from_slice(request)?;
-        let mut answer = Vec::from_slice(alloc, b"MEGACO/1 [127.0.0.1]:2944\n")?;
-        answer.extend_from_slice(reply)?;
-        let cases = [(message.as_slice(), answer.as_slice())];
-        if first_wrong(alloc, &mut core, &cases)?.is_some() {
-            return Ok(Some(i));
-        }
-    }
-    Ok(None)
+    first_wrong_request(alloc, &mut core, cases)
 }
 
 const SYNTAX: &[u8] = b"MEGACO/1 [127.0.0.1]:2944\nError=400{\"syntax\"}";
@@ -88,12 +107,13 @@ fn answers_messages(rt: HostRuntime) -> Result<(), Fail> {
 fn answers_each_request(rt: HostRuntime) -> Result<(), Fail> {
     let cases: [(&[u8], &[u8]); 6] = [
         (
-            b"T=1{C=-{AV=ROOT{AT{M,M}}}}",
-            b"Reply=1{Context=-{AuditValue=ROOT}}",
+            b"T=9{C=-{AV=ROOT{AT{M,M}}}}",
+            b"Reply=9{Context=-{AuditValue=ROOT}}",
         ),
         (
-            b"T=1{C=-{AV=ROOT}}K{7}T=2{C=-{AV=ROOT}}T=3{C=0{AV=Root}}T=4{C=00{AV=root}}",
-            b"Reply=1{Context=-{AuditValue=ROOT}}\nReply=2{Context=-{AuditValue=ROOT}}\n\
+            b"T=1{C=-{AV=ROOT}}K{7}T=2{C=-{AV=RTP/1}}T=3{C=0{AV=Root}}T=4{C=00{AV=root}}",
+            b"Reply=1{Context=-{AuditValue=ROOT}}\n\
+            Reply=2{Context=-{AuditValue=RTP/1{Error=430{\"unknown termination\"}}}}\n\
             Reply=3{Context=-{AuditValue=ROOT}}\nReply=4{Context=-{AuditValue=ROOT}}",
         ),
         (
@@ -101,22 +121,115 @@ fn answers_each_request(rt: HostRuntime) -> Result<(), Fail> {
             b"Error=501{\"not served\"}",
         ),
         (
-            b"T=6{C=-{AV=ROOT,O-AV=ROOT,AV=ROOT}}T=007{C=1{AV=ROOT}}",
-            b"Reply=6{Context=-{AuditValue=ROOT,AuditValue=ROOT{Error=501{\"not served\"}}}}\n\
+            b"T=6{C=-{AV=ROOT,O-AV=*,W-AV=ROOT,AV=ROOT}}T=007{C=1{AV=ROOT}}",
+            b"Reply=6{Context=-{AuditValue=ROOT,AuditValue=*{Error=431{\"wildcard matched none\"}},\
+            AuditValue=ROOT{Error=501{\"not served\"}}}}\n\
             Reply=7{Context=1{AuditValue=ROOT{Error=410{\"identifier not allowed here\"}}}}",
         ),
         (
-            b"Transaction=1{Context=-{AuditValue=ROOT}}Transaction=2{Context=-{AuditValue=RTP/1}}",
-            b"Reply=1{Context=-{AuditValue=ROOT}}\n\
-            Reply=2{Context=-{AuditValue=RTP/1{Error=430{\"unknown termination\"}}}}",
+            b"Transaction=10{Context=${Add=$}}Transaction=11{Context=1{Subtract=RTP/1{Audit{}}}}",
+            b"Reply=10{Context=1{Add=RTP/1}}\nReply=11{Context=1{Subtract=RTP/1}}",
         ),
         (
-            b"Transaction=6{Context=${Add=$}}Transaction=7{Context=1{Subtract=RTP/1{Audit{}}}}",
-            b"Reply=6{Context=1{Add=RTP/1}}\nReply=7{Context=1{Subtract=RTP/1}}",
+            b"Transaction=12{Context=${Add=$,Add=$}}Transaction=13{Context=2{Topology{RTP/2,RTP/3,Isolate}}}\
+            Transaction=14{Context=2{ContextAudit{Topology},Subtract=RTP/3,Add=$}}",
+            b"Reply=12{Context=2{Add=RTP/2,Add=RTP/3}}\nReply=13{Context=2}\n\
+            Reply=14{Context=2{Topology{RTP/2,RTP/4,Bothway},\
+            Subtract=RTP/3{Statistics{rtp/ps=0,rtp/pr=0,nt/os=0,nt/or=0}},Add=RTP/4}}",
         ),
     ];
     let wrong = first_wrong_reply(rt.alloc(), Config::default(), &cases)?;
     assert_eq!(rt; wrong, None);
+    Ok(())
+}
+
+#[test]
+fn repeats_kept_replies(rt: HostRuntime) -> Result<(), Fail> {
+    let cases: [(&[u8], &[u8]); 6] = [
+        (
+            b"Transaction=7{Context=${Add=$}}",
+            b"Reply=7{Context=1{Add=RTP/1}}",
+        ),
+        (
+            b"Transaction=7{Context=${Add=$}}",
+            b"Reply=7{Context=1{Add=RTP/1}}",
+        ),
+        (
+            b"Transaction=7{Context=-{AuditValue=ROOT}}K{9-7}Transaction=07{Context=1{Subtract=*}}",
+            b"Reply=7{Context=1{Add=RTP/1}}\nReply=7{Context=1{Add=RTP/1}}",
+        ),
+        (
+            b"K{1-6,8,7}Transaction=7{Context=${Add=$}}Transaction=7{Context=${Add=$}}",
+            b"Reply=7{Context=2{Add=RTP/2}}\nReply=7{Context=2{Add=RTP/2}}",
+        ),
+        (
+            b"Transaction=8{Context=2{Modify=RTP/9,Add=$}}",
+            b"Reply=8{Context=2{Modify=RTP/9{Error=430{\"unknown termination\"}}}}",
+        ),
+        (
+            b"Transaction=8{Context=2{Add=$}}Transaction=9{Context=2{Add=$}}",
+            b"Reply=8{Context=2{Modify=RTP/9{Error=430{\"unknown termination\"}}}}\n\
+            Reply=9{Context=2{Add=RTP/3}}",
+        ),
+    ];
+    let wrong = first_wrong_reply(rt.alloc(), Config::default(), &cases)?;
+    assert_eq!(rt; wrong, None);
+    Ok(())
+}
+
+#[test]
+fn keeps_replies_by_sender(rt: HostRuntime) -> Result<(), Fail> {
+    let alloc = rt.alloc();
+    let first = b"MEGACO/1 [127.0.0.1]:2944\nReply=1{Context=1{Add=RTP/1}}";
+    let cases: [(&[u8], &[u8]); 5] = [
+        (b"MEGACO/1 <mgc.example>:2945 T=1{C=${A=$}}", first),
+        (b"MEGACO/1 <MGC.EXAMPLE>:2945 T=1{C=${A=$}}", first),
+        (
+            b"MEGACO/1 [127.0.0.1]:2946 K{1}T=1{C=${A=$}}",
+            b"MEGACO/1 [127.0.0.1]:2944\nReply=1{Context=2{Add=RTP/2}}",
+        ),
+        (
+            b"MEGACO/1 [127.0.0.1]:02946 T=1{C=${A=$}}",
+            b"MEGACO/1 [127.0.0.1]:2944\nReply=1{Context=3{Add=RTP/3}}",
+        ),
+        (b"MEGACO/1 <Mgc.Example>:2945 T=1{C=${A=$}}", first),
+    ];
+    let mut core = Core::new(alloc, Config::default())?;
+    assert_eq!(rt; first_wrong(alloc, &mut core, &cases)?, None);
+    Ok(())
+}
+
+/// Sends heartbeats with the numbers from 2 to the last.
+fn send_heartbeats(alloc: Global, core: &mut Core, last: u32) -> Result<(), Fail> {
+    for number in 2..=last {
+        let heartbeat = format!(in alloc; "!/1 [127.0.0.1]:2945 T={number}{{C=-{{AV=ROOT}}}}")?;
+        core.control(alloc, CONTROLLER, heartbeat.as_bytes())?;
+    }
+    Ok(())
+}
+
+/// Whether a request is answered so again, after heartbeats with the numbers from 2 to the last.
+fn is_answered_after(
+    alloc: Global,
+    last: u32,
+    request: &[u8],
+    answer: &[u8],
+) -> Result<bool, Fail> {
+    let mut core = Core::new(alloc, Config::default())?;
+    core.control(alloc, CONTROLLER, request)?;
+    send_heartbeats(alloc, &mut core, last)?;
+    let is_same = is_answered(alloc, &mut core, request, answer)?;
+    Ok(is_same)
+}
+
+#[test]
+fn keeps_the_last_32_replies(rt: HostRuntime) -> Result<(), Fail> {
+    let alloc = rt.alloc();
+    let request = b"MEGACO/1 [127.0.0.1]:2945 Transaction=1{Context=${Add=$}}";
+    let kept = b"MEGACO/1 [127.0.0.1]:2944\nReply=1{Context=1{Add=RTP/1}}";
+    let run_again = b"MEGACO/1 [127.0.0.1]:2944\nReply=1{Context=2{Add=RTP/2}}";
+    assert!(rt; is_answered_after(alloc, 32, request, kept)?);
+    assert!(rt; is_answered_after(alloc, 33, request, run_again)?);
     Ok(())
 }
 
@@ -296,27 +409,29 @@ fn limits_terminations(rt: HostRuntime) -> Result<(), Fail> {
     Ok(())
 }
 
-/// How many bytes the answer to the last of some requests has.
-fn last_answer_len(alloc: Global, requests: &[&[u8]]) -> Result<usize, Fail> {
+/// Hands a request of the controller to a core.
+fn send(alloc: Global, core: &mut Core, request: &[u8]) -> Result<(), Fail> {
+    let message = with_front(alloc, b"MEGACO/1 [127.0.0.1]:2945 ", request)?;
+    core.control(alloc, CONTROLLER, message.as_slice())?;
+    Ok(())
+}
+
+/// How many bytes the answer to the second of two requests has.
+fn second_answer_len(alloc: Global, first: &[u8], second: &[u8]) -> Result<usize, Fail> {
     let mut core = Core::new(alloc, Config::default())?;
-    for request in requests {
-        let mut message = Vec::from_slice(alloc, b"MEGACO/1 [127.0.0.1]:2945 ")?;
-        message.extend_from_slice(request)?;
-        core.control(alloc, CONTROLLER, message.as_slice())?;
-    }
+    send(alloc, &mut core, first)?;
+    send(alloc, &mut core, second)?;
     Ok(core.answer().len())
 }
 
 #[test]
 fn audits_a_full_context(rt: HostRuntime) -> Result<(), Fail> {
     let (adds, _) = full_context(rt.alloc())?;
-    let requests: [&[u8]; 2] = [
-        adds.as_slice(),
-        b"Transaction=2{Context=1{ContextAudit{Topology}}}",
-    ];
+    let audit = b"Transaction=2{Context=1{ContextAudit{Topology}}}";
+    let len = second_answer_len(rt.alloc(), adds.as_slice(), audit)?;
 
     // 496 pairs, with their names, `Bothway` and three commas each but the last.
-    assert_eq!(rt; last_answer_len(rt.alloc(), &requests)?, 10688);
+    assert_eq!(rt; len, 10688);
     Ok(())
 }
 

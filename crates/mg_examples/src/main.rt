@@ -14,7 +14,7 @@ struct Example {
     output: &'static str,
 }
 
-const EXAMPLES: [Example; 3] = [
+const EXAMPLES: [Example; 4] = [
     Example {
         script: "conference.txt",
         output: "conference.out",
@@ -26,6 +26,10 @@ const EXAMPLES: [Example; 3] = [
     Example {
         script: "coaching.txt",
         output: "coaching.out",
+    },
+    Example {
+        script: "repeats.txt",
+        output: "repeats.out",
     },
 ];
 

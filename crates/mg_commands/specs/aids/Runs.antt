@@ -1,14 +1,18 @@
 -- What the program has of an action and of a transaction under way, and which of those it stands
 -- for: the engine for the gateway, the reply for the items, put into it one after another.
-use Rattle.std.specs.Prelude.{◌≡◌, Bool, true, false, List, Result, Ok, Err}
+use Rattle.std.specs.Prelude.{◌≡◌, ℕ, Bool, true, false, List, Result, Ok, Err}
+use Rattle.mg_words.specs.ResultSteps.{◌>>=◌}
 use Rattle.mg_words.specs.declared.error_number.ErrorNumber.{ErrorNumber}
 use Rattle.mg_reply.specs.declared.item.Item.{Item}
 use Rattle.mg_reply.specs.declared.item.Item.TheVariants.{Fault}
 use Rattle.mg_reply.specs.Reply.{Answered, after_put, after_all}
 use Rattle.mg_engine.specs.Gateway.{Gateway}
 use Rattle.mg_engine.specs.Stands.{EngineState, StandsFor}
+use Rattle.mg_text.specs.declared.command.Command.{Command}
+use Rattle.mg_commands.specs.declared.command_parameters.CommandParameters.{CommandParameters}
 use Rattle.mg_commands.specs.declared.progress.Progress.{Progress}
-use Rattle.mg_commands.specs.Transaction.{ActionState, TransactionState}
+use Rattle.mg_commands.specs.Outcome.{all_names}
+use Rattle.mg_commands.specs.Transaction.{ActionState, TransactionState, with_trial}
 
 pub record ActionKept : Type 0 where
   pub engine : EngineState
@@ -24,6 +28,13 @@ pub record IsAction (base : Answered) (kept : ActionKept) (run : ActionState) : 
   pub target : run.target ≡ kept.progress.target
   pub made : run.made ≡ kept.progress.made
   pub reply : kept.reply ≡ after_all base run.items
+
+-- an action after a command for all members, its text having been checked
+abbrev pub with_all : List ℕ → Command → CommandParameters → ActionState → ActionState × Bool
+with_all source c parameters run =
+    with_trial source c run (do
+      xs ← all_names run.gateway run.target c.word
+      Ok (record { parameters = parameters; names = xs }))
 
 pub record TransactionKept : Type 0 where
   pub engine : EngineState

@@ -1,18 +1,32 @@
+use Rattle.std.proofs.Common.{◌≡◌, Bool, ◌||◌, ap, sym, ◌∙◌}
 use Rattle.mg_commands.specs.aids.Runs.{action_kept}
 use Rattle.mg_commands.proofs.RunLaws.{commands_go_on, commands_stop, commands_finish}
 use Rattle.mg_commands.proofs.transactions.try_commands.Goals as goal
+use Rattle.mg_commands.proofs.transactions.try_commands.Goals.{then-command, else-command}
 
-pub returns-then-not-is_done : goal.returns-then-not-is_done
-returns-then-not-is_done c = record {
-  ran = λ base. commands_stop c.args.source.now c.args.commands.now base (action_kept c.args.engine.now c.args.progress c.args.reply.now) (action_kept c.loop-command.engine c.loop-command.progress c.loop-command.reply) c.loop-command.command-index (c.loop-command.invariant.ran base)
-      c.command-item.result _ (action_kept c.try_command-is_done.new.engine c.try_command-is_done.result.0 c.try_command-is_done.new.reply) c.loop-command-test.true c.command-item.is (rw c.if-not-is_done.true at c.try_command-is_done.ensures.ran base);
-}
+pub returns-then-not-goes_on : goal.returns-then-not-goes_on
+returns-then-not-goes_on c =
+    let is_done = c.try_command-is_done.result.1 in
+    let is : c.if-command.goes_on ≡ (c.command-item.result.is_optional || is_done) = elim c.if-command.branch [
+      | then-command w ↦ w.goes_on-is ∙ w.if-command.true ∙ ap (λ (b : Bool). b || is_done) (sym w.if-command.true)
+      | else-command w ↦ w.goes_on-is ∙ ap (λ (b : Bool). b || is_done) (sym w.if-command.false)
+    ] in
+    record {
+      ran = λ base. commands_stop c.args.source.now c.args.commands.now base (action_kept c.args.engine.now c.args.progress c.args.reply.now) (action_kept c.loop-command.engine c.loop-command.progress c.loop-command.reply) c.loop-command.command-index (c.loop-command.invariant.ran base)
+          c.command-item.result _ (action_kept c.try_command-is_done.new.engine c.try_command-is_done.result.0 c.try_command-is_done.new.reply) is_done c.loop-command-test.true c.command-item.is (sym is ∙ c.if-not-goes_on.true) (c.try_command-is_done.ensures.ran base);
+    }
 
 pub loop-command-preserved : goal.loop-command-preserved
-loop-command-preserved c = record {
-  ran = λ base. commands_go_on c.args.source.now c.args.commands.now base (action_kept c.args.engine.now c.args.progress c.args.reply.now) (action_kept c.loop-command.engine c.loop-command.progress c.loop-command.reply) c.loop-command.command-index (c.loop-command.invariant.ran base)
-      c.command-item.result _ (action_kept c.try_command-is_done.new.engine c.try_command-is_done.result.0 c.try_command-is_done.new.reply) c.loop-command-test.true c.command-item.is (rw c.if-not-is_done.false at c.try_command-is_done.ensures.ran base);
-}
+loop-command-preserved c =
+    let is_done = c.try_command-is_done.result.1 in
+    let is : c.if-command.goes_on ≡ (c.command-item.result.is_optional || is_done) = elim c.if-command.branch [
+      | then-command w ↦ w.goes_on-is ∙ w.if-command.true ∙ ap (λ (b : Bool). b || is_done) (sym w.if-command.true)
+      | else-command w ↦ w.goes_on-is ∙ ap (λ (b : Bool). b || is_done) (sym w.if-command.false)
+    ] in
+    record {
+      ran = λ base. commands_go_on c.args.source.now c.args.commands.now base (action_kept c.args.engine.now c.args.progress c.args.reply.now) (action_kept c.loop-command.engine c.loop-command.progress c.loop-command.reply) c.loop-command.command-index (c.loop-command.invariant.ran base)
+          c.command-item.result _ (action_kept c.try_command-is_done.new.engine c.try_command-is_done.result.0 c.try_command-is_done.new.reply) is_done c.loop-command-test.true c.command-item.is (sym is ∙ c.if-not-goes_on.false) (c.try_command-is_done.ensures.ran base);
+    }
 
 pub returns : goal.returns
 returns c = record {

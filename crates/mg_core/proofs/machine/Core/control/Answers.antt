@@ -6,6 +6,7 @@ use Rattle.mg_core.specs.declared.state.CoreState.{CoreState}
 use Rattle.mg_core.specs.Step.{told}
 use Rattle.mg_core.specs.World.{StandsFor, with_control}
 use Rattle.mg_core.proofs.AnswerLaws.{is_refused}
+use Rattle.mg_core.proofs.HeadlineLaws.{goes_on}
 use Rattle.mg_core.proofs.machine.Core.control.Goals as goal
 
 pub returns-in-Ok-clause-answered : goal.returns-in-Ok-clause-answered
@@ -22,3 +23,9 @@ returns-in-Some-clause-answered c w h =
     let read = rw c.in-Err.is at c.read.ensures in
     let (reading, is, refused) = is_refused c.args.bytes.now c.in-Err.fault c.in-Some.number (sym c.refusal_of.ensures.value ∙ c.in-Some.is) read.long read.long_only read.version read.version_only read.syntax (with_control w) in
     (with_control w, (told Send c.refuse.new.self.answer, (reading, is, refused ∙ c.refuse.ensures.refused (with_control w) counted), refl), subst (λ (s : CoreState). StandsFor s (with_control w)) (sym c.refuse.ensures.state) counted)
+
+pub returns-in-Ok-clause-headline : goal.returns-in-Ok-clause-headline
+returns-in-Ok-clause-headline c = goes_on _ _ _ _ (returns-in-Ok-clause-answered c)
+
+pub returns-in-Some-clause-headline : goal.returns-in-Some-clause-headline
+returns-in-Some-clause-headline c = goes_on _ _ _ _ (returns-in-Some-clause-answered c)

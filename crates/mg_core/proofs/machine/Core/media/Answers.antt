@@ -1,6 +1,8 @@
-use Rattle.std.proofs.Common.{refl, sym, subst}
+use Rattle.std.proofs.Common.{[], refl, sym, subst}
 use Rattle.mg_core.specs.CoreView.{CoreView}
+use Rattle.mg_core.specs.declared.event.Event.TheVariants.{Media}
 use Rattle.mg_core.specs.World.{StandsFor, with_taken}
+use Rattle.mg_core.proofs.HeadlineLaws.{goes_on}
 use Rattle.mg_core.proofs.machine.Core.media.Goals as goal
 
 pub returns-clause-taken : goal.returns-clause-taken
@@ -11,3 +13,8 @@ returns-clause-taken c w h =
       (g, took, refl),
       c.count_media.ensures.counted (record w { gateway = g }) (record { gateway = stands; replies = held.replies; counts = held.counts }),
     )
+
+pub returns-clause-headline : goal.returns-clause-headline
+returns-clause-headline c = goes_on c.args.self.now.state c.count_media.new.self (Media c.args.port c.args.source c.args.bytes.now) [] (λ w h.
+    let (next, took, stands) = returns-clause-taken c w h in
+    (next, (c.media-taken.result, took, refl), stands))

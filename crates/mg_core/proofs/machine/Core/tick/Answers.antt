@@ -1,7 +1,10 @@
-use Rattle.std.proofs.Common.{sym, subst}
+use Rattle.std.proofs.Common.{map, refl, sym, ap, subst}
 use Rattle.mg_engine.specs.Tick.{after_tick}
 use Rattle.mg_core.specs.CoreView.{CoreView}
-use Rattle.mg_core.specs.World.{StandsFor}
+use Rattle.mg_core.specs.declared.event.Event.TheVariants.{Tick}
+use Rattle.mg_core.specs.Step.{Packet}
+use Rattle.mg_core.specs.World.{StandsFor, ticked}
+use Rattle.mg_core.proofs.HeadlineLaws.{goes_on}
 use Rattle.mg_core.proofs.machine.Core.tick.Goals as goal
 
 pub returns-clause-next : goal.returns-clause-next
@@ -9,3 +12,8 @@ returns-clause-next c w h =
     let held = subst (λ (x : CoreView). StandsFor x.state w) (sym c.self.view_is) h in
     c.count_tick.ensures.counted (record w { gateway = after_tick w.gateway })
     (record { gateway = c.tick.ensures.after w.gateway held.gateway; replies = held.replies; counts = held.counts })
+
+pub returns-clause-headline : goal.returns-clause-headline
+returns-clause-headline c = goes_on c.args.self.now.state c.count_tick.new.self Tick (map Packet c.tick.new.outbox.items) (λ w h.
+    let held = subst (λ (x : CoreView). StandsFor x.state w) (sym c.self.view_is) h in
+    (ticked w, (ap (map Packet) (c.tick.ensures.sent w.gateway held.gateway), refl), returns-clause-next c w h))

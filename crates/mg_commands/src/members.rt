@@ -1,0 +1,67 @@
+//! The members that a command for all of them (`*`) is tried on.
+
+ghost use Rattle.std.specs.Prelude.{◌≡◌, ◌≤◌, Ok, Err, MatchResult, IfOk, length, map, take};
+ghost use Rattle.mg_engine.specs.Gateway.{Gateway};
+ghost use Rattle.mg_engine.specs.Stands.{StandsFor};
+ghost use Rattle.mg_commands.specs.Outcome.{takes_all, members_in, all_names};
+
+use crate::name::Name;
+use mg_engine::{Engine, Target};
+use mg_text::{CommandWord, ErrorNumber};
+use mg_words::MEMBERS;
+
+/// Whether a command may be for all members of its context.
+fn takes_all(word: CommandWord) -> bool
+    ensures value { result ≡ takes_all word }
+{
+    match word {
+        CommandWord::Modify | CommandWord::Subtract | CommandWord::AuditValue => true,
+        CommandWord::Add
+        | CommandWord::Move
+        | CommandWord::AuditCapability
+        | CommandWord::Notify
+        | CommandWord::ServiceChange => false,
+    }
+}
+
+/// The members of an action's context, in the order of their entry. A context that isn't there has none.
+fn members_in(engine: &Engine, target: Target) -> &[u32]
+    ensures value { (w : Gateway) → StandsFor engine.now w → result.now ≡ members_in w target }
+    ensures few { length result.now ≤ MEMBERS }
+{
+    match target {
+        Target::Null | Target::New => &[],
+        Target::Number(context) => engine.rooms().members(context),
+    }
+}
+
+/// The members that a command for all of them is tried on (RFC 3525, section 6.2.2), of which there is at least one.
+pub fn all_members(
+    engine: &Engine,
+    target: Target,
+    word: CommandWord,
+) -> Result<&[u32], ErrorNumber>
+    ensures value { (w : Gateway) → StandsFor engine.now w → MatchResult result
+        (λ members. all_names w target word ≡ Ok (map Name.Number members.now))
+        (λ e. all_names w target word ≡ Err e) }
+    ensures few { IfOk result (λ members. length members.now ≤ MEMBERS) }
+{
+    if !takes_all(word) {
+        return Err(ErrorNumber::IdentifierNotAllowed);
+    }
+    let members = members_in(engine, target);
+    if members.is_empty() {
+        return Err(ErrorNumber::WildcardMatchedNone);
+    }
+    Ok(members)
+}
+
+/// A copy of the members, at its front: a Subtract changes those of the context.
+pub fn copy_of(members: &[u32]) -> [u32; MEMBERS]
+    requires few { length members.now ≤ MEMBERS }
+    ensures front { take (length members.now) result ≡ members.now }
+{
+    let mut copy = [0; MEMBERS];
+    copy[..members.len()].copy_from_slice(members);
+    copy
+}

@@ -1,0 +1,28 @@
+use Rattle.std.proofs.Common.{◌≡◌, ℕ, true, List, Option, Some, None, sym, ap, ◌∙◌}
+use Rattle.std.specs.Str.{str_eq_ignore_ascii_case}
+use Rattle.mg_kept.specs.KeptReplies.{KeptReply, kept_text, with_reply}
+use Rattle.mg_kept.specs.Theorems.{KeptIsFound}
+use Rattle.mg_text.specs.declared.request.Request.{Request}
+use Rattle.mg_commands.specs.Transaction.{replied}
+use Rattle.mg_core.specs.Answer.{request_replied, run_and_kept, unless_kept}
+use Rattle.mg_core.specs.World.{World}
+use Rattle.mg_core.proofs.laws.repetitions_are_answered_alike.Goals as goal
+
+sent_again : (source sender : List ℕ) (request : Request) (w : World) (o : Option (List ℕ)) → kept_text w.replies sender request.number ≡ o → request_replied source sender request w ≡ unless_kept o source sender request w
+sent_again source sender request w o is = ap (λ (x : Option (List ℕ)). unless_kept x source sender request w) is
+
+alike : KeptIsFound → (source other sender same : List ℕ) (request again : Request) (w : World) → kept_text w.replies sender request.number ≡ None → again.number ≡ request.number → str_eq_ignore_ascii_case sender same ≡ true
+    → request_replied other same again (request_replied source sender request w).1 ≡ request_replied source sender request w
+alike found source other sender same request again w none number name =
+    let ran = run_and_kept sender request.number w (replied source request w.gateway) in
+    let reply : KeptReply = record { sender = sender; number = request.number; text = ran.0 } in
+    let kept : kept_text ran.1.replies same again.number ≡ Some ran.0 = ap (kept_text (with_reply reply w.replies) same) number ∙ found w.replies reply same none name in
+    let first = sent_again source sender request w None none in
+    ap (λ (p : List ℕ × World). request_replied other same again p.1) first ∙ sent_again other same again ran.1 (Some ran.0) kept ∙ sym first
+
+pub returns : goal.returns
+returns c = record {
+  kept = λ source sender request w text is. sent_again source sender request w (Some text) is;
+  again = alike c.kept_reply_is_found.ensures.law;
+  others = λ source sender request w none. ap (λ (p : List ℕ × World). p.1.gateway) (sent_again source sender request w None none);
+}

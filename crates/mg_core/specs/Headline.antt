@@ -1,0 +1,64 @@
+-- What carries the project: the flows, totals and packets of a gateway after any list of events,
+-- and what follows for who isn't to be heard.
+use Rattle.std.specs.Prelude.{◌≡◌, ℕ, ℤ, Bool, true, false, List, [], ◌∷◌, ◌++◌, Option}
+use Rattle.std.specs.List.{list_all}
+use Rattle.mg_engine.specs.declared.config.Config.{Config}
+use Rattle.mg_engine.specs.declared.datagram.Datagram.{Datagram}
+use Rattle.mg_engine.specs.Flow.{flow}
+use Rattle.mg_engine.specs.Mix.{total_at}
+use Rattle.mg_core.specs.declared.event.Event.{Event}
+use Rattle.mg_core.specs.declared.event.Event.TheVariants.{Control, Media, Tick}
+use Rattle.mg_core.specs.declared.state.CoreState.{CoreState}
+use Rattle.mg_core.specs.World.{World, StandsFor, packets_of, start_of}
+use Rattle.mg_core.specs.Step.{Sent, Run}
+
+-- A gateway was started with this configuration, these events came to it, one after another, and
+-- these datagrams were sent. That led to the world w, and the state stands for it.
+abbrev pub CameTo : Config → List Event → List Sent → World → CoreState → Type 0
+CameTo config events sent w state = Run (start_of config) events sent w × StandsFor state w
+
+-- one event more came, and these datagrams more were sent, whatever happened before
+abbrev pub GoesOn : CoreState → CoreState → Event → List Sent → Type 0
+GoesOn old new event sent =
+    (config : Config) (events : List Event) (before : List Sent) (w : World)
+    → CameTo config events before w old
+    → (next : World) × CameTo config (events ++ event ∷ []) (before ++ sent) next new
+
+-- After any list of events the flow that is answered is the one computed anew: from the context,
+-- the modes, and all edits of contexts.
+abbrev pub FlowIsAnew : CoreState → ℕ → ℕ → Bool → Type 0
+FlowIsAnew state talker listener answer =
+    (config : Config) (events : List Event) (sent : List Sent) (w : World)
+    → CameTo config events sent w state → answer ≡ flow w.gateway talker listener
+
+-- After any list of events the total that is answered is the one computed anew: from the members
+-- of the context, their modes and their current frames.
+abbrev pub TotalIsAnew : CoreState → ℕ → ℕ → Option ℤ → Type 0
+TotalIsAnew state context i answer =
+    (config : Config) (events : List Event) (sent : List Sent) (w : World)
+    → CameTo config events sent w state → answer ≡ total_at w.gateway context i
+
+-- After any list of events the packets of a tick are those computed anew, no more and no fewer, in
+-- the order of their terminations' numbers: each payload byte is the encoding of the sum, limited
+-- once, over all whose flow to the listener is open.
+abbrev pub PacketsAreAnew : CoreState → List Datagram → Type 0
+PacketsAreAnew state outbox =
+    (config : Config) (events : List Event) (sent : List Sent) (w : World)
+    → CameTo config events sent w state → outbox ≡ packets_of w
+
+-- ## After a refused command
+
+-- A refused command leaves the gateway as it was, and adds a reply to those that are kept. Flows,
+-- totals and the packets of a tick are of the gateway alone; and of two worlds with one gateway,
+-- whatever replies they keep, the same RTP datagrams and ticks have the same packets sent and lead
+-- to one gateway.
+abbrev pub is_of_media : Event → Bool
+is_of_media (Control source bytes) = false
+is_of_media (Media port source bytes) = true
+is_of_media Tick = true
+
+abbrev pub OneGatewayOneFuture : Type 0
+OneGatewayOneFuture =
+    (a b : World) (events : List Event) (s t : List Sent) (x y : World)
+    → a.gateway ≡ b.gateway → list_all is_of_media events ≡ true
+    → Run a events s x → Run b events t y → (s ≡ t) × (x.gateway ≡ y.gateway)

@@ -17,6 +17,12 @@ use Rattle.mg_core.specs.Step.{Sent, Run}
 abbrev pub CameTo : Config → List Event → List Sent → World → CoreState → Type 0
 CameTo config events sent w state = Run (start_of config) events sent w × StandsFor state w
 
+-- Such a list of events leads to one world, and has one list of datagrams sent.
+abbrev pub EventsLeadToOneWorld : Type 0
+EventsLeadToOneWorld =
+    (config : Config) (events : List Event) (s t : List Sent) (v w : World) (state : CoreState)
+    → CameTo config events s v state → CameTo config events t w state → (s ≡ t) × (v ≡ w)
+
 -- one event more came, and these datagrams more were sent, whatever happened before
 abbrev pub GoesOn : CoreState → CoreState → Event → List Sent → Type 0
 GoesOn old new event sent =

@@ -2,7 +2,9 @@
 
 ghost use Rattle.std.specs.Prelude.{◌≡◌, List};
 ghost use Rattle.mg_core.specs.declared.event.Event.{Event};
-ghost use Rattle.mg_core.specs.Headline.{OneGatewayOneFuture};
+ghost use Rattle.mg_commands.specs.Theorems.{RefusedNamesChangeNothing, RefusedCommandsChangeNothing, RefusedActionsChangeNothing, RefusedTopologiesChangeNothing, OthersAreTried};
+ghost use Rattle.mg_core.specs.Headline.{EventsLeadToOneWorld, OneGatewayOneFuture};
+ghost use Rattle.mg_engine.specs.Isolation.{NobodyHearsHimself, IsolatedAreNotHeard, UnheardChangesNoPacket, PayloadsAreMixes};
 ghost use Rattle.mg_core.specs.Repeats.{KeptRepliesAreSent, RepetitionsAreAnsweredAlike, OthersAreRun};
 ghost use Rattle.mg_core.specs.Step.{Sent, Step, Run};
 ghost use Rattle.mg_core.specs.World.{World};
@@ -47,4 +49,29 @@ pub fn repetitions_are_answered_alike()
     ensures others { OthersAreRun }
 {
     mg_kept::laws::kept_reply_is_found();
+}
+
+/// The headline, joined. By its clauses `headline` and `packets` a [`Core`](crate::Core) answers and sends, after any list of
+/// events, what is computed anew from the world that they led to. This says the rest: that it is one world, what each packet
+/// of it carries, that what is refused changes nothing and no later packet, that nobody hears himself, and that who was
+/// isolated isn't heard.
+pub fn headline()
+    ensures world { EventsLeadToOneWorld }
+    ensures packets { PayloadsAreMixes }
+    ensures refused_names { RefusedNamesChangeNothing }
+    ensures refused_commands { RefusedCommandsChangeNothing }
+    ensures refused_actions { RefusedActionsChangeNothing }
+    ensures refused_topologies { RefusedTopologiesChangeNothing }
+    ensures others { OthersAreTried }
+    ensures later { OneGatewayOneFuture }
+    ensures himself { NobodyHearsHimself }
+    ensures isolated { IsolatedAreNotHeard }
+    ensures unheard { UnheardChangesNoPacket }
+{
+    outcomes_are_one();
+    mg_engine::laws::payloads_are_mixes();
+    mg_commands::laws::refused_commands_change_nothing();
+    refused_commands_change_no_packet();
+    mg_engine::laws::nobody_hears_himself();
+    mg_engine::laws::isolated_are_not_heard();
 }

@@ -7,8 +7,8 @@
 //!
 //! ```rust
 //! let mut kept = Kept::new(alloc)?;
-//! kept.keep(b"<mgc.example>:2945", 7, b"Reply=7{Context=-{}}");
-//! assert_eq!(rt; kept.find(b"<MGC.EXAMPLE>:2945", 7), Some(b"Reply=7{Context=-{}}".as_slice()));
+//! kept.keep(b"<mgc.example>:2945", 7, b"Reply=7{Context=1}");
+//! assert_eq!(rt; kept.find(b"<MGC.EXAMPLE>:2945", 7), Some(b"Reply=7{Context=1}".as_slice()));
 //! kept.ack(b"<mgc.example>:2945", 7, 9);
 //! assert_eq!(rt; kept.find(b"<mgc.example>:2945", 7), None);
 //! ```

@@ -1,0 +1,34 @@
+-- What an argument adds to a command line.
+use Rattle.std.proofs.Common.{◌≡◌, ◌∙◌, ◌&&◌, Bool, true, false, not, refl, sym, ap, ap₂, true≢false}
+use Rattle.std.proofs.lemmas.Bool.{and_parts}
+use Rattle.clap.specs.Built.{AddsArg}
+use Rattle.clap.specs.Walk.{Rule, is_empty, rule_of}
+use Rattle.clap.specs.Simple.{App, app_of, with_rule}
+use Rattle.std.specs.Prelude.{is_some}
+use Rattle.clap.specs.declared.builder.arg.Arg.{Arg}
+use Rattle.clap.specs.declared.builder.command.Command.{Command}
+
+not_so : (b : Bool) → not b ≡ true → b ≡ false
+not_so true e = absurd (true≢false (sym e))
+not_so false e = refl
+
+rest : (a b : Bool) → (a && b) ≡ true → b ≡ true
+rest a b e = (and_parts a b e).1
+
+is_local : (a : Arg) → (rule_of a).is_simple ≡ true → a.global ≡ false
+is_local a simple =
+    let default_ifs = rest (is_empty a.overrides.items) _ simple in
+    let groups = rest (is_empty a.default_vals_ifs.items) _ default_ifs in
+    let delimiter = rest (is_empty a.groups.items) _ groups in
+    let terminator = rest (not (is_some a.val_delim)) _ delimiter in
+    let hyphens = rest (not (is_some a.terminator)) _ terminator in
+    let negatives = rest (not a.allow_hyphen_values) _ hyphens in
+    let equals = rest (not a.allow_negative_numbers) _ negatives in
+    let last = rest (not a.require_equals) _ equals in
+    not_so a.global (rest (not a.last) _ last)
+
+-- an argument that is no other's matter is the last of the rules
+pub adds_rule : (old new : Command) (a : Arg) (line : App) (rule : Rule) → AddsArg old a new → app_of old ≡ line → rule_of a ≡ rule
+    → rule.is_simple ≡ true → app_of new ≡ with_rule line rule
+adds_rule old new a line rule added was is simple =
+    added.shape (is_local a (ap (λ (r : Rule). r.is_simple) is ∙ simple)) ∙ ap₂ with_rule was is

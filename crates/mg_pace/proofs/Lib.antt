@@ -1,0 +1,12 @@
+pub mod AskedRows
+pub mod CommandLaws
+pub mod DueLaws
+pub mod InvocationLaws
+pub mod NumberLaws
+pub mod OneLaws
+pub mod PaceLaws
+pub mod ProgramLaws
+pub mod RunLaws
+pub mod StepLaws
+pub mod TextLaws
+pub mod WriterLaws

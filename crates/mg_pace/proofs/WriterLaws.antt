@@ -1,0 +1,39 @@
+-- What a writer holds after one write and another.
+use Rattle.std.proofs.Common.{◌≡◌, ℕ, ◌+◌, ◌≤◌, List, [], ◌++◌, length, take, drop, Option, Some, None, Err, sym, ap, ◌∙◌, append_assoc}
+use Rattle.std.proofs.lemmas.List.{append-nil, take-append-drop}
+use Rattle.std.proofs.Math.Seq.{take-add}
+use Rattle.std.specs.Io.KnownBytes.{Keeps, Appends}
+use Rattle.mg_pace.specs.declared.fault.PaceFault.{PaceFault}
+use Rattle.mg_pace.specs.declared.fault.PaceFault.TheVariants as faults
+use Rattle.mg_pace.specs.aids.Steps.{Writes, WritesSome}
+
+pub appends_then : (a b c : Option (List ℕ)) (x y : List ℕ) → Appends a b x → Appends b c y → Appends a c (x ++ y)
+appends_then None b c x y h k = tt
+appends_then (Some a) None c x y h k = absurd h
+appends_then (Some a) (Some b) None x y h k = absurd k
+appends_then (Some a) (Some b) (Some c) x y h k = k ∙ ap (λ (l : List ℕ). l ++ y) h ∙ append_assoc a x y
+
+pub keeps_appends : (a b : Option (List ℕ)) → Keeps a b → Appends a b []
+keeps_appends None b k = tt
+keeps_appends (Some a) None k = absurd k
+keeps_appends (Some a) (Some b) k = k ∙ sym (append-nil a)
+
+pub appends_keeps : (a b c : Option (List ℕ)) (x : List ℕ) → Appends a b x → Keeps b c → Appends a c x
+appends_keeps None b c x h k = tt
+appends_keeps (Some a) None c x h k = absurd h
+appends_keeps (Some a) (Some b) None x h k = absurd k
+appends_keeps (Some a) (Some b) (Some c) x h k = k ∙ h
+
+pub nothing_keeps : (a b : Option (List ℕ)) → Appends a b [] → Keeps a b
+nothing_keeps None b h = tt
+nothing_keeps (Some a) None h = absurd h
+nothing_keeps (Some a) (Some b) h = h ∙ append-nil a
+
+-- the front of a text, and then more of it
+pub front_more : (a b c : Option (List ℕ)) (t part : List ℕ) (i n : ℕ) → i ≤ length t → part ≡ drop i t → Appends a b (take i t) → Appends b c (take n part) → Appends a c (take (i + n) t)
+front_more a b c t part i n le is h k = rw (take-add i n t) (appends_then a b c (take i t) (take n (drop i t)) h (rw is at k))
+
+-- where a write failed, the front is there
+pub stops : (a b c : Option (List ℕ)) (t part : List ℕ) (i : ℕ) (e : PaceFault) → Appends a b (take i t) → WritesSome part b c (Err e) → Writes t a c (Err e)
+stops a b c t part i faults.Closed h k = (take i t, drop i t, sym (take-append-drop i t), appends_keeps a b c (take i t) h k)
+stops a b c t part i faults.Clock h k = k

@@ -1,0 +1,23 @@
+-- What holds of each pace, whatever the clock tells.
+use Rattle.std.specs.Prelude.{◌≡◌, ℕ, ◌+◌, ◌*◌, ◌<◌, ◌≤◌, length, List}
+use Rattle.mg_pace.specs.Pace.{Pace, Advances, Paces, start, period, ticks, ticks_due, latest}
+
+-- The k-th tick is written at or after k * 20 ms by the clock, never before.
+abbrev pub NeverEarly : Type 0
+NeverEarly = (polls : ℕ) (readings waits : List ℕ) (p : Pace) → 0 < polls
+    → Paces (start polls) readings waits p → (k : ℕ) → k ≤ ticks p → k * period ≤ latest readings
+
+-- The ticks that were written and the ticks that were left out are together those that are due.
+abbrev pub Accounted : Type 0
+Accounted = (polls : ℕ) (readings waits : List ℕ) (p : Pace) → 0 < polls
+    → Paces (start polls) readings waits p → ticks p + p.left ≡ ticks_due (latest readings)
+
+-- At most 50 ticks are written at one reading.
+abbrev pub Bounded : Type 0
+Bounded = (p q : Pace) (t : ℕ) → 0 < p.polls → Advances p t q → ticks q ≤ ticks p + 50
+
+-- Readings lead from a pace to one other, and leave one way to wait.
+abbrev pub OnePace : Type 0
+OnePace = (p : Pace) (readings waits others : List ℕ) (q r : Pace)
+    → length waits ≡ length others → Paces p readings waits q → Paces p readings others r
+    → (waits ≡ others) × (q ≡ r)

@@ -1,0 +1,8 @@
+pub mod Status
+pub mod Options
+pub mod Pace
+pub mod Text
+pub mod Run
+pub mod Program
+pub mod Laws
+pub mod aids

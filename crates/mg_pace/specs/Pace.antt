@@ -1,0 +1,66 @@
+-- When polls and ticks are due, which of them are written, and how long the waits are. Times are
+-- nanoseconds since the start.
+use Rattle.std.specs.Prelude.{◌≡◌, ℕ, ◌+◌, ◌*◌, ◌/◌, ◌<◌, ◌≤◌, max, List, [], ◌∷◌}
+
+-- from one tick to the next: 20 ms
+abbrev pub period : ℕ
+period = 20000000
+
+-- The ticks that are due at a time: the k-th tick's point is k * 20 ms after the start.
+abbrev pub ticks_due : ℕ → ℕ
+ticks_due t = t / period
+
+-- The steps that are due at a time, with so many polls in 20 ms: the j-th step's point is
+-- j * 20 ms / polls, exactly. A step is a poll. The last step of each 20 ms is a poll and a tick.
+abbrev pub steps_due : ℕ → ℕ → ℕ
+steps_due polls t = t * polls / period
+
+-- how far a run has come
+pub record Pace : Type 0 where
+  -- the polls in 20 ms
+  pub polls : ℕ
+  -- the steps that were written
+  pub steps : ℕ
+  -- the ticks that were left out, each with its polls
+  pub left : ℕ
+
+abbrev pub start : ℕ → Pace
+start polls = record { polls = polls; steps = 0; left = 0 }
+
+-- the steps that were written or left out
+abbrev pub steps_past : Pace → ℕ
+steps_past p = p.steps + p.polls * p.left
+
+-- the ticks that were written
+abbrev pub ticks : Pace → ℕ
+ticks p = p.steps / p.polls
+
+-- What is done at a reading t of the clock.
+pub record Advances (old : Pace) (t : ℕ) (new : Pace) : Type 0 where
+  pub polls : new.polls ≡ old.polls
+  -- all that is due was written or left out
+  pub all : steps_past new ≡ max (steps_past old) (steps_due old.polls t)
+  pub more : (old.steps ≤ new.steps) × (old.left ≤ new.left)
+  -- at most 50 ticks are written at once, with their polls
+  pub few : new.steps ≤ old.steps + 50 * old.polls
+  -- and more than 49 where a tick was left out
+  pub needed : old.left < new.left → old.steps + 49 * old.polls < new.steps
+
+-- The wait d after a reading t: at its end the next step is due, and before it none is.
+pub record Waits (p : Pace) (t d : ℕ) : Type 0 where
+  pub enough : steps_past p < steps_due p.polls (t + d)
+  pub no_longer : (u : ℕ) → t ≤ u → u < t + d → steps_due p.polls u ≤ steps_past p
+
+-- What is done at these readings, the first of them first, with these waits: one after each
+-- reading, and none after a last one at which the run ends.
+abbrev pub Paces : Pace → List ℕ → List ℕ → Pace → Type 0
+Paces p [] [] q = q ≡ p
+Paces p [] (d ∷ ds) q = ⊥
+Paces p (t ∷ []) [] q = Advances p t q
+Paces p (t ∷ u ∷ ts) [] q = ⊥
+Paces p (t ∷ ts) (d ∷ ds) q = (m : Pace) × Advances p t m × Waits m t d × Paces m ts ds q
+
+-- the latest of these readings
+abbrev pub latest : List ℕ → ℕ
+latest [] = 0
+latest (t ∷ ts) = max t (latest ts)

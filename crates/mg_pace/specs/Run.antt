@@ -1,0 +1,50 @@
+-- What a run writes for the readings of its clock, and how long it waits.
+use Rattle.std.specs.Prelude.{◌≡◌, ◌⊎◌, ℕ, ◌+◌, ◌*◌, ◌≤◌, length, List, ◌++◌, Option, Result, Ok}
+use Rattle.std.specs.Prelude.{Err}
+use Rattle.std.specs.Io.KnownBytes.{Appends}
+use Rattle.mg_pace.specs.declared.fault.PaceFault.{PaceFault}
+use Rattle.mg_pace.specs.declared.fault.PaceFault.TheVariants as faults
+use Rattle.mg_pace.specs.declared.options.Options.{Options}
+use Rattle.mg_pace.specs.Pace.{Pace, Paces, start}
+use Rattle.mg_pace.specs.Text.{text, text_by}
+
+-- what is known of a clock's readings and waits, and of what its run has written
+pub record Seen : Type 0 where
+  pub readings : Option (List ℕ)
+  pub waits : Option (List ℕ)
+  pub written : Option (List ℕ)
+
+abbrev pub seen : Option (List ℕ) → Option (List ℕ) → Option (List ℕ) → Seen
+seen readings waits written =
+    record { readings = readings; waits = waits; written = written }
+
+-- How a run ends that got as far as a pace: all lines up to it were written, with the last tick
+-- that is wanted, or before that tick where the clock failed (or told 2^64 - 1 times, after which
+-- no run goes on). Where the output was closed, a front of those lines was written. A run that
+-- left out no tick is silent, unless the clock failed.
+abbrev pub Ends : ℕ → Pace → (readings waits : ℕ) → (failed silent : Type 0) → Option (List ℕ)
+    → Option (List ℕ) → Result (Unit {0}) PaceFault → Type 0
+Ends wanted p readings waits failed silent old new (Ok done) =
+    (readings ≡ waits + 1) × (p.left ≡ 0 → silent) × (wanted * p.polls ≤ p.steps)
+    × Appends old new (text_by wanted p)
+Ends wanted p readings waits failed silent old new (Err faults.Clock) =
+    (readings ≡ waits) × (failed ⊎ (readings ≡ 18446744073709551615))
+    × (p.steps ≤ wanted * p.polls) × Appends old new (text p.polls p.steps)
+Ends wanted p readings waits failed silent old new (Err faults.Closed) =
+    (readings ≡ waits + 1) × (p.left ≡ 0 → silent)
+    × ((front : List ℕ) × (rest : List ℕ) × (text_by wanted p ≡ front ++ rest)
+    × Appends old new front)
+
+-- A run: the clock told some readings, some waits were made, and these waits and what was written
+-- are as the readings ask. A run may end at each of its readings, so nothing is written before the
+-- reading that makes it due, and no wait is made out of turn.
+pub record Paced (options : Options) (failed silent : Type 0) (old new : Seen)
+    (result : Result (Unit {0}) PaceFault) : Type 0 where
+  pub readings : List ℕ
+  pub waits : List ℕ
+  pub pace : Pace
+  pub tells : Appends old.readings new.readings readings
+  pub waited : Appends old.waits new.waits waits
+  pub paces : Paces (start options.polls) readings waits pace
+  pub ends : Ends options.ticks pace (length readings) (length waits) failed silent old.written
+      new.written result

@@ -1,0 +1,91 @@
+ghost use Rattle.std.specs.Prelude.{◌≡◌, ◌<◌, ◌≤◌, IfErr, IfOk, codes, map, max, min, unwrap_or};
+ghost use Rattle.clap.specs.Words.{app_of, found_of, kind_of, rows_of, rule_of};
+ghost use Rattle.mg_pace.specs.Options.{IsRefused, asked, command_line, number_rule, options_in, run};
+
+use crate::schedule::MOST_POLLS;
+use clap::error::ErrorKind;
+use clap::{Arg, ArgMatches, Command, Error, value_parser};
+use std::alloc::Global;
+use std::convert::AsStr;
+
+/// How a run goes.
+#[derive(Clone, Copy, Debug, PartialEq, Eq)]
+pub struct Options {
+    /// The ticks after which the run ends. `u64::MAX` where none were named: more than will ever come.
+    pub ticks: u64,
+    /// The polls in 20 ms, from 1 to 1000.
+    pub polls: u16,
+}
+
+/// The option that names the ticks.
+fn ticks_option<'a>(alloc: Global) -> Arg<'a>
+    ensures rule { rule_of result ≡ number_rule (codes "ticks") 0 4294967295 }
+{
+    Arg::new(alloc, "ticks")
+        .long("ticks")
+        .value_name("NUMBER")
+        .value_parser(value_parser!(u32))
+        .help("Ends after so many ticks, with the line quit")
+}
+
+/// The option that names the polls in 20 ms.
+fn polls_option<'a>(alloc: Global) -> Arg<'a>
+    ensures rule { rule_of result ≡ number_rule (codes "polls") 1 1000 }
+{
+    Arg::new(alloc, "polls")
+        .long("polls")
+        .value_name("NUMBER")
+        .value_parser(value_parser!(u16).range(1..=1000))
+        .help("How many polls there are in 20 ms, from 1 to 1000; 4 where this isn't given")
+}
+
+/// The program's command line.
+fn command<'a>(alloc: Global) -> Result<Command<'a>, Error>
+    ensures app { IfOk result (λ command. app_of command ≡ command_line) }
+    ensures memory { IfErr result (λ error. kind_of error ≡ ErrorKind.OutOfMemory) }
+{
+    let command = Command::new(alloc, "mg_pace")
+        .about("Writes the line tick every 20 ms, and lines poll between")
+        .no_binary_name(true)
+        .arg(ticks_option(alloc))?
+        .arg(polls_option(alloc))?;
+    Ok(command)
+}
+
+/// The ticks that are wanted where so many were named, or none.
+fn ticks_wanted(named: Option<u32>) -> u64
+    ensures value { result ≡ unwrap_or named 18446744073709551615 }
+{
+    named.map_or(u64::MAX, u64::from)
+}
+
+/// A number of polls within its bounds.
+fn bounded_polls(polls: u16) -> u16
+    ensures value { result ≡ max 1 (min 1000 polls) }
+{
+    polls.clamp(1, MOST_POLLS)
+}
+
+/// The options that were given, and the standard ones for the others.
+fn options_of(matches: &ArgMatches<'_>) -> Options
+    ensures value { result ≡ options_in (rows_of (found_of matches.now)) }
+{
+    Options {
+        ticks: ticks_wanted(matches.get_one("ticks")),
+        polls: bounded_polls(matches.get_one("polls").unwrap_or(4)),
+    }
+}
+
+/// The options of the run that the program's arguments ask for. The arguments stand without the program's name.
+///
+/// Where they ask for no run the error says why, and is told to the caller: a fault of theirs, a call for help, or
+/// want of memory.
+pub fn asked_options<'a, S: AsStr>(alloc: Global, words: &'a [S]) -> Result<Options, Error>
+    ensures asked { IfOk result (λ options. asked (map S.text words.now) ≡ run options) }
+    ensures some { IfOk result (λ options. 0 < options.polls) }
+    ensures few { IfOk result (λ options. options.polls ≤ 1000) }
+    ensures refused { IfErr result (λ error. IsRefused (asked (map S.text words.now)) (kind_of error)) }
+{
+    let matches = command(alloc)?.try_get_matches_from(words)?;
+    Ok(options_of(&matches))
+}

@@ -1,12 +1,13 @@
 -- How the program ends where its words led to no run.
-use Rattle.std.proofs.Common.{◌≡◌, ℕ, List, [], Option, Some, None, Result, Err, refl, sym, ap, subst, arith, append-nil, inr}
+use Rattle.std.proofs.Common.{◌≡◌, ℕ, true, List, [], Option, Some, None, Result, Err, refl, sym, ap, subst, arith, append-nil, inr}
 use Rattle.std.specs.Io.KnownBytes.{Appends}
 use Rattle.clap.specs.declared.error.kind.ErrorKind.{ErrorKind}
 use Rattle.mg_engine.specs.declared.config.Config.{Config}
 use Rattle.mg_core.specs.World.{start_of}
 use Rattle.mg_core.specs.declared.fault.RunFault.{RunFault}
 use Rattle.mg_core.specs.declared.fault.RunFault.TheVariants as faults
-use Rattle.mg_core.specs.Script.{events_of, lines_of}
+use Rattle.mg_lines.specs.Lines.{lines_of}
+use Rattle.mg_core.specs.Script.{events_of}
 use Rattle.mg_core.specs.declared.counts.Counts.{Counts}
 use Rattle.mg_engine.specs.Config.{IsValidConfig}
 use Rattle.mg_bridge.specs.declared.status.Status.{Status}
@@ -33,7 +34,7 @@ not_begun config (Some script) old = record {
   is = refl;
   ran = record {
     lines = [];
-    others = lines_of script;
+    others = lines_of true script;
     script_is = refl;
     last = start_of config;
     ran = record { events = []; sent = []; are = refl; run = (refl, refl); written = appends_nothing old };

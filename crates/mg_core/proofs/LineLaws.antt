@@ -10,12 +10,13 @@ use Rattle.mg_core.specs.declared.event.Event.TheVariants.{Control, Tick}
 use Rattle.mg_core.specs.declared.fault.EventFault.{EventFault}
 use Rattle.mg_core.specs.declared.fault.EventFault.TheVariants as events
 use Rattle.mg_core.specs.declared.fault.LineFault.{LineFault}
-use Rattle.mg_core.specs.declared.fault.WriteFailed.{WriteFailed}
+use Rattle.mg_lines.specs.declared.write_failed.WriteFailed.{WriteFailed}
 use Rattle.mg_core.specs.declared.state.CoreState.{CoreState}
 use Rattle.mg_core.specs.Run.{answer_line, lines_for}
 use Rattle.mg_core.specs.Script.{event_of, events_of, then_all}
 use Rattle.mg_core.specs.Step.{Sent, Reply, Packet, Step, answer_to}
-use Rattle.mg_core.specs.aids.Steps.{EventRan, LineRan, Writes, WritesFront, line_fault_of}
+use Rattle.mg_lines.specs.Streams.{Writes, WritesFront}
+use Rattle.mg_core.specs.aids.Steps.{EventRan, LineRan, line_fault_of}
 use Rattle.mg_core.specs.World.{World, StandsFor, packets_of, ticked}
 
 pub same_appends : (a : Option (List ℕ)) → Appends a a []

@@ -14,11 +14,12 @@ use Rattle.mg_core.specs.declared.event.Event.{Event}
 use Rattle.mg_core.specs.declared.fault.LineFault.{LineFault}
 use Rattle.mg_core.specs.declared.fault.LineFault.TheVariants as faults
 use Rattle.mg_core.specs.declared.fault.ScriptFault.{ScriptFault}
-use Rattle.mg_core.specs.Script.{without_return, lines_after, lines_of, event_of, events_of, then_all}
+use Rattle.mg_lines.specs.Lines.{without_return, lines_after, lines_of}
+use Rattle.mg_core.specs.Script.{event_of, events_of, then_all}
 use Rattle.mg_core.specs.Step.{Sent, Run}
 use Rattle.mg_core.specs.Run.{Ran, RanInPart, RanFirst, lines_for, line_of}
 use Rattle.mg_core.specs.aids.Steps.{AllRan, LineRan, BytesRan, Finishes, script_fault_of}
-use Rattle.mg_core.proofs.WriterLaws.{appends_then, appends_keeps}
+use Rattle.mg_lines.proofs.WriterLaws.{appends_then, appends_keeps}
 use Rattle.mg_core.proofs.LineLaws.{same_appends}
 
 -- ## Lines and events one after another
@@ -84,11 +85,11 @@ ran_nothing w a = record { events = []; sent = []; are = refl; run = (refl, refl
 pub bytes_start : (n : ℕ) (begun : List ℕ) (w : World) (a : Option (List ℕ)) → BytesRan n n begun [] begun w w a a (Ok tt)
 bytes_start n begun w a = ([], λ rest. refl, omega arith, ran_nothing w a)
 
-one_byte : (x : ℕ) (begun bytes : List ℕ) → x ≢ 10 → lines_after begun (x ∷ bytes) ≡ lines_after (begun ++ x ∷ []) bytes
+one_byte : (x : ℕ) (begun bytes : List ℕ) → x ≢ 10 → lines_after true begun (x ∷ bytes) ≡ lines_after true (begun ++ x ∷ []) bytes
 unfolding lines_after
 one_byte x begun bytes ne = rw (ne_eqb x 10 ne) refl
 
-line_feed : (begun bytes : List ℕ) → lines_after begun (10 ∷ bytes) ≡ without_return begun ∷ lines_after [] bytes
+line_feed : (begun bytes : List ℕ) → lines_after true begun (10 ∷ bytes) ≡ without_return begun ∷ lines_after true [] bytes
 unfolding lines_after
 line_feed begun bytes = refl
 
@@ -98,30 +99,30 @@ regroup front x rest = append_assoc front (x ∷ []) rest
 -- a byte that ends no line
 pub bytes_plain : (n m : ℕ) (begun front left : List ℕ) (w v : World) (a b : Option (List ℕ)) (x : ℕ) → x ≢ 10 → BytesRan n m begun front left w v a b (Ok tt) → BytesRan n m begun (front ++ x ∷ []) (left ++ x ∷ []) w v a b (Ok tt)
 bytes_plain n m begun front left w v a b x ne h =
-    (h.0, λ rest. ap (lines_after begun) (regroup front x rest) ∙ h.1 (x ∷ rest) ∙ ap (λ (l : List (List ℕ)). h.0 ++ l) (one_byte x left rest ne), h.2, h.3)
+    (h.0, λ rest. ap (lines_after true begun) (regroup front x rest) ∙ h.1 (x ∷ rest) ∙ ap (λ (l : List (List ℕ)). h.0 ++ l) (one_byte x left rest ne), h.2, h.3)
 
 -- a byte that ends a line, which was run
 pub bytes_line : (n m : ℕ) (begun front left : List ℕ) (w v u : World) (a b c : Option (List ℕ)) (number : ℕ) → BytesRan n m begun front left w v a b (Ok tt) → LineRan number (without_return left) v u b c (Ok tt) → BytesRan n (m + 1) begun (front ++ 10 ∷ []) [] w u a c (Ok tt)
 bytes_line n m begun front left w v u a b c number h k =
     let line = without_return left in
-    let next : (rest : List ℕ) → lines_after begun ((front ++ 10 ∷ []) ++ rest) ≡ (h.0 ++ line ∷ []) ++ lines_after [] rest =
-    λ rest. ap (lines_after begun) (regroup front 10 rest) ∙ h.1 (10 ∷ rest) ∙ ap (λ (l : List (List ℕ)). h.0 ++ l) (line_feed left rest) ∙ sym (append_assoc h.0 (line ∷ []) (lines_after [] rest)) in
+    let next : (rest : List ℕ) → lines_after true begun ((front ++ 10 ∷ []) ++ rest) ≡ (h.0 ++ line ∷ []) ++ lines_after true [] rest =
+    λ rest. ap (lines_after true begun) (regroup front 10 rest) ∙ h.1 (10 ∷ rest) ∙ ap (λ (l : List (List ℕ)). h.0 ++ l) (line_feed left rest) ∙ sym (append_assoc h.0 (line ∷ []) (lines_after true [] rest)) in
     (h.0 ++ line ∷ [], next, omega (arith, length-append h.0 (line ∷ []), h.2), ran_both w v u h.0 (line ∷ []) a b c h.3 k)
 
 -- the lines after some bytes, where a line feed stands after the first of them
-at_feed : (begun front left back rest : List ℕ) (lines : List (List ℕ)) → ((rest : List ℕ) → lines_after begun (front ++ rest) ≡ lines ++ lines_after left rest) → lines_after begun ((front ++ (10 ∷ back)) ++ rest) ≡ lines ++ without_return left ∷ lines_after [] (back ++ rest)
+at_feed : (begun front left back rest : List ℕ) (lines : List (List ℕ)) → ((rest : List ℕ) → lines_after true begun (front ++ rest) ≡ lines ++ lines_after true left rest) → lines_after true begun ((front ++ (10 ∷ back)) ++ rest) ≡ lines ++ without_return left ∷ lines_after true [] (back ++ rest)
 at_feed begun front left back rest lines h =
-    ap (lines_after begun) (append_assoc front (10 ∷ back) rest) ∙ h (10 ∷ (back ++ rest)) ∙ ap (λ (l : List (List ℕ)). lines ++ l) (line_feed left (back ++ rest))
+    ap (lines_after true begun) (append_assoc front (10 ∷ back) rest) ∙ h (10 ∷ (back ++ rest)) ∙ ap (λ (l : List (List ℕ)). lines ++ l) (line_feed left (back ++ rest))
 
 -- a line that was not run
 pub bytes_stop : (n m p : ℕ) (begun front left back other : List ℕ) (w v u : World) (a b c : Option (List ℕ)) (e : LineFault) → BytesRan n m begun front left w v a b (Ok tt) → LineRan (m + 1) (without_return left) v u b c (Err e) → BytesRan n p begun (front ++ (10 ∷ back)) other w u a c (Err e)
 bytes_stop n m p begun front left back other w v u a b c (faults.Bad k) h l =
-    (h.0, λ rest. (without_return left, lines_after [] (back ++ rest), at_feed begun front left back rest h.0 h.1, l.1), omega (arith, l.0, h.2), ran_kept w v u h.0 a b c h.3 l.2 l.3)
+    (h.0, λ rest. (without_return left, lines_after true [] (back ++ rest), at_feed begun front left back rest h.0 h.1, l.1), omega (arith, l.0, h.2), ran_kept w v u h.0 a b c h.3 l.2 l.3)
 bytes_stop n m p begun front left back other w v u a b c faults.Write h l =
     let line = without_return left in
-    (h.0 ++ line ∷ [], λ rest. (lines_after [] (back ++ rest), at_feed begun front left back rest h.0 h.1 ∙ sym (append_assoc h.0 (line ∷ []) (lines_after [] (back ++ rest)))), ran_part w v u h.0 (line ∷ []) a b c h.3 l)
+    (h.0 ++ line ∷ [], λ rest. (lines_after true [] (back ++ rest), at_feed begun front left back rest h.0 h.1 ∙ sym (append_assoc h.0 (line ∷ []) (lines_after true [] (back ++ rest)))), ran_part w v u h.0 (line ∷ []) a b c h.3 l)
 bytes_stop n m p begun front left back other w v u a b c faults.NoMemory h l =
-    (h.0, λ rest. (without_return left ∷ lines_after [] (back ++ rest), at_feed begun front left back rest h.0 h.1), ran_kept w v u h.0 a b c h.3 l.0 l.1)
+    (h.0, λ rest. (without_return left ∷ lines_after true [] (back ++ rest), at_feed begun front left back rest h.0 h.1), ran_kept w v u h.0 a b c h.3 l.0 l.1)
 
 -- a line that is too long is bad, wherever it ends
 long_bad : (line : List ℕ) → 140001 ≤ length line → event_of line ≡ None
@@ -138,13 +139,13 @@ pub record HasLongLine (lines : List (List ℕ)) : Type 0 where
   pub parts : lines ≡ bad ∷ others
   pub is : event_of bad ≡ None
 
-long_step : (t : Bool) (begun : List ℕ) (x : ℕ) (bytes : List ℕ) → eqb x 10 ≡ t → 140002 ≤ length begun → HasLongLine (lines_after (begun ++ x ∷ []) bytes) → HasLongLine (lines_after begun (x ∷ bytes))
+long_step : (t : Bool) (begun : List ℕ) (x : ℕ) (bytes : List ℕ) → eqb x 10 ≡ t → 140002 ≤ length begun → HasLongLine (lines_after true (begun ++ x ∷ []) bytes) → HasLongLine (lines_after true begun (x ∷ bytes))
 unfolding lines_after
 long_step true begun x bytes e le h =
-    rw e (record { bad = without_return begun; others = lines_after [] bytes; parts = refl; is = long_bad (without_return begun) (return_long (eqb (slice_index begun (length begun - 1)) 13) begun 140001 (omega arith)) })
+    rw e (record { bad = without_return begun; others = lines_after true [] bytes; parts = refl; is = long_bad (without_return begun) (return_long (eqb (slice_index begun (length begun - 1)) 13) begun 140001 (omega arith)) })
 long_step false begun x bytes e le h = rw e h
 
-long_line : (begun bytes : List ℕ) → 140002 ≤ length begun → HasLongLine (lines_after begun bytes)
+long_line : (begun bytes : List ℕ) → 140002 ≤ length begun → HasLongLine (lines_after true begun bytes)
 unfolding lines_after
 long_line begun [] le = rw (ne_eqb (length begun) 0 (λ e. absurd (omega arith))) (record { bad = begun; others = []; parts = refl; is = long_bad begun (omega arith) })
 long_line begun (x ∷ bytes) le = long_step (eqb x 10) begun x bytes refl le (long_line (begun ++ x ∷ []) bytes (omega (arith, length-append begun (x ∷ []))))
@@ -152,12 +153,12 @@ long_line begun (x ∷ bytes) le = long_step (eqb x 10) begun x bytes refl le (l
 -- a byte that makes a line too long
 pub bytes_long : (n m p : ℕ) (begun front left back other : List ℕ) (w v : World) (a b : Option (List ℕ)) (x : ℕ) → x ≢ 10 → 140001 ≤ length left → BytesRan n m begun front left w v a b (Ok tt) → BytesRan n p begun (front ++ (x ∷ back)) other w v a b (Err (faults.Bad (m + 1)))
 bytes_long n m p begun front left back other w v a b x ne le h =
-    let long : (rest : List ℕ) → HasLongLine (lines_after (left ++ x ∷ []) (back ++ rest)) = λ rest. long_line (left ++ x ∷ []) (back ++ rest) (omega (arith, length-append left (x ∷ []))) in (
+    let long : (rest : List ℕ) → HasLongLine (lines_after true (left ++ x ∷ []) (back ++ rest)) = λ rest. long_line (left ++ x ∷ []) (back ++ rest) (omega (arith, length-append left (x ∷ []))) in (
       h.0,
       λ rest. (
         (long rest).bad,
         (long rest).others,
-        ap (lines_after begun) (append_assoc front (x ∷ back) rest) ∙ h.1 (x ∷ (back ++ rest)) ∙ ap (λ (l : List (List ℕ)). h.0 ++ l) (one_byte x left (back ++ rest) ne ∙ (long rest).parts),
+        ap (lines_after true begun) (append_assoc front (x ∷ back) rest) ∙ h.1 (x ∷ (back ++ rest)) ∙ ap (λ (l : List (List ℕ)). h.0 ++ l) (one_byte x left (back ++ rest) ne ∙ (long rest).parts),
         (long rest).is,
       ),
       omega (arith, h.2),
@@ -169,12 +170,12 @@ pub record Progress (config : Config) (script : List ℕ) (remaining : Option (L
   pub rest : List ℕ
   pub left : remaining ≡ Some rest
   pub lines : List (List ℕ)
-  pub split : lines_of script ≡ lines ++ lines_after begun rest
+  pub split : lines_of true script ≡ lines ++ lines_after true begun rest
   pub counted : count ≡ length lines
   pub ran : Ran (start_of config) lines now old new
 
 pub progress_start : (config : Config) (script : List ℕ) (remaining : Option (List ℕ)) (begun : List ℕ) (count : ℕ) (a : Option (List ℕ)) → remaining ≡ Some script → begun ≡ [] → count ≡ 0 → Progress config script remaining begun count (start_of config) a a
-progress_start config script remaining begun count a is none zero_is = record { rest = script; left = is; lines = []; split = ap (λ (l : List ℕ). lines_after l script) (sym none); counted = zero_is; ran = ran_nothing (start_of config) a }
+progress_start config script remaining begun count a is none zero_is = record { rest = script; left = is; lines = []; split = ap (λ (l : List ℕ). lines_after true l script) (sym none); counted = zero_is; ran = ran_nothing (start_of config) a }
 
 consumed : (x y : Option (List ℕ)) (rest bytes : List ℕ) → x ≡ Some rest → Consumes x y bytes → (more : List ℕ) × (y ≡ Some more) × (rest ≡ bytes ++ more)
 consumed None y rest bytes e h = absurd cc
@@ -188,7 +189,7 @@ progress_bytes config script x y begun bytes left n m v u a b c p eaten h =
       rest = more.0;
       left = more.1;
       lines = p.lines ++ h.0;
-      split = p.split ∙ ap (λ (l : List ℕ). p.lines ++ lines_after begun l) more.2 ∙ ap (λ (l : List (List ℕ)). p.lines ++ l) (h.1 more.0) ∙ sym (append_assoc p.lines h.0 (lines_after left more.0));
+      split = p.split ∙ ap (λ (l : List ℕ). p.lines ++ lines_after true begun l) more.2 ∙ ap (λ (l : List (List ℕ)). p.lines ++ l) (h.1 more.0) ∙ sym (append_assoc p.lines h.0 (lines_after true left more.0));
       counted = omega (arith, h.2, p.counted, length-append p.lines h.0);
       ran = ran_both (start_of config) v u p.lines h.0 a b c p.ran h.3;
     }
@@ -200,7 +201,7 @@ progress_fault config script x y begun bytes left n m state v u a b c (faults.Ba
       lines = p.lines ++ h.0;
       bad = bad.0;
       others = bad.1;
-      script_is = p.split ∙ ap (λ (l : List ℕ). p.lines ++ lines_after begun l) more.2 ∙ ap (λ (l : List (List ℕ)). p.lines ++ l) bad.2 ∙ sym (append_assoc p.lines h.0 (bad.0 ∷ bad.1));
+      script_is = p.split ∙ ap (λ (l : List ℕ). p.lines ++ lines_after true begun l) more.2 ∙ ap (λ (l : List (List ℕ)). p.lines ++ l) bad.2 ∙ sym (append_assoc p.lines h.0 (bad.0 ∷ bad.1));
       is_bad = bad.3;
       number_is = omega (arith, h.2, p.counted, length-append p.lines h.0);
       last = u;
@@ -211,7 +212,7 @@ progress_fault config script x y begun bytes left n m state v u a b c faults.Wri
     let others = h.1 more.0 in record {
       lines = p.lines ++ h.0;
       others = others.0;
-      script_is = p.split ∙ ap (λ (l : List ℕ). p.lines ++ lines_after begun l) more.2 ∙ ap (λ (l : List (List ℕ)). p.lines ++ l) others.1 ∙ sym (append_assoc p.lines h.0 others.0);
+      script_is = p.split ∙ ap (λ (l : List ℕ). p.lines ++ lines_after true begun l) more.2 ∙ ap (λ (l : List (List ℕ)). p.lines ++ l) others.1 ∙ sym (append_assoc p.lines h.0 others.0);
       last = u;
       ran = ran_part (start_of config) v u p.lines h.0 a b c p.ran h.2;
     }
@@ -220,14 +221,14 @@ progress_fault config script x y begun bytes left n m state v u a b c faults.NoM
     let others = h.1 more.0 in record {
       lines = p.lines ++ h.0;
       others = others.0;
-      script_is = p.split ∙ ap (λ (l : List ℕ). p.lines ++ lines_after begun l) more.2 ∙ ap (λ (l : List (List ℕ)). p.lines ++ l) others.1 ∙ sym (append_assoc p.lines h.0 others.0);
+      script_is = p.split ∙ ap (λ (l : List ℕ). p.lines ++ lines_after true begun l) more.2 ∙ ap (λ (l : List (List ℕ)). p.lines ++ l) others.1 ∙ sym (append_assoc p.lines h.0 others.0);
       last = u;
       ran = ran_both (start_of config) v u p.lines h.0 a b c p.ran h.2;
     }
 
 -- reading failed
 pub progress_unread : (config : Config) (script : List ℕ) (x : Option (List ℕ)) (begun : List ℕ) (n : ℕ) (v : World) (a b : Option (List ℕ)) → Progress config script x begun n v a b → RanFirst config script a b
-progress_unread config script x begun n v a b p = record { lines = p.lines; others = lines_after begun p.rest; script_is = p.split; last = v; ran = p.ran }
+progress_unread config script x begun n v a b p = record { lines = p.lines; others = lines_after true begun p.rest; script_is = p.split; last = v; ran = p.ran }
 
 -- the end of the script
 at_end : (x y : Option (List ℕ)) (rest : List ℕ) → x ≡ Some rest → Keeps x y → IsAtEnd y → rest ≡ []
@@ -235,11 +236,11 @@ at_end None y rest e k h = absurd cc
 at_end (Some xs) None rest e k h = absurd k
 at_end (Some xs) (Some ys) rest e k h = let same : xs ≡ rest = cc in sym same ∙ sym k ∙ h
 
-last_line : (b : ℕ) (bs : List ℕ) → lines_after (b ∷ bs) [] ≡ (b ∷ bs) ∷ []
+last_line : (b : ℕ) (bs : List ℕ) → lines_after true (b ∷ bs) [] ≡ (b ∷ bs) ∷ []
 unfolding lines_after
 last_line b bs = rw (ne_eqb (length (b ∷ bs)) 0 (λ e. absurd (omega arith))) refl
 
-no_line : lines_after [] [] ≡ []
+no_line : lines_after true [] [] ≡ []
 unfolding lines_after
 no_line = refl
 
@@ -248,7 +249,7 @@ abbrev pub script_result : Result (Unit {0}) LineFault → Result (Unit {0}) Scr
 script_result (Ok done) = Ok tt
 script_result (Err fault) = Err (script_fault_of fault)
 
-line_end : (config : Config) (script : List ℕ) (lines : List (List ℕ)) (line : List ℕ) (n : ℕ) (state : CoreState) (v u : World) (a b c : Option (List ℕ)) (r : Result (Unit {0}) LineFault) → lines_of script ≡ lines ++ line ∷ [] → n ≡ length lines → StandsFor state u → Ran (start_of config) lines v a b → LineRan (n + 1) line v u b c r → AllRan config script state a c (script_result r)
+line_end : (config : Config) (script : List ℕ) (lines : List (List ℕ)) (line : List ℕ) (n : ℕ) (state : CoreState) (v u : World) (a b c : Option (List ℕ)) (r : Result (Unit {0}) LineFault) → lines_of true script ≡ lines ++ line ∷ [] → n ≡ length lines → StandsFor state u → Ran (start_of config) lines v a b → LineRan (n + 1) line v u b c r → AllRan config script state a c (script_result r)
 line_end config script lines line n state v u a b c (Ok done) split counted stands ran h = (u, subst (λ (l : List (List ℕ)). Ran (start_of config) l u a c) (sym split) (ran_both (start_of config) v u lines (line ∷ []) a b c ran h), stands)
 line_end config script lines line n state v u a b c (Err (faults.Bad k)) split counted stands ran h = record {
   lines = lines;
@@ -278,11 +279,11 @@ line_end config script lines line n state v u a b c (Err faults.NoMemory) split 
 pub progress_end : (config : Config) (script : List ℕ) (x y : Option (List ℕ)) (begun : List ℕ) (n : ℕ) (state : CoreState) (v u : World) (a b c : Option (List ℕ)) (r : Result (Unit {0}) LineFault) → Progress config script x begun n v a b → Keeps x y × IsAtEnd y → StandsFor state u → Finishes n begun v u b c r → AllRan config script state a c (script_result r)
 progress_end config script x y [] n state v u a b c r p ended stands h =
     let empty = at_end x y p.rest p.left ended.0 ended.1 in
-    let all = p.split ∙ ap (λ (l : List ℕ). p.lines ++ lines_after [] l) empty ∙ ap (λ (l : List (List ℕ)). p.lines ++ l) no_line ∙ append-nil p.lines in
+    let all = p.split ∙ ap (λ (l : List ℕ). p.lines ++ lines_after true [] l) empty ∙ ap (λ (l : List (List ℕ)). p.lines ++ l) no_line ∙ append-nil p.lines in
     rw h.0 (u, subst (λ (l : List (List ℕ)). Ran (start_of config) l u a c) (sym all) (ran_kept (start_of config) v u p.lines a b c p.ran h.1 h.2), stands)
 progress_end config script x y (k ∷ ks) n state v u a b c r p ended stands h =
     let empty = at_end x y p.rest p.left ended.0 ended.1 in
-    let all = p.split ∙ ap (λ (l : List ℕ). p.lines ++ lines_after (k ∷ ks) l) empty ∙ ap (λ (l : List (List ℕ)). p.lines ++ l) (last_line k ks) in
+    let all = p.split ∙ ap (λ (l : List ℕ). p.lines ++ lines_after true (k ∷ ks) l) empty ∙ ap (λ (l : List (List ℕ)). p.lines ++ l) (last_line k ks) in
     line_end config script p.lines (k ∷ ks) n state v u a b c r all p.counted stands p.ran h
 
 -- the same steps by the index of a byte

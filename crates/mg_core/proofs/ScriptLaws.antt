@@ -1,5 +1,5 @@
 -- A run of a script as a whole.
-use Rattle.std.proofs.Common.{◌≡◌, ℕ, List, [], Option, Some, None, Ok, Err, refl}
+use Rattle.std.proofs.Common.{◌≡◌, ℕ, true, List, [], Option, Some, None, Ok, Err, refl}
 use Rattle.std.specs.Prelude.{IfSome}
 use Rattle.std.specs.Io.KnownBytes.{Keeps}
 use Rattle.mg_engine.specs.declared.config.Config.{Config}
@@ -10,7 +10,7 @@ use Rattle.mg_core.specs.declared.fault.ScriptFault.{ScriptFault}
 use Rattle.mg_core.specs.declared.fault.ScriptFault.TheVariants as faults
 use Rattle.mg_core.specs.declared.state.CoreState.{CoreState}
 use Rattle.mg_core.specs.Run.{ScriptRan}
-use Rattle.mg_core.specs.Script.{lines_of}
+use Rattle.mg_lines.specs.Lines.{lines_of}
 use Rattle.mg_core.specs.aids.Steps.{AllRan, run_fault_at_start, run_fault_of}
 use Rattle.mg_core.specs.World.{World, StandsFor, counts_of, start_of}
 use Rattle.mg_core.proofs.RunLaws.{ran_nothing}
@@ -27,7 +27,7 @@ keeps_same (Some a) = refl
 -- a gateway that was not started ran nothing
 pub not_started : (config : Config) (script : List ℕ) (a : Option (List ℕ)) (fault : StartFault) → ScriptRan config script a a (Err (run_fault_at_start fault))
 not_started config script a starts.BadConfig = keeps_same a
-not_started config script a starts.NoMemory = record { lines = []; others = lines_of script; script_is = refl; last = start_of config; ran = ran_nothing (start_of config) a }
+not_started config script a starts.NoMemory = record { lines = []; others = lines_of true script; script_is = refl; last = start_of config; ran = ran_nothing (start_of config) a }
 
 pub script_fault : (config : Config) (script : List ℕ) (state : CoreState) (a b : Option (List ℕ)) (fault : ScriptFault) → AllRan config script state a b (Err fault) → ScriptRan config script a b (Err (run_fault_of fault))
 script_fault config script state a b (faults.Bad n) h = h

@@ -1,6 +1,6 @@
 -- What a run of a script writes.
 use Rattle.std.specs.Prelude.{◌≡◌, ℕ, ◌+◌, List, ◌∷◌, ◌++◌, length, flat_map, Option, Some, None}
-use Rattle.std.specs.Prelude.{Result, Ok, Err, codes, decimal}
+use Rattle.std.specs.Prelude.{true, Result, Ok, Err, codes, decimal}
 use Rattle.std.specs.Io.KnownBytes.{Keeps, Appends}
 use Rattle.hex.specs.Hex.{encode_lower}
 use Rattle.mg_engine.specs.declared.config.Config.{Config}
@@ -13,7 +13,8 @@ use Rattle.mg_core.specs.declared.fault.RunFault.TheVariants as faults
 use Rattle.mg_core.specs.World.{World, start_of, counts_of}
 use Rattle.mg_core.specs.Peer.{peer_text}
 use Rattle.mg_core.specs.Step.{Sent, Reply, Packet, Run}
-use Rattle.mg_core.specs.Script.{lines_of, event_of, events_of, escaped}
+use Rattle.mg_lines.specs.Lines.{lines_of}
+use Rattle.mg_core.specs.Script.{event_of, events_of, escaped}
 
 -- ## Lines out
 
@@ -65,7 +66,7 @@ pub record RanInPart (w : World) (lines : List (List ℕ)) (last : World)
 pub record RanToEnd (config : Config) (script : List ℕ) (counts : Counts)
     (old new : Option (List ℕ)) : Type 0 where
   pub last : World
-  pub ran : Ran (start_of config) (lines_of script) last old new
+  pub ran : Ran (start_of config) (lines_of true script) last old new
   pub counted : record counts { lines = 0; sent = 0; failed = 0 } ≡ counts_of last.tally
 
 -- the lines before the first bad one were run, which has this number
@@ -74,7 +75,7 @@ pub record RanToBadLine (config : Config) (script : List ℕ) (number : ℕ)
   pub lines : List (List ℕ)
   pub bad : List ℕ
   pub others : List (List ℕ)
-  pub script_is : lines_of script ≡ lines ++ bad ∷ others
+  pub script_is : lines_of true script ≡ lines ++ bad ∷ others
   pub is_bad : event_of bad ≡ None
   pub number_is : number ≡ length lines + 1
   pub last : World
@@ -84,7 +85,7 @@ pub record RanToBadLine (config : Config) (script : List ℕ) (number : ℕ)
 pub record RanFirst (config : Config) (script : List ℕ) (old new : Option (List ℕ)) : Type 0 where
   pub lines : List (List ℕ)
   pub others : List (List ℕ)
-  pub script_is : lines_of script ≡ lines ++ others
+  pub script_is : lines_of true script ≡ lines ++ others
   pub last : World
   pub ran : Ran (start_of config) lines last old new
 
@@ -93,7 +94,7 @@ pub record RanFirstInPart (config : Config) (script : List ℕ)
     (old new : Option (List ℕ)) : Type 0 where
   pub lines : List (List ℕ)
   pub others : List (List ℕ)
-  pub script_is : lines_of script ≡ lines ++ others
+  pub script_is : lines_of true script ≡ lines ++ others
   pub last : World
   pub ran : RanInPart (start_of config) lines last old new
 

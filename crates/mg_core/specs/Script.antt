@@ -1,8 +1,8 @@
 -- Scripts: text lines that stand for the events of a gateway, and the lines that it writes for its
 -- answers. The format is this gateway's own.
-use Rattle.std.specs.Prelude.{ℕ, ◌-◌, Bool, true, false, ◌&&◌, ◌==◌, nat_le, nat_lt, List, []}
-use Rattle.std.specs.Prelude.{◌∷◌, ◌++◌, length, take, flat_map, Option, Some, None, Result, Ok}
-use Rattle.std.specs.Prelude.{Err, codes, slice_index, if◌then◌else◌}
+use Rattle.std.specs.Prelude.{ℕ, Bool, true, false, ◌&&◌, ◌==◌, nat_le, nat_lt, List, []}
+use Rattle.std.specs.Prelude.{◌∷◌, length, flat_map, Option, Some, None, Result, Ok}
+use Rattle.std.specs.Prelude.{Err, codes, if◌then◌else◌}
 use Rattle.std.specs.Str.{bytes_eq}
 use Rattle.std.specs.Option.{option_map}
 use Rattle.hex.specs.Hex.{decode_of}
@@ -15,20 +15,6 @@ use Rattle.mg_core.specs.declared.event.Event.TheVariants.{Control, Media, Tick}
 use Rattle.mg_core.specs.declared.script.Spelling.{Spelling}
 use Rattle.mg_core.specs.declared.script.Spelling.TheVariants.{Text, Digits}
 use Rattle.mg_core.specs.Peer.{peer_of}
-
--- A line's text: without the line feed at its end, and without one carriage return before that.
-abbrev pub without_return : List ℕ → List ℕ
-without_return line =
-    if slice_index line (length line - 1) == 13 then take (length line - 1) line else line
-
--- The lines of a text after a line that was begun. The last line may lack its line feed.
-unfoldable pub lines_after : List ℕ → List ℕ → List (List ℕ)
-lines_after begun [] = if length begun == 0 then [] else begun ∷ []
-lines_after begun (b ∷ bs) =
-    if b == 10 then without_return begun ∷ lines_after [] bs else lines_after (begun ++ b ∷ []) bs
-
-abbrev pub lines_of : List ℕ → List (List ℕ)
-lines_of text = lines_after [] text
 
 -- a visible ASCII byte or a space
 abbrev pub is_plain : ℕ → Bool

@@ -1,18 +1,11 @@
 use mg_engine::StartFault;
+use mg_lines::{ReadFailed, WriteFailed};
 use thiserror::Error;
 
 /// Memory ran out in reading a control datagram. Nothing has changed but the last answer, which is empty.
 #[derive(Clone, Copy, Debug, PartialEq, Eq, Error)]
 #[error("no memory")]
 pub struct NoMemory;
-
-/// A reader failed.
-#[derive(Clone, Copy, Debug, PartialEq, Eq)]
-pub struct ReadFailed;
-
-/// A writer failed, or took nothing.
-#[derive(Clone, Copy, Debug, PartialEq, Eq)]
-pub struct WriteFailed;
 
 /// Why the lines for an event were not written whole.
 #[derive(Clone, Copy, Debug, PartialEq, Eq)]

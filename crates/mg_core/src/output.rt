@@ -5,12 +5,9 @@ ghost use Rattle.hex.specs.Hex.{encode_lower};
 ghost use Rattle.mg_core.specs.Peer.{peer_text};
 ghost use Rattle.mg_core.specs.Run.{answer_line, packet_line, lines_for};
 ghost use Rattle.mg_core.specs.Step.{Packet};
-ghost use Rattle.mg_core.specs.aids.Steps.{Writes, WritesSome};
 
-use crate::fault::WriteFailed;
 use mg_engine::{Datagram, Peer};
 use mg_text::{Bytes, write_address, write_port};
-use std::io::{ErrorKind, Write};
 
 /// Writes a byte of a text, with its escape.
 fn push_escape(b: u8, out: &mut Bytes)
@@ -100,31 +97,4 @@ pub fn push_packets(packets: &[Datagram], out: &mut Bytes)
     for packet in packets {
         push_packet(packet, out);
     }
-}
-
-/// Hands the front of a text to a writer, and answers how many bytes it took: none where it was interrupted.
-/// A writer that takes nothing has failed.
-fn write_some<W: Write>(text: &[u8], writer: &mut W) -> Result<usize, WriteFailed>
-    ensures value { WritesSome text.now (W.contents writer.old) (W.contents writer.new) result }
-{
-    match writer.write(text) {
-        Ok(0) => Err(WriteFailed),
-        Ok(n) => Ok(n),
-        Err(e) if e.kind() == ErrorKind::Interrupted => Ok(0),
-        Err(_) => Err(WriteFailed),
-    }
-}
-
-/// Hands a whole text to a writer. Where a write fails, the writer holds the front of the text.
-pub fn write_whole<W: Write>(text: &[u8], writer: &mut W) -> Result<(), WriteFailed>
-    ensures value { Writes text.now (W.contents writer.old) (W.contents writer.new) result }
-{
-    let mut at = 0;
-    for _ in 0..u64::MAX {
-        if at == text.len() {
-            return Ok(());
-        }
-        at += write_some(&text[at..], writer)?;
-    }
-    Err(WriteFailed)
 }

@@ -3,19 +3,17 @@ ghost use Rattle.mg_engine.specs.declared.config.Config.{Config};
 ghost use Rattle.mg_engine.specs.Config.{IsValidConfig};
 ghost use Rattle.mg_words.specs.Leads.{Leads};
 ghost use Rattle.mg_core.specs.World.{World, StandsFor, counts_of, start_of};
-ghost use Rattle.mg_core.specs.Script.{without_return};
-ghost use Rattle.mg_core.specs.aids.Steps.{AllRan, LineRan, BytesRan, Finishes, ReadsSome};
+ghost use Rattle.mg_lines.specs.Lines.{without_return};
+ghost use Rattle.mg_core.specs.aids.Steps.{AllRan, LineRan, BytesRan, Finishes};
 
 use crate::counts::Counts;
-use crate::fault::{LineFault, ReadFailed, ScriptFault};
+use crate::fault::{LineFault, ScriptFault};
 use crate::line_runner::LineRunner;
 use mg_engine::{Config, StartFault};
+use mg_lines::{READ_SIZE, read_some, without_return};
 use mg_text::Bytes;
 use std::alloc::Global;
-use std::io::{ErrorKind, Read, Write};
-
-/// How many bytes one read asks for.
-const READ_SIZE: usize = 4096;
+use std::io::{Read, Write};
 
 /// The bytes of the longest line that is begun: one that is not too long, and a carriage return.
 const BEGUN_LIMIT: usize = 140001;
@@ -28,31 +26,6 @@ pub struct ScriptRunner {
     pub lines: u64,
     pub begun: Bytes,
     ghost begun_size: { begun.room + length begun.text ≡ 140001 },
-}
-
-/// The line without one carriage return at its end.
-fn without_return(line: &[u8]) -> &[u8]
-    ensures value { result.now ≡ without_return line.now }
-{
-    match line {
-        [front @ .., b'\r'] => front,
-        _ => line,
-    }
-}
-
-/// Reads some bytes, and answers how many: none where the read was interrupted, and `None` at the end.
-fn read_some<R: Read>(
-    reader: &mut R,
-    buffer: &mut [u8; READ_SIZE],
-) -> Result<Option<usize>, ReadFailed>
-    ensures value { ReadsSome buffer.new (R.remaining reader.old) (R.remaining reader.new) result }
-{
-    match reader.read(buffer) {
-        Ok(0) => Ok(None),
-        Ok(n) => Ok(Some(n)),
-        Err(e) if e.kind() == ErrorKind::Interrupted => Ok(Some(0)),
-        Err(_) => Err(ReadFailed),
-    }
 }
 
 impl ScriptRunner {

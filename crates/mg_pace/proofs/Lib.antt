@@ -9,4 +9,3 @@ pub mod ProgramLaws
 pub mod RunLaws
 pub mod StepLaws
 pub mod TextLaws
-pub mod WriterLaws

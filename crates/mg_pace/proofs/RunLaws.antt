@@ -3,7 +3,8 @@ use Rattle.std.proofs.Common.{◌≡◌, ℕ, ◌+◌, ◌*◌, ◌<◌, ◌≤�
 use Rattle.std.proofs.lemmas.List.{append-nil, length-append}
 use Rattle.std.proofs.lemmas.Bool.Decides.{nat_tests}
 use Rattle.std.specs.Io.KnownBytes.{Appends, Keeps}
-use Rattle.mg_pace.specs.declared.fault.PaceFault.{PaceFault}
+use Rattle.mg_lines.specs.declared.write_failed.WriteFailed.{WriteFailed}
+use Rattle.mg_lines.proofs.WriterLaws.{appends_then, appends_keeps}
 use Rattle.mg_pace.specs.declared.fault.PaceFault.TheVariants as faults
 use Rattle.mg_pace.specs.declared.options.Options.{Options}
 use Rattle.mg_pace.specs.Pace.{Pace, Advances, Paces, Waits, start}
@@ -11,7 +12,6 @@ use Rattle.mg_pace.specs.Text.{text, text_by}
 use Rattle.mg_pace.specs.Run.{Paced, seen}
 use Rattle.mg_pace.specs.aids.Steps.{Turns}
 use Rattle.mg_pace.proofs.TextLaws.{text_none}
-use Rattle.mg_pace.proofs.WriterLaws.{appends_then, appends_keeps}
 
 -- what a run has done so far: as many readings as were waited after
 pub record SoFar {E : Type 0} (options : Options) (count : ℕ) (r0 r1 w0 w1 old new : Option (List ℕ)) (e0 e1 : E) (p : Pace) : Type 0 where
@@ -115,9 +115,8 @@ module _ {E : Type 0} (options : Options) (count t : ℕ) (r0 r1 r2 w0 w1 w2 o n
   }
 
   -- the output is closed
-  pub run_cut : (failed : Type 0) (e : PaceFault) → Turns options.ticks p q n m (Err e) → Paced options failed (e2 ≡ e0) (seen r0 w0 o) (seen r2 w2 m) (Err e)
-  run_cut failed faults.Clock turn = absurd turn.2
-  run_cut failed faults.Closed turn = record {
+  pub run_cut : (failed : Type 0) (e : WriteFailed) → Turns options.ticks p q n m (Err e) → Paced options failed (e2 ≡ e0) (seen r0 w0 o) (seen r2 w2 m) (Err faults.Closed)
+  run_cut failed e turn = record {
     readings = s.readings ++ t ∷ [];
     waits = s.waits;
     pace = q;
@@ -127,11 +126,11 @@ module _ {E : Type 0} (options : Options) (count t : ℕ) (r0 r1 r2 w0 w1 w2 o n
     ends = (
       one_reading_more,
       silent_so_far,
-      (
-        text p.polls p.steps ++ turn.2.0,
-        turn.2.1,
-        turn.1 ∙ ap (λ (l : List ℕ). text p.polls p.steps ++ l) turn.2.2 ∙ sym (append_assoc (text p.polls p.steps) turn.2.0 turn.2.1),
-        appends_then o n m (text p.polls p.steps) turn.2.0 s.wrote turn.2.3,
-      ),
+      record {
+        front = text p.polls p.steps ++ turn.2.front;
+        rest = turn.2.rest;
+        parts = turn.1 ∙ ap (λ (l : List ℕ). text p.polls p.steps ++ l) turn.2.parts ∙ sym (append_assoc (text p.polls p.steps) turn.2.front turn.2.rest);
+        written = appends_then o n m (text p.polls p.steps) turn.2.front s.wrote turn.2.written;
+      },
     );
   }

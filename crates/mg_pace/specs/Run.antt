@@ -1,7 +1,8 @@
 -- What a run writes for the readings of its clock, and how long it waits.
-use Rattle.std.specs.Prelude.{◌≡◌, ◌⊎◌, ℕ, ◌+◌, ◌*◌, ◌≤◌, length, List, ◌++◌, Option, Result, Ok}
+use Rattle.std.specs.Prelude.{◌≡◌, ◌⊎◌, ℕ, ◌+◌, ◌*◌, ◌≤◌, length, List, Option, Result, Ok}
 use Rattle.std.specs.Prelude.{Err}
 use Rattle.std.specs.Io.KnownBytes.{Appends}
+use Rattle.mg_lines.specs.Streams.{WritesFront}
 use Rattle.mg_pace.specs.declared.fault.PaceFault.{PaceFault}
 use Rattle.mg_pace.specs.declared.fault.PaceFault.TheVariants as faults
 use Rattle.mg_pace.specs.declared.options.Options.{Options}
@@ -31,9 +32,7 @@ Ends wanted p readings waits failed silent old new (Err faults.Clock) =
     (readings ≡ waits) × (failed ⊎ (readings ≡ 18446744073709551615))
     × (p.steps ≤ wanted * p.polls) × Appends old new (text p.polls p.steps)
 Ends wanted p readings waits failed silent old new (Err faults.Closed) =
-    (readings ≡ waits + 1) × (p.left ≡ 0 → silent)
-    × ((front : List ℕ) × (rest : List ℕ) × (text_by wanted p ≡ front ++ rest)
-    × Appends old new front)
+    (readings ≡ waits + 1) × (p.left ≡ 0 → silent) × WritesFront (text_by wanted p) old new
 
 -- A run: the clock told some readings, some waits were made, and these waits and what was written
 -- are as the readings ask. A run may end at each of its readings, so nothing is written before the

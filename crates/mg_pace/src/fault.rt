@@ -1,3 +1,4 @@
+use mg_lines::WriteFailed;
 use thiserror::Error;
 
 /// Why a run ended before its last tick.
@@ -8,4 +9,15 @@ pub enum PaceFault {
     /// A write failed: nobody reads the lines.
     #[error("the output is closed")]
     Closed,
+}
+
+impl From<WriteFailed> for PaceFault {
+    ghost use Rattle.std.specs.Prelude.{◌≡◌};
+    ghost use Rattle.mg_pace.specs.declared.fault.PaceFault.TheVariants as faults;
+
+    ghost from_gives = { λ _ fault. fault ≡ faults.Closed };
+
+    fn from(_failed: WriteFailed) -> Self {
+        PaceFault::Closed
+    }
 }

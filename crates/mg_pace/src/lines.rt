@@ -1,38 +1,13 @@
 ghost use Rattle.std.specs.Prelude.{◌≡◌, ◌+◌, ◌*◌, ◌<◌, ◌≤◌, codes};
 ghost use Rattle.std.specs.Io.KnownBytes.{Appends};
-ghost use Rattle.mg_pace.specs.aids.Steps.{Writes, WritesLast, WritesSome, WritesSteps, step_lines};
+ghost use Rattle.mg_lines.specs.Streams.{Writes};
+ghost use Rattle.mg_pace.specs.aids.Steps.{WritesLast, WritesSteps, step_lines};
 
-use crate::fault::PaceFault;
-use std::io::{ErrorKind, Write};
-
-/// Hands the front of some bytes to a writer, and answers how many it took: none where it was interrupted.
-fn write_some<W: Write>(bytes: &[u8], output: &mut W) -> Result<usize, PaceFault>
-    ensures value { WritesSome bytes.now (W.contents output.old) (W.contents output.new) result }
-{
-    match output.write(bytes) {
-        Ok(0) => Err(PaceFault::Closed),
-        Ok(n) => Ok(n),
-        Err(e) if e.kind() == ErrorKind::Interrupted => Ok(0),
-        Err(_) => Err(PaceFault::Closed),
-    }
-}
-
-/// Hands bytes to a writer. Where a write fails, the writer holds their front.
-pub fn write_whole<W: Write>(bytes: &[u8], output: &mut W) -> Result<(), PaceFault>
-    ensures value { Writes bytes.now (W.contents output.old) (W.contents output.new) result }
-{
-    let mut at = 0;
-    for _ in 0..u64::MAX {
-        if at == bytes.len() {
-            return Ok(());
-        }
-        at += write_some(&bytes[at..], output)?;
-    }
-    Err(PaceFault::Closed)
-}
+use mg_lines::{WriteFailed, write_whole};
+use std::io::Write;
 
 /// Writes the lines of a step.
-fn write_step<W: Write>(polls: u64, step: u64, output: &mut W) -> Result<(), PaceFault>
+fn write_step<W: Write>(polls: u64, step: u64, output: &mut W) -> Result<(), WriteFailed>
     requires some { 0 < polls }
     ensures value { Writes (step_lines polls step) (W.contents output.old) (W.contents output.new) result }
 {
@@ -49,7 +24,7 @@ pub fn write_steps<W: Write>(
     from: u64,
     to: u64,
     output: &mut W,
-) -> Result<(), PaceFault>
+) -> Result<(), WriteFailed>
     requires some { 0 < polls }
     requires order { from ≤ to }
     ensures value { WritesSteps polls from to (W.contents output.old) (W.contents output.new) result }
@@ -61,7 +36,12 @@ pub fn write_steps<W: Write>(
 }
 
 /// Writes the lines of the last steps, and the line that ends the run.
-pub fn write_last<W: Write>(polls: u64, from: u64, to: u64, output: &mut W) -> Result<(), PaceFault>
+pub fn write_last<W: Write>(
+    polls: u64,
+    from: u64,
+    to: u64,
+    output: &mut W,
+) -> Result<(), WriteFailed>
     requires some { 0 < polls }
     requires order { from ≤ to }
     ensures value { WritesLast polls from to (W.contents output.old) (W.contents output.new) result }

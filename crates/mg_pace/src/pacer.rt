@@ -8,6 +8,7 @@ use crate::lines::{write_last, write_steps};
 use crate::options::Options;
 use crate::schedule::Schedule;
 use crate::watch::Watch;
+use mg_lines::WriteFailed;
 use std::io::Write;
 
 /// Tells how many ticks were left out.
@@ -26,7 +27,7 @@ fn turn<W: Write, E: Write>(
     now: u64,
     output: &mut W,
     errors: &mut E,
-) -> Result<bool, PaceFault>
+) -> Result<bool, WriteFailed>
     requires before { schedule.old.steps ≤ wanted * schedule.old.polls }
     ensures advances { Advances schedule.old now schedule.new }
     ensures value { Turns wanted schedule.old schedule.new (W.contents output.old) (W.contents output.new) result }

@@ -1,8 +1,8 @@
 -- The steps of a run: one event, one line, and the bytes of one read.
-use Rattle.std.specs.Prelude.{if◌then◌else◌, ◌≡◌, ℕ, ◌+◌, ◌≤◌, take, List, [], ◌∷◌, ◌++◌, length}
-use Rattle.std.specs.Prelude.{Option, Some}
+use Rattle.std.specs.Prelude.{if◌then◌else◌, ◌≡◌, ℕ, ◌+◌, List, [], ◌∷◌, ◌++◌, length}
+use Rattle.std.specs.Prelude.{true, Option, Some}
 use Rattle.std.specs.Prelude.{None, Result, Ok, Err}
-use Rattle.std.specs.Io.KnownBytes.{Keeps, Appends, Consumes, IsAtEnd}
+use Rattle.std.specs.Io.KnownBytes.{Keeps, Appends}
 use Rattle.mg_engine.specs.declared.config.Config.{Config}
 use Rattle.mg_engine.specs.declared.fault.StartFault.{StartFault}
 use Rattle.mg_engine.specs.declared.fault.StartFault.TheVariants as starts
@@ -15,12 +15,10 @@ use Rattle.mg_core.specs.declared.fault.EventFault.{EventFault}
 use Rattle.mg_core.specs.declared.fault.EventFault.TheVariants as events
 use Rattle.mg_core.specs.declared.fault.LineFault.{LineFault}
 use Rattle.mg_core.specs.declared.fault.LineFault.TheVariants as stops
-use Rattle.mg_core.specs.declared.fault.ReadFailed.{ReadFailed}
 use Rattle.mg_core.specs.declared.fault.RunFault.{RunFault}
 use Rattle.mg_core.specs.declared.fault.RunFault.TheVariants as runs
 use Rattle.mg_core.specs.declared.fault.ScriptFault.{ScriptFault}
 use Rattle.mg_core.specs.declared.fault.ScriptFault.TheVariants as scripts
-use Rattle.mg_core.specs.declared.fault.WriteFailed.{WriteFailed}
 use Rattle.mg_core.specs.declared.state.CoreState.{CoreState}
 use Rattle.mg_words.specs.Leads.{Leads}
 use Rattle.mg_reply.specs.declared.item.Item.TheVariants as told
@@ -28,7 +26,9 @@ use Rattle.mg_reply.specs.Reply.{Answered}
 use Rattle.mg_reply.specs.Theorems.{is_too_long}
 use Rattle.mg_reply.specs.Written.{reply_text}
 use Rattle.mg_core.specs.World.{World, StandsFor, start_of}
-use Rattle.mg_core.specs.Script.{event_of, lines_after, lines_of}
+use Rattle.mg_lines.specs.Lines.{lines_after, lines_of}
+use Rattle.mg_lines.specs.Streams.{WritesFront}
+use Rattle.mg_core.specs.Script.{event_of}
 use Rattle.mg_core.specs.Step.{Sent, Step}
 use Rattle.mg_core.specs.Run.{Ran, RanInPart, RanToBadLine, RanFirst, RanFirstInPart, lines_for}
 
@@ -50,24 +50,6 @@ refusal_of (readings.Syntax place) = Some numbers.Syntax
 refusal_of (readings.Version n) = Some numbers.Version
 refusal_of readings.TooMany = Some numbers.NotServed
 refusal_of readings.NoMemory = None
-
--- a writer took so many bytes of a text, or failed
-abbrev pub WritesSome : List ℕ → Option (List ℕ) → Option (List ℕ) → Result ℕ WriteFailed → Type 0
-WritesSome text old new (Ok n) = (n ≤ length text) × Appends old new (take n text)
-WritesSome text old new (Err failed) = Keeps old new
-
--- the front of a text was written
-pub record WritesFront (text : List ℕ) (old new : Option (List ℕ)) : Type 0 where
-  pub front : List ℕ
-  pub rest : List ℕ
-  pub parts : text ≡ front ++ rest
-  pub written : Appends old new front
-
--- a text was written whole, or its front was
-abbrev pub Writes : List ℕ → Option (List ℕ) → Option (List ℕ) → Result (Unit {0}) WriteFailed
-    → Type 0
-Writes text old new (Ok done) = Appends old new text
-Writes text old new (Err failed) = WritesFront text old new
 
 -- an event was run, and the lines for what it sends were written
 pub record EventDone (event : Event) (w next : World) (old new : Option (List ℕ)) : Type 0 where
@@ -101,20 +83,20 @@ LineRan number line w next old new (Err stops.NoMemory) = Keeps old new × (next
 abbrev pub BytesRan : ℕ → ℕ → List ℕ → List ℕ → List ℕ → World → World → Option (List ℕ)
     → Option (List ℕ) → Result (Unit {0}) LineFault → Type 0
 BytesRan count counted begun bytes left w next old new (Ok done) =
-    (lines : List (List ℕ)) × ((rest : List ℕ) → lines_after begun (bytes ++ rest) ≡ lines
-    ++ lines_after left rest)
+    (lines : List (List ℕ)) × ((rest : List ℕ) → lines_after true begun (bytes ++ rest) ≡ lines
+    ++ lines_after true left rest)
     × (counted ≡ count + length lines) × Ran w lines next old new
 BytesRan count counted begun bytes left w next old new (Err (stops.Bad n)) =
     (lines : List (List ℕ)) × ((rest : List ℕ) → (bad : List ℕ) × (others : List (List ℕ))
-    × (lines_after begun (bytes ++ rest) ≡ lines ++ bad ∷ others) × (event_of bad ≡ None))
+    × (lines_after true begun (bytes ++ rest) ≡ lines ++ bad ∷ others) × (event_of bad ≡ None))
     × (n ≡ count + length lines + 1) × Ran w lines next old new
 BytesRan count counted begun bytes left w next old new (Err stops.Write) =
     (lines : List (List ℕ)) × ((rest : List ℕ) → (others : List (List ℕ))
-    × (lines_after begun (bytes ++ rest) ≡ lines ++ others))
+    × (lines_after true begun (bytes ++ rest) ≡ lines ++ others))
     × RanInPart w lines next old new
 BytesRan count counted begun bytes left w next old new (Err stops.NoMemory) =
     (lines : List (List ℕ)) × ((rest : List ℕ) → (others : List (List ℕ))
-    × (lines_after begun (bytes ++ rest) ≡ lines ++ others))
+    × (lines_after true begun (bytes ++ rest) ≡ lines ++ others))
     × Ran w lines next old new
 
 -- the line that was begun is the last, if there is one
@@ -128,18 +110,11 @@ Finishes count (b ∷ bs) w next old new result = LineRan (count + 1) (b ∷ bs)
 abbrev pub AllRan : Config → List ℕ → CoreState → Option (List ℕ) → Option (List ℕ)
     → Result (Unit {0}) ScriptFault → Type 0
 AllRan config script state old new (Ok done) =
-    (last : World) × Ran (start_of config) (lines_of script) last old new × StandsFor state last
+    (last : World) × Ran (start_of config) (lines_of true script) last old new × StandsFor state last
 AllRan config script state old new (Err (scripts.Bad n)) = RanToBadLine config script n old new
 AllRan config script state old new (Err scripts.Read) = RanFirst config script old new
 AllRan config script state old new (Err scripts.Write) = RanFirstInPart config script old new
 AllRan config script state old new (Err scripts.NoMemory) = RanFirst config script old new
-
--- so many bytes were read, or the end was there, or reading failed
-abbrev pub ReadsSome : List ℕ → Option (List ℕ) → Option (List ℕ) → Result (Option ℕ) ReadFailed
-    → Type 0
-ReadsSome buffer old new (Ok None) = Keeps old new × IsAtEnd new
-ReadsSome buffer old new (Ok (Some n)) = (n ≤ length buffer) × Consumes old new (take n buffer)
-ReadsSome buffer old new (Err failed) = Unit {0}
 
 -- ## Faults as others
 

@@ -1,0 +1,19 @@
+-- The lines of a text.
+use Rattle.std.specs.Prelude.{ℕ, ◌-◌, Bool, ◌==◌, List, [], ◌∷◌, ◌++◌, length, take, slice_index}
+use Rattle.std.specs.Prelude.{if◌then◌else◌}
+
+-- A line's text: without the line feed at its end, and without one carriage return before that.
+abbrev pub without_return : List ℕ → List ℕ
+without_return line =
+    if slice_index line (length line - 1) == 13 then take (length line - 1) line else line
+
+-- The lines of a text after a line that was begun: those that end in a line feed and, where the
+-- text has ended, a last one without, unless it is empty.
+unfoldable pub lines_after : Bool → List ℕ → List ℕ → List (List ℕ)
+lines_after ended begun [] = if length begun == 0 then [] else (if ended then begun ∷ [] else [])
+lines_after ended begun (b ∷ bs) =
+    if b == 10 then without_return begun ∷ lines_after ended [] bs
+    else lines_after ended (begun ++ b ∷ []) bs
+
+abbrev pub lines_of : Bool → List ℕ → List (List ℕ)
+lines_of ended text = lines_after ended [] text

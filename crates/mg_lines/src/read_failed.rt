@@ -1,0 +1,3 @@
+/// A reader failed.
+#[derive(Clone, Copy, Debug, PartialEq, Eq)]
+pub struct ReadFailed;

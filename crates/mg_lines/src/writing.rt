@@ -1,0 +1,32 @@
+ghost use Rattle.mg_lines.specs.Streams.{Writes};
+ghost use Rattle.mg_lines.specs.aids.Writing.{WritesSome};
+
+use crate::write_failed::WriteFailed;
+use std::io::{ErrorKind, Write};
+
+/// Hands the front of a text to a writer, and answers how many bytes it took: none where it was interrupted.
+/// A writer that takes nothing has failed.
+fn write_some<W: Write>(text: &[u8], writer: &mut W) -> Result<usize, WriteFailed>
+    ensures value { WritesSome text.now (W.contents writer.old) (W.contents writer.new) result }
+{
+    match writer.write(text) {
+        Ok(0) => Err(WriteFailed),
+        Ok(n) => Ok(n),
+        Err(e) if e.kind() == ErrorKind::Interrupted => Ok(0),
+        Err(_) => Err(WriteFailed),
+    }
+}
+
+/// Hands a whole text to a writer. Where a write fails, the writer holds the front of the text.
+pub fn write_whole<W: Write>(text: &[u8], writer: &mut W) -> Result<(), WriteFailed>
+    ensures value { Writes text.now (W.contents writer.old) (W.contents writer.new) result }
+{
+    let mut at = 0;
+    for _ in 0..u64::MAX {
+        if at == text.len() {
+            return Ok(());
+        }
+        at += write_some(&text[at..], writer)?;
+    }
+    Err(WriteFailed)
+}

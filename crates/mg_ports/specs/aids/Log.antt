@@ -1,0 +1,10 @@
+-- A log of calls.
+use Rattle.std.specs.Prelude.{◌≡◌, [], ◌∷◌, ◌++◌, List, Option, Some, None}
+use Rattle.mg_ports.specs.declared.call.Call.{Call}
+
+-- a log grows by a call, or tells nothing any more
+abbrev pub TellsNext : Option (List Call) → Option (List Call) → Option Call → Type 0
+TellsNext old None call = Unit {0}
+TellsNext old (Some all) None = ⊥
+TellsNext None (Some all) (Some call) = ⊥
+TellsNext (Some before) (Some all) (Some call) = all ≡ before ++ call ∷ []

@@ -1,0 +1,128 @@
+ghost use Rattle.std.specs.Prelude.{◌≡◌, ◌≤◌, length, IfOk, IfSome, OnErr};
+ghost use Rattle.mg_ports.specs.Calls.{IsCounted, receipt_of};
+
+use crate::arrival::Arrival;
+use crate::call::Call;
+use crate::log::Log;
+use crate::payload::Payload;
+use crate::port_fault::PortFault;
+use crate::ports::Ports;
+use crate::receipt::Receipt;
+use mg_engine::Peer;
+use std::alloc::{AllocError, Global};
+
+/// Ports in memory, for tests. Each call is told, as long as there is memory for it.
+#[derive(Drop)]
+pub struct FakePorts {
+    alloc: Global,
+    waiting: Vec<Arrival>,
+    failing: Vec<u64>,
+    made: u64,
+    failures: u64,
+    log: Log,
+}
+
+/// What a receive gave, with a copy of its bytes.
+fn receipt_of(
+    alloc: Global,
+    answer: Result<Option<(usize, Peer)>, PortFault>,
+    buffer: &[u8],
+) -> Result<Receipt, AllocError>
+    requires within { IfOk answer (λ came. IfSome came (λ d. d.0 ≤ length buffer.now)) }
+    ensures value { IfOk result (λ r. r ≡ receipt_of answer buffer.now) }
+{
+    match answer {
+        Ok(Some((n, source))) => Ok(Receipt::Came(source, Payload::new(alloc, &buffer[..n])?)),
+        Ok(None) => Ok(Receipt::Nothing),
+        Err(_) => Ok(Receipt::Failed),
+    }
+}
+
+impl FakePorts {
+    /// Ports at which these datagrams wait, in this order at each slot. The calls whose numbers, counted from 0 over all
+    /// slots, are among `failing` fail.
+    pub fn new(alloc: Global, waiting: Vec<Arrival>, failing: Vec<u64>) -> Self {
+        FakePorts {
+            alloc,
+            waiting,
+            failing,
+            made: 0,
+            failures: 0,
+            log: Log::new(alloc),
+        }
+    }
+
+    /// The calls so far, or `None` where memory for one of them ran out.
+    pub fn calls(&self) -> Option<&[Call]> {
+        self.log.calls()
+    }
+
+    /// Begins a call, which fails if its number is among those that are to fail.
+    fn begin(&mut self) -> Result<(), PortFault>
+        ensures log { self.new.log ≡ self.old.log }
+        ensures fault { OnErr result (IsCounted self.old.failures self.new.failures) }
+    {
+        let number = self.made;
+        self.made = self.made.wrapping_add(1);
+        if self.failing.iter().any(|n| *n == number) {
+            self.failures = self.failures.saturating_add(1);
+            return Err(PortFault);
+        }
+        Ok(())
+    }
+
+    /// Takes the first datagram that waits at a slot.
+    fn take_next(
+        &mut self,
+        slot: usize,
+        buffer: &mut [u8],
+    ) -> Result<Option<(usize, Peer)>, PortFault>
+        ensures log { self.new.log ≡ self.old.log }
+        ensures within { IfOk result (λ came. IfSome came (λ d. d.0 ≤ length buffer.new)) }
+        ensures fault { OnErr result (IsCounted self.old.failures self.new.failures) }
+    {
+        self.begin()?;
+        let Some(at) = self.waiting.iter().position(|arrival| arrival.slot == slot) else {
+            return Ok(None);
+        };
+        let arrival = self.waiting.remove(at);
+        let bytes = arrival.payload.as_slice();
+        let n = bytes.len().min(buffer.len());
+        buffer[..n].copy_from_slice(&bytes[..n]);
+        Ok(Some((n, arrival.source)))
+    }
+}
+
+impl Ports for FakePorts {
+    ghost calls = { λ p. p.log };
+
+    ghost failed = { λ p. p.failures };
+
+    fn receive(
+        &mut self,
+        slot: usize,
+        buffer: &mut [u8],
+    ) -> Result<Option<(usize, Peer)>, PortFault> {
+        let answer = self.take_next(slot, buffer);
+        let call = match receipt_of(self.alloc, answer, buffer) {
+            Ok(receipt) => Some(Call::Receive(slot, receipt)),
+            Err(_) => None,
+        };
+        self.log.tell(call);
+        answer
+    }
+
+    fn send(&mut self, slot: usize, to: Peer, bytes: &[u8]) -> Result<(), PortFault> {
+        let answer = self.begin();
+        let call = match Payload::new(self.alloc, bytes) {
+            Ok(bytes) => Some(Call::Send(slot, to, bytes)),
+            Err(_) => None,
+        };
+        self.log.tell(call);
+        answer
+    }
+
+    fn failures(&self) -> u64 {
+        self.failures
+    }
+}

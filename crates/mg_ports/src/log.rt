@@ -1,0 +1,58 @@
+ghost use Rattle.std.specs.Prelude.{◌≡◌, Some, None, []};
+ghost use Rattle.mg_ports.specs.aids.Log.{TellsNext};
+
+use crate::call::Call;
+use std::alloc::Global;
+use std::marker::Model;
+
+/// A list of calls. From the first call on for which there was no memory it tells nothing.
+#[derive(Drop)]
+pub struct Log {
+    calls: Option<Vec<Call>>,
+}
+
+impl Model for Log {
+    ghost use Rattle.std.specs.Prelude.{List, Option};
+    ghost use Rattle.mg_ports.specs.declared.call.Call.{Call};
+    ghost use Rattle.std.specs.Option.{option_map};
+
+    ghost Value = { Option (List Call) };
+
+    ghost view = { λ l. option_map (λ v. v.items) l.calls };
+}
+
+impl Log {
+    pub fn new(alloc: Global) -> Self
+        ensures value { result ≡ Some [] }
+    {
+        Log {
+            calls: Some(Vec::new(alloc)),
+        }
+    }
+
+    /// Tells a call, or nothing from now on.
+    pub fn tell(&mut self, call: Option<Call>)
+        ensures value { TellsNext self.old self.new call }
+    {
+        let Some(call) = call else {
+            self.calls = None;
+            return;
+        };
+        let Some(calls) = &mut self.calls else {
+            return;
+        };
+        if calls.push(call).is_err() {
+            self.calls = None;
+        }
+    }
+
+    /// The calls so far, where they are told.
+    pub fn calls(&self) -> Option<&[Call]>
+        ensures none { result ≡ None → self.now ≡ None }
+    {
+        match &self.calls {
+            Some(calls) => Some(calls.as_slice()),
+            None => None,
+        }
+    }
+}

@@ -1,0 +1,12 @@
+use crate::payload::Payload;
+use mg_engine::Peer;
+
+/// What a receive answered.
+#[derive(Drop)]
+pub enum Receipt {
+    /// A datagram, with where it came from.
+    Came(Peer, Payload),
+    /// None was there.
+    Nothing,
+    Failed,
+}

@@ -1,0 +1,5 @@
+pub mod Taking
+pub mod Steps
+pub mod Reading
+pub mod Running
+pub mod Runs

@@ -1,0 +1,5 @@
+pub mod Lines
+pub mod Session
+pub mod Serve
+pub mod Laws
+pub mod aids

@@ -1,0 +1,23 @@
+-- The lines that drive a gateway.
+use Rattle.std.specs.Prelude.{ℕ, Bool, true, false, List, [], ◌∷◌, codes, if◌then◌else◌}
+use Rattle.std.specs.Str.{bytes_eq}
+use Rattle.mg_serve.specs.declared.command.Command.{Command}
+use Rattle.mg_serve.specs.declared.command.Command.TheVariants.{Poll, Tick, Stats, Quit, Unknown}
+
+-- what a line asks for, by its text
+abbrev pub command_of : List ℕ → Command
+command_of line =
+    if bytes_eq line (codes "poll") then Poll
+    else (if bytes_eq line (codes "tick") then Tick
+    else (if bytes_eq line (codes "stats") then Stats
+    else (if bytes_eq line (codes "quit") then Quit else Unknown)))
+
+abbrev pub is_quit : Command → Bool
+is_quit Quit = true
+is_quit _ = false
+
+-- the lines before the first `quit`
+unfoldable pub before_quit : List (List ℕ) → List (List ℕ)
+before_quit [] = []
+before_quit (line ∷ lines) =
+    if is_quit (command_of line) then [] else line ∷ before_quit lines

@@ -1,0 +1,27 @@
+//! A gateway on UDP ports, driven by lines: `poll` takes what came to the ports, `tick` passes on by 20 ms and sends the
+//! packets, `stats` prints what was counted, and `quit` ends the run. Who writes the lines gives the gateway its clock.
+//!
+//! ```rust
+//! let counts = serve(alloc, Config::default(), &mut ports, &mut input, &mut output)?;
+//! ```
+//!
+//! [`serve`] is proved for any [`Ports`](mg_ports::Ports): at every exit the lines that were read whole and the calls of the
+//! ports are a session (`specs/Session.antt`). So it drops no datagram that it received, takes the ports in their order, and
+//! sends each answer and each packet once; [`laws`] says that what it sends is what a run of the gateway's events sends.
+#![tactic(auto)]
+
+mod command;
+pub mod laws;
+mod line;
+mod line_driver;
+mod output;
+mod server;
+mod serving;
+#[cfg(test)]
+mod tests;
+
+// A law can name a line's command in a contract only if the type is exported.
+#[doc(hidden)]
+pub use crate::command::Command;
+pub use crate::serving::serve;
+pub use mg_core::{Config, Counts, RunFault};

@@ -1,0 +1,49 @@
+ghost use Rattle.std.specs.Prelude.{◌≡◌, ◌++◌, ◌∷◌, [], take};
+
+use arrayvec::ArrayVec;
+use std::marker::Model;
+
+/// The first 8 bytes of a line, however long it is. No command is longer, so no other line is taken for one.
+#[derive(Drop)]
+pub struct Line {
+    text: ArrayVec<u8, 8>,
+}
+
+impl Model for Line {
+    ghost use Rattle.std.specs.Prelude.{List, ℕ};
+
+    ghost Value = { List ℕ };
+
+    ghost view = { λ l. l.text.items };
+}
+
+impl Line {
+    pub fn new() -> Self
+        ensures value { result ≡ [] }
+    {
+        Line {
+            text: ArrayVec::new(),
+        }
+    }
+
+    /// Adds a byte to the line, which keeps the first 8.
+    pub fn push(&mut self, b: u8)
+        ensures value { self.new ≡ take 8 (self.old ++ b ∷ []) }
+    {
+        if !self.text.is_full() {
+            self.text.push(b);
+        }
+    }
+
+    pub fn clear(&mut self)
+        ensures value { self.new ≡ [] }
+    {
+        self.text.clear();
+    }
+
+    pub fn as_slice(&self) -> &[u8]
+        ensures value { result.now ≡ self.now }
+    {
+        self.text.as_slice()
+    }
+}

@@ -1,0 +1,149 @@
+ghost use Rattle.std.specs.Prelude.{◌≡◌, ◌≢◌, ◌↔◌, ℕ, List, [], take, Err, IfOk, OnOk};
+ghost use Rattle.mg_engine.specs.Config.{IsValidConfig};
+ghost use Rattle.mg_core.specs.World.{StandsFor, start_of};
+ghost use Rattle.mg_lines.specs.Lines.{without_return};
+ghost use Rattle.mg_serve.specs.Lines.{command_of, is_quit};
+ghost use Rattle.mg_serve.specs.Session.{Does};
+ghost use Rattle.mg_serve.specs.Serve.{RanLines};
+ghost use Rattle.mg_serve.specs.aids.Driving.{BytesTaken, Finished};
+ghost use Rattle.mg_serve.specs.aids.Takes.{Takes};
+
+use crate::command::Command;
+use crate::line::Line;
+use crate::server::Server;
+use mg_core::{Config, RunFault, StartFault};
+use mg_lines::{READ_SIZE, WriteFailed, read_some, without_return};
+use mg_ports::Ports;
+use std::alloc::Global;
+use std::io::{Read, Write};
+
+/// Drives a server by lines, in whatever pieces they come.
+#[derive(Drop)]
+pub struct LineDriver {
+    pub server: Server,
+    pub begun: Line,
+}
+
+impl LineDriver {
+    /// A driver of a new gateway, before the first line.
+    pub fn new(alloc: Global, config: Config) -> Result<Self, StartFault>
+        ensures bad { (result ≡ Err StartFault.BadConfig) ↔ ¬ IsValidConfig config }
+        ensures sound { OnOk result (IsValidConfig config) }
+        ensures start { IfOk result (λ driver. StandsFor driver.server.core.state (start_of config)) }
+        ensures begun { IfOk result (λ driver. driver.begun ≡ []) }
+    {
+        Ok(LineDriver {
+            server: Server::new(alloc, config)?,
+            begun: Line::new(),
+        })
+    }
+
+    /// Takes the line that was begun, which ends here, and answers whether it is the last.
+    fn end_line<P: Ports, W: Write>(
+        &mut self,
+        alloc: Global,
+        config: Config,
+        ports: &mut P,
+        buffer: &mut [u8],
+        writer: &mut W,
+    ) -> Result<bool, WriteFailed>
+        requires sound { IsValidConfig config }
+        ensures begun { OnOk result (self.new.begun ≡ []) }
+        ensures quit { IfOk result (λ quit. quit ≡ is_quit (command_of (without_return self.old.begun))) }
+        ensures value { Takes self.old.server.core.state self.new.server.core.state (P.calls ports.old) (P.calls ports.new)
+            (Does config (command_of (without_return self.old.begun))) }
+    {
+        let command = Command::of(without_return(self.begun.as_slice()));
+        let quit = self
+            .server
+            .take_command(alloc, config, ports, buffer, command, writer)?;
+        self.begun.clear();
+        Ok(quit)
+    }
+
+    /// Takes the next bytes of the input, and answers whether a line among them was the last.
+    fn take_bytes<P: Ports, W: Write>(
+        &mut self,
+        alloc: Global,
+        config: Config,
+        ports: &mut P,
+        buffer: &mut [u8],
+        bytes: &[u8],
+        writer: &mut W,
+    ) -> Result<bool, WriteFailed>
+        requires sound { IsValidConfig config }
+        ensures value { (begun : List ℕ) → self.old.begun ≡ take 8 begun
+            → Takes self.old.server.core.state self.new.server.core.state (P.calls ports.old) (P.calls ports.new)
+            (BytesTaken config begun bytes.now self.new.begun result) }
+    {
+        for b in bytes {
+            if *b != b'\n' {
+                self.begun.push(*b);
+                continue;
+            }
+            if self.end_line(alloc, config, ports, buffer, writer)? {
+                return Ok(true);
+            }
+        }
+        Ok(false)
+    }
+
+    /// Takes the last line, if one was begun: it has no line feed.
+    fn finish<P: Ports, W: Write>(
+        &mut self,
+        alloc: Global,
+        config: Config,
+        ports: &mut P,
+        buffer: &mut [u8],
+        writer: &mut W,
+    ) -> Result<(), WriteFailed>
+        requires sound { IsValidConfig config }
+        ensures value { Takes self.old.server.core.state self.new.server.core.state (P.calls ports.old) (P.calls ports.new)
+            (Finished config self.old.begun) }
+    {
+        let line = self.begun.as_slice();
+        if line.is_empty() {
+            return Ok(());
+        }
+        let command = Command::of(line);
+        self.server
+            .take_command(alloc, config, ports, buffer, command, writer)?;
+        Ok(())
+    }
+
+    /// Takes the lines of the input up to the first `quit`.
+    pub fn take_all<P: Ports, R: Read, W: Write>(
+        &mut self,
+        alloc: Global,
+        config: Config,
+        ports: &mut P,
+        buffer: &mut [u8],
+        reader: &mut R,
+        writer: &mut W,
+    ) -> Result<(), RunFault>
+        requires sound { IsValidConfig config }
+        requires begun { self.old.begun ≡ [] }
+        ensures started { result ≢ Err RunFault.BadConfig }
+        ensures value { Takes self.old.server.core.state self.new.server.core.state (P.calls ports.old) (P.calls ports.new)
+            (RanLines config (R.remaining reader.old) (R.remaining reader.new) result) }
+    {
+        let mut bytes = [0; READ_SIZE];
+        for _ in 0..u32::MAX {
+            let Ok(read) = read_some(reader, &mut bytes) else {
+                return Err(RunFault::Read);
+            };
+            let Some(n) = read else {
+                return match self.finish(alloc, config, ports, buffer, writer) {
+                    Ok(()) => Ok(()),
+                    Err(_) => Err(RunFault::Write),
+                };
+            };
+            match self.take_bytes(alloc, config, ports, buffer, &bytes[..n], writer) {
+                Ok(false) => {}
+                Ok(true) => return Ok(()),
+                Err(_) => return Err(RunFault::Write),
+            }
+        }
+        Err(RunFault::Read)
+    }
+}

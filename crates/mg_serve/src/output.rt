@@ -1,0 +1,33 @@
+use mg_core::Counts;
+use mg_lines::WriteFailed;
+use std::io::Write;
+
+/// Prints a line.
+pub fn print_line<W: Write>(text: &str, writer: &mut W) -> Result<(), WriteFailed> {
+    match writeln!(writer, "{text}") {
+        Ok(()) => Ok(()),
+        Err(_) => Err(WriteFailed),
+    }
+}
+
+/// Prints what was counted: the datagrams of the control port, those of the media ports, the ticks, the sends, the failures,
+/// and the RTP datagrams that were dropped, by their cause.
+pub fn print_counts<W: Write>(counts: &Counts, writer: &mut W) -> Result<(), WriteFailed> {
+    let Counts {
+        control,
+        media,
+        ticks,
+        sent,
+        failed,
+        dropped,
+        ..
+    } = counts;
+    let [a, b, c, d, e, f] = dropped;
+    match writeln!(
+        writer,
+        "control={control} media={media} ticks={ticks} sent={sent} failed={failed} dropped={a},{b},{c},{d},{e},{f}"
+    ) {
+        Ok(()) => Ok(()),
+        Err(_) => Err(WriteFailed),
+    }
+}

@@ -1,0 +1,229 @@
+ghost use Rattle.std.specs.Prelude.{◌≡◌, ◌≤◌, ◌+◌, ◌*◌, ◌-◌, ◌⊎◌, ◌↔◌, [], ◌∷◌, map, Err, IfOk, OnOk};
+ghost use Rattle.mg_engine.specs.Config.{IsValidConfig};
+ghost use Rattle.mg_core.specs.declared.event.Event.TheVariants as events;
+ghost use Rattle.mg_core.specs.Step.{Packet, Step};
+ghost use Rattle.mg_core.specs.World.{World, StandsFor, counts_of, start_of};
+ghost use Rattle.mg_words.specs.Leads.{Leads};
+ghost use Rattle.mg_ports.specs.declared.call.Call.TheVariants.{Send};
+ghost use Rattle.mg_ports.specs.Calls.{Told};
+ghost use Rattle.mg_serve.specs.Lines.{is_quit};
+ghost use Rattle.mg_serve.specs.Session.{Does, Happens, IsNoEvent, Turn, event_at, send_of};
+ghost use Rattle.mg_serve.specs.aids.Driving.{Received};
+ghost use Rattle.mg_serve.specs.aids.Takes.{Takes};
+
+use crate::command::Command;
+use crate::output::{print_counts, print_line};
+use mg_core::{Answer, Config, Core, Counts, Datagram, Peer, StartFault};
+use mg_lines::WriteFailed;
+use mg_ports::Ports;
+use std::alloc::Global;
+use std::io::Write;
+
+/// How many datagrams one slot gives in a poll.
+const TURN: usize = 64;
+
+/// A gateway that is driven over ports. Its configuration is handed to each call.
+#[derive(Drop)]
+pub struct Server {
+    pub core: Core,
+    /// Lines that were done.
+    pub lines: u64,
+    /// Answers and packets whose send succeeded.
+    pub sent: u64,
+    /// Control datagrams for whose reading there was no memory.
+    pub unread: u64,
+}
+
+/// Sends a datagram, and counts it if that succeeds.
+fn send<P: Ports>(ports: &mut P, slot: usize, to: Peer, bytes: &[u8], sent: &mut u64)
+    ensures told { Told (P.calls ports.old) (P.calls ports.new) (Send slot to bytes.now ∷ []) }
+{
+    if ports.send(slot, to, bytes).is_ok() {
+        *sent = sent.saturating_add(1);
+    }
+}
+
+/// The slot of the ports that a packet is sent on.
+fn slot_of(config: Config, packet: &Datagram) -> usize
+    ensures value { Send result packet.now.to packet.now.bytes ≡ send_of config (Packet packet.now) }
+{
+    usize::from(packet.from.saturating_sub(config.base_port)) / 2 + 1
+}
+
+/// Sends packets in order. One whose send fails is lost alone.
+fn send_packets<P: Ports>(ports: &mut P, config: Config, packets: &[Datagram], sent: &mut u64)
+    ensures told { Told (P.calls ports.old) (P.calls ports.new) (map (λ packet. send_of config (Packet packet)) packets.now) }
+{
+    for packet in packets {
+        send(
+            ports,
+            slot_of(config, packet),
+            packet.to,
+            &packet.bytes,
+            sent,
+        );
+    }
+}
+
+/// The media port of a slot of the ports, the first of which is 1.
+fn port_of(config: Config, slot: u16) -> u16
+    requires sound { IsValidConfig config }
+    requires first { 1 ≤ slot }
+    requires last { slot ≤ config.slots }
+    ensures value { result ≡ config.base_port + 2 * (slot - 1) }
+{
+    config.base_port + 2 * (slot - 1)
+}
+
+impl Server {
+    /// A server of a new gateway.
+    pub fn new(alloc: Global, config: Config) -> Result<Self, StartFault>
+        ensures bad { (result ≡ Err StartFault.BadConfig) ↔ ¬ IsValidConfig config }
+        ensures sound { OnOk result (IsValidConfig config) }
+        ensures start { IfOk result (λ server. StandsFor server.core.state (start_of config)) }
+    {
+        Ok(Server {
+            core: Core::new(alloc, config)?,
+            lines: 0,
+            sent: 0,
+            unread: 0,
+        })
+    }
+
+    /// Takes a control datagram, and sends its answer.
+    fn take_control<P: Ports>(
+        &mut self,
+        alloc: Global,
+        config: Config,
+        ports: &mut P,
+        source: Peer,
+        bytes: &[u8],
+    )
+        ensures value { Takes self.old.core.state self.new.core.state (P.calls ports.old) (P.calls ports.new) (λ w calls next.
+            Happens config (events.Control source bytes.now) w calls next ⊎ IsNoEvent 0 w calls next) }
+    {
+        match self.core.control(alloc, source, bytes) {
+            Ok(Answer::Send) => send(ports, 0, source, self.core.answer(), &mut self.sent),
+            Ok(Answer::Silent) => {}
+            Err(_) => self.unread = self.unread.saturating_add(1),
+        }
+    }
+
+    /// Takes an RTP datagram that came to a media port's slot.
+    fn take_media(&mut self, config: Config, slot: u16, source: Peer, bytes: &[u8])
+        requires sound { IsValidConfig config }
+        requires first { 1 ≤ slot }
+        requires last { slot ≤ config.slots }
+        ensures value { Leads StandsFor self.old.core.state self.new.core.state (λ w next.
+            Step w (event_at config slot source bytes.now) [] next) }
+    {
+        let port = port_of(config, slot);
+        let _ = self.core.media(port, source, bytes);
+    }
+
+    /// Receives a datagram at a slot and takes it, and answers whether one came.
+    fn receive<P: Ports>(
+        &mut self,
+        alloc: Global,
+        config: Config,
+        ports: &mut P,
+        slot: u16,
+        buffer: &mut [u8],
+    ) -> bool
+        requires sound { IsValidConfig config }
+        requires last { slot ≤ config.slots }
+        ensures value { Takes self.old.core.state self.new.core.state (P.calls ports.old) (P.calls ports.new)
+            (Received config slot result) }
+    {
+        match ports.receive(usize::from(slot), buffer) {
+            Ok(Some((n, source))) => {
+                if slot == 0 {
+                    self.take_control(alloc, config, ports, source, &buffer[..n]);
+                } else {
+                    self.take_media(config, slot, source, &buffer[..n]);
+                }
+                true
+            }
+            Ok(None) | Err(_) => false,
+        }
+    }
+
+    /// Takes what waits at a slot: at most 64 datagrams, and no more where a receive failed.
+    fn turn<P: Ports>(
+        &mut self,
+        alloc: Global,
+        config: Config,
+        ports: &mut P,
+        slot: u16,
+        buffer: &mut [u8],
+    )
+        requires sound { IsValidConfig config }
+        requires last { slot ≤ config.slots }
+        ensures value { Takes self.old.core.state self.new.core.state (P.calls ports.old) (P.calls ports.new) (Turn config slot) }
+    {
+        for _ in 0..TURN {
+            if !self.receive(alloc, config, ports, slot, buffer) {
+                return;
+            }
+        }
+    }
+
+    /// Takes what waits at the control port, and then at each media port in rising order.
+    fn poll<P: Ports>(&mut self, alloc: Global, config: Config, ports: &mut P, buffer: &mut [u8])
+        requires sound { IsValidConfig config }
+        ensures value { Takes self.old.core.state self.new.core.state (P.calls ports.old) (P.calls ports.new)
+            (Does config Command.Poll) }
+    {
+        for slot in 0..=config.slots {
+            self.turn(alloc, config, ports, slot, buffer);
+        }
+    }
+
+    /// Passes on by 20 ms, and sends the packets.
+    fn tick<P: Ports>(&mut self, config: Config, ports: &mut P)
+        ensures value { Takes self.old.core.state self.new.core.state (P.calls ports.old) (P.calls ports.new)
+            (Does config Command.Tick) }
+    {
+        self.core.tick();
+        send_packets(ports, config, self.core.outbox(), &mut self.sent);
+    }
+
+    /// What was counted, with the failures of the ports.
+    pub fn counts<P: Ports>(&self, ports: &P) -> Counts
+        ensures events { (w : World) → StandsFor self.now.core.state w →
+            record result { lines = 0; sent = 0; failed = 0 } ≡ counts_of w.tally }
+    {
+        Counts {
+            lines: self.lines,
+            sent: self.sent,
+            failed: self.unread.saturating_add(ports.failures()),
+            ..self.core.counts()
+        }
+    }
+
+    /// Does what a line asks for, and answers whether that is to quit.
+    pub fn take_command<P: Ports, W: Write>(
+        &mut self,
+        alloc: Global,
+        config: Config,
+        ports: &mut P,
+        buffer: &mut [u8],
+        command: Command,
+        writer: &mut W,
+    ) -> Result<bool, WriteFailed>
+        requires sound { IsValidConfig config }
+        ensures quit { IfOk result (λ quit. quit ≡ is_quit command) }
+        ensures value { Takes self.old.core.state self.new.core.state (P.calls ports.old) (P.calls ports.new)
+            (Does config command) }
+    {
+        self.lines = self.lines.saturating_add(1);
+        match command {
+            Command::Poll => self.poll(alloc, config, ports, buffer),
+            Command::Tick => self.tick(config, ports),
+            Command::Stats => print_counts(&self.counts(ports), writer)?,
+            Command::Quit => return Ok(true),
+            Command::Unknown => print_line("unknown command", writer)?,
+        }
+        Ok(false)
+    }
+}

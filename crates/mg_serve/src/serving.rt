@@ -1,0 +1,52 @@
+ghost use Rattle.std.specs.Prelude.{◌≡◌, ◌↔◌, Err, OnOk};
+ghost use Rattle.mg_engine.specs.Config.{IsValidConfig};
+ghost use Rattle.mg_serve.specs.Serve.{Served};
+
+use crate::line_driver::LineDriver;
+use crate::output::print_line;
+use mg_core::{Config, Counts, RunFault};
+use mg_ports::Ports;
+use std::alloc::{AllocError, Global};
+use std::io::{Read, Write};
+
+/// The bytes of the longest datagram.
+const DATAGRAM_LIMIT: usize = 65535;
+
+/// Serves a new gateway over some ports: prints `ready`, and does what the lines of the input ask for, up to the first
+/// `quit` or the end of the input. Ports beyond those of the configuration are not touched.
+///
+/// - `poll` takes what waits at the control port and then at each media port in rising order, at most 64 datagrams of each.
+///   A control message is answered at once. A failed receive ends that port's turn.
+/// - `tick` passes on by 20 ms, and sends the packets. A failed send loses that packet alone.
+/// - `stats` prints `control=a media=b ticks=c sent=d failed=e dropped=f,g,h,i,j,k`: [`Counts`] tells what they are.
+/// - Any other line prints `unknown command`.
+///
+/// At every exit the lines that were read whole and the calls of the ports are a session of a new gateway. `Read` and `Write`
+/// say that the input or the output failed; after 4,294,967,295 reads without an end of input it answers `Read` too.
+/// `BadConfig` comes exactly where the configuration isn't sound, and `NoMemory` before anything is done.
+pub fn serve<P: Ports, R: Read, W: Write>(
+    alloc: Global,
+    config: Config,
+    ports: &mut P,
+    reader: &mut R,
+    writer: &mut W,
+) -> Result<Counts, RunFault>
+    ensures session { Served config (R.remaining reader.old) (R.remaining reader.new) (P.calls ports.old) (P.calls ports.new) result }
+    ensures bad { (result ≡ Err RunFault.BadConfig) ↔ ¬ IsValidConfig config }
+    ensures sound { OnOk result (IsValidConfig config) }
+{
+    let mut driver = LineDriver::new(alloc, config)?;
+    let Ok(mut buffer) = datagram_buffer(alloc) else {
+        return Err(RunFault::NoMemory);
+    };
+    if print_line("ready", writer).is_err() {
+        return Err(RunFault::Write);
+    }
+    driver.take_all(alloc, config, ports, buffer.as_mut_slice(), reader, writer)?;
+    Ok(driver.server.counts(ports))
+}
+
+/// Room for a datagram.
+fn datagram_buffer(alloc: Global) -> Result<Vec<u8>, AllocError> {
+    vec![in alloc; 0; DATAGRAM_LIMIT]
+}

@@ -1,0 +1,334 @@
+use crate::{Config, Counts, RunFault, serve};
+use mg_ports::{Arrival, Call, FakePorts, Payload, Peer, Receipt};
+use std::alloc::{AllocError, Global};
+use std::io::{self, Error, ErrorKind, Read, Write};
+use std::test::Fail;
+
+const CALLER: Peer = Peer {
+    address: [127, 0, 0, 1],
+    port: 40000,
+};
+
+/// Makes context 1 with a termination that talks and listens, and whose caller is at port 40000.
+const ADD: &[u8] = b"MEGACO/1 [127.0.0.1]:2945 Transaction=1{Context=${Add=${Media{\
+    LocalControl{Mode=SendReceive},Local{v=0\nc=IN IP4 $\nm=audio $ RTP/AVP 0\n},\
+    Remote{v=0\nc=IN IP4 127.0.0.1\nm=audio 40000 RTP/AVP 0\n}}}}}";
+
+const HEARTBEAT: &[u8] =
+    b"MEGACO/1 [127.0.0.1]:2945 Transaction=2{Context=-{AuditValue=ROOT{Audit{}}}}";
+
+/// A gateway with two media ports.
+fn config() -> Config {
+    Config {
+        slots: 2,
+        ..Config::default()
+    }
+}
+
+/// Ports at which these datagrams wait, and at which the calls of these numbers fail.
+fn ports(
+    alloc: Global,
+    waiting: &[(usize, &[u8])],
+    failing: &[u64],
+) -> Result<FakePorts, AllocError> {
+    let mut arrivals = Vec::new(alloc);
+    for (slot, bytes) in waiting {
+        let payload = Payload::new(alloc, bytes)?;
+        arrivals.push(Arrival {
+            slot: *slot,
+            source: CALLER,
+            payload,
+        })?;
+    }
+    Ok(FakePorts::new(alloc, arrivals, failing.to_vec(alloc)?))
+}
+
+/// A letter for a call: a datagram `c`ame, `n`one did, or the receive `f`ailed; an `a`nswer or a `p`acket was sent.
+fn letter(call: &Call) -> char {
+    match call {
+        Call::Receive(_, Receipt::Came(_, _)) => 'c',
+        Call::Receive(_, Receipt::Nothing) => 'n',
+        Call::Receive(_, Receipt::Failed) => 'f',
+        Call::Send(0, _, _) => 'a',
+        Call::Send(_, _, _) => 'p',
+    }
+}
+
+/// Each call with its slot.
+fn told(alloc: Global, ports: &FakePorts) -> Result<String, AllocError> {
+    let mut text = String::new(alloc);
+    for call in ports.calls().unwrap_or(&[]) {
+        let (Call::Receive(slot, _) | Call::Send(slot, _, _)) = call;
+        let digit = char::from(b'0' + (*slot % 10) as u8);
+        text.push(letter(call))?;
+        text.push(digit)?;
+    }
+    Ok(text)
+}
+
+/// What a session printed, and its calls.
+#[derive(Drop)]
+struct Outcome {
+    result: Result<Counts, RunFault>,
+    printed: Vec<u8>,
+    told: String,
+}
+
+/// Runs lines on a new gateway over ports in memory.
+fn session(
+    alloc: Global,
+    waiting: &[(usize, &[u8])],
+    failing: &[u64],
+    lines: &[u8],
+) -> Result<Outcome, AllocError> {
+    let mut ports = ports(alloc, waiting, failing)?;
+    let mut input = lines;
+    let mut printed = Vec::new(alloc);
+    let result = serve(alloc, config(), &mut ports, &mut input, &mut printed);
+    let told = told(alloc, &ports)?;
+    Ok(Outcome {
+        result,
+        printed,
+        told,
+    })
+}
+
+/// Whether lines on a new gateway without datagrams print so, after `ready`.
+fn prints(alloc: Global, lines: &[u8], wanted: &[u8]) -> Result<bool, AllocError> {
+    let outcome = session(alloc, &[], &[], lines)?;
+    Ok(outcome.result.is_ok() && outcome.printed.as_slice() == wanted)
+}
+
+/// The first bytes of the last datagram that was sent.
+fn last_head(ports: &FakePorts) -> Option<&[u8]> {
+    match ports.calls()?.last()? {
+        Call::Send(_, _, payload) => payload.as_slice().get(..12),
+        Call::Receive(_, _) => None,
+    }
+}
+
+#[test]
+fn loses_the_packet_whose_send_fails(rt: HostRuntime) -> Result<(), Fail> {
+    let alloc = rt.alloc();
+    let mut ports = ports(alloc, &[(0, ADD)], &[5])?;
+    let mut input: &[u8] = b"poll\ntick\ntick\nstats\nquit\n";
+    let mut printed = Vec::new(alloc);
+    let result = serve(alloc, config(), &mut ports, &mut input, &mut printed);
+    assert!(rt; result.is_ok());
+    let wanted: &[u8] = b"ready\ncontrol=1 media=0 ticks=2 sent=2 failed=1 dropped=0,0,0,0,0,0\n";
+    assert_eq!(rt; printed.as_slice(), wanted);
+    assert_eq!(rt; told(alloc, &ports)?.as_str(), "c0a0n0n1n2p1p1");
+    let head: &[u8] = b"\x80\0\0\x01\0\0\0\xa0\0\0\0\x01";
+    assert_eq!(rt; last_head(&ports), Some(head));
+    Ok(())
+}
+
+#[test]
+fn polls_the_pool_where_the_control_port_fails(rt: HostRuntime) -> Result<(), Fail> {
+    let waiting: [(usize, &[u8]); 3] = [(0, HEARTBEAT), (1, b"x"), (2, b"")];
+    let outcome = session(rt.alloc(), &waiting, &[0], b"poll\nstats\n")?;
+    assert_eq!(rt; outcome.told.as_str(), "f0c1n1c2n2");
+    let wanted: &[u8] = b"ready\ncontrol=0 media=2 ticks=0 sent=0 failed=1 dropped=2,0,0,0,0,0\n";
+    assert_eq!(rt; outcome.printed.as_slice(), wanted);
+    Ok(())
+}
+
+#[test]
+fn takes_64_datagrams_in_a_turn(rt: HostRuntime) -> Result<(), Fail> {
+    let waiting: [(usize, &[u8]); 66] = [(1, b"x"); 66];
+    let outcome = session(rt.alloc(), &waiting, &[], b"poll\nstats\npoll\nstats\n")?;
+    let wanted: &[u8] = b"ready\ncontrol=0 media=64 ticks=0 sent=0 failed=0 dropped=64,0,0,0,0,0\n\
+        control=0 media=66 ticks=0 sent=0 failed=0 dropped=66,0,0,0,0,0\n";
+    assert_eq!(rt; outcome.printed.as_slice(), wanted);
+    Ok(())
+}
+
+#[test]
+fn reads_lines(rt: HostRuntime) -> Result<(), Fail> {
+    let alloc = rt.alloc();
+    let cases: [(&[u8], &[u8]); 8] = [
+        (b"", b"ready\n"),
+        (b"quit\nstats\n", b"ready\n"),
+        (b"pol\n", b"ready\nunknown command\n"),
+        (b"\n# end\n", b"ready\nunknown command\nunknown command\n"),
+        (
+            b"pollpollpoll\npoll \n",
+            b"ready\nunknown command\nunknown command\n",
+        ),
+        (
+            b"tick\r\nstats",
+            b"ready\ncontrol=0 media=0 ticks=1 sent=0 failed=0 dropped=0,0,0,0,0,0\n",
+        ),
+        (
+            b"stats\r\r\nstats\r",
+            b"ready\nunknown command\nunknown command\n",
+        ),
+        (b"quit\r", b"ready\nunknown command\n"),
+    ];
+    for (lines, wanted) in cases {
+        assert!(rt; prints(alloc, lines, wanted)?);
+    }
+    Ok(())
+}
+
+#[test]
+fn reads_a_megabyte_without_a_line_feed(rt: HostRuntime) -> Result<(), Fail> {
+    let alloc = rt.alloc();
+    let lines: Vec<u8> = vec![in alloc; b'q'; 1_000_000]?;
+    assert!(rt; prints(alloc, lines.as_slice(), b"ready\nunknown command\n")?);
+    Ok(())
+}
+
+/// How many lines, control datagrams and ticks a session counted, where it came to its end.
+fn counted(outcome: &Outcome) -> Option<(u64, u64, u64)> {
+    match &outcome.result {
+        Ok(counts) => Some((counts.lines, counts.control, counts.ticks)),
+        Err(_) => None,
+    }
+}
+
+#[test]
+fn counts_lines_up_to_the_end(rt: HostRuntime) -> Result<(), Fail> {
+    let outcome = session(rt.alloc(), &[(0, b"x")], &[], b"poll\npol\nquit\ntick\n")?;
+    assert_eq!(rt; counted(&outcome), Some((3, 1, 0)));
+    Ok(())
+}
+
+/// How often a letter stands in a text.
+fn count(text: &str, letter: u8) -> usize {
+    text.as_bytes().iter().filter(|b| **b == letter).count()
+}
+
+/// Whether a session in which one call failed counted each datagram that came and each send that succeeded.
+fn is_counted(outcome: &Outcome) -> bool {
+    let Ok(counts) = &outcome.result else {
+        return false;
+    };
+    let text = outcome.told.as_str();
+    let came = counts.control.saturating_add(counts.media);
+    let sends = count(text, b'a').saturating_add(count(text, b'p')) as u64;
+    let lost = u64::from(count(text, b'f') == 0);
+    counts.failed == 1
+        && came == count(text, b'c') as u64
+        && sends == counts.sent.saturating_add(lost)
+}
+
+/// The first of the calls up to `calls` whose failure isn't counted as it should be.
+fn first_uncounted(alloc: Global, calls: u64) -> Result<Option<u64>, AllocError> {
+    let waiting: [(usize, &[u8]); 4] = [(0, ADD), (0, HEARTBEAT), (1, b"x"), (2, b"x")];
+    let lines: &[u8] = b"poll\ntick\npoll\ntick\ntick\n";
+    for k in 0..calls {
+        let outcome = session(alloc, &waiting, &[k], lines)?;
+        if !is_counted(&outcome) {
+            return Ok(Some(k));
+        }
+    }
+    Ok(None)
+}
+
+#[test]
+fn counts_each_call_that_fails(rt: HostRuntime) -> Result<(), Fail> {
+    let alloc = rt.alloc();
+    let waiting: [(usize, &[u8]); 4] = [(0, ADD), (0, HEARTBEAT), (1, b"x"), (2, b"x")];
+    let outcome = session(alloc, &waiting, &[], b"poll\ntick\npoll\ntick\ntick\n")?;
+    assert_eq!(rt; outcome.told.as_str(), "c0a0c0a0n0c1n1c2n2p1n0n1n2p1p1");
+    assert_eq!(rt; first_uncounted(alloc, 15)?, None);
+    Ok(())
+}
+
+#[test]
+fn answers_a_request_again_whose_answer_was_lost(rt: HostRuntime) -> Result<(), Fail> {
+    let waiting: [(usize, &[u8]); 2] = [(0, ADD), (0, ADD)];
+    let outcome = session(rt.alloc(), &waiting, &[1], b"poll\ntick\nstats\n")?;
+    assert_eq!(rt; outcome.told.as_str(), "c0a0c0a0n0n1n2p1");
+    let wanted: &[u8] = b"ready\ncontrol=2 media=0 ticks=1 sent=2 failed=1 dropped=0,0,0,0,0,0\n";
+    assert_eq!(rt; outcome.printed.as_slice(), wanted);
+    Ok(())
+}
+
+#[test]
+fn refuses_a_bad_configuration(rt: HostRuntime) -> Result<(), Fail> {
+    let alloc = rt.alloc();
+    let config = Config {
+        slots: 0,
+        ..Config::default()
+    };
+    let mut ports = ports(alloc, &[], &[])?;
+    let mut input: &[u8] = b"poll\n";
+    let mut printed = Vec::new(alloc);
+    let result = serve(alloc, config, &mut ports, &mut input, &mut printed);
+    assert!(rt; matches!(result, Err(RunFault::BadConfig)));
+    assert!(rt; printed.is_empty());
+    assert_eq!(rt; told(alloc, &ports)?.as_str(), "");
+    Ok(())
+}
+
+/// A reader of one line that fails afterwards.
+#[derive(Drop)]
+struct FailingReader {
+    is_read: bool,
+}
+
+impl Read for FailingReader {
+    fn read(&mut self, buf: &mut [u8]) -> io::Result<usize> {
+        if self.is_read || buf.len() < 5 {
+            return Err(Error::from(ErrorKind::Other));
+        }
+        self.is_read = true;
+        buf[..5].copy_from_slice(b"poll\n");
+        Ok(5)
+    }
+}
+
+/// A writer that takes so many calls, and then fails.
+#[derive(Drop)]
+struct FailingWriter {
+    calls: u64,
+}
+
+impl Write for FailingWriter {
+    fn write(&mut self, buf: &[u8]) -> io::Result<usize> {
+        if self.calls == 0 {
+            return Err(Error::from(ErrorKind::Other));
+        }
+        self.calls -= 1;
+        Ok(buf.len())
+    }
+
+    fn flush(&mut self) -> io::Result<()> {
+        Ok(())
+    }
+}
+
+#[test]
+fn ends_where_a_read_fails(rt: HostRuntime) -> Result<(), Fail> {
+    let alloc = rt.alloc();
+    let mut ports = ports(alloc, &[(1, b"x")], &[])?;
+    let mut input = FailingReader { is_read: false };
+    let mut printed = Vec::new(alloc);
+    let result = serve(alloc, config(), &mut ports, &mut input, &mut printed);
+    assert!(rt; matches!(result, Err(RunFault::Read)));
+    assert_eq!(rt; told(alloc, &ports)?.as_str(), "n0c1n1n2");
+    Ok(())
+}
+
+/// The calls of a session whose writer fails after so many calls.
+fn told_with_writer(alloc: Global, calls: u64, lines: &[u8]) -> Result<String, AllocError> {
+    let mut ports = ports(alloc, &[(1, b"x")], &[])?;
+    let mut input = lines;
+    let mut output = FailingWriter { calls };
+    let result = serve(alloc, config(), &mut ports, &mut input, &mut output);
+    if !matches!(result, Err(RunFault::Write)) {
+        return Ok(String::new(alloc));
+    }
+    told(alloc, &ports)
+}
+
+#[test]
+fn ends_where_a_print_fails(rt: HostRuntime) -> Result<(), Fail> {
+    let alloc = rt.alloc();
+    let lines: &[u8] = b"poll\npol\npoll\n";
+    assert_eq!(rt; told_with_writer(alloc, 2, lines)?.as_str(), "n0c1n1n2");
+    assert_eq!(rt; told_with_writer(alloc, 0, lines)?.as_str(), "");
+    Ok(())
+}

@@ -1,7 +1,8 @@
 -- How the program ends where its words led to no run.
-use Rattle.std.proofs.Common.{◌≡◌, ℕ, true, List, [], Option, Some, None, Result, Err, refl, sym, ap, subst, arith, append-nil, inr}
+use Rattle.std.proofs.Common.{◌≡◌, ℕ, List, [], Option, Some, None, Result, Ok, Err, true, refl, sym, subst, arith, append-nil, inr}
 use Rattle.std.specs.Io.KnownBytes.{Appends}
 use Rattle.clap.specs.declared.error.kind.ErrorKind.{ErrorKind}
+use Rattle.clap.specs.Kinds.{Kinds}
 use Rattle.mg_engine.specs.declared.config.Config.{Config}
 use Rattle.mg_core.specs.World.{start_of}
 use Rattle.mg_core.specs.declared.fault.RunFault.{RunFault}
@@ -10,11 +11,15 @@ use Rattle.mg_lines.specs.Lines.{lines_of}
 use Rattle.mg_core.specs.Script.{events_of}
 use Rattle.mg_core.specs.declared.counts.Counts.{Counts}
 use Rattle.mg_engine.specs.Config.{IsValidConfig}
+use Rattle.mg_bridge.specs.declared.invocation.Invocation.{Invocation}
+use Rattle.mg_bridge.specs.declared.invocation.Invocation.TheVariants.{Replay, Serve}
 use Rattle.mg_bridge.specs.declared.status.Status.{Status}
-use Rattle.mg_bridge.specs.declared.status.Status.TheVariants.{Done, BadLine, Usage, Failed, NoMemory}
+use Rattle.mg_bridge.specs.declared.status.Status.TheVariants.{Done, BadLine, Usage, Failed, NoMemory, NoPort}
 use Rattle.mg_bridge.specs.Status.{code_of, status_of}
-use Rattle.mg_bridge.specs.Options.{Invocation, IsRefused, refused, replay}
-use Rattle.mg_bridge.specs.Replay.{Ends, Replays, Tells}
+use Rattle.mg_bridge.specs.Options.{IsRefused}
+use Rattle.mg_bridge.specs.Replay.{Replays}
+use Rattle.mg_bridge.specs.Serve.{IsNotBegun}
+use Rattle.mg_bridge.specs.Program.{Ends, Tells}
 
 appends_nothing : (old : Option (List ℕ)) → Appends old old []
 appends_nothing None = tt
@@ -44,22 +49,25 @@ not_begun config (Some script) old = record {
 }
 
 -- a fault of the words was told, and their input was left alone
-pub ends_told : {R W : Type 0} (remaining : R → Option (List ℕ)) (contents : W → Option (List ℕ)) (asked : Invocation) (kind : ErrorKind)
+pub ends_told : {R W : Type 0} (remaining : R → Option (List ℕ)) (contents : W → Option (List ℕ)) (asked : Result Invocation Kinds) (kind : ErrorKind)
     (input rest : R) (old new : W) (status : Status) → IsRefused asked kind → Tells kind old new status → rest ≡ input
     → Ends remaining contents asked input rest old new status
-ends_told remaining contents (replay config) kind input rest old new status memory told left =
+ends_told remaining contents (Ok (Replay config)) kind input rest old new status memory told left =
     let ended = subst (λ k. Tells k old new status) memory told in
     rw (ended.0, ended.1) (not_begun config (remaining input) (contents old))
-ends_told remaining contents (refused kinds) kind input rest old new status why told left = (left, record { kind = kind; among = why; told = told })
+ends_told remaining contents (Ok (Serve config)) kind input rest old new status memory told left =
+    let ended = subst (λ k. Tells k old new status) memory told in
+    inr (subst (IsNotBegun config) (sym ended.0) tt, left, ended.1)
+ends_told remaining contents (Err kinds) kind input rest old new status why told left = (left, record { kind = kind; among = why; told = told })
 
 -- a run that ended by a fault isn't done
 pub fault_is_told : (fault : RunFault) → status_of (Err fault) ≡ Done → ⊥
-unfolding status_of code_of
-fault_is_told (faults.Script line) done = let same : ◌≡◌ {A = ℕ} 1 0 = ap code_of done in absurd (omega arith)
-fault_is_told faults.BadConfig done = let same : ◌≡◌ {A = ℕ} 2 0 = ap code_of done in absurd (omega arith)
-fault_is_told faults.Read done = let same : ◌≡◌ {A = ℕ} 3 0 = ap code_of done in absurd (omega arith)
-fault_is_told faults.Write done = let same : ◌≡◌ {A = ℕ} 3 0 = ap code_of done in absurd (omega arith)
-fault_is_told faults.NoMemory done = let same : ◌≡◌ {A = ℕ} 4 0 = ap code_of done in absurd (omega arith)
+unfolding status_of
+fault_is_told (faults.Script line) done = cc
+fault_is_told faults.BadConfig done = cc
+fault_is_told faults.Read done = cc
+fault_is_told faults.Write done = cc
+fault_is_told faults.NoMemory done = cc
 
 pub only_done_is_zero : (status : Status) → code_of status ≡ 0 → status ≡ Done
 unfolding code_of
@@ -68,3 +76,4 @@ only_done_is_zero BadLine nought = let same : ◌≡◌ {A = ℕ} 1 0 = nought i
 only_done_is_zero Usage nought = let same : ◌≡◌ {A = ℕ} 2 0 = nought in absurd (omega arith)
 only_done_is_zero Failed nought = let same : ◌≡◌ {A = ℕ} 3 0 = nought in absurd (omega arith)
 only_done_is_zero NoMemory nought = let same : ◌≡◌ {A = ℕ} 4 0 = nought in absurd (omega arith)
+only_done_is_zero NoPort nought = let same : ◌≡◌ {A = ℕ} 5 0 = nought in absurd (omega arith)

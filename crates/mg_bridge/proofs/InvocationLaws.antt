@@ -1,21 +1,26 @@
 -- What follows of the words for which the command line finds no fault, or one.
-use Rattle.std.proofs.Common.{◌≡◌, ◌⊎◌, ◌&&◌, ◌∙◌, Bool, true, false, not, List, [], ◌∷◌, Option, Some, None, is_some, inl, inr, refl, sym, ap, subst, true≢false, Result, Ok, Err}
-use Rattle.std.specs.Prelude.{IfErr, IsErrAnd, option_map, unwrap_or}
+use Rattle.std.proofs.Common.{◌≡◌, ◌⊎◌, ◌&&◌, ◌∙◌, ℕ, Bool, true, false, not, List, [], ◌∷◌, Option, Some, None, is_some, inl, inr, refl, sym, ap, ap₂, subst, true≢false, Result, Ok, Err}
+use Rattle.std.specs.Prelude.{Box, IfErr, IsErrAnd, option_map}
 use Rattle.std.proofs.lemmas.Bool.{and_parts}
 use Rattle.std.specs.List.{list_any}
 use Rattle.clap.specs.Facts.{explicit_source}
 use Rattle.clap.specs.Walk.{Held, Names, Row, Text, finished, nothing_held, settled_rows, stop_after, walk, walk_from}
-use Rattle.clap.specs.Simple.{App, HasMatchesOf, Shape, argument_words, built, is_simple, names_of, subcommand_of, subcommand_rows_of}
+use Rattle.clap.specs.Simple.{App, HasMatchesOf, Shape, argument_words, built, is_simple, names_of, subcommand_of, subcommand_rows, subcommand_rows_of}
 use Rattle.clap.specs.Kinds.{Kinds, IsAmong, check_kinds, or_else}
 use Rattle.clap.specs.Faults.{defaults_fault, entered_fault, fault_of, is_free_app, is_simple_and_free, level_fault, settle_fault, walk_fault}
-use Rattle.clap.specs.Matches.{has_subcommand}
+use Rattle.clap.specs.Matches.{has_subcommand, subcommand_name_of}
 use Rattle.clap.specs.Values.{kind_of}
 use Rattle.clap.specs.declared.error.Error.{Error}
 use Rattle.clap.specs.declared.error.kind.ErrorKind.{ErrorKind}
 use Rattle.clap.specs.declared.parser.matches.ArgMatches.{ArgMatches}
-use Rattle.clap.specs.declared.parser.matches.ArgMatches.TheViews.{out-ArgMatches}
-use Rattle.clap.specs.declared.error.kind.ErrorKind.TheVariants.{OutOfMemory}
-use Rattle.mg_bridge.specs.Options.{IsRefused, asked, asked_by, command_line, config_in, options, replay, replay_line}
+use Rattle.clap.specs.declared.parser.matches.ArgMatches.TheViews.{out-ArgMatches, out-SubCommand}
+use Rattle.clap.specs.declared.error.kind.ErrorKind.TheVariants.{OutOfMemory, ValueValidation}
+use Rattle.clap.specs.declared.parser.matches.SubCommand.{SubCommand}
+use Rattle.std.specs.Box.{box_value}
+use Rattle.mg_engine.specs.declared.config.Config.{Config}
+use Rattle.mg_bridge.specs.declared.invocation.Invocation.{Invocation}
+use Rattle.mg_bridge.specs.declared.address.AddressFault.{AddressFault}
+use Rattle.mg_bridge.specs.Options.{IsRefused, address_in, asked, asked_by, command_line, config_at, options, run_at, run_of}
 
 abbrev has_kinds : Kinds → Bool
 has_kinds [] = false
@@ -49,7 +54,7 @@ unfolding command_line
 wants_subcommand = refl
 
 is_simple_line : is_simple_and_free command_line ≡ true
-unfolding command_line replay_line options
+unfolding command_line options
 is_simple_line = refl
 
 has_met : (words : List Text) → fault_of command_line words ≡ [] → is_some (subcommand_of command_line words) ≡ true
@@ -57,15 +62,18 @@ has_met words none = level_met (built command_line).top (names_of (built command
     (is_some (subcommand_of command_line words)) (entered_fault (built command_line) (stop_after (built command_line).top.rules (names_of (built command_line))
     (argument_words command_line words))) wants_subcommand none
 
-run_by : (kinds : Kinds) (found : Option (Text × List Row)) (rows : List Row) → kinds ≡ [] → option_map (λ f. f.1) found ≡ Some rows
-    → asked_by kinds found ≡ replay (config_in rows)
-run_by [] (Some found) rows none is = ap replay (ap config_in (ap (λ (o : Option (List Row)). unwrap_or o rows) is))
-run_by [] None rows none is = absurd (true≢false (sym (ap is_some is)))
-run_by (kind ∷ kinds) found rows none is = absurd (true≢false (ap has_kinds none))
+-- memory may run out whatever the words ask for
+pub memory_refuses : (asked : Result Invocation Kinds) → IsRefused asked OutOfMemory
+memory_refuses (Ok run) = refl
+memory_refuses (Err kinds) = inl refl
+
+run_by : (kinds : Kinds) (found : Option (Text × List Row)) (run : Text × List Row) → kinds ≡ [] → found ≡ Some run
+    → asked_by kinds found ≡ run_at run.0 run.1 (address_in run.1)
+run_by kinds found run none is = ap₂ asked_by none is
 
 refused_by : (kinds : Kinds) (found : Option (Text × List Row)) (kind : ErrorKind) → (kind ≡ OutOfMemory) ⊎ IsAmong kind kinds
     → IsRefused (asked_by kinds found) kind
-refused_by [] (Some found) kind (inl memory) = memory
+refused_by [] (Some found) kind (inl memory) = subst (IsRefused (asked_by [] (Some found))) (sym memory) (memory_refuses (asked_by [] (Some found)))
 refused_by [] (Some found) kind (inr among) = absurd among
 refused_by [] None kind why = why
 refused_by (first ∷ kinds) found kind why = why
@@ -73,6 +81,11 @@ refused_by (first ∷ kinds) found kind why = why
 is_some-map : {A B : Type 0} (f : A → B) (o : Option A) → is_some (option_map f o) ≡ is_some o
 is_some-map f None = refl
 is_some-map f (Some a) = refl
+
+both_found : {Z : Type 0} (o : Option (Box SubCommand Z)) (name : Text) (rows : List Row) → Some name ≡ option_map (λ b. (out-SubCommand (box_value b)).name.now) o
+    → Some rows ≡ option_map (λ f. f.1) (subcommand_rows o) → subcommand_rows o ≡ Some (name, rows)
+both_found None name rows named found = cc
+both_found (Some b) name rows named found = cc
 
 -- what a parse by the program's command line says of what its words ask for
 module _ (line : App) (words : List Text) (is : line ≡ command_line) where
@@ -91,20 +104,37 @@ module _ (line : App) (words : List Text) (is : line ≡ command_line) where
   meets_subcommand m passes matches =
       sym (is_some-map _ (out-ArgMatches m).subcommand) ∙ (ap is_some (subcommand_is m matches) ∙ has_met words (no_fault passes))
 
-  -- matches ask for a run by the options of the subcommand
-  pub asks_run : (m : ArgMatches) (rows : List Row) → (is_simple_and_free line ≡ true → fault_of line words ≡ []) → HasMatchesOf line words m
-      → Some rows ≡ option_map (λ f. f.1) (subcommand_rows_of m) → asked words ≡ replay (config_in rows)
+  -- matches ask for a run by the name and the options of the subcommand
+  pub asks_run : (m : ArgMatches) (name : Text) (rows : List Row) → (is_simple_and_free line ≡ true → fault_of line words ≡ [])
+      → HasMatchesOf line words m → Some name ≡ subcommand_name_of m → Some rows ≡ option_map (λ f. f.1) (subcommand_rows_of m)
+      → asked words ≡ run_at name rows (address_in rows)
   unfolding asked
-  asks_run m rows passes matches found =
-      run_by _ _ rows (no_fault passes) (ap (option_map (λ (f : Text × List Row). f.1)) (sym (subcommand_is m matches)) ∙ sym found)
+  asks_run m name rows passes matches named found =
+      run_by _ _ (name, rows) (no_fault passes) (sym (subcommand_is m matches) ∙ both_found (out-ArgMatches m).subcommand name rows named found)
 
   -- an error says why they ask for none
   pub asks_none : (kind : ErrorKind) → (is_simple_and_free line ≡ true → (kind ≡ OutOfMemory) ⊎ IsAmong kind (fault_of line words)) → IsRefused (asked words) kind
   unfolding asked
   asks_none kind fails = refused_by _ _ kind (subst (λ (l : App). (kind ≡ OutOfMemory) ⊎ IsAmong kind (fault_of l words)) is (fails simple))
 
+-- the run of a subcommand at an address
+pub run_is : (name : Text) (rows : List Row) (address : List ℕ) (config : Config) (run : Invocation) → config ≡ config_at address rows
+    → run ≡ run_of name config → run_at name rows (Ok address) ≡ Ok run
+run_is name rows address config run configured is = rw (is, configured) refl
+
+-- an error says why there is none at a text that names no address
+pub refuses_address : (asked : Result Invocation Kinds) (name : Text) (rows : List Row) (fault : AddressFault) (kind : ErrorKind)
+    → asked ≡ run_at name rows (Err fault) → kind ≡ ValueValidation → IsRefused asked kind
+refuses_address asked name rows fault kind asks is = rw (asks, is) (inr (inl refl))
+
 -- an error that was passed on
 pub passed_on : {T : Type 0} (r : Result T Error) (error : Error) (Q : ErrorKind → Type 0) → IsErrAnd r (λ e. e ≡ error) → Q (kind_of error)
     → IfErr r (λ e. Q (kind_of e))
 passed_on (Ok value) error Q is why = tt
 passed_on (Err e) error Q is why = subst (λ (x : Error). Q (kind_of x)) (sym is) why
+
+-- want of memory that was passed on
+pub memory_passed_on : {T : Type 0} (r : Result T Error) (asked : Result Invocation Kinds) → IsErrAnd r (λ e. kind_of e ≡ OutOfMemory)
+    → IfErr r (λ e. IsRefused asked (kind_of e))
+memory_passed_on (Ok value) asked why = tt
+memory_passed_on (Err e) asked why = subst (IsRefused asked) (sym why) (memory_refuses asked)

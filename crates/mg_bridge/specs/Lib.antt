@@ -1,3 +1,6 @@
 pub mod Status
+pub mod Address
 pub mod Options
 pub mod Replay
+pub mod Serve
+pub mod Program

@@ -1,32 +1,39 @@
 -- The command line, as the parser of its words knows it, and what words ask of the program.
 use Rattle.std.specs.Prelude.{◌≡◌, ℕ, true, ◌&&◌, nat_lt, if◌then◌else◌, List, [], ◌∷◌, Option}
-use Rattle.std.specs.Prelude.{Some, None, unwrap_or, option_and_then, codes, pos}
+use Rattle.std.specs.Prelude.{Some, None, unwrap_or, option_and_then, Result, Ok, Err, codes, pos}
+use Rattle.std.specs.Option.{option_map_or}
+use Rattle.std.specs.Str.{bytes_eq}
 use Rattle.std.specs.Str.Parse.{digits_value, without_leading_plus}
 use Rattle.clap.specs.ValueTests.{is_numeral}
-use Rattle.clap.specs.Walk.{Row, Rule, Text, one_of}
+use Rattle.clap.specs.Walk.{Row, Rule, Text, first_of, one_of}
 use Rattle.clap.specs.Simple.{App, new_app, new_rule, on_top, subcommand_of, with_rule}
 use Rattle.clap.specs.Simple.{with_subcommand}
 use Rattle.clap.specs.Kinds.{Kinds, IsAmong}
 use Rattle.clap.specs.Faults.{fault_of}
 use Rattle.clap.specs.declared.error.kind.ErrorKind.{ErrorKind}
-use Rattle.clap.specs.declared.error.kind.ErrorKind.TheVariants.{OutOfMemory}
+use Rattle.clap.specs.declared.error.kind.ErrorKind.TheVariants.{OutOfMemory, ValueValidation}
 use Rattle.clap.specs.declared.builder.value_parser.ValueParser.TheVariants.{Signed}
 use Rattle.mg_engine.specs.declared.config.Config.{Config}
 use Rattle.mg_engine.specs.Config.{standard}
+use Rattle.mg_bridge.specs.declared.address.AddressFault.{AddressFault}
+use Rattle.mg_bridge.specs.declared.invocation.Invocation.{Invocation}
+use Rattle.mg_bridge.specs.declared.invocation.Invocation.TheVariants.{Replay, Serve}
+use Rattle.mg_bridge.specs.Address.{own_address}
+
+-- ## The command line
+
+-- an option with this name that takes one text
+abbrev pub text_rule : Text → Rule
+text_rule name = record (new_rule name) { long = Some name; value_names = 1 }
 
 -- an option with this name that takes one number, from 0 to `most`
 abbrev pub number_rule : Text → ℕ → Rule
-number_rule name most =
-    record (new_rule name) {
-      long = Some name;
-      value_names = 1;
-      parser = Some (Signed (pos 0) (pos most));
-    }
+number_rule name most = record (text_rule name) { parser = Some (Signed (pos 0) (pos most)) }
 
--- the options of `replay`, each of which may be given once
+-- the options of both subcommands, each of which may be given once
 unfoldable pub options : List Rule
-options = number_rule (codes "control-port") 65535 ∷ number_rule (codes "base-port") 65535
-    ∷ number_rule (codes "slots") 65535
+options = text_rule (codes "address") ∷ number_rule (codes "control-port") 65535
+    ∷ number_rule (codes "base-port") 65535 ∷ number_rule (codes "slots") 65535
     ∷ number_rule (codes "ssrc") 4294967295 ∷ number_rule (codes "sequence") 65535
     ∷ number_rule (codes "timestamp") 4294967295 ∷ []
 
@@ -34,19 +41,21 @@ abbrev pub with_rules : App → List Rule → App
 with_rules app [] = app
 with_rules app (rule ∷ rules) = with_rules (with_rule app rule) rules
 
--- the subcommand `replay`
-unfoldable pub replay_line : App
-unfolding options
-replay_line = with_rules (new_app (codes "replay")) options
+-- a subcommand
+abbrev pub subcommand_line : Text → App
+subcommand_line name = with_rules (new_app name) options
 
 -- the command line: words without the program's name, of which one is a subcommand
 unfoldable pub command_line : App
 command_line =
-    with_subcommand (on_top (λ top. record top {
+    with_subcommand (with_subcommand (on_top (λ top. record top {
       no_binary_name = true;
       subcommand_required = true;
     }) (new_app (codes "mg_bridge")))
-    replay_line.top
+    (subcommand_line (codes "replay")).top)
+    (subcommand_line (codes "serve")).top
+
+-- ## The values of the options
 
 -- the number below `limit` that decimal digits write, with a plus before them or none
 abbrev pub number_below : ℕ → Text → Option ℕ
@@ -65,9 +74,11 @@ short_in = number_in 65536
 abbrev pub long_in : Text → List Row → ℕ → ℕ
 long_in = number_in 4294967296
 
--- the configuration that the options name: what isn't named is as in the standard one
-unfoldable pub config_in : List Row → Config
-config_in found = record standard {
+-- the configuration that the options name, at this address: what isn't named is as in the standard
+-- one
+unfoldable pub config_at : List ℕ → List Row → Config
+config_at address found = record standard {
+  address = address;
   control_port = short_in (codes "control-port") found standard.control_port;
   base_port = short_in (codes "base-port") found standard.base_port;
   slots = short_in (codes "slots") found standard.slots;
@@ -76,21 +87,31 @@ config_in found = record standard {
   timestamp = long_in (codes "timestamp") found standard.timestamp;
 }
 
--- What words ask of the program: the subcommand's run with a configuration, or none. There is none
--- where the parser of words has a fault to tell, which has one of the kinds. A call for help is
--- such a fault.
-pub data Invocation : Type 0 where
-  replay : Config → Invocation
-  refused : Kinds → Invocation
+-- the address that the options name, or the standard one
+abbrev pub address_in : List Row → Result (List ℕ) AddressFault
+address_in found = option_map_or own_address (first_of (codes "address") found)
+    (Ok standard.address)
 
-abbrev pub asked_by : Kinds → Option (Text × List Row) → Invocation
-asked_by [] (Some found) = replay (config_in found.1)
-asked_by kinds found = refused kinds
+-- ## What words ask of the program
 
-unfoldable pub asked : List Text → Invocation
+abbrev pub run_of : Text → Config → Invocation
+run_of name config = if bytes_eq name (codes "serve") then Serve config else Replay config
+
+abbrev pub run_at : Text → List Row → Result (List ℕ) AddressFault → Result Invocation Kinds
+run_at name found (Ok address) = Ok (run_of name (config_at address found))
+run_at name found (Err fault) = Err (ValueValidation ∷ [])
+
+abbrev pub asked_by : Kinds → Option (Text × List Row) → Result Invocation Kinds
+asked_by [] (Some found) = run_at found.0 found.1 (address_in found.1)
+asked_by kinds found = Err kinds
+
+-- A run of a subcommand, or none. There is none where the parser of words has a fault to tell, or
+-- the address can't be a gateway's: the fault has one of these kinds. A call for help is a fault of
+-- the parser's.
+unfoldable pub asked : List Text → Result Invocation Kinds
 asked words = asked_by (fault_of command_line words) (subcommand_of command_line words)
 
 -- the words ask for no run, and an error of this kind says why
-abbrev pub IsRefused : Invocation → ErrorKind → Type 0
-IsRefused (replay config) kind = kind ≡ OutOfMemory
-IsRefused (refused kinds) kind = IsAmong kind (OutOfMemory ∷ kinds)
+abbrev pub IsRefused : Result Invocation Kinds → ErrorKind → Type 0
+IsRefused (Ok run) kind = kind ≡ OutOfMemory
+IsRefused (Err kinds) kind = IsAmong kind (OutOfMemory ∷ kinds)

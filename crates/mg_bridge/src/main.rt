@@ -2,17 +2,26 @@
 //!
 //! `mg_bridge replay` runs a script of events on standard input, and writes a line for each answer on
 //! standard output.
+//!
+//! `mg_bridge serve` is a gateway on UDP ports, driven by lines on standard input: `poll` takes what came to the
+//! ports, `tick` passes on by 20 ms and sends the packets, `stats` prints what was counted, `quit` ends it. Another
+//! program, `mg_pace`, writes these lines by the clock.
 #![tactic(auto)]
 
 ghost use Rattle.std.specs.Prelude.{◌≡◌, ◌≢◌};
 ghost use Rattle.std.specs.IoError.{error_kind};
 
+mod address;
+mod bind_fault;
+mod invocation;
 mod options;
 mod program;
 mod replay;
+mod serve;
 mod status;
 #[cfg(test)]
 mod tests;
+mod udp_ports;
 
 use crate::program::program;
 use crate::status::Status;
@@ -48,6 +57,7 @@ fn main(rt: HostRuntime) -> ExitCode {
     let mut input = rt.stdin();
     let mut output = rt.stdout();
     let code = program(
+        &rt,
         rt.alloc(),
         words.as_slice(),
         &mut input,

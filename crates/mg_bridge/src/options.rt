@@ -1,13 +1,23 @@
-ghost use Rattle.std.specs.Prelude.{◌≡◌, IfErr, IfOk, map};
-ghost use Rattle.clap.specs.Words.{app_of, found_of, kind_of, rows_of, rule_of};
-ghost use Rattle.mg_bridge.specs.Options.{IsRefused, asked, command_line, config_in, number_rule};
-ghost use Rattle.mg_bridge.specs.Options.{replay, replay_line};
+ghost use Rattle.std.specs.Prelude.{◌≡◌, IfErr, IfOk, Ok, map};
+ghost use Rattle.clap.specs.Words.{app_of, found_of, kind_of, rows_of, rule_of, with_rule};
+ghost use Rattle.mg_bridge.specs.Options.{IsRefused, address_in, asked, command_line, config_at};
+ghost use Rattle.mg_bridge.specs.Options.{number_rule, options, run_of, subcommand_line, text_rule};
+ghost use Rattle.mg_bridge.specs.Options.{with_rules};
 
+use crate::address::{AddressFault, own_address};
+use crate::invocation::Invocation;
 use clap::error::ErrorKind;
 use clap::{Arg, ArgMatches, Command, Error, value_parser};
 use mg_core::Config;
 use std::alloc::Global;
 use std::convert::AsStr;
+
+/// An option that takes an IPv4 address. Its parser takes any text.
+fn address_option<'a>(alloc: Global, name: &'a str) -> Arg<'a>
+    ensures rule { rule_of result ≡ text_rule name.now }
+{
+    Arg::new(alloc, name).long(name).value_name("ADDRESS")
+}
 
 /// An option that takes one number of 16 bits.
 fn short_number<'a>(alloc: Global, name: &'a str) -> Arg<'a>
@@ -29,13 +39,15 @@ fn long_number<'a>(alloc: Global, name: &'a str) -> Arg<'a>
         .value_parser(value_parser!(u32))
 }
 
-/// The subcommand that runs a script.
-fn replay_command<'a>(alloc: Global) -> Result<Command<'a>, Error>
-    ensures app { IfOk result (λ command. app_of command ≡ replay_line) }
+/// Adds the options of a gateway, which are those of each subcommand.
+fn with_options<'a>(alloc: Global, command: Command<'a>) -> Result<Command<'a>, Error>
+    ensures app { IfOk result (λ with. app_of with ≡ with_rules (app_of command.entry) options) }
     ensures memory { IfErr result (λ error. kind_of error ≡ ErrorKind.OutOfMemory) }
 {
-    let command = Command::new(alloc, "replay")
-        .about("Runs a script from standard input, and writes its answers to standard output")
+    let command = command
+        .arg(address_option(alloc, "address").help(
+            "The IPv4 address of the gateway, which callers are told; 127.0.0.1 where this isn't given",
+        ))?
         .arg(short_number(alloc, "control-port").help("The UDP port for control messages"))?
         .arg(short_number(alloc, "base-port").help("The first UDP port for media, an even one"))?
         .arg(short_number(alloc, "slots").help("How many media ports there are, from 1 to 128"))?
@@ -45,25 +57,53 @@ fn replay_command<'a>(alloc: Global) -> Result<Command<'a>, Error>
     Ok(command)
 }
 
+/// A subcommand with the options of a gateway.
+fn subcommand<'a>(alloc: Global, name: &'a str, about: &'a str) -> Result<Command<'a>, Error>
+    ensures app { IfOk result (λ command. app_of command ≡ subcommand_line name.now) }
+    ensures memory { IfErr result (λ error. kind_of error ≡ ErrorKind.OutOfMemory) }
+{
+    with_options(alloc, Command::new(alloc, name).about(about))
+}
+
 /// The program's command line.
 fn command<'a>(alloc: Global) -> Result<Command<'a>, Error>
     ensures app { IfOk result (λ command. app_of command ≡ command_line) }
     ensures memory { IfErr result (λ error. kind_of error ≡ ErrorKind.OutOfMemory) }
 {
+    let replay = subcommand(
+        alloc,
+        "replay",
+        "Runs a script from standard input, and writes its answers to standard output",
+    )?;
+    let serve = subcommand(
+        alloc,
+        "serve",
+        "Serves a gateway on UDP ports, driven by lines from standard input: poll, tick, stats, quit",
+    )?;
     let command = Command::new(alloc, "mg_bridge")
         .about("A conference media gateway under a Megaco controller")
         .no_binary_name(true)
         .subcommand_required(true)
-        .subcommand(replay_command(alloc)?)?;
+        .subcommand(replay)?
+        .subcommand(serve)?;
     Ok(command)
 }
 
-/// The configuration that the options name. An option that isn't given leaves the default.
-fn config_of(matches: &ArgMatches<'_>) -> Config
-    ensures value { result ≡ config_in (rows_of (found_of matches.now)) }
+/// The address that the options name, or the default.
+fn address_of(matches: &ArgMatches<'_>) -> Result<[u8; 4], AddressFault>
+    ensures value { result ≡ address_in (rows_of (found_of matches.now)) }
+{
+    match matches.get_str("address") {
+        Some(text) => own_address(text),
+        None => Ok(Config::default().address),
+    }
+}
+
+/// The configuration that the options name, at this address. An option that isn't given leaves the default.
+fn config_at(address: [u8; 4], matches: &ArgMatches<'_>) -> Config
+    ensures value { result ≡ config_at address (rows_of (found_of matches.now)) }
 {
     let standard = Config::default();
-    let address = standard.address;
     Config {
         address,
         control_port: matches
@@ -79,18 +119,32 @@ fn config_of(matches: &ArgMatches<'_>) -> Config
     }
 }
 
-/// The configuration of the run that the program's arguments ask for. The arguments stand without the program's
-/// name.
+/// The run of a subcommand.
+fn run_of(name: &str, config: Config) -> Invocation
+    ensures value { result ≡ run_of name.now config }
+{
+    if name == "serve" {
+        Invocation::Serve(config)
+    } else {
+        Invocation::Replay(config)
+    }
+}
+
+/// The run that the program's arguments ask for. The arguments stand without the program's name.
 ///
 /// Where they ask for no run the error says why, and is told to the caller: a fault of theirs, a call for help, or
 /// want of memory.
-pub fn asked_config<'a, S: AsStr>(alloc: Global, words: &'a [S]) -> Result<Config, Error>
-    ensures run { IfOk result (λ config. asked (map S.text words.now) ≡ replay config) }
+pub fn asked_run<'a, S: AsStr>(alloc: Global, words: &'a [S]) -> Result<Invocation, Error>
+    ensures run { IfOk result (λ run. asked (map S.text words.now) ≡ Ok run) }
     ensures refused { IfErr result (λ error. IsRefused (asked (map S.text words.now)) (kind_of error)) }
 {
-    let matches = command(alloc)?.try_get_matches_from(words)?;
-    match matches.subcommand() {
-        Some((_, options)) => Ok(config_of(options)),
-        None => unreachable!(),
+    let mut command = command(alloc)?;
+    let matches = command.try_get_matches_from_mut(words)?;
+    let Some((name, options)) = matches.subcommand() else {
+        unreachable!();
+    };
+    match address_of(options) {
+        Ok(address) => Ok(run_of(name, config_at(address, options))),
+        Err(fault) => Err(command.error(ErrorKind::ValueValidation, fault.message())?),
     }
 }

@@ -19,8 +19,5 @@ pub fn replay<R: Read, W: Write, E: Write>(
     ensures quiet { result ≡ Status.Done → errors.new ≡ errors.old }
 {
     let outcome = run(alloc, config, input, output);
-    if let Err(fault) = &outcome {
-        let _ = writeln!(errors, "{fault}");
-    }
-    Status::of(&outcome)
+    Status::after(&outcome, errors)
 }

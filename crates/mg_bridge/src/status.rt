@@ -2,6 +2,7 @@ ghost use Rattle.std.specs.Prelude.{◌≡◌, ◌≤◌};
 ghost use Rattle.mg_bridge.specs.Status.{code_of, status_of};
 
 use mg_core::{Counts, RunFault};
+use std::io::Write;
 
 /// How the program ends.
 #[derive(Clone, Copy, Debug, PartialEq, Eq)]
@@ -14,6 +15,8 @@ pub enum Status {
     /// A read or a write failed.
     Failed,
     NoMemory,
+    /// A port can't be bound.
+    NoPort,
 }
 
 impl Status {
@@ -21,7 +24,7 @@ impl Status {
     #[tactic(auto, unfolding(crate::specs::Status::code_of))]
     pub fn code(self) -> u8
         ensures value { result ≡ code_of self }
-        ensures small { result ≤ 4 }
+        ensures small { result ≤ 5 }
     {
         match self {
             Status::Done => 0,
@@ -29,12 +32,13 @@ impl Status {
             Status::Usage => 2,
             Status::Failed => 3,
             Status::NoMemory => 4,
+            Status::NoPort => 5,
         }
     }
 
     /// How the program ends after a run.
     #[tactic(auto, unfolding(crate::specs::Status::status_of))]
-    pub fn of(outcome: &Result<Counts, RunFault>) -> Self
+    fn of(outcome: &Result<Counts, RunFault>) -> Self
         ensures value { result ≡ status_of outcome.now }
     {
         match outcome {
@@ -45,5 +49,16 @@ impl Status {
             Err(RunFault::Write) => Status::Failed,
             Err(RunFault::NoMemory) => Status::NoMemory,
         }
+    }
+
+    /// Tells the fault of a run, if it has one, and answers how the program ends after it.
+    pub fn after<E: Write>(outcome: &Result<Counts, RunFault>, errors: &mut E) -> Self
+        ensures value { result ≡ status_of outcome.now }
+        ensures quiet { result ≡ Status.Done → errors.new ≡ errors.old }
+    {
+        if let Err(fault) = outcome {
+            let _ = writeln!(errors, "{fault}");
+        }
+        Status::of(outcome)
     }
 }

@@ -1,13 +1,17 @@
 use Rattle.std.proofs.Common.{◌≡◌, ◌∙◌, true, ap, refl, codes}
 use Rattle.clap.specs.Words.{Shape, app_of, new_app}
 use Rattle.clap.specs.Simple.{app_of_fields, on_top}
-use Rattle.mg_bridge.specs.Options.{command_line, options, replay_line}
+use Rattle.mg_bridge.specs.Options.{command_line, options, subcommand_line}
 use Rattle.mg_bridge.proofs.CommandLaws.{adds_subcommand}
 use Rattle.mg_bridge.proofs.options.command.Goals as goal
 
-replay_is_plain : replay_line.top.is_plain ≡ true
-unfolding replay_line options
+replay_is_plain : (subcommand_line (codes "replay")).top.is_plain ≡ true
+unfolding options
 replay_is_plain = refl
+
+serve_is_plain : (subcommand_line (codes "serve")).top.is_plain ≡ true
+unfolding options
+serve_is_plain = refl
 
 pub returns-clause-app : goal.returns-clause-app
 unfolding command_line
@@ -15,4 +19,5 @@ returns-clause-app c =
     let start : app_of c.about.result ≡ new_app (codes "mg_bridge") = ap app_of_fields c.about.ensures ∙ c.new.ensures.app in
     let nameless = ap app_of_fields c.no_binary_name.ensures ∙ ap (on_top (λ (s : Shape). record s { no_binary_name = true })) start in
     let required = ap app_of_fields c.subcommand_required.ensures ∙ ap (on_top (λ (s : Shape). record s { subcommand_required = true })) nameless in
-    adds_subcommand _ _ _ _ _ c.in_ok-command.ensures required c.in_ok-replay_command.ensures.app replay_is_plain
+    let replay = adds_subcommand _ _ _ _ _ c.in_ok-subcommand.ensures required c.in_ok-replay.ensures.app replay_is_plain in
+    adds_subcommand _ _ _ _ _ c.in_ok-command.ensures replay c.in_ok-serve.ensures.app serve_is_plain

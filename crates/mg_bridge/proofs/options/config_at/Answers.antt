@@ -2,12 +2,12 @@ use Rattle.std.proofs.Common.{◌≡◌, refl, codes}
 use Rattle.std.specs.Str.Parse.{ParsesUnsigned, ExplainsUnsignedError, HasUnsignedDigitsIfOk}
 use Rattle.clap.specs.Words.{found_of}
 use Rattle.mg_engine.specs.Config.{standard}
-use Rattle.mg_bridge.specs.Options.{config_in}
+use Rattle.mg_bridge.specs.Options.{config_at}
 use Rattle.mg_bridge.proofs.NumberLaws.{read_option}
-use Rattle.mg_bridge.proofs.options.config_of.Goals as goal
+use Rattle.mg_bridge.proofs.options.config_at.Goals as goal
 
 pub returns : goal.returns
-unfolding config_in
+unfolding config_at
 returns c =
     let found = found_of c.args.matches.now in
     let is : c.default-standard.result ≡ standard = c.default-standard.ensures in

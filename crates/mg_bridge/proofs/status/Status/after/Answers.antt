@@ -1,8 +1,8 @@
 use Rattle.std.proofs.Common.{◌∙◌, sym, ap}
 use Rattle.mg_bridge.specs.Status.{status_of}
 use Rattle.mg_bridge.proofs.EndLaws.{fault_is_told}
-use Rattle.mg_bridge.proofs.replay.replay.Goals.{in-Err, in_default}
-use Rattle.mg_bridge.proofs.replay.replay.Goals as goal
+use Rattle.mg_bridge.proofs.status.Status.after.Goals.{in-Err, in_default}
+use Rattle.mg_bridge.proofs.status.Status.after.Goals as goal
 
 pub returns-clause-quiet : goal.returns-clause-quiet
 returns-clause-quiet g c done = elim c.match-outcome.branch [

@@ -1,0 +1,58 @@
+/* Receives and sends alone, as many as a gateway does: what its sockets cost without it.
+   usage: bare CALLERS SLOTS
+   It is driven by the same lines, takes what comes, and sends a packet of 172 bytes to each caller at each tick. */
+#define _GNU_SOURCE
+#include <arpa/inet.h>
+#include <stdint.h>
+#include <stdio.h>
+#include <stdlib.h>
+#include <string.h>
+#include <sys/socket.h>
+
+static struct sockaddr_in local(int port)
+{
+    struct sockaddr_in a = {.sin_family = AF_INET, .sin_port = htons(port)};
+    a.sin_addr.s_addr = htonl(INADDR_LOOPBACK);
+    return a;
+}
+
+int main(int argc, char **argv)
+{
+    static uint8_t buffer[65535], packet[172];
+    static int s[129];
+    char line[64];
+    if (argc != 3)
+        return 2;
+    int callers = atoi(argv[1]), slots = atoi(argv[2]);
+    for (int i = 0; i <= slots; i++) {
+        struct sockaddr_in a = local(i ? 30000 + 2 * (i - 1) : 2944);
+        s[i] = socket(AF_INET, SOCK_DGRAM | SOCK_NONBLOCK, 0);
+        if (s[i] < 0 || bind(s[i], (struct sockaddr *)&a, sizeof a) < 0) {
+            perror("bind");
+            return 1;
+        }
+    }
+    puts("ready");
+    fflush(stdout);
+    while (fgets(line, sizeof line, stdin)) {
+        if (!strcmp(line, "quit\n"))
+            break;
+        if (!strcmp(line, "poll\n"))
+            for (int i = 0; i <= slots; i++)
+                for (int n = 0; n < 64; n++) {
+                    struct sockaddr_in from;
+                    socklen_t size = sizeof from;
+                    ssize_t got = recvfrom(s[i], buffer, sizeof buffer, 0, (struct sockaddr *)&from, &size);
+                    if (got < 0)
+                        break;
+                    if (i == 0)
+                        sendto(s[0], "Reply", 5, 0, (struct sockaddr *)&from, size);
+                }
+        if (!strcmp(line, "tick\n"))
+            for (int i = 0; i < callers; i++) {
+                struct sockaddr_in to = local(40000 + 2 * i);
+                sendto(s[i + 1], packet, sizeof packet, 0, (struct sockaddr *)&to, sizeof to);
+            }
+    }
+    return 0;
+}

@@ -1,0 +1,143 @@
+/* Callers in conferences, over a gateway's sockets: each sends a packet of 20 ms every 20 ms, and takes what it is sent.
+   usage: load CALLERS A_CONFERENCE SECONDS
+   The gateway is on 127.0.0.1, its control port 2944, its media ports from 30000 on. */
+#define _GNU_SOURCE
+#include <arpa/inet.h>
+#include <stdint.h>
+#include <stdio.h>
+#include <stdlib.h>
+#include <string.h>
+#include <sys/socket.h>
+#include <time.h>
+#include <unistd.h>
+
+enum { MOST = 128, PACKET = 172, ANSWER = 65536 };
+
+static struct sockaddr_in local(int port)
+{
+    struct sockaddr_in a = {.sin_family = AF_INET, .sin_port = htons(port)};
+    a.sin_addr.s_addr = htonl(INADDR_LOOPBACK);
+    return a;
+}
+
+static int bound(int port, int flags)
+{
+    struct sockaddr_in a = local(port);
+    int s = socket(AF_INET, SOCK_DGRAM | flags, 0);
+    if (s < 0 || bind(s, (struct sockaddr *)&a, sizeof a) < 0) {
+        perror("bind");
+        exit(1);
+    }
+    return s;
+}
+
+static double now(void)
+{
+    struct timespec t;
+    clock_gettime(CLOCK_MONOTONIC, &t);
+    return t.tv_sec + t.tv_nsec * 1e-9;
+}
+
+/* Sends a message to the gateway, and waits for its answer. */
+static void ask(int s, const char *text, char *answer)
+{
+    struct sockaddr_in to = local(2944);
+    struct timeval limit = {.tv_sec = 2};
+    setsockopt(s, SOL_SOCKET, SO_RCVTIMEO, &limit, sizeof limit);
+    sendto(s, text, strlen(text), 0, (struct sockaddr *)&to, sizeof to);
+    ssize_t n = recv(s, answer, ANSWER - 1, 0);
+    if (n < 0) {
+        fprintf(stderr, "no answer\n");
+        exit(1);
+    }
+    answer[n] = 0;
+    if (strstr(answer, "Error=")) {
+        fprintf(stderr, "%s\n", answer);
+        exit(1);
+    }
+}
+
+/* The sum of a statistic over all terminations of an audit. */
+static long sum_of(const char *answer, const char *name)
+{
+    long sum = 0;
+    for (const char *at = answer; (at = strstr(at, name)); at++)
+        sum += atol(at + strlen(name));
+    return sum;
+}
+
+int main(int argc, char **argv)
+{
+    static char text[16384], answer[ANSWER];
+    static int socket_of[MOST];
+    if (argc != 4)
+        return 2;
+    int callers = atoi(argv[1]), members = atoi(argv[2]), seconds = atoi(argv[3]);
+    int control = bound(2945, 0);
+    for (int i = 0; i < callers; i++) {
+        socket_of[i] = bound(40000 + 2 * i, SOCK_NONBLOCK);
+        int room = 1 << 20;
+        setsockopt(socket_of[i], SOL_SOCKET, SO_RCVBUF, &room, sizeof room);
+    }
+    for (int first = 0; first < callers; first += members) {
+        int n = sprintf(text, "MEGACO/1 [127.0.0.1]:2945\nTransaction=%d{Context=${", first + 1);
+        for (int i = first; i < first + members && i < callers; i++)
+            n += sprintf(text + n,
+                         "%sAdd=${Media{LocalControl{Mode=SendReceive},"
+                         "Local{v=0\nc=IN IP4 $\nm=audio $ RTP/AVP 0\n},"
+                         "Remote{v=0\nc=IN IP4 127.0.0.1\nm=audio %d RTP/AVP 0\n}}}",
+                         i > first ? "," : "", 40000 + 2 * i);
+        sprintf(text + n, "}}");
+        ask(control, text, answer);
+    }
+    uint8_t packet[PACKET] = {0x80}, taken[2048];
+    for (int i = 12; i < PACKET; i++)
+        packet[i] = 0x80 | (i * 37 & 0x7f);
+    long sent = 0, received = 0;
+    double start = now(), latest = 0, gap = 0;
+    for (long k = 0; k < 50L * seconds + 25; k++) {
+        double point = start + k * 0.02;
+        struct timespec t = {.tv_sec = (time_t)point, .tv_nsec = (long)((point - (time_t)point) * 1e9)};
+        clock_nanosleep(CLOCK_MONOTONIC, TIMER_ABSTIME, &t, NULL);
+        if (k < 50L * seconds)
+            for (int i = 0; i < callers; i++) {
+                struct sockaddr_in to = local(30000 + 2 * i);
+                uint32_t stamp = htonl((uint32_t)(k * 160)), source = htonl(1000 + i);
+                packet[2] = k >> 8, packet[3] = k;
+                memcpy(packet + 4, &stamp, 4);
+                memcpy(packet + 8, &source, 4);
+                sent += sendto(socket_of[i], packet, PACKET, 0, (struct sockaddr *)&to, sizeof to) == PACKET;
+            }
+        for (double end = point + 0.0195; now() < end;) {
+            long before = received;
+            for (int i = 0; i < callers; i++)
+                while (recv(socket_of[i], taken, sizeof taken, 0) == PACKET) {
+                    received++;
+                    if (i == 0) {
+                        double at = now();
+                        if (latest && at - latest > gap)
+                            gap = at - latest;
+                        latest = at;
+                    }
+                }
+            if (received == before)
+                usleep(500);
+        }
+    }
+    long in = 0, out = 0;
+    for (int first = 0; first < callers; first += members) {
+        int context = first / members + 1;
+        sprintf(text, "MEGACO/1 [127.0.0.1]:2945\nTransaction=%d{Context=%d{Subtract=*}}", 1000 + context, context);
+        ask(control, text, answer);
+        in += sum_of(answer, "rtp/pr=");
+        out += sum_of(answer, "rtp/ps=");
+    }
+    while (now() < latest + 0.2)
+        usleep(1000);
+    for (int i = 0; i < callers; i++)
+        while (recv(socket_of[i], taken, sizeof taken, 0) == PACKET)
+            received++;
+    printf("callers sent %ld packets, the gateway took %ld and sent %ld, callers got %ld\n", sent, in, out, received);
+    printf("longest gap between two packets to a caller: %.1f ms\n", gap * 1e3);
+    return 0;
+}

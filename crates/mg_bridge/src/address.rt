@@ -1,0 +1,38 @@
+ghost use Rattle.std.specs.Prelude.{◌≡◌};
+ghost use Rattle.mg_bridge.specs.Address.{own_address};
+
+use mg_words::address_of;
+
+/// Why a text names no address that a gateway can have.
+#[derive(Clone, Copy, Debug, PartialEq, Eq)]
+pub enum AddressFault {
+    /// It is no IPv4 address in dotted decimal.
+    Unreadable,
+    /// It is 0.0.0.0, which stands for all addresses of a machine: callers can't send to it.
+    Unspecified,
+}
+
+impl AddressFault {
+    /// The text that tells it.
+    pub fn message(self) -> &'static str {
+        match self {
+            AddressFault::Unreadable => {
+                "invalid value for '--address <ADDRESS>': it is no IPv4 address in dotted decimal"
+            }
+            AddressFault::Unspecified => {
+                "invalid value for '--address <ADDRESS>': callers are told this address, and can't send to 0.0.0.0"
+            }
+        }
+    }
+}
+
+/// The address of a gateway that a text names: an IPv4 address in dotted decimal, where leading zeros are allowed.
+pub fn own_address(text: &str) -> Result<[u8; 4], AddressFault>
+    ensures value { result ≡ own_address text.now }
+{
+    match address_of(text.as_bytes()) {
+        Some(address) if address == [0; 4] => Err(AddressFault::Unspecified),
+        Some(address) => Ok(address),
+        None => Err(AddressFault::Unreadable),
+    }
+}

@@ -1,0 +1,178 @@
+use super::local;
+use crate::udp_ports::UdpPorts;
+use mg_core::{Config, Counts, Peer, RunFault};
+use mg_ports::{PortFault, Ports};
+use mg_serve::serve;
+use std::alloc::AllocError;
+use std::io;
+use std::net::{IpAddr, Ipv4Addr, SocketAddr, UdpSocket};
+use std::test::Fail;
+
+/// Makes two terminations that talk and listen, with callers at 29510 and 29512.
+const TWO_CALLERS: &[u8] = b"MEGACO/1 [127.0.0.1]:29510 Transaction=1{Context=${\
+    Add=${Media{LocalControl{Mode=SendReceive},Local{v=0\nc=IN IP4 $\nm=audio $ RTP/AVP 0\n},\
+    Remote{v=0\nc=IN IP4 127.0.0.1\nm=audio 29510 RTP/AVP 0\n}}},\
+    Add=${Media{LocalControl{Mode=SendReceive},Local{v=0\nc=IN IP4 $\nm=audio $ RTP/AVP 0\n},\
+    Remote{v=0\nc=IN IP4 127.0.0.1\nm=audio 29512 RTP/AVP 0\n}}}}}";
+
+const ANSWER: &[u8] =
+    b"MEGACO/1 [127.0.0.1]:29500\nReply=1{Context=1{Add=RTP/1{Media{Stream=1{Local{v=0\r\n\
+    c=IN IP4 127.0.0.1\r\nm=audio 29502 RTP/AVP 0\r\na=ptime:20\r\n}}}},Add=RTP/2{Media{Stream=1{Local{v=0\r\n\
+    c=IN IP4 127.0.0.1\r\nm=audio 29504 RTP/AVP 0\r\na=ptime:20\r\n}}}}}}";
+
+/// Makes two terminations that send: the first to an address that isn't allowed, the second to 29612.
+const ONE_UNREACHABLE: &[u8] = b"MEGACO/1 [127.0.0.1]:29612 Transaction=1{Context=${\
+    Add=${Media{LocalControl{Mode=SendOnly},\
+    Remote{v=0\nc=IN IP4 255.255.255.255\nm=audio 29610 RTP/AVP 0\n}}},\
+    Add=${Media{LocalControl{Mode=SendOnly},\
+    Remote{v=0\nc=IN IP4 127.0.0.1\nm=audio 29612 RTP/AVP 0\n}}}}}";
+
+/// A gateway with few media ports, from two after the control port on.
+fn config(control_port: u16, slots: u16) -> Config {
+    Config {
+        control_port,
+        base_port: control_port.saturating_add(2),
+        slots,
+        ..Config::default()
+    }
+}
+
+/// The ports of a gateway.
+fn bind(rt: &HostRuntime, config: &Config) -> Result<UdpPorts, Fail> {
+    if !config.is_sound() {
+        return Err(Fail::new("bad configuration"));
+    }
+    Ok(UdpPorts::bind(rt, config)?)
+}
+
+/// A socket of a caller's that doesn't wait.
+fn caller(rt: &HostRuntime, port: u16) -> io::Result<UdpSocket> {
+    let socket = UdpSocket::bind(rt, local(port))?;
+    socket.set_nonblocking(true)?;
+    Ok(socket)
+}
+
+/// A PCMU packet of the loudest samples.
+fn speech() -> [u8; 172] {
+    let mut packet = [0x80; 172];
+    packet[..12].copy_from_slice(b"\x80\0\0\x01\0\0\0\0\0\0\0c");
+    packet
+}
+
+/// 200 polls, three ticks and `quit`.
+fn lines(rt: &HostRuntime) -> Result<String, AllocError> {
+    let mut lines = String::new(rt.alloc());
+    for _ in 0..200 {
+        lines.push_str("poll\n")?;
+    }
+    lines.push_str("tick\ntick\ntick\nquit\n")?;
+    Ok(lines)
+}
+
+/// Serves a gateway on some ports by these lines: what was counted, and what was printed.
+fn serve_lines(
+    rt: &HostRuntime,
+    config: Config,
+    ports: &mut UdpPorts,
+    lines: &str,
+) -> (Result<Counts, RunFault>, Vec<u8>) {
+    let alloc = rt.alloc();
+    let mut input = lines.as_bytes();
+    let mut printed = Vec::new(alloc);
+    let result = serve(alloc, config, ports, &mut input, &mut printed);
+    (result, printed)
+}
+
+/// Whether the datagram that a socket gives after so many others is a packet with this payload.
+fn carries(socket: &UdpSocket, before: usize, payload: &[u8]) -> io::Result<bool> {
+    let mut buffer = [0; 200];
+    for _ in 0..before {
+        socket.recv_from(&mut buffer)?;
+    }
+    let (n, _) = socket.recv_from(&mut buffer)?;
+    Ok(n == 172 && &buffer[12..172] == payload)
+}
+
+#[test]
+fn carries_speech_from_one_caller_to_another(rt: HostRuntime) -> Result<(), Fail> {
+    let config = config(29500, 2);
+    let mut ports = bind(&rt, &config)?;
+    let first = caller(&rt, 29510)?;
+    let second = caller(&rt, 29512)?;
+    first.send_to(TWO_CALLERS, local(29500))?;
+    first.send_to(&speech(), local(29502))?;
+    let lines = lines(&rt)?;
+    let (result, printed) = serve_lines(&rt, config, &mut ports, lines.as_str());
+    assert_eq!(rt; printed.as_slice(), b"ready\n".as_slice());
+    let counts = result?;
+    assert_eq!(rt; counts.lines, 204);
+    assert_eq!(rt; counts.sent, 7);
+    assert_eq!(rt; counts.failed, 0);
+    let mut buffer = [0; 500];
+    let (n, from) = first.recv_from(&mut buffer)?;
+    assert_eq!(rt; &buffer[..n], ANSWER);
+    assert_eq!(rt; from, local(29500));
+    assert!(rt; carries(&second, 2, &[0x80; 160])?);
+    assert!(rt; carries(&first, 2, &[0xff; 160])?);
+    Ok(())
+}
+
+#[test]
+fn loses_the_packets_that_cannot_be_sent_alone(rt: HostRuntime) -> Result<(), Fail> {
+    let config = config(29600, 2);
+    let mut ports = bind(&rt, &config)?;
+    let caller = caller(&rt, 29612)?;
+    caller.send_to(ONE_UNREACHABLE, local(29600))?;
+    let (result, printed) = serve_lines(&rt, config, &mut ports, "poll\ntick\ntick\nstats\n");
+    assert!(rt; result.is_ok());
+    let wanted: &[u8] = b"ready\ncontrol=1 media=0 ticks=2 sent=3 failed=2 dropped=0,0,0,0,0,0\n";
+    assert_eq!(rt; printed.as_slice(), wanted);
+    assert!(rt; carries(&caller, 2, &[0xff; 160])?);
+    Ok(())
+}
+
+#[test]
+fn binds_its_address_alone(rt: HostRuntime) -> Result<(), Fail> {
+    let config = Config {
+        address: [127, 0, 0, 2],
+        ..config(29700, 1)
+    };
+    let mut ports = bind(&rt, &config)?;
+    let _other = caller(&rt, 29700)?;
+    let caller = caller(&rt, 29710)?;
+    let control = SocketAddr::new(IpAddr::V4(Ipv4Addr::new(127, 0, 0, 2)), 29700);
+    caller.send_to(b"MEGACO/2", control)?;
+    let (result, _) = serve_lines(&rt, config, &mut ports, "poll\n");
+    assert_eq!(rt; result?.control, 1);
+    let mut buffer = [0; 100];
+    let (n, from) = caller.recv_from(&mut buffer)?;
+    assert_eq!(rt;
+        &buffer[..n],
+        b"MEGACO/1 [127.0.0.2]:29700\nError=406{\"version\"}".as_slice()
+    );
+    assert_eq!(rt; from, control);
+    Ok(())
+}
+
+#[test]
+fn receives_without_waiting(rt: HostRuntime) -> Result<(), Fail> {
+    let mut ports = bind(&rt, &config(29800, 1))?;
+    let caller = caller(&rt, 29810)?;
+    let mut buffer = [0; 4];
+    assert_eq!(rt; ports.receive(0, &mut buffer), Ok(None));
+    caller.send_to(b"", local(29802))?;
+    caller.send_to(b"cut to four", local(29802))?;
+    let source = Peer {
+        address: [127, 0, 0, 1],
+        port: 29810,
+    };
+    assert_eq!(rt; ports.receive(1, &mut buffer), Ok(Some((0, source))));
+    assert_eq!(rt; ports.receive(1, &mut buffer), Ok(Some((4, source))));
+    assert_eq!(rt; buffer, *b"cut ");
+    assert_eq!(rt; ports.receive(1, &mut buffer), Ok(None));
+    assert_eq!(rt; ports.failures(), 0);
+    assert_eq!(rt; ports.receive(2, &mut buffer), Err(PortFault));
+    assert_eq!(rt; ports.send(2, source, b""), Err(PortFault));
+    assert_eq!(rt; ports.failures(), 2);
+    Ok(())
+}

@@ -1,0 +1,49 @@
+# Callers and a controller from tools that every distribution has, for a gateway on 127.0.0.1. Read it into a shell:
+#     . demo/callers.sh
+# It needs netcat-openbsd, sox, ffmpeg and GStreamer (gstreamer1.0-tools, -plugins-base, -plugins-good).
+
+# Sends a message of a controller from a file, and prints the answer. A message is one datagram.
+mg() {
+    nc -u -w 1 127.0.0.1 2944 < "$1"
+    echo
+}
+
+# Writes five seconds of a tone: FILE.wav FREQUENCY
+tone() {
+    sox -n -r 8000 -c 1 -b 16 "$1" synth 5 sine "$2" gain -12
+}
+
+# Says a file at a port of the gateway, from a port: FILE.wav GATEWAY_PORT FROM_PORT, by GStreamer.
+# A packet has to hold 20 ms, no more and no less. From a microphone: autoaudiosrc in the place of the first two parts.
+say() {
+    gst-launch-1.0 -q filesrc location="$1" ! wavparse ! audioconvert ! audioresample ! \
+        audio/x-raw,rate=8000,channels=1 ! mulawenc ! \
+        rtppcmupay pt=0 min-ptime=20000000 max-ptime=20000000 ! \
+        udpsink host=127.0.0.1 port="$2" bind-address=127.0.0.1 bind-port="$3"
+}
+
+# The same by ffmpeg.
+say_by_ffmpeg() {
+    ffmpeg -hide_banner -loglevel error -nostdin -i "$1" \
+        -af aresample=8000,asetnsamples=n=160:p=1,arealtime -ac 1 -ar 8000 -c:a pcm_mulaw \
+        -f rtp -payload_type 0 -rtpflags +skip_rtcp \
+        "rtp://127.0.0.1:$2?localaddr=127.0.0.1&localrtpport=$3&localrtcpport=$(($3 + 1))&pkt_size=172" > /dev/null
+}
+
+# Records what a caller is sent: CALLER_PORT FILE.wav SECONDS. Where nothing is sent it gives up 10 seconds later.
+# To hear it at once: audioconvert ! audioresample ! autoaudiosink in the place of the last three parts.
+record() {
+    timeout $(($3 + 10)) gst-launch-1.0 -q udpsrc address=127.0.0.1 port="$1" num-buffers=$(($3 * 50)) \
+        caps="application/x-rtp,media=audio,clock-rate=8000,encoding-name=PCMU,payload=0" ! \
+        rtpjitterbuffer latency=60 ! rtppcmudepay ! mulawdec ! audio/x-raw,format=S16LE ! \
+        wavenc ! filesink location="$2"
+}
+
+# Tells the loudest sample and the rough frequency of two seconds of a recording: FILE.wav
+what() {
+    printf '%s: ' "$1"
+    sox "$1" -n trim 2 2 stat 2>&1 | awk '
+        /Maximum amp/ { peak = $3 }
+        /Rough/ { frequency = $3 }
+        END { if (peak == 0) print "silence"; else print "peak", peak, "frequency", frequency }'
+}

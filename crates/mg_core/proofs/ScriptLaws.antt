@@ -1,11 +1,13 @@
 -- A run of a script as a whole.
-use Rattle.std.proofs.Common.{◌≡◌, ℕ, true, List, [], Option, Some, None, Ok, Err, refl}
+use Rattle.std.proofs.Common.{◌≡◌, ℕ, true, List, [], Option, Some, None, Result, Ok, Err, refl}
 use Rattle.std.specs.Prelude.{IfSome}
 use Rattle.std.specs.Io.KnownBytes.{Keeps}
 use Rattle.mg_engine.specs.declared.config.Config.{Config}
 use Rattle.mg_engine.specs.declared.fault.StartFault.{StartFault}
 use Rattle.mg_engine.specs.declared.fault.StartFault.TheVariants as starts
 use Rattle.mg_core.specs.declared.counts.Counts.{Counts}
+use Rattle.mg_core.specs.declared.fault.RunFault.{RunFault}
+use Rattle.mg_core.specs.declared.fault.RunFault.TheVariants as ends
 use Rattle.mg_core.specs.declared.fault.ScriptFault.{ScriptFault}
 use Rattle.mg_core.specs.declared.fault.ScriptFault.TheVariants as faults
 use Rattle.mg_core.specs.declared.state.CoreState.{CoreState}
@@ -34,6 +36,13 @@ script_fault config script state a b (faults.Bad n) h = h
 script_fault config script state a b faults.Read h = h
 script_fault config script state a b faults.Write h = h
 script_fault config script state a b faults.NoMemory h = h
+
+-- a fault of a script is no fault of the configuration
+pub not_bad : (r : Result Counts RunFault) (e : RunFault) (fault : ScriptFault) → r ≡ Err e → e ≡ run_fault_of fault → r ≡ Err ends.BadConfig → ⊥
+not_bad r e (faults.Bad n) is from bad = cc (is, from, bad)
+not_bad r e faults.Read is from bad = cc (is, from, bad)
+not_bad r e faults.Write is from bad = cc (is, from, bad)
+not_bad r e faults.NoMemory is from bad = cc (is, from, bad)
 
 pub script_done : (config : Config) (script : List ℕ) (state : CoreState) (counts : Counts) (a b : Option (List ℕ)) → AllRan config script state a b (Ok tt) → ((w : World) → StandsFor state w → record counts { lines = 0; sent = 0; failed = 0 } ≡ counts_of w.tally) → ScriptRan config script a b (Ok counts)
 script_done config script state counts a b h counted = record { last = h.0; ran = h.1; counted = counted h.0 h.2 }

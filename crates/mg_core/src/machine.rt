@@ -3,6 +3,7 @@ ghost use Rattle.mg_engine.specs.Config.{IsValidConfig};
 ghost use Rattle.mg_engine.specs.Flow.{flow};
 ghost use Rattle.mg_engine.specs.Mix.{total_at};
 ghost use Rattle.mg_engine.specs.Gateway.{stats_of};
+ghost use Rattle.mg_engine.specs.Work.{RisesAtMost, tick_work};
 ghost use Rattle.mg_text.specs.Message.{IsMessage, items_of};
 ghost use Rattle.mg_text.specs.Proper.{are_proper};
 ghost use Rattle.mg_core.specs.declared.event.Event.TheVariants as events;
@@ -158,6 +159,7 @@ impl Core {
         ensures taken { Leads StandsFor self.old.state self.new.state (λ w next.
             Took w port source bytes.now next result) }
         ensures headline { GoesOn self.old.state self.new.state (events.Media port source bytes.now) [] }
+        ensures work { self.new.state.engine.sums.work ≡ self.old.state.engine.sums.work }
         ensures answer { self.new.answer ≡ self.old.answer }
         ensures outbox { self.new.outbox ≡ self.old.outbox }
     {
@@ -172,6 +174,7 @@ impl Core {
         ensures next { (w : World) → StandsFor self.old.state w → StandsFor self.new.state (ticked w) }
         ensures packets { PacketsAreAnew self.old.state self.new.outbox }
         ensures headline { GoesOn self.old.state self.new.state events.Tick (map Packet self.new.outbox) }
+        ensures work { (w : World) → StandsFor self.old.state w → RisesAtMost (tick_work w.gateway) self.old.state.engine.sums.work self.new.state.engine.sums.work }
         ensures answer { self.new.answer ≡ self.old.answer }
     {
         self.state.engine.tick(&mut self.outbox);
@@ -217,10 +220,9 @@ impl Core {
         self.state.engine.stats(number)
     }
 
-    /// How many rows of samples were added up, taken away or written since the start. Sums are not kept yet, so there
-    /// are none.
+    /// How many rows of 160 samples were added up, taken away or written since the start, modulo 2^32.
     pub fn work(&self) -> u32
-        ensures value { result ≡ 0 }
+        ensures value { result ≡ self.now.state.engine.sums.work }
     {
         self.state.engine.work()
     }

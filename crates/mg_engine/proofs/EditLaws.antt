@@ -1,5 +1,5 @@
 -- An engine stands for the worlds that its edits lead to, and stays whole.
-use Rattle.std.proofs.Common.{◌≡◌, ◌≢◌, ℕ, ◌+◌, ◌<◌, ◌≤◌, eqb, not, Bool, true, false, List, [], ◌∷◌, ◌++◌, length, map, get_or, set, Option, Some, None, refl, sym, ap, subst, ◌∙◌, arith}
+use Rattle.std.proofs.Common.{◌≡◌, ◌≢◌, ℕ, ◌+◌, ◌<◌, ◌≤◌, eqb, not, Bool, true, false, ℤ, List, [], ◌∷◌, ◌++◌, length, map, get_or, set, Option, Some, None, refl, sym, ap, subst, ◌∙◌, arith}
 use Rattle.std.specs.Prelude.{find, filter, count_by}
 use Rattle.std.specs.Option.{option_map}
 use Rattle.std.proofs.lemmas.Bool.{eqb-true, eq-eqb}
@@ -17,25 +17,28 @@ use Rattle.mg_rooms.specs.Registry as rooms
 use Rattle.mg_rooms.specs.Registry.{record_at}
 use Rattle.mg_engine.specs.declared.config.Config.{Config}
 use Rattle.mg_flow.specs.Table as flow
-use Rattle.mg_engine.specs.Gateway.{Gateway, TerminationMedia, Enter, new_media, media_of}
+use Rattle.mg_engine.specs.Gateway.{Gateway, TerminationMedia, Enter, silence, new_media, media_of}
 use Rattle.mg_engine.specs.Steps.{play_after}
 use Rattle.mg_engine.specs.Media as media
 use Rattle.mg_engine.specs.Media.{idle}
 use Rattle.mg_engine.specs.Outcome.{tuned, media_with, media_without, added, subtracted}
 use Rattle.mg_engine.specs.Stands.{EngineState, StandsFor, IsMediaOf, media_at}
+use Rattle.mg_sums.specs.Sums as sums
+use Rattle.mg_engine.specs.aids.Joined.{AreJoined}
 use Rattle.mg_engine.specs.aids.Members.{HasMembers}
 use Rattle.mg_engine.specs.aids.Seating.{AreSeated}
 use Rattle.mg_engine.specs.aids.Whole.{IsWhole}
 use Rattle.mg_engine.proofs.MemberLaws.{Others, Hears, no_record, unequal}
+use Rattle.mg_engine.proofs.JoinedLaws.{Slots}
 use Rattle.mg_engine.proofs.KeyLaws.{none_before_last, found_push, found_push_other, found_changed, found_other, found_replaced, none_left, mapped_kept, keys_left, spots_left}
 use Rattle.mg_engine.proofs.OutcomeLaws.{Adds, Changes, Removes}
 use Rattle.mg_engine.proofs.PlaceLaws.{ByNumber}
 use Rattle.mg_engine.proofs.SendingLaws.{nobody}
-use Rattle.mg_engine.proofs.GatewayLaws.{found_too, found_key, has_media}
+use Rattle.mg_engine.proofs.GatewayLaws.{found_too, found_key, has_media, media_is}
 
 -- ## Media of the termination that an edit is done on
 
-begun_is : (config : Config) (n : ℕ) → IsMediaOf config (media.begun config) (new_media n)
+begun_is : (config : Config) (n : ℕ) → IsMediaOf config (media.begun config) silence (new_media n)
 begun_is config n = record {
   play = refl;
   frame = refl;
@@ -45,8 +48,8 @@ begun_is config n = record {
   is_sending = refl;
 }
 
-tuned_is : (config : Config) (settings : Settings) (m : media.SlotMedia) (s : TerminationMedia) → IsMediaOf config m s → IsMediaOf config (media.tuned settings.depth m) (tuned settings s)
-tuned_is config settings m s h = record {
+tuned_is : (config : Config) (settings : Settings) (m : media.SlotMedia) (row : List ℤ) (s : TerminationMedia) → IsMediaOf config m row s → IsMediaOf config (media.tuned settings.depth m) row (tuned settings s)
+tuned_is config settings m row s h = record {
   play = ap (λ (p : PlayList). play_after settings.depth p) h.play;
   frame = h.frame;
   stats = h.stats;
@@ -68,18 +71,19 @@ length_push (x ∷ xs) y = omega (arith, length_push xs y)
 more_terminations : (old new : rooms.Registry) (d : Done) → Adds old new d → length new.terminations ≡ length old.terminations + 1
 more_terminations old new d a = ap length a.terminations ∙ length_push old.terminations a.added
 
-pub slots_kept : (config : Config) (old new : rooms.Registry) (pool : Limits) (kept : List media.SlotMedia) (held : List ℕ) (flows : List flow.Room) (seating : List ℕ) → IsWhole config old pool kept held flows seating → new.limits ≡ old.limits → new.limits.slots ≤ length kept
-slots_kept config old new pool kept held flows seating h same = omega (arith, ap (λ (l : Limits). l.slots) (same ∙ h.limits), h.media)
+pub slots_kept : (config : Config) (old new : rooms.Registry) (pool : Limits) (kept : List media.SlotMedia) (held : List ℕ) (flows : List flow.Room) (seating : List ℕ) (rows : List (Option ℕ)) → IsWhole config old pool kept held flows seating rows → new.limits ≡ old.limits → new.limits.slots ≤ length kept
+slots_kept config old new pool kept held flows seating rows h same = omega (arith, ap (λ (l : Limits). l.slots) (same ∙ h.limits), h.media)
 
-pub room_left : (config : Config) (old new : rooms.Registry) (d : Done) (pool : Limits) (kept : List media.SlotMedia) (held : List ℕ) (flows : List flow.Room) (seating : List ℕ) → IsWhole config old pool kept held flows seating → Adds old new d → IsConsistent new → length new.terminations ≤ new.limits.slots → length held < TERMINATIONS
-room_left config old new d pool kept held flows seating h a sound few =
+pub room_left : (config : Config) (old new : rooms.Registry) (d : Done) (pool : Limits) (kept : List media.SlotMedia) (held : List ℕ) (flows : List flow.Room) (seating : List ℕ) (rows : List (Option ℕ)) → IsWhole config old pool kept held flows seating rows → Adds old new d → IsConsistent new → length new.terminations ≤ new.limits.slots → length held < TERMINATIONS
+room_left config old new d pool kept held flows seating rows h a sound few =
     let some = ap length h.held ∙ length-map old.terminations (λ r. r.slot) in
     omega (arith, few, more_terminations old new d a, some, sound.limits.0.few_slots)
 
-pub whole_added : (config : Config) (old new : rooms.Registry) (d : Done) (pool : Limits) (kept after : List media.SlotMedia) (held now : List ℕ) (before flows : List flow.Room) (seating seated : List ℕ) → IsWhole config old pool kept held before seating → (a : Adds old new d)
-    → length after ≡ length kept → now ≡ held ++ a.added.slot ∷ [] → HasMembers new flows → AreSeated new seated → length seated ≡ length seating → IsWhole config new pool after now flows seated
-whole_added config old new d pool kept after held now before flows seating seated h a same pushed members seats long =
+pub whole_added : (config : Config) (old new : rooms.Registry) (d : Done) (pool : Limits) (kept after : List media.SlotMedia) (held now : List ℕ) (before flows : List flow.Room) (seating seated : List ℕ) (rows joined : List (Option ℕ)) → IsWhole config old pool kept held before seating rows → (a : Adds old new d)
+    → length after ≡ length kept → now ≡ held ++ a.added.slot ∷ [] → HasMembers new flows → AreSeated new seated → length seated ≡ length seating → AreJoined new joined → IsWhole config new pool after now flows seated joined
+whole_added config old new d pool kept after held now before flows seating seated rows joined h a same pushed members seats long at_rooms =
     record {
+      joined = at_rooms;
       members = members;
       seats = seats;
       places = long ∙ h.places;
@@ -120,13 +124,14 @@ none_too k w n same none (Some s) e =
     let (r, found) = found_too (λ s. s.number) (λ r. r.number) n w.media k.rooms.terminations same s e in
     absurd (no_record r (sym found ∙ none))
 
-abbrev pub Slots : rooms.Registry → Type 0
-Slots w = (a b : ℕ) (r s : Record) → record_at w a ≡ Some r → record_at w b ≡ Some s → r.slot ≡ s.slot → a ≡ b
-
--- the media of other terminations stay
+-- the media and the frames of other terminations stay
 pub others_kept : (w : rooms.Registry) (kept : List media.SlotMedia) (m : media.SlotMedia) (n x : ℕ) (r q : Record) → Slots w → record_at w x ≡ Some r → record_at w n ≡ Some q → n ≢ x → media_at (set kept r.slot m) q.slot ≡ media_at kept q.slot
 others_kept w kept m n x r q slots found there apart =
     get_or-set_other kept r.slot q.slot m idle (λ same. apart (slots n x q r there found same))
+
+pub frames_kept : (w : rooms.Registry) (kept : List (List ℤ)) (row : List ℤ) (n x : ℕ) (r q : Record) → Slots w → record_at w x ≡ Some r → record_at w n ≡ Some q → n ≢ x → get_or (set kept r.slot row) q.slot [] ≡ get_or kept q.slot []
+frames_kept w kept row n x r q slots found there apart =
+    get_or-set_other kept r.slot q.slot row [] (λ same. apart (slots n x q r there found same))
 
 pub apart_from : (m n : ℕ) → eqb n m ≡ false → m ≢ n
 apart_from m n e same = unequal n m e (sym same)
@@ -134,13 +139,13 @@ apart_from m n e same = unequal n m e (sym same)
 abbrev newcomer : Settings → Done → TerminationMedia
 newcomer settings d = tuned settings (new_media d.termination)
 
-abbrev pub with_rooms : EngineState → rooms.Registry → List media.SlotMedia → List flow.Room → EngineState
-with_rooms k new after flows = record { config = k.config; rooms = new; media = after; flows = flows }
+abbrev pub with_rooms : EngineState → rooms.Registry → List media.SlotMedia → List flow.Room → sums.SumsState → EngineState
+with_rooms k new after flows kept = record { config = k.config; rooms = new; media = after; flows = flows; sums = kept; shares = k.shares }
 
-added_media : (k : EngineState) (new : rooms.Registry) (after : List media.SlotMedia) (w : Gateway) (settings : Settings) (d : Done) (r : Record) → Adds k.rooms new d → IsConsistent new → Slots new → Others k.rooms new d.termination → record_at new d.termination ≡ Some r
-    → r.slot < length k.media → after ≡ set k.media r.slot (media.tuned settings.depth (media.begun k.config)) → StandsFor k w
-    → (m : ℕ) (q : Record) (s : TerminationMedia) → record_at new m ≡ Some q → find (λ s. eqb s.number m) (w.media ++ newcomer settings d ∷ []) ≡ Some s → (b : Bool) → eqb d.termination m ≡ b → IsMediaOf k.config (media_at after q.slot) s
-added_media k new after w settings d r a sound slots others made lt set_to h m q s found there true e =
+added_media : (k : EngineState) (new : rooms.Registry) (after : List media.SlotMedia) (frames : List (List ℤ)) (w : Gateway) (settings : Settings) (d : Done) (r : Record) → Adds k.rooms new d → IsConsistent new → Slots new → Others k.rooms new d.termination → record_at new d.termination ≡ Some r
+    → r.slot < length k.media → r.slot < length k.sums.frames → after ≡ set k.media r.slot (media.tuned settings.depth (media.begun k.config)) → frames ≡ set k.sums.frames r.slot silence → StandsFor k w
+    → (m : ℕ) (q : Record) (s : TerminationMedia) → record_at new m ≡ Some q → find (λ s. eqb s.number m) (w.media ++ newcomer settings d ∷ []) ≡ Some s → (b : Bool) → eqb d.termination m ≡ b → IsMediaOf k.config (media_at after q.slot) (get_or frames q.slot []) s
+added_media k new after frames w settings d r a sound slots others made lt in_rows set_to silent h m q s found there true e =
     let same : d.termination ≡ m = eqb-true d.termination m e in
     let is : r ≡ q = same_Some r q (sym made ∙ ap (record_at new) same ∙ found) in
     let none = none_too k w d.termination h.numbers (unknown_before k.rooms new d a sound) (media_of w d.termination) refl in
@@ -148,18 +153,23 @@ added_media k new after w settings d r a sound slots others made lt set_to h m q
     let stream : newcomer settings d ≡ s = same_Some (newcomer settings d) s (sym pushed ∙ there) in
     let kept : media_at after q.slot ≡ media.tuned settings.depth (media.begun k.config) =
     ap (λ (x : Record). media_at after x.slot) (sym is) ∙ ap (λ (ms : List media.SlotMedia). media_at ms r.slot) set_to ∙ get_or-set_same k.media r.slot (media.tuned settings.depth (media.begun k.config)) idle lt in
-    subst (λ (x : media.SlotMedia). IsMediaOf k.config x s) (sym kept) (subst (λ (x : TerminationMedia). IsMediaOf k.config (media.tuned settings.depth (media.begun k.config)) x) stream (tuned_is k.config settings (media.begun k.config) (new_media d.termination) (begun_is k.config d.termination)))
-added_media k new after w settings d r a sound slots others made lt set_to h m q s found there false e =
+    let row : get_or frames q.slot [] ≡ silence =
+    ap (λ (x : Record). get_or frames x.slot []) (sym is) ∙ ap (λ (fs : List (List ℤ)). get_or fs r.slot []) silent ∙ get_or-set_same k.sums.frames r.slot silence [] in_rows in
+    media_is k.config (media_at after q.slot) (media.tuned settings.depth (media.begun k.config)) (get_or frames q.slot []) silence s kept row
+    (subst (λ (x : TerminationMedia). IsMediaOf k.config (media.tuned settings.depth (media.begun k.config)) silence x) stream (tuned_is k.config settings (media.begun k.config) silence (new_media d.termination) (begun_is k.config d.termination)))
+added_media k new after frames w settings d r a sound slots others made lt in_rows set_to silent h m q s found there false e =
     let apart = apart_from m d.termination e in
     let old = sym (others m apart) ∙ found in
     let stream = sym (found_push_other (λ s. s.number) m w.media (newcomer settings d) e) ∙ there in
     let kept : media_at after q.slot ≡ media_at k.media q.slot =
     ap (λ (ms : List media.SlotMedia). media_at ms q.slot) set_to ∙ others_kept new k.media (media.tuned settings.depth (media.begun k.config)) m d.termination r q slots made found apart in
-    subst (λ (x : media.SlotMedia). IsMediaOf k.config x s) (sym kept) (h.media m q s old stream)
+    let row = ap (λ (fs : List (List ℤ)). get_or fs q.slot []) silent ∙ frames_kept new k.sums.frames silence m d.termination r q slots made found apart in
+    media_is k.config (media_at after q.slot) (media_at k.media q.slot) (get_or frames q.slot []) (get_or k.sums.frames q.slot []) s kept row (h.media m q s old stream)
 
-pub added_stands : (k : EngineState) (new : rooms.Registry) (after : List media.SlotMedia) (flows : List flow.Room) (w : Gateway) (settings : Settings) (d : Done) (r : Record) → Adds k.rooms new d → IsConsistent new → Slots new → Others k.rooms new d.termination → record_at new d.termination ≡ Some r
-    → r.slot < length k.media → after ≡ set k.media r.slot (media.tuned settings.depth (media.begun k.config)) → Hears new flows (Enter d.termination ∷ w.edits) → StandsFor k w → StandsFor (with_rooms k new after flows) (added w settings new d)
-added_stands k new after flows w settings d r a sound slots others made lt set_to hears h = record {
+pub added_stands : (k : EngineState) (new : rooms.Registry) (after : List media.SlotMedia) (flows : List flow.Room) (kept : sums.SumsState) (w : Gateway) (settings : Settings) (d : Done) (r : Record) → Adds k.rooms new d → IsConsistent new → Slots new → Others k.rooms new d.termination → record_at new d.termination ≡ Some r
+    → r.slot < length k.media → r.slot < length k.sums.frames → after ≡ set k.media r.slot (media.tuned settings.depth (media.begun k.config)) → kept.frames ≡ set k.sums.frames r.slot silence → Hears new flows (Enter d.termination ∷ w.edits) → StandsFor k w
+    → StandsFor (with_rooms k new after flows kept) (added w settings new d)
+added_stands k new after flows kept w settings d r a sound slots others made lt in_rows set_to silent hears h = record {
   config = h.config;
   rooms = refl;
   numbers = map-append (λ s. s.number) w.media (newcomer settings d ∷ [])
@@ -167,7 +177,7 @@ added_stands k new after flows w settings d r a sound slots others made lt set_t
       ∙ ap (λ (n : ℕ). map (λ r. r.number) k.rooms.terminations ++ n ∷ []) (sym a.number)
       ∙ sym (map-append (λ r. r.number) k.rooms.terminations (a.added ∷ []))
       ∙ ap (map (λ r. r.number)) (sym a.terminations);
-  media = λ m q s found there. added_media k new after w settings d r a sound slots others made lt set_to h m q s found there (eqb d.termination m) refl;
+  media = λ m q s found there. added_media k new after kept.frames w settings d r a sound slots others made lt in_rows set_to silent h m q s found there (eqb d.termination m) refl;
   hears = hears;
 }
 
@@ -193,9 +203,10 @@ kept_by f k new n d a same =
     ap (map f) (a.terminations ∙ ap (λ (m : ℕ). change (λ x. x.number) m (λ _. Some a.changed) k.rooms.terminations) number)
     ∙ mapped_kept (λ x. x.number) f n (λ _. Some a.changed) k.rooms.terminations a.was (ap (λ (b : _). b ∷ []) same) a.there
 
-pub whole_changed : (k : EngineState) (new : rooms.Registry) (n : ℕ) (d : Done) (pool : Limits) (after : List media.SlotMedia) (held : List ℕ) (flows : List flow.Room) (seating seated : List ℕ) → IsWhole k.config k.rooms pool k.media held k.flows seating → Changes k.rooms new n d → length after ≡ length k.media
-    → HasMembers new flows → AreSeated new seated → length seated ≡ length seating → IsWhole k.config new pool after held flows seated
-whole_changed k new n d pool after held flows seating seated h a same members seats long = record {
+pub whole_changed : (k : EngineState) (new : rooms.Registry) (n : ℕ) (d : Done) (pool : Limits) (after : List media.SlotMedia) (held : List ℕ) (flows : List flow.Room) (seating seated : List ℕ) (joined : List (Option ℕ)) → IsWhole k.config k.rooms pool k.media held k.flows seating k.sums.rooms → Changes k.rooms new n d → length after ≡ length k.media
+    → HasMembers new flows → AreSeated new seated → length seated ≡ length seating → AreJoined new joined → IsWhole k.config new pool after held flows seated joined
+whole_changed k new n d pool after held flows seating seated joined h a same members seats long at_rooms = record {
+  joined = at_rooms;
   members = members;
   seats = seats;
   places = long ∙ h.places;
@@ -205,10 +216,10 @@ whole_changed k new n d pool after held flows seating seated h a same members se
   held = h.held ∙ sym (kept_by (λ r. r.slot) k new n d a a.slot);
 }
 
-tuned_media : (k : EngineState) (new : rooms.Registry) (after : List media.SlotMedia) (w : Gateway) (settings : Settings) (n : ℕ) (d : Done) (a : Changes k.rooms new n d) → Slots new → Others k.rooms new n
-    → a.changed.slot < length k.media → after ≡ set k.media a.changed.slot (media.tuned settings.depth (media_at k.media a.changed.slot)) → StandsFor k w
-    → (m : ℕ) (q : Record) (s : TerminationMedia) → record_at new m ≡ Some q → find (λ s. eqb s.number m) (media_with settings n w.media) ≡ Some s → (b : Bool) → eqb n m ≡ b → IsMediaOf k.config (media_at after q.slot) s
-tuned_media k new after w settings n d a slots others lt set_to h m q s found there true e =
+tuned_media : (k : EngineState) (new : rooms.Registry) (after : List media.SlotMedia) (frames : List (List ℤ)) (w : Gateway) (settings : Settings) (n : ℕ) (d : Done) (a : Changes k.rooms new n d) → Slots new → Others k.rooms new n
+    → a.changed.slot < length k.media → after ≡ set k.media a.changed.slot (media.tuned settings.depth (media_at k.media a.changed.slot)) → frames ≡ k.sums.frames → StandsFor k w
+    → (m : ℕ) (q : Record) (s : TerminationMedia) → record_at new m ≡ Some q → find (λ s. eqb s.number m) (media_with settings n w.media) ≡ Some s → (b : Bool) → eqb n m ≡ b → IsMediaOf k.config (media_at after q.slot) (get_or frames q.slot []) s
+tuned_media k new after frames w settings n d a slots others lt set_to rows h m q s found there true e =
     let same : n ≡ m = eqb-true n m e in
     let is : a.changed ≡ q = same_Some a.changed q (sym (changed_is k new n d a) ∙ ap (record_at new) same ∙ found) in
     let (t, was, stream) = has_media k w n a.was h a.there in
@@ -218,15 +229,17 @@ tuned_media k new after w settings n d a slots others lt set_to h m q s found th
     let old = media_at k.media a.changed.slot in
     let kept : media_at after q.slot ≡ media.tuned settings.depth old =
     ap (λ (x : Record). media_at after x.slot) (sym is) ∙ ap (λ (ms : List media.SlotMedia). media_at ms a.changed.slot) set_to ∙ get_or-set_same k.media a.changed.slot (media.tuned settings.depth old) idle lt in
-    let begin = subst (λ (slot : ℕ). IsMediaOf k.config (media_at k.media slot) t) (sym a.slot) stream in
-    subst (λ (x : media.SlotMedia). IsMediaOf k.config x s) (sym kept) (subst (λ (x : TerminationMedia). IsMediaOf k.config (media.tuned settings.depth old) x) s_is (tuned_is k.config settings old t begin))
-tuned_media k new after w settings n d a slots others lt set_to h m q s found there false e =
+    let begin = subst (λ (slot : ℕ). IsMediaOf k.config (media_at k.media slot) (get_or k.sums.frames slot []) t) (sym a.slot) stream in
+    let row : get_or frames q.slot [] ≡ get_or k.sums.frames a.changed.slot [] = ap (λ (x : Record). get_or frames x.slot []) (sym is) ∙ ap (λ (fs : List (List ℤ)). get_or fs a.changed.slot []) rows in
+    media_is k.config (media_at after q.slot) (media.tuned settings.depth old) (get_or frames q.slot []) (get_or k.sums.frames a.changed.slot []) s kept row
+    (subst (λ (x : TerminationMedia). IsMediaOf k.config (media.tuned settings.depth old) (get_or k.sums.frames a.changed.slot []) x) s_is (tuned_is k.config settings old (get_or k.sums.frames a.changed.slot []) t begin))
+tuned_media k new after frames w settings n d a slots others lt set_to rows h m q s found there false e =
     let apart = apart_from m n e in
     let old = sym (others m apart) ∙ found in
     let stream = sym (found_other (λ s. s.number) (λ s. Some (tuned settings s)) n m w.media (λ x ys same. let no : eqb x.number m ≡ false = ap (λ (i : ℕ). eqb i m) (eqb-true x.number n same) ∙ e in rw no refl)) ∙ there in
     let kept : media_at after q.slot ≡ media_at k.media q.slot =
     ap (λ (ms : List media.SlotMedia). media_at ms q.slot) set_to ∙ others_kept new k.media (media.tuned settings.depth (media_at k.media a.changed.slot)) m n a.changed q slots (changed_is k new n d a) found apart in
-    subst (λ (x : media.SlotMedia). IsMediaOf k.config x s) (sym kept) (h.media m q s old stream)
+    media_is k.config (media_at after q.slot) (media_at k.media q.slot) (get_or frames q.slot []) (get_or k.sums.frames q.slot []) s kept (ap (λ (fs : List (List ℤ)). get_or fs q.slot []) rows) (h.media m q s old stream)
 
 tuned_numbers : (k : EngineState) (new : rooms.Registry) (w : Gateway) (settings : Settings) (n : ℕ) (d : Done) (a : Changes k.rooms new n d) → StandsFor k w → map (λ s. s.number) (media_with settings n w.media) ≡ map (λ r. r.number) new.terminations
 tuned_numbers k new w settings n d a h =
@@ -236,14 +249,14 @@ tuned_numbers k new w settings n d a h =
     ∙ sym (kept_by (λ r. r.number) k new n d a a.same)
 
 -- the streams after a command on a termination
-pub changed_stands : (k : EngineState) (new : rooms.Registry) (after : List media.SlotMedia) (flows : List flow.Room) (w now : Gateway) (settings : Settings) (n : ℕ) (d : Done) (a : Changes k.rooms new n d) → Slots new → Others k.rooms new n
-    → a.changed.slot < length k.media → after ≡ set k.media a.changed.slot (media.tuned settings.depth (media_at k.media a.changed.slot)) → StandsFor k w
-    → now.config ≡ w.config → now.rooms ≡ new → now.media ≡ media_with settings n w.media → Hears new flows now.edits → StandsFor (with_rooms k new after flows) now
-changed_stands k new after flows w now settings n d a slots others lt set_to h config same streams hears = record {
+pub changed_stands : (k : EngineState) (new : rooms.Registry) (after : List media.SlotMedia) (flows : List flow.Room) (kept : sums.SumsState) (w now : Gateway) (settings : Settings) (n : ℕ) (d : Done) (a : Changes k.rooms new n d) → Slots new → Others k.rooms new n
+    → a.changed.slot < length k.media → after ≡ set k.media a.changed.slot (media.tuned settings.depth (media_at k.media a.changed.slot)) → kept.frames ≡ k.sums.frames → StandsFor k w
+    → now.config ≡ w.config → now.rooms ≡ new → now.media ≡ media_with settings n w.media → Hears new flows now.edits → StandsFor (with_rooms k new after flows kept) now
+changed_stands k new after flows kept w now settings n d a slots others lt set_to rows h config same streams hears = record {
   config = config ∙ h.config;
   rooms = same;
   numbers = ap (map (λ s. s.number)) streams ∙ tuned_numbers k new w settings n d a h;
-  media = λ m q s found there. tuned_media k new after w settings n d a slots others lt set_to h m q s found (ap (find (λ s. eqb s.number m)) (sym streams) ∙ there) (eqb n m) refl;
+  media = λ m q s found there. tuned_media k new after kept.frames w settings n d a slots others lt set_to rows h m q s found (ap (find (λ s. eqb s.number m)) (sym streams) ∙ there) (eqb n m) refl;
   hears = hears;
 }
 
@@ -255,9 +268,10 @@ removed_at k new n d a = sym a.number ∙ number_of_was k n a.was a.there
 left_terminations : (k : EngineState) (new : rooms.Registry) (n : ℕ) (d : Done) (a : Removes k.rooms new n d) → new.terminations ≡ change (λ x. x.number) n (λ _. None) k.rooms.terminations
 left_terminations k new n d a = a.terminations ∙ ap (λ (m : ℕ). change (λ x. x.number) m (λ _. None) k.rooms.terminations) (removed_at k new n d a)
 
-pub whole_removed : (k : EngineState) (new : rooms.Registry) (n : ℕ) (d : Done) (pool : Limits) (held now : List ℕ) (flows : List flow.Room) (seating : List ℕ) → IsWhole k.config k.rooms pool k.media held k.flows seating → (a : Removes k.rooms new n d) → IsConsistent k.rooms → now ≡ filter (λ s. not (eqb s a.was.slot)) held
-    → HasMembers new flows → AreSeated new seating → IsWhole k.config new pool k.media now flows seating
-whole_removed k new n d pool held now flows seating h a sound left members seats = record {
+pub whole_removed : (k : EngineState) (new : rooms.Registry) (n : ℕ) (d : Done) (pool : Limits) (held now : List ℕ) (flows : List flow.Room) (seating : List ℕ) (joined : List (Option ℕ)) → IsWhole k.config k.rooms pool k.media held k.flows seating k.sums.rooms → (a : Removes k.rooms new n d) → IsConsistent k.rooms → now ≡ filter (λ s. not (eqb s a.was.slot)) held
+    → HasMembers new flows → AreSeated new seating → AreJoined new joined → IsWhole k.config new pool k.media now flows seating joined
+whole_removed k new n d pool held now flows seating joined h a sound left members seats at_rooms = record {
+  joined = at_rooms;
   members = members;
   seats = seats;
   places = h.places;
@@ -271,7 +285,7 @@ whole_removed k new n d pool held now flows seating h a sound left members seats
 }
 
 left_media : (k : EngineState) (new : rooms.Registry) (w : Gateway) (n : ℕ) (d : Done) → Removes k.rooms new n d → IsConsistent k.rooms → Others k.rooms new n → StandsFor k w
-    → (m : ℕ) (q : Record) (s : TerminationMedia) → record_at new m ≡ Some q → find (λ s. eqb s.number m) (media_without n w.media) ≡ Some s → (b : Bool) → eqb n m ≡ b → IsMediaOf k.config (media_at k.media q.slot) s
+    → (m : ℕ) (q : Record) (s : TerminationMedia) → record_at new m ≡ Some q → find (λ s. eqb s.number m) (media_without n w.media) ≡ Some s → (b : Bool) → eqb n m ≡ b → IsMediaOf k.config (media_at k.media q.slot) (get_or k.sums.frames q.slot []) s
 left_media k new w n d a sound others h m q s found there true e =
     let gone = ap (find (λ x. eqb x.number n)) (left_terminations k new n d a) ∙ none_left (λ x. x.number) n k.rooms.terminations (sound.terminations.one_number n) in
     absurd (no_record q (sym (ap (record_at new) (eqb-true n m e) ∙ found) ∙ gone))
@@ -284,8 +298,9 @@ left_media k new w n d a sound others h m q s found there false e =
 pub gone : (k : EngineState) (new : rooms.Registry) (n : ℕ) (d : Done) → Removes k.rooms new n d → IsConsistent k.rooms → record_at new n ≡ None
 gone k new n d a sound = ap (find (λ x. eqb x.number n)) (left_terminations k new n d a) ∙ none_left (λ x. x.number) n k.rooms.terminations (sound.terminations.one_number n)
 
-pub removed_stands : (k : EngineState) (new : rooms.Registry) (flows : List flow.Room) (w : Gateway) (n : ℕ) (d : Done) (a : Removes k.rooms new n d) → IsConsistent k.rooms → Others k.rooms new n → Hears new flows w.edits → StandsFor k w → StandsFor (with_rooms k new k.media flows) (subtracted w new d)
-removed_stands k new flows w n d a sound others hears h = record {
+pub removed_stands : (k : EngineState) (new : rooms.Registry) (flows : List flow.Room) (kept : sums.SumsState) (w : Gateway) (n : ℕ) (d : Done) (a : Removes k.rooms new n d) → IsConsistent k.rooms → Others k.rooms new n → Hears new flows w.edits → kept.frames ≡ k.sums.frames → StandsFor k w
+    → StandsFor (with_rooms k new k.media flows kept) (subtracted w new d)
+removed_stands k new flows kept w n d a sound others hears rows h = record {
   config = h.config;
   rooms = refl;
   numbers = ap (λ (m : ℕ). map (λ s. s.number) (media_without m w.media)) (removed_at k new n d a)
@@ -293,6 +308,6 @@ removed_stands k new flows w n d a sound others hears h = record {
       ∙ ap (change (λ m. m) n (λ _. None)) h.numbers
       ∙ sym (keys_left (λ r. r.number) n k.rooms.terminations)
       ∙ ap (map (λ r. r.number)) (sym (left_terminations k new n d a));
-  media = λ m q s found there. left_media k new w n d a sound others h m q s found (ap (λ (i : ℕ). find (λ s. eqb s.number m) (media_without i w.media)) (sym (removed_at k new n d a)) ∙ there) (eqb n m) refl;
+  media = λ m q s found there. subst (λ (fs : List (List ℤ)). IsMediaOf k.config (media_at k.media q.slot) (get_or fs q.slot []) s) (sym rows) (left_media k new w n d a sound others h m q s found (ap (λ (i : ℕ). find (λ s. eqb s.number m) (media_without i w.media)) (sym (removed_at k new n d a)) ∙ there) (eqb n m) refl);
   hears = hears;
 }

@@ -6,6 +6,7 @@ use Rattle.std.proofs.lemmas.Bool.{eqb-true, eq-eqb, ne_eqb}
 use Rattle.mg_rooms.specs.declared.record.Record.{Record}
 use Rattle.mg_rooms.specs.Registry as rooms
 use Rattle.mg_rooms.specs.Registry.{record_at}
+use Rattle.mg_words.specs.Mode as mode
 use Rattle.mg_flow.specs.declared.place.Place.{Place}
 use Rattle.mg_flow.specs.Table as flow
 use Rattle.mg_engine.specs.Gateway.{Gateway, mode_in, mode_of, context_in, context_of}
@@ -30,12 +31,32 @@ context_found k w n r h found = ap (λ (x : rooms.Registry). context_in (record_
 same_room : (table : List flow.Room) (q p : Place) → q.room ≡ p.room → flow.flows table q p ≡ (flow.talks table p && (flow.listens table q && flow.hears table q p))
 same_room table q p e = refl
 
-nobody_hears_itself : (table : List flow.Room) (p : Place) → flow.hears table p p ≡ false
+pub nobody_hears_itself : (table : List flow.Room) (p : Place) → flow.hears table p p ≡ false
 nobody_hears_itself table p = rw (eq-eqb p.seat p.seat refl) (ends (eqb p.room p.room) (flow.holds table p)) where
   ends : (a b : Bool) → (a && (b && (b && false))) ≡ false
   ends true true = refl
   ends true false = refl
   ends false b = refl
+
+not_together : (a b c h : Bool) → (a && ((b && (c && false)) && h)) ≡ false
+not_together true true true h = refl
+not_together true true false h = refl
+not_together true false c h = refl
+not_together false b c h = refl
+
+not_apart : (a b c d h : Bool) → (a && ((b && (c && (d && false))) && h)) ≡ false
+not_apart a b c true h = not_together a b c h
+not_apart a b c false h = not_together a b c h
+
+pub silenced_apart : (table : List flow.Room) (p q : Place) → eqb p.room q.room ≡ false → flow.is_silenced table p q ≡ false
+silenced_apart table p q e =
+    ap (λ (b : Bool). flow.talks table q && ((flow.holds table p && (flow.holds table q && (b && not (eqb p.seat q.seat)))) && not (flow.hears table p q))) e
+    ∙ not_together (flow.talks table q) (flow.holds table p) (flow.holds table q) (not (flow.hears table p q))
+
+pub not_itself : (table : List flow.Room) (p : Place) → flow.is_silenced table p p ≡ false
+not_itself table p =
+    ap (λ (b : Bool). flow.talks table p && ((flow.holds table p && (flow.holds table p && (eqb p.room p.room && not b))) && not (flow.hears table p p))) (eq-eqb p.seat p.seat refl)
+    ∙ not_apart (flow.talks table p) (flow.holds table p) (flow.holds table p) (eqb p.room p.room) (not (flow.hears table p p))
 
 -- ## Flow by the places of both
 
@@ -106,6 +127,26 @@ module _ (k : EngineState) (w : Gateway) (one_room : OneRoom k.rooms) (all : Has
       let room = in_one_room k.rooms l t q p s.second.place s.first.place (sym s.same) in
       let seat = seats_differ k.rooms talker listener t l p q one_room seats s in
       rw (h.hears talker listener t l p q s, from.talks, from.held, to.held, eq-eqb q.room p.room room, seat, shared talker listener t l s.first.found s.second.found, eq-eqb t.context l.context s.same, ne_eqb talker listener s.apart, mode_found k w talker t h s.first.found) refl
+
+  silenced_case : OneSeat k.rooms → (talker listener : ℕ) (t l : Record) (p q : Place) → IsOnPlace k.rooms talker t p → IsOnPlace k.rooms listener l q → (same together : Bool) → eqb talker listener ≡ same → eqb t.context l.context ≡ together
+      → flow.is_silenced k.flows q p ≡ is_silenced w talker listener
+  silenced_case seats talker listener t l p q first second true together e f =
+      rw (shared talker listener t l first.found second.found, e, one_place k.rooms talker listener t l p q first second (eqb-true talker listener e)) (not_itself k.flows q ∙ sym (ap (λ (b : Bool). b && (worlds_talk && not (lets_hear w.edits talker listener))) (and-false (eqb t.context l.context)))) where
+        worlds_talk : Bool
+        worlds_talk = mode.talks (mode_of w talker)
+  silenced_case seats talker listener t l p q first second false true e f = silenced_there seats talker listener t l p q (record {
+    first = first;
+    second = second;
+    same = eqb-true t.context l.context f;
+    apart = unequal talker listener e;
+  })
+  silenced_case seats talker listener t l p q first second false false e f =
+      silenced_apart k.flows q p (rooms_differ talker listener t l p q first second f)
+      ∙ sym (rw (shared talker listener t l first.found second.found, f) refl)
+
+  -- whether one is silenced for another, by the places of both
+  pub silenced_places : OneSeat k.rooms → (talker listener : ℕ) (t l : Record) (p q : Place) → IsOnPlace k.rooms talker t p → IsOnPlace k.rooms listener l q → flow.is_silenced k.flows q p ≡ is_silenced w talker listener
+  silenced_places seats talker listener t l p q first second = silenced_case seats talker listener t l p q first second (eqb talker listener) (eqb t.context l.context) refl refl
 
   pub tells : OneSeat k.rooms → TellsFlows w k.flows
   tells seats = record {

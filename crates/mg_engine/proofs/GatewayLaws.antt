@@ -1,12 +1,15 @@
 -- What is looked up in a world that an engine stands for.
-use Rattle.std.proofs.Common.{◌≡◌, ℕ, eqb, Bool, true, false, cond, List, [], ◌∷◌, map, Option, Some, None, refl, sym, ap, ◌∙◌}
+use Rattle.std.proofs.Common.{◌≡◌, ℕ, suc, ◌<◌, eqb, Bool, true, false, cond, ℤ, length, get_or, subst, arith, List, [], ◌∷◌, map, Option, Some, None, refl, sym, ap, ◌∙◌}
 use Rattle.std.specs.Prelude.{find}
 use Rattle.std.specs.Option.{option_map}
 use Rattle.std.proofs.lemmas.Bool.{eqb-true}
 use Rattle.std.proofs.lemmas.Option.{same_Some}
 use Rattle.mg_rooms.specs.declared.record.Record.{Record}
 use Rattle.mg_rooms.specs.Registry.{record_at}
+use Rattle.mg_sums.specs.Sums as sums
 use Rattle.mg_engine.specs.Gateway.{Gateway, TerminationMedia, media_of}
+use Rattle.mg_engine.specs.declared.config.Config.{Config}
+use Rattle.mg_engine.specs.Media as media
 use Rattle.mg_engine.specs.Stands.{EngineState, StandsFor, IsMediaOf, media_at}
 
 abbrev some : {A : Type 0} → A → Option A
@@ -33,6 +36,20 @@ module _ {A : Type 0} (key : A → ℕ) where
   found_key n [] y h = absurd (cc h)
   found_key n (x ∷ xs) y h = key_at n x y xs (eqb (key x) n) refl h (found_key n xs y)
 
+abbrev pub Placed : {A : Type 0} → List A → A → A → Type 0
+Placed xs y d = (i : ℕ) × (i < length xs) × (get_or xs i d ≡ y)
+
+place_at : {A : Type 0} (p : A → Bool) (x y d : A) (xs : List A) (b : Bool) → p x ≡ b → cond (p x) (some x) (find p xs) ≡ Some y → (find p xs ≡ Some y → Placed xs y d) → Placed (x ∷ xs) y d
+place_at p x y d xs true e h rest = (0, omega arith, same_Some x y (ap (λ (b : Bool). cond b (some x) (find p xs)) (sym e) ∙ h))
+place_at p x y d xs false e h rest =
+    let (i, lt, is) = rest (ap (λ (b : Bool). cond b (some x) (find p xs)) (sym e) ∙ h) in
+    (suc i, omega (arith, lt), is)
+
+-- what is found stands at a place
+pub found_place : {A : Type 0} (p : A → Bool) (xs : List A) (y d : A) → find p xs ≡ Some y → Placed xs y d
+found_place p [] y d h = absurd (cc h)
+found_place p (x ∷ xs) y d h = place_at p x y d xs (p x) refl h (found_place p xs y d)
+
 -- two lists with the same keys: what is found in the one has its like in the other
 module _ {A B : Type 0} (key : A → ℕ) (name : B → ℕ) (n : ℕ) where
   abbrev Found : List B → Type 0
@@ -54,10 +71,14 @@ module _ {A B : Type 0} (key : A → ℕ) (name : B → ℕ) (n : ℕ) where
       too_at x a b xs ys (eqb (key a) n) refl (ap (λ (k : ℕ). eqb k n) (sym heads)) e (λ later. found_too xs ys tails x later)
 
 -- each termination has its stream
-pub has_media : (k : EngineState) (w : Gateway) (n : ℕ) (r : Record) → StandsFor k w → record_at k.rooms n ≡ Some r → (s : TerminationMedia) × (media_of w n ≡ Some s) × IsMediaOf k.config (media_at k.media r.slot) s
+pub has_media : (k : EngineState) (w : Gateway) (n : ℕ) (r : Record) → StandsFor k w → record_at k.rooms n ≡ Some r → (s : TerminationMedia) × (media_of w n ≡ Some s) × IsMediaOf k.config (media_at k.media r.slot) (sums.frame_of k.sums r.slot) s
 has_media k w n r h found =
     let (s, there) = found_too (λ r. r.number) (λ s. s.number) n k.rooms.terminations w.media (sym h.numbers) r found in
     (s, there, h.media n r s found there)
+
+-- media and a frame that are as before
+pub media_is : (config : Config) (m n : media.SlotMedia) (row line : List ℤ) (s : TerminationMedia) → m ≡ n → row ≡ line → IsMediaOf config n line s → IsMediaOf config m row s
+media_is config m n row line s kept same h = subst (λ (x : media.SlotMedia). IsMediaOf config x row s) (sym kept) (subst (λ (x : List ℤ). IsMediaOf config n x s) (sym same) h)
 
 -- ## The slot of a termination
 

@@ -1,5 +1,5 @@
 -- Lists that are changed at a key, and what is found in them.
-use Rattle.std.proofs.Common.{◌≡◌, ℕ, ◌+◌, ◌≤◌, eqb, not, Bool, true, false, cond, List, [], ◌∷◌, ◌++◌, map, Option, Some, None, refl, sym, ap, subst, ◌∙◌, arith}
+use Rattle.std.proofs.Common.{◌≡◌, ℕ, zero, suc, ◌+◌, ◌<◌, ◌≤◌, length, get_or, eqb, not, Bool, true, false, cond, List, [], ◌∷◌, ◌++◌, map, Option, Some, None, refl, sym, ap, subst, ◌∙◌, arith}
 use Rattle.std.specs.Prelude.{find, filter, count_by, option_to_list}
 use Rattle.std.specs.Option.{option_map, option_or}
 use Rattle.std.proofs.lemmas.Bool.{eq-eqb}
@@ -155,3 +155,22 @@ module _ {A : Type 0} (key : A → ℕ) where
     pub spots_left : (n : ℕ) (xs : List A) (y : A) → count_by there xs ≤ 1 → find (at n) xs ≡ Some y → spot y ≡ s → filter (λ k. not (eqb k s)) (map spot xs) ≡ map spot (change key n (λ _. None) xs)
     spots_left n [] y few found is = refl
     spots_left n (x ∷ xs) y few found is = spots_at n x y xs (eqb (key x) n) refl few found (eq-eqb (spot y) s is) (λ fewer later. spots_left n xs y fewer later is)
+
+-- ## Places
+
+-- where one at most has a key, two places with the key are one
+module _ {A : Type 0} (key : A → ℕ) where
+  later : (n : ℕ) (xs : List A) (j : ℕ) (d : A) → j < length xs → key (get_or xs j d) ≡ n → 1 ≤ count_by (λ x. eqb (key x) n) xs
+  later n [] j d lt e = absurd (omega (arith, lt))
+  later n (x ∷ xs) zero d lt e = omega (arith, sum_by-cons (λ y. cond (eqb (key y) n) 1 0) x xs, ap {B = ℕ} (λ (b : Bool). cond b 1 0) (eq-eqb (key x) n e))
+  later n (x ∷ xs) (suc j) d lt e = omega (arith, sum_by-cons (λ y. cond (eqb (key y) n) 1 0) x xs, later n xs j d (omega (arith, lt)) e)
+
+  pub one_place : (xs : List A) (i j : ℕ) (d : A) → ((n : ℕ) → count_by (λ x. eqb (key x) n) xs ≤ 1) → i < length xs → j < length xs → key (get_or xs i d) ≡ key (get_or xs j d) → i ≡ j
+  one_place [] i j d once a b same = absurd (omega (arith, a))
+  one_place (x ∷ xs) zero zero d once a b same = refl
+  one_place (x ∷ xs) zero (suc j) d once a b same =
+      absurd (omega (arith, once (key x), sum_by-cons (λ y. cond (eqb (key y) (key x)) 1 0) x xs, ap {B = ℕ} (λ (b : Bool). cond b 1 0) (eq-eqb (key x) (key x) refl), later (key x) xs j d (omega (arith, b)) (sym same)))
+  one_place (x ∷ xs) (suc i) zero d once a b same =
+      absurd (omega (arith, once (key x), sum_by-cons (λ y. cond (eqb (key y) (key x)) 1 0) x xs, ap {B = ℕ} (λ (b : Bool). cond b 1 0) (eq-eqb (key x) (key x) refl), later (key x) xs i d (omega (arith, a)) same))
+  one_place (x ∷ xs) (suc i) (suc j) d once a b same =
+      ap suc (one_place xs i j d (λ n. omega (arith, once n, sum_by-cons (λ y. cond (eqb (key y) n) 1 0) x xs)) (omega (arith, a)) (omega (arith, b)) same)

@@ -3,9 +3,15 @@ pub mod PlaceLaws
 pub mod MemberLaws
 pub mod SeatingLaws
 pub mod TripleLaws
+pub mod WorkLaws
+pub mod JoinedLaws
+pub mod RowSums
+pub mod MaskLaws
+pub mod MixLaws
+pub mod CostLaws
+pub mod ShareLaws
 pub mod SumLaws
 pub mod SeatSums
-pub mod HeardLaws
 pub mod SendingLaws
 pub mod KeyLaws
 pub mod GatewayLaws

@@ -12,26 +12,26 @@ use Rattle.mg_engine.proofs.SumLaws.{sum-cong}
 
 -- ## Sums of sums
 
-sum-same : {A : Type 0} (f g : A → ℤ) (xs : List A) → ((x : A) → f x ≡ g x) → sum_of f xs ≡ sum_of g xs
+pub sum-same : {A : Type 0} (f g : A → ℤ) (xs : List A) → ((x : A) → f x ≡ g x) → sum_of f xs ≡ sum_of g xs
 unfolding sum_of
 sum-same f g [] h = refl
 sum-same f g (x ∷ xs) h = omega (arith, ints, h x, sum-same f g xs h)
 
-sum-none : {A : Type 0} (f : A → ℤ) (xs : List A) → ((x : A) → f x ≡ pos 0) → sum_of f xs ≡ pos 0
+pub sum-none : {A : Type 0} (f : A → ℤ) (xs : List A) → ((x : A) → f x ≡ pos 0) → sum_of f xs ≡ pos 0
 unfolding sum_of
 sum-none f [] h = refl
 sum-none f (x ∷ xs) h = omega (arith, ints, h x, sum-none f xs h)
 
-sum-plus : {A : Type 0} (f g h : A → ℤ) (xs : List A) → ((x : A) → f x ≡ g x +ℤ h x) → sum_of f xs ≡ sum_of g xs +ℤ sum_of h xs
+pub sum-plus : {A : Type 0} (f g h : A → ℤ) (xs : List A) → ((x : A) → f x ≡ g x +ℤ h x) → sum_of f xs ≡ sum_of g xs +ℤ sum_of h xs
 unfolding sum_of
 sum-plus f g h [] e = refl
 sum-plus f g h (x ∷ xs) e = omega (arith, ints, e x, sum-plus f g h xs e)
 
-sum-cons : {A : Type 0} (f : A → ℤ) (x : A) (xs : List A) → sum_of f (x ∷ xs) ≡ f x +ℤ sum_of f xs
+pub sum-cons : {A : Type 0} (f : A → ℤ) (x : A) (xs : List A) → sum_of f (x ∷ xs) ≡ f x +ℤ sum_of f xs
 unfolding sum_of
 sum-cons f x xs = refl
 
-sum-nil : {A : Type 0} (f : A → ℤ) → sum_of f [] ≡ pos 0
+pub sum-nil : {A : Type 0} (f : A → ℤ) → sum_of f [] ≡ pos 0
 unfolding sum_of
 sum-nil f = refl
 
@@ -48,7 +48,7 @@ one_filtered true f x xs n h = ap (λ m. f x +ℤ m) h
 one_filtered false f x xs n h = omega (arith, ints, h)
 
 -- the sum over those that pass a test counts the others as 0
-sum-filter : {A : Type 0} (p : A → Bool) (f : A → ℤ) (xs : List A) → sum_of f (filter p xs) ≡ sum_of (λ x. cond (p x) (f x) (pos 0)) xs
+pub sum-filter : {A : Type 0} (p : A → Bool) (f : A → ℤ) (xs : List A) → sum_of f (filter p xs) ≡ sum_of (λ x. cond (p x) (f x) (pos 0)) xs
 unfolding sum_of
 sum-filter p f [] = refl
 sum-filter p f (x ∷ xs) = one_filtered (p x) f x (filter p xs) (sum_of (λ y. cond (p y) (f y) (pos 0)) xs) (sum-filter p f xs)
@@ -106,11 +106,11 @@ module _ {A : Type 0} (p : A → Bool) (z : ℤ) where
   abbrev at : A → ℤ
   at t = cond (p t) z (pos 0)
 
-  none_pass : (rs : List A) → count_by p rs ≡ 0 → sum_of at rs ≡ pos 0
+  pub none_pass : (rs : List A) → count_by p rs ≡ 0 → sum_of at rs ≡ pos 0
   none_pass [] e = sum-nil at
   none_pass (r ∷ rs) e = sum-cons at r rs ∙ none_at (p r) z (sum_of at rs) (count_by p rs) (sym (sum_by-cons (λ x. cond (p x) 1 0) r rs) ∙ e) (none_pass rs)
 
-  one_passes : (rs : List A) → count_by p rs ≡ 1 → sum_of at rs ≡ z
+  pub one_passes : (rs : List A) → count_by p rs ≡ 1 → sum_of at rs ≡ z
   one_passes [] e = absurd (omega (arith, e))
   one_passes (r ∷ rs) e = sum-cons at r rs ∙ one_at (p r) z (sum_of at rs) (count_by p rs) (sym (sum_by-cons (λ x. cond (p x) 1 0) r rs) ∙ e) (none_pass rs) (one_passes rs)
 

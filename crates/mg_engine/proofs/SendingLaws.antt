@@ -2,7 +2,7 @@
 use Rattle.std.specs.Prelude.{filter_map, option_to_list}
 use Rattle.std.proofs.lemmas.List.{take_more}
 use Rattle.std.proofs.lemmas.List.Elements.{filter_map-append}
-use Rattle.std.proofs.Common.{◌≡◌, ℕ, ◌+◌, ◌<◌, [], ◌∷◌, length, get_or, take, ◌%◌, ◌^◌, ℤ, List, ◌++◌, map, Option, Some, None, refl, ap, ◌∙◌}
+use Rattle.std.proofs.Common.{◌≡◌, ℕ, ◌+◌, ◌<◌, [], ◌∷◌, length, get_or, take, ◌%◌, ◌^◌, List, ◌++◌, map, Option, Some, None, refl, ap, ◌∙◌}
 use Rattle.mg_g711.specs.Law.{byte_of}
 use Rattle.mg_rtp.specs.declared.header.Header.{Header}
 use Rattle.mg_rtp.specs.Header.{header_bytes, plain}
@@ -22,13 +22,12 @@ datagram to from bytes = record { from = from; to = record { address = to.addres
 abbrev ssrc_of : EngineState → Record → ℕ
 ssrc_of k r = (k.config.ssrc + r.number) % 2 ^ 32
 
-pub packet_is : (k : EngineState) (r : Record) (to : Chosen) (from : ℕ) (bytes payload : List ℕ) (header : Header) (frame : List ℤ) (m : media.SlotMedia)
-    → from ≡ slot_port k.rooms.limits r.slot → bytes ≡ header_bytes plain header ++ payload → payload ≡ map (byte_of to.law) frame
-    → frame ≡ mixed_now k r → header ≡ media.header m (type_of to.law) (ssrc_of k r) → m ≡ media_at k.media r.slot
+pub packet_is : (k : EngineState) (r : Record) (to : Chosen) (from : ℕ) (bytes payload : List ℕ) (header : Header) (m : media.SlotMedia)
+    → from ≡ slot_port k.rooms.limits r.slot → bytes ≡ header_bytes plain header ++ payload → payload ≡ map (byte_of to.law) (mixed_now k r)
+    → header ≡ media.header m (type_of to.law) (ssrc_of k r) → m ≡ media_at k.media r.slot
     → datagram to from bytes ≡ packet_now k r to
-packet_is k r to from bytes payload header frame m port joined encoded mixed headed kept =
+packet_is k r to from bytes payload header m port joined body headed kept =
     let head = headed ∙ ap (λ (x : media.SlotMedia). media.header x (type_of to.law) (ssrc_of k r)) kept in
-    let body = encoded ∙ ap (λ (f : List ℤ). map (byte_of to.law) f) mixed in
     let whole = joined
     ∙ ap (λ (h : Header). header_bytes plain h ++ payload) head
     ∙ ap (λ (p : List ℕ). header_bytes plain (media.header (media_at k.media r.slot) (type_of to.law) (ssrc_of k r)) ++ p) body in

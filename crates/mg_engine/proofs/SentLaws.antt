@@ -1,5 +1,5 @@
 -- What an engine sends in a tick is what the world sends.
-use Rattle.std.proofs.Common.{◌≡◌, ℕ, suc, ◌+◌, ◌-◌, ◌*◌, ◌%◌, ◌^◌, ◌<◌, ◌≤◌, ◌++◌, not, Bool, cond, List, [], ◌∷◌, ℤ, ◌+ℤ◌, pos, length, map, get_or, Option, Some, None, refl, sym, ap, subst, ◌∙◌, arith}
+use Rattle.std.proofs.Common.{◌≡◌, ℕ, suc, ◌+◌, ◌-◌, ◌*◌, ◌%◌, ◌^◌, ◌<◌, ◌≤◌, ◌++◌, not, Bool, cond, List, [], ◌∷◌, ℤ, pos, length, map, get_or, Option, Some, None, refl, sym, ap, subst, ◌∙◌, arith}
 use Rattle.std.specs.Prelude.{filter_map}
 use Rattle.std.specs.List.{cons_option}
 use Rattle.std.specs.List.{range_with_len}
@@ -23,6 +23,8 @@ use Rattle.mg_engine.specs.Tick.{type_of, header_of, packet, packet_to, packet_o
 use Rattle.mg_engine.specs.aids.Members.{HasMembers}
 use Rattle.mg_engine.specs.aids.Sending.{flows_now, sample_at, part_now, heard_now, mix_now, mixed_now, packet_now, packets_now}
 use Rattle.mg_engine.specs.Stands.{EngineState, StandsFor, IsMediaOf, media_at}
+use Rattle.mg_engine.specs.aids.Playing.{AreOld}
+use Rattle.mg_engine.proofs.RowSums.{sum-map}
 use Rattle.mg_engine.proofs.SumLaws.{sum-cong, map-cong}
 use Rattle.mg_engine.proofs.SendingLaws.{nobody}
 use Rattle.mg_engine.proofs.FlowLaws.{flow_is, mode_found}
@@ -39,7 +41,7 @@ gathered-cong f g (x ∷ xs) d h =
 
 -- ## Mixes
 
-sample_is : (k : EngineState) (w : Gateway) (r : Record) (i : ℕ) → StandsFor k w → record_at k.rooms r.number ≡ Some r → sample_of w r.number i ≡ sample_at k.media r.slot i
+pub sample_is : (k : EngineState) (w : Gateway) (r : Record) (i : ℕ) → StandsFor k w → record_at k.rooms r.number ≡ Some r → sample_of w r.number i ≡ sample_at k.sums.frames r.slot i
 sample_is k w r i h found =
     let (s, there, is) = has_media k w r.number r h found in
     ap (λ (o : Option TerminationMedia). get_or (frame_in o) i (pos 0)) there ∙ ap (λ (xs : List ℤ). get_or xs i (pos 0)) (sym is.frame)
@@ -48,11 +50,6 @@ part_is : (k : EngineState) (w : Gateway) (l t : Record) (i : ℕ) → AreApart 
 part_is k w l t i sound members h listens talks =
     ap (λ (b : Bool). cond b (sample_of w t.number i) (pos 0)) (flow_is k w sound.0 members h sound.1 t.number l.number t l talks listens)
     ∙ ap (λ (z : ℤ). cond (flows_now k t l) z (pos 0)) (sample_is k w t i h talks)
-
-sum-map : {A : Type 0} (f : ℕ → ℤ) (g : A → ℕ) (xs : List A) → sum_of f (map g xs) ≡ sum_of (λ x. f (g x)) xs
-unfolding sum_of
-sum-map f g [] = refl
-sum-map f g (x ∷ xs) = ap (λ (z : ℤ). f (g x) +ℤ z) (sum-map f g xs)
 
 heard_is : (k : EngineState) (w : Gateway) (l : Record) (i : ℕ) → AreApart k.rooms → HasMembers k.rooms k.flows → ByNumber k.rooms → StandsFor k w → record_at k.rooms l.number ≡ Some l → heard w l.number i ≡ heard_now k l i
 heard_is k w l i sound members by_number h found =
@@ -64,21 +61,18 @@ mix_is : (k : EngineState) (w : Gateway) (l : Record) (i : ℕ) → AreApart k.r
 mix_is k w l i sound members by_number h found =
     ap (λ (m : Mode). cond (is_loopback m) (sample_of w l.number i) (limited (heard w l.number i))) (mode_found k w l.number l h found)
     ∙ ap (λ (z : ℤ). cond (is_loopback l.mode) z (limited (heard w l.number i))) (sample_is k w l i h found)
-    ∙ ap (λ (z : ℤ). cond (is_loopback l.mode) (sample_at k.media l.slot i) (limited z)) (heard_is k w l i sound members by_number h found)
+    ∙ ap (λ (z : ℤ). cond (is_loopback l.mode) (sample_at k.sums.frames l.slot i) (limited z)) (heard_is k w l i sound members by_number h found)
 
 pub mixed_is : (k : EngineState) (w : Gateway) (l : Record) → AreApart k.rooms → HasMembers k.rooms k.flows → ByNumber k.rooms → StandsFor k w → record_at k.rooms l.number ≡ Some l → mixed w l.number ≡ mixed_now k l
 mixed_is k w l sound members by_number h found = map-cong (mix w l.number) (mix_now k l) (range_with_len 0 160) (λ i. mix_is k w l i sound members by_number h found)
 
 -- ## Packets
 
-abbrev pub AreOld : Gateway → Type 0
-AreOld w = (n : ℕ) (s : TerminationMedia) → media_of w n ≡ Some s → 1 ≤ s.ticks
-
 abbrev headed : Bool → ℕ → ℕ → ℕ → ℕ → Header
 headed marker payload_type sequence timestamp ssrc = record { marker = marker; payload_type = payload_type; sequence = sequence; timestamp = timestamp; ssrc = ssrc }
 
-header_is : (w : Gateway) (to : Chosen) (n : ℕ) (m : media.SlotMedia) (s : TerminationMedia) → IsMediaOf w.config m s → 1 ≤ s.ticks → s.number ≡ n → header_of w to s ≡ media.header m (type_of to.law) ((w.config.ssrc + n) % 2 ^ 32)
-header_is w to n m s is old same =
+header_is : (w : Gateway) (to : Chosen) (n : ℕ) (m : media.SlotMedia) (row : List ℤ) (s : TerminationMedia) → IsMediaOf w.config m row s → 1 ≤ s.ticks → s.number ≡ n → header_of w to s ≡ media.header m (type_of to.law) ((w.config.ssrc + n) % 2 ^ 32)
+header_is w to n m row s is old same =
     let config = w.config in
     let t = type_of to.law in
     let sequence = (config.sequence + s.packets) % 2 ^ 16 in
@@ -97,8 +91,8 @@ packet_same : (k : EngineState) (w : Gateway) (r : Record) (to : Chosen) (s : Te
 packet_same k w r to s sound members by_number h found there old =
     let is = h.media r.number r s found there in
     let number = found_key (λ x. x.number) r.number w.media s there in
-    let mine = subst (λ (x : Config). IsMediaOf x (media_at k.media r.slot) s) (sym h.config) is in
-    let head = header_is w to r.number (media_at k.media r.slot) s mine old number
+    let mine = subst (λ (x : Config). IsMediaOf x (media_at k.media r.slot) (get_or k.sums.frames r.slot []) s) (sym h.config) is in
+    let head = header_is w to r.number (media_at k.media r.slot) (get_or k.sums.frames r.slot []) s mine old number
     ∙ ap (λ (x : Config). media.header (media_at k.media r.slot) (type_of to.law) ((x.ssrc + r.number) % 2 ^ 32)) h.config in
     let body = mixed_is k w r sound members by_number h found in
     ap (λ (x : rooms.Registry). datagram to (slot_port x.limits r.slot) (header_bytes plain (header_of w to s) ++ map (byte_of to.law) (mixed w r.number))) h.rooms

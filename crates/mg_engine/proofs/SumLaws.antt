@@ -6,15 +6,6 @@ use Rattle.std.proofs.lemmas.List.{take_more, get_or_default, get_or-map, length
 use Rattle.std.proofs.lemmas.List.FromFn.{get_or-map-range_with_len, length-map-range_with_len}
 use Rattle.mg_engine.specs.Mix.{sum_of}
 
-module _ {A : Type 0} (f : A → ℤ) where
-  pub sum-push : (xs : List A) (x : A) → sum_of f (xs ++ x ∷ []) ≡ sum_of f xs +ℤ f x
-  unfolding sum_of
-  sum-push [] x = omega (arith, ints)
-  sum-push (y ∷ ys) x = omega (arith, ints, sum-push ys x)
-
-  pub sum-more : (xs : List A) (k : ℕ) (d : A) → k < length xs → sum_of f (take (k + 1) xs) ≡ sum_of f (take k xs) +ℤ f (get_or xs k d)
-  sum-more xs k d lt = ap (sum_of f) (take_more xs k d lt) ∙ sum-push (take k xs) (get_or xs k d)
-
 pub sum-cong : {A : Type 0} (f g : A → ℤ) (xs : List A) (d : A) → ((i : ℕ) → i < length xs → f (get_or xs i d) ≡ g (get_or xs i d)) → sum_of f xs ≡ sum_of g xs
 unfolding sum_of
 sum-cong f g [] d h = refl
@@ -32,9 +23,3 @@ list_is f xs n d len at =
     let counted = length-map-range_with_len f 0 n in
     same_lists xs (map f (range_with_len 0 n)) (len ∙ sym counted)
     (λ k e lt. let below : k < n = omega (arith, lt, len) in get_or_default xs k e d lt ∙ at k below ∙ sym (get_or-map-range_with_len f 0 n k k e below (omega arith)))
-
--- a list that has f of each part
-pub mapped_is : {A B : Type 0} (f : A → B) (xs : List A) (ys : List B) (d : A) (e : B) → length ys ≡ length xs → ((k : ℕ) → k < length xs → get_or ys k e ≡ f (get_or xs k d)) → ys ≡ map f xs
-mapped_is f xs ys d e len at =
-    same_lists ys (map f xs) (len ∙ sym (length-map xs f))
-    (λ k b lt. let below : k < length xs = omega (arith, lt, len) in get_or_default ys k b e lt ∙ at k below ∙ sym (get_or-map f xs k d b below))

@@ -13,5 +13,7 @@ pub mod Arrival
 pub mod Media
 pub mod Stands
 pub mod Masks
+pub mod Totals
+pub mod Work
 pub mod Isolation
 pub mod aids

@@ -6,15 +6,13 @@ use Rattle.mg_playout.specs.Playout as play_lists
 use Rattle.mg_playout.specs.Playout.{PlayList, first_state}
 use Rattle.mg_engine.specs.declared.config.Config.{Config}
 use Rattle.mg_words.specs.declared.stats.Stats.{Stats}
-use Rattle.mg_engine.specs.Gateway.{silence}
 use Rattle.mg_words.specs.Stats.{no_packets}
 use Rattle.mg_engine.specs.Steps.{play_after, received, transmitted, frame_or_silence}
 
--- The play list, the frame of this tick (160 samples), the counters, the timestamp of this tick,
--- the sequence number of the next packet, and whether the last tick sent one.
+-- The play list, the counters, the timestamp of this tick, the sequence number of the next packet,
+-- and whether the last tick sent one. The frame of this tick is kept in the row of the slot.
 pub record SlotMedia : Type 0 where
   pub play : PlayList
-  pub frame : List ℤ
   pub stats : Stats
   pub timestamp : ℕ
   pub sequence : ℕ
@@ -32,7 +30,6 @@ timestamp_before n = (n + (2 ^ 32 - 160)) % 2 ^ 32
 abbrev pub idle : SlotMedia
 idle = record {
   play = first_state;
-  frame = silence;
   stats = no_packets;
   timestamp = 0;
   sequence = 0;
@@ -45,7 +42,6 @@ abbrev pub begun_at : ℕ → ℕ → SlotMedia
 begun_at timestamp sequence =
     record {
       play = first_state;
-      frame = silence;
       stats = no_packets;
       timestamp = timestamp_before timestamp;
       sequence = sequence % 2 ^ 16;
@@ -65,15 +61,17 @@ placed m header frame =
     let after = play_lists.placed m.play header.ssrc header.sequence frame in
     (record m { play = after.0; stats = received m.stats }, after.1)
 
--- the play list ticks, and what it gives is the frame of this tick
+-- the play list ticks
 abbrev pub played : SlotMedia → SlotMedia
 played m =
-    let after = play_lists.ticked m.play in
     record m {
-      play = after.0;
-      frame = frame_or_silence after.1;
+      play = (play_lists.ticked m.play).0;
       timestamp = next_timestamp m.timestamp;
     }
+
+-- what it gives is the frame of this tick
+abbrev pub frame_played : SlotMedia → List ℤ
+frame_played m = frame_or_silence ((play_lists.ticked m.play).1)
 
 -- the header of the next packet; the marker is set where the last tick sent none
 abbrev pub header : SlotMedia → ℕ → ℕ → Header

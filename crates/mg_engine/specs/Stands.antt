@@ -1,5 +1,5 @@
 -- Which worlds the state of an engine stands for.
-use Rattle.std.specs.Prelude.{◌≡◌, ◌≢◌, ℕ, ◌+◌, ◌*◌, ◌%◌, ◌^◌, List, map, Some, Result, Ok}
+use Rattle.std.specs.Prelude.{◌≡◌, ◌≢◌, ℕ, ℤ, ◌+◌, ◌*◌, ◌%◌, ◌^◌, List, map, Some, Result, Ok}
 use Rattle.std.specs.Prelude.{Err, slice_index_or}
 use Rattle.mg_words.specs.declared.error_number.ErrorNumber.{ErrorNumber}
 use Rattle.mg_rooms.specs.declared.record.Record.{Record}
@@ -13,24 +13,30 @@ use Rattle.mg_engine.specs.Flow.{lets_hear}
 use Rattle.mg_engine.specs.Media as media
 use Rattle.mg_engine.specs.Media.{timestamp_before}
 use Rattle.mg_engine.specs.Place.{IsOnPlace}
+use Rattle.mg_engine.specs.declared.share.Share.{Share}
+use Rattle.mg_sums.specs.Sums as sums
 
 -- what an engine keeps: its configuration, the terminations and contexts, the media of each slot,
--- and the table of who hears whom
+-- the table of who hears whom, the frame of each slot's row with the rooms that rows are joined to,
+-- and by room the packets of the last tick that lend their payloads
 pub record EngineState : Type 0 where
   pub config : Config
   pub rooms : rooms.Registry
   pub media : List media.SlotMedia
   pub flows : List flow.Room
+  pub sums : sums.SumsState
+  pub shares : List (List Share)
 
 -- the media of a slot
 abbrev pub media_at : List media.SlotMedia → ℕ → media.SlotMedia
 media_at kept slot = slice_index_or kept slot media.idle
 
--- The media that are kept are those of a stream: the ticks of its life modulo 2^32, the packets
--- that it sent modulo 2^16, as the timestamp and the sequence number that they lead to.
-pub record IsMediaOf (config : Config) (m : media.SlotMedia) (s : TerminationMedia) : Type 0 where
+-- The media and the frame that are kept are those of a stream: the ticks of its life modulo 2^32,
+-- the packets that it sent modulo 2^16, as the timestamp and the sequence number that they lead to.
+pub record IsMediaOf (config : Config) (m : media.SlotMedia) (row : List ℤ)
+    (s : TerminationMedia) : Type 0 where
   pub play : m.play ≡ s.play
-  pub frame : m.frame ≡ s.frame
+  pub frame : row ≡ s.frame
   pub stats : m.stats ≡ s.stats
   pub timestamp : m.timestamp ≡ (timestamp_before config.timestamp + 160 * s.ticks) % 2 ^ 32
   pub sequence : m.sequence ≡ (config.sequence + s.packets) % 2 ^ 16
@@ -44,14 +50,16 @@ pub record ShareContext (w : rooms.Registry) (m n : ℕ) (a b : Record) (p q : P
   pub apart : m ≢ n
 
 -- The configuration, the terminations and the contexts are the world's, and each termination has
--- its stream, whose media are those of its slot. Of each two members of a context, the kept table
--- lets one hear the other exactly where the last word does.
+-- its stream, whose media are those of its slot, and whose frame is that of the slot's row. Of each
+-- two members of a context, the kept table lets one hear the other exactly where the last word
+-- does.
 pub record StandsFor (kept : EngineState) (w : Gateway) : Type 0 where
   pub config : w.config ≡ kept.config
   pub rooms : w.rooms ≡ kept.rooms
   pub numbers : map (λ s. s.number) w.media ≡ map (λ r. r.number) kept.rooms.terminations
   pub media : (n : ℕ) (r : Record) (s : TerminationMedia) → record_at kept.rooms n ≡ Some r
-      → media_of w n ≡ Some s → IsMediaOf kept.config (media_at kept.media r.slot) s
+      → media_of w n ≡ Some s
+      → IsMediaOf kept.config (media_at kept.media r.slot) (sums.frame_of kept.sums r.slot) s
   pub hears : (talker listener : ℕ) (t l : Record) (p q : Place)
       → ShareContext kept.rooms talker listener t l p q
       → flow.hears kept.flows q p ≡ lets_hear w.edits talker listener

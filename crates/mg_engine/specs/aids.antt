@@ -1,6 +1,9 @@
+pub mod Joined
 pub mod Members
+pub mod Playing
 pub mod Ports
 pub mod Seating
 pub mod Sending
+pub mod Shares
 pub mod Triples
 pub mod Whole

@@ -1,22 +1,32 @@
-ghost use Rattle.std.specs.Prelude.{◌≡◌, ℕ, [], ◌∷◌, ◌<◌, ◌≤◌, ◌+◌, ◌++◌, ◌↔◌, ◌==◌, not, Err, Some, IfOk, IfSome, OnOk, OnErr, MatchResult, Ok, EachIndex, length, map, filter, replicate, slice_set, option_map, option_to_list};
+ghost use Rattle.std.specs.Prelude.{◌≡◌, ◌≢◌, ℕ, [], ◌∷◌, ◌<◌, ◌≤◌, ◌+◌, ◌++◌, ◌↔◌, ◌==◌, not, Err, Some, IfOk, IfSome, OnOk, OnErr, MatchResult, Ok, EachIndex, length, map, filter, replicate, slice_set, option_map, option_to_list, slice_index_or, IsTrue, None, ◌*◌, sum_by};
 ghost use Rattle.mg_rooms.specs.declared.record.Record.{Record};
 ghost use Rattle.mg_words.specs.declared.limits.TheConstants.{TERMINATIONS};
 ghost use Rattle.std.specs.List.{range_with_len};
 ghost use Rattle.mg_rooms.specs.Registry.{holder_of, record_at};
-ghost use Rattle.mg_words.specs.Limits.{context_limit};
+ghost use Rattle.mg_words.specs.Limits.{context_limit, termination_limit};
 ghost use Rattle.mg_engine.specs.Outcome.{outcome, add, modify, move_to, subtract, context_there, apply_triples};
 ghost use Rattle.mg_engine.specs.aids.Triples.{IsRoomOf};
 ghost use Rattle.mg_rooms.specs.Consistent.{IsConsistent};
-ghost use Rattle.mg_engine.specs.aids.Sending.{heard_now, mixed_now, packet_now, packets_now, slot_sends, PlacedAt};
+ghost use Rattle.mg_engine.specs.aids.Joined.{SetsRow};
+ghost use Rattle.mg_engine.specs.aids.Playing.{AreApart, AreOld, IsPlayed};
+ghost use Rattle.mg_engine.specs.aids.Sending.{heard_now, mixed_now, silenced_now, mix_work_now, sending_work_now, packet_now, packets_now, slot_sends, with_mixes, PlacedAt};
+ghost use Rattle.mg_engine.specs.aids.Shares.{AreShared, payload_of};
 ghost use Rattle.mg_engine.specs.Masks.{TellsFlows};
-ghost use Rattle.mg_engine.specs.Tick.{sent_to, sent_in_tick, after_tick};
+ghost use Rattle.mg_engine.specs.Totals.{TellsTotals};
+ghost use Rattle.mg_engine.specs.Work.{RisesAtMost, sending_work, tick_work};
+ghost use Rattle.mg_engine.specs.Mixing.{limited};
+ghost use Rattle.mg_engine.specs.Place.{IsOnPlace};
+ghost use Rattle.mg_engine.specs.Tick.{sends, sent_to, packets, all_played, all_ended, sent_in_tick, after_tick};
+ghost use Rattle.mg_g711.specs.Law.{byte_of};
+ghost use Rattle.mg_words.specs.Mode.{listens};
+ghost use Rattle.mg_sums.specs.Sums.{frame_of};
 ghost use Rattle.mg_rtp.specs.Reading.{reading_of};
 ghost use Rattle.mg_engine.specs.Arrival.{at_port, arrived, Takes};
 ghost use Rattle.mg_engine.specs.Flow.{flow, hears};
 ghost use Rattle.mg_engine.specs.Mix.{total_at};
-ghost use Rattle.mg_engine.specs.Media.{idle, begun, played, ended, tuned as tuned_media};
+ghost use Rattle.mg_engine.specs.Media.{idle, begun, ended, tuned as tuned_media};
 ghost use Rattle.mg_engine.specs.Config.{IsValidConfig};
-ghost use Rattle.mg_engine.specs.Gateway.{Gateway, start_of, stats_of};
+ghost use Rattle.mg_engine.specs.Gateway.{Gateway, silence, start_of, stats_of};
 ghost use Rattle.mg_engine.specs.Stands.{StandsFor, IsOutcome, media_at};
 
 use crate::arrival::{frame_in, law_for};
@@ -25,19 +35,22 @@ use crate::datagram::{Datagram, Outbox};
 use crate::done::Done;
 use crate::edit::Edit;
 use crate::fault::StartFault;
+use crate::joining::part;
 use crate::media::Media;
 use crate::membership::{enter, member, place, place_of, take_mode, vacate};
-use crate::mixing::limit;
+use crate::mixing::{own_row, payload_at, rows_on};
 use crate::peer::Peer;
 use crate::ports::Ports;
 use crate::seating::Seating;
-use crate::sending::{is_loopback, own_frame, payload_type, sent_to, sum_seats, sum_talking};
+use crate::sending::{is_loopback, payload_type, sent_to};
+use crate::share::Share;
+use crate::shares::Shares;
 use crate::taken::{DropCause, Taken};
 use crate::topology_triple::TopologyTriples;
 use crate::triples::{TopologyRoom, triples_of};
 use arrayvec::ArrayVec;
-use mg_flow::FlowTable;
-use mg_g711::{Frame, encode_frame};
+use mg_flow::{FlowTable, Place};
+use mg_g711::{Law, encode_frame};
 use mg_rooms::laws::{
     each_is_found, gateways_are_sound, members_are_those_in_the_context, nothing_is_held_twice,
     others_are_left_alone, what_is_found_is_within_limits,
@@ -45,13 +58,16 @@ use mg_rooms::laws::{
 use mg_rooms::{ErrorNumber, Record, Rooms, Settings, TERMINATIONS, Target};
 use mg_rtp::{Packet, RtpFault, read, write};
 use mg_sdp::Chosen;
+use mg_sums::laws::{first_rows_are_silent, sums_are_valid, total_is_left_out_and_heard};
+use mg_sums::{Room, Row, Sums};
 use mg_topology::laws::overlap_is_a_common_seat;
 use mg_topology::{Overlap, mask};
 use mg_words::{SAMPLES, Stats};
 use std::alloc::{AllocError, Global};
 use std::marker::Model;
 
-/// The terminations and contexts of a gateway, with their media and with who hears whom.
+/// The terminations and contexts of a gateway, with their media, with who hears whom, and with what each context's members
+/// say in this tick.
 #[derive(Drop)]
 pub struct Engine {
     config: Config,
@@ -65,6 +81,10 @@ pub struct Engine {
     flows: FlowTable,
     /// The slot of the member on each place.
     seating: Seating,
+    /// The frame of this tick of each slot, and the total of each room.
+    sums: Sums,
+    /// The packets of this tick that lend their payloads.
+    shares: Shares,
 }
 
 impl Model for Engine {
@@ -73,9 +93,9 @@ impl Model for Engine {
 
     ghost Value = { EngineState };
 
-    ghost view = { λ e. record { config = e.config; rooms = e.rooms; media = e.media.items; flows = e.flows } };
+    ghost view = { λ e. record { config = e.config; rooms = e.rooms; media = e.media.items; flows = e.flows; sums = e.sums; shares = e.shares } };
 
-    ghost invariant = { λ e. IsWhole e.config e.rooms e.ports e.media.items e.held.items e.flows e.seating };
+    ghost invariant = { λ e. IsWhole e.config e.rooms e.ports e.media.items e.held.items e.flows e.seating e.sums.rooms };
 }
 
 /// Media of nobody for so many slots.
@@ -96,6 +116,7 @@ impl Engine {
         ensures bad { (result ≡ Err StartFault.BadConfig) ↔ ¬ IsValidConfig config }
         ensures start { IfOk result (λ engine. StandsFor engine (start_of config)) }
         ensures sound { OnOk result (IsValidConfig config) }
+        ensures work { IfOk result (λ engine. engine.sums.work ≡ 0) }
     {
         if !config.is_sound() {
             return Err(StartFault::BadConfig);
@@ -105,6 +126,9 @@ impl Engine {
         let media = idle_media(alloc, config.slots)?;
         let flows = FlowTable::new(alloc)?;
         let seating = Seating::new(alloc)?;
+        first_rows_are_silent();
+        let sums = Sums::new(alloc)?;
+        let shares = Shares::new(alloc)?;
         Ok(Engine {
             config,
             rooms,
@@ -113,6 +137,8 @@ impl Engine {
             held: ArrayVec::new(),
             flows,
             seating,
+            sums,
+            shares,
         })
     }
 
@@ -140,10 +166,25 @@ impl Engine {
         &self.flows
     }
 
+    /// The frame of each termination, in the row of its slot, and the total of each context, in its room.
+    pub fn sums(&self) -> &Sums
+        ensures value { result.now ≡ self.now.sums }
+        ensures told { (w : Gateway) → StandsFor self.now w → TellsTotals w result.now }
+    {
+        gateways_are_sound(&self.rooms);
+        each_is_found();
+        what_is_found_is_within_limits();
+        nothing_is_held_twice();
+        members_are_those_in_the_context();
+        sums_are_valid(&self.sums);
+        &self.sums
+    }
+
     /// Does what an edit asks, or refuses it, which changes nothing.
     pub fn edit(&mut self, edit: &Edit) -> Result<Done, ErrorNumber>
         ensures outcome { (w : Gateway) → StandsFor self.old w → IsOutcome self.new result (outcome w edit.now) }
         ensures refused { OnErr result (self.new ≡ self.old) }
+        ensures work { RisesAtMost 4 self.old.sums.work self.new.sums.work }
     {
         match edit {
             Edit::Add { target, settings } => {
@@ -185,6 +226,7 @@ impl Engine {
     ) -> Result<mg_rooms::Done, ErrorNumber>
         ensures outcome { (w : Gateway) → StandsFor self.old w → IsOutcome self.new result (add w target settings.now) }
         ensures refused { OnErr result (self.new ≡ self.old) }
+        ensures work { RisesAtMost 4 self.old.sums.work self.new.sums.work }
     {
         gateways_are_sound(&self.rooms);
         let done = self.rooms.add(target, settings)?;
@@ -194,11 +236,24 @@ impl Engine {
         others_are_left_alone();
         members_are_those_in_the_context();
         each_is_found();
+        sums_are_valid(&self.sums);
         let number = done.termination;
-        begin(&self.rooms, &mut self.media, number, &self.config);
+        begin(
+            &self.rooms,
+            &mut self.media,
+            &mut self.sums,
+            number,
+            &self.config,
+        );
         tune(&self.rooms, &mut self.media, number, settings.depth);
         hold(&self.rooms, &mut self.held, number);
-        enter(&self.rooms, &mut self.flows, &mut self.seating, number);
+        enter(
+            &self.rooms,
+            &mut self.flows,
+            &mut self.seating,
+            &mut self.sums,
+            number,
+        );
         Ok(done)
     }
 
@@ -211,6 +266,7 @@ impl Engine {
     ) -> Result<mg_rooms::Done, ErrorNumber>
         ensures outcome { (w : Gateway) → StandsFor self.old w → IsOutcome self.new result (modify w target number settings.now) }
         ensures refused { OnErr result (self.new ≡ self.old) }
+        ensures work { RisesAtMost 4 self.old.sums.work self.new.sums.work }
     {
         gateways_are_sound(&self.rooms);
         let done = self.rooms.modify(target, number, settings)?;
@@ -220,7 +276,7 @@ impl Engine {
         others_are_left_alone();
         members_are_those_in_the_context();
         tune(&self.rooms, &mut self.media, number, settings.depth);
-        take_mode(&self.rooms, &mut self.flows, number);
+        take_mode(&self.rooms, &mut self.flows, &mut self.sums, number);
         Ok(done)
     }
 
@@ -234,6 +290,7 @@ impl Engine {
     ) -> Result<mg_rooms::Done, ErrorNumber>
         ensures outcome { (w : Gateway) → StandsFor self.old w → IsOutcome self.new result (move_to w target number settings.now) }
         ensures refused { OnErr result (self.new ≡ self.old) }
+        ensures work { RisesAtMost 4 self.old.sums.work self.new.sums.work }
     {
         gateways_are_sound(&self.rooms);
         let from = place(&self.rooms, number);
@@ -245,7 +302,13 @@ impl Engine {
         members_are_those_in_the_context();
         tune(&self.rooms, &mut self.media, number, settings.depth);
         vacate(&mut self.flows, from);
-        enter(&self.rooms, &mut self.flows, &mut self.seating, number);
+        enter(
+            &self.rooms,
+            &mut self.flows,
+            &mut self.seating,
+            &mut self.sums,
+            number,
+        );
         Ok(done)
     }
 
@@ -254,6 +317,7 @@ impl Engine {
     pub fn subtract(&mut self, target: Target, number: u32) -> Result<mg_rooms::Done, ErrorNumber>
         ensures outcome { (w : Gateway) → StandsFor self.old w → IsOutcome self.new result (subtract w target number) }
         ensures refused { OnErr result (self.new ≡ self.old) }
+        ensures work { RisesAtMost 4 self.old.sums.work self.new.sums.work }
     {
         gateways_are_sound(&self.rooms);
         what_is_found_is_within_limits();
@@ -266,6 +330,7 @@ impl Engine {
         gateways_are_sound(&self.rooms);
         leave(&mut self.held, slot);
         vacate(&mut self.flows, place);
+        silence(&mut self.sums, slot);
         Ok(done)
     }
 
@@ -278,6 +343,7 @@ impl Engine {
     ) -> Result<u32, ErrorNumber>
         ensures outcome { (w : Gateway) → StandsFor self.old w → IsOutcome self.new result (apply_triples w target triples.now.items) }
         ensures refused { OnErr result (self.new ≡ self.old) }
+        ensures work { RisesAtMost 4 self.old.sums.work self.new.sums.work }
     {
         gateways_are_sound(&self.rooms);
         nothing_is_held_twice();
@@ -315,6 +381,8 @@ impl Engine {
         ensures config { self.new.config ≡ self.old.config }
         ensures rooms { self.new.rooms ≡ self.old.rooms }
         ensures flows { self.new.flows ≡ self.old.flows }
+        ensures sums { self.new.sums ≡ self.old.sums }
+        ensures shares { self.new.shares ≡ self.old.shares }
         ensures taken { PlacedAt self.old.media self.new.media termination.now.slot (arrived termination.now source.address (reading_of packet.entry)) result }
     {
         let law = match law_for(termination, source) {
@@ -335,6 +403,7 @@ impl Engine {
     pub fn media(&mut self, port: u16, source: Peer, bytes: &[u8]) -> Taken
         ensures taken { (w : Gateway) → StandsFor self.old w → (after : Gateway)
             × Takes w port source.address bytes.now after result × StandsFor self.new after }
+        ensures work { self.new.sums.work ≡ self.old.sums.work }
     {
         gateways_are_sound(&self.rooms);
         each_is_found();
@@ -379,24 +448,24 @@ impl Engine {
     pub fn total(&self, context: u32, i: usize) -> Option<i32>
         ensures value { (w : Gateway) → StandsFor self.now w → result ≡ total_at w context i }
     {
+        gateways_are_sound(&self.rooms);
+        each_is_found();
+        what_is_found_is_within_limits();
+        nothing_is_held_twice();
+        members_are_those_in_the_context();
+        sums_are_valid(&self.sums);
         if i >= SAMPLES {
             return None;
         }
-        match self.rooms.room(context) {
-            Some(_) => {
-                let members = self.rooms.members(context);
-                Some(sum_talking(self.media.as_slice(), &self.rooms, members, i))
-            }
-            None => None,
-        }
+        let room = self.rooms.room(context)?;
+        Some(*self.sums.total(Room::new(room), i))
     }
 
-    /// How many rows of samples were added up, taken away or written since the start. Sums are not kept yet, so there
-    /// are none.
+    /// How many rows of samples were added up, taken away or written since the start, modulo 2^32.
     pub fn work(&self) -> u32
-        ensures value { result ≡ 0 }
+        ensures value { result ≡ self.now.sums.work }
     {
-        0
+        self.sums.work()
     }
 
     /// The counters of a termination.
@@ -414,37 +483,98 @@ impl Engine {
     pub fn tick(&mut self, outbox: &mut Outbox)
         ensures sent { (w : Gateway) → StandsFor self.old w → outbox.new.items ≡ sent_in_tick w }
         ensures after { (w : Gateway) → StandsFor self.old w → StandsFor self.new (after_tick w) }
+        ensures work { (w : Gateway) → StandsFor self.old w → RisesAtMost (tick_work w) self.old.sums.work self.new.sums.work }
+    {
+        self.play_all();
+        self.send_all(outbox);
+        self.end_all();
+    }
+
+    /// Has the play lists of all terminations tick.
+    fn play_all(&mut self)
+        ensures after { (w : Gateway) → StandsFor self.old w → StandsFor self.new (all_played w) }
+        ensures rooms { self.new.rooms ≡ self.old.rooms }
+        ensures work { RisesAtMost (2 * length self.old.rooms.terminations) self.old.sums.work self.new.sums.work }
     {
         gateways_are_sound(&self.rooms);
         each_is_found();
         what_is_found_is_within_limits();
         nothing_is_held_twice();
-        members_are_those_in_the_context();
-        play_all(&mut self.media);
-        self.send_all(outbox);
-        end_all(&self.rooms, &mut self.media);
+        play_slots(self.held.as_slice(), &mut self.media, &mut self.sums);
     }
 
     /// Fills an outbox with the packets of those who send.
-    fn send_all(&self, outbox: &mut Outbox)
-        ensures value { outbox.new.items ≡ packets_now self.now }
+    fn send_all(&mut self, outbox: &mut Outbox)
+        ensures sent { (w : Gateway) → AreOld w → StandsFor self.old w → outbox.new.items ≡ packets w }
+        ensures after { (w : Gateway) → StandsFor self.old w → StandsFor self.new w }
+        ensures work { (w : Gateway) → StandsFor self.old w → RisesAtMost (sum_by (sending_work w) w.rooms.terminations) self.old.sums.work self.new.sums.work }
     {
         gateways_are_sound(&self.rooms);
-        fill(self, self.held.as_slice(), outbox);
+        each_is_found();
+        nothing_is_held_twice();
+        members_are_those_in_the_context();
+        outbox.clear();
+        self.shares.clear();
+        let count = self.held.len();
+        fill(self, count, outbox);
+    }
+
+    /// Ends a tick in which all that send have sent a packet.
+    fn end_all(&mut self)
+        ensures after { (w : Gateway) → StandsFor self.old w → StandsFor self.new (all_ended w) }
+        ensures sums { self.new.sums ≡ self.old.sums }
+    {
+        gateways_are_sound(&self.rooms);
+        each_is_found();
+        what_is_found_is_within_limits();
+        end_slots(&self.rooms, &mut self.media);
+    }
+
+    /// The slot of the i-th termination, in the order of their numbers.
+    fn held_at(&self, i: usize) -> u8
+        requires there { i < length self.now.rooms.terminations }
+        ensures value { result ≡ slice_index_or (map (λ r. r.slot) self.now.rooms.terminations) i 0 }
+    {
+        self.held[i]
+    }
+
+    /// Puts the packet of the termination that holds a slot, if it sends.
+    fn put_packet(&mut self, slot: u8, outbox: &mut Outbox)
+        requires room { length outbox.old.items < TERMINATIONS }
+        requires shared { AreShared self.old outbox.old.items }
+        ensures put { (r : Record) → holder_of self.old.rooms slot ≡ Some r →
+            outbox.new.items ≡ outbox.old.items ++ option_to_list (option_map (packet_now self.old r) (sent_to r)) }
+        ensures few { length outbox.new.items ≤ length outbox.old.items + 1 }
+        ensures shared { AreShared self.new outbox.new.items }
+        ensures same { self.new ≡ with_mixes self.old self.new.sums.work self.new.shares }
+        ensures work { (r : Record) → holder_of self.old.rooms slot ≡ Some r →
+            RisesAtMost (sending_work_now self.old r) self.old.sums.work self.new.sums.work }
+    {
+        gateways_are_sound(&self.rooms);
+        each_is_found();
+        let Some(sender) = self.rooms.held(slot) else {
+            return;
+        };
+        let Some(to) = sent_to(&sender) else {
+            return;
+        };
+        let payload = self.payload(&sender, to.law, outbox);
+        outbox.push(self.packet(&sender, to, &payload));
     }
 
     /// The packet of this tick from a termination to its peer.
-    fn packet(&self, sender: &Record, to: Chosen) -> Datagram
+    fn packet(&self, sender: &Record, to: Chosen, payload: &[u8; SAMPLES]) -> Datagram
         requires member { record_at self.now.rooms sender.now.number ≡ Some sender.now }
+        requires payload { payload.now ≡ map (byte_of to.law) (mixed_now self.now sender.now) }
         ensures value { result ≡ packet_now self.now sender.now to }
+        ensures payload { payload_of result ≡ payload.now }
     {
         gateways_are_sound(&self.rooms);
         what_is_found_is_within_limits();
         let media = self.media.as_slice();
         let ssrc = self.config.ssrc.wrapping_add(sender.number);
         let header = media[usize::from(sender.slot)].header(payload_type(to.law), ssrc);
-        let frame = self.mix(sender);
-        let bytes = write(header, &encode_frame(to.law, &frame));
+        let bytes = write(header, payload);
         let address = to.address;
         let port = to.port;
         Datagram {
@@ -454,76 +584,131 @@ impl Engine {
         }
     }
 
-    /// The plain sum of what a member hears, sample by sample.
-    fn sum_heard(&self, listener: &Record) -> [i32; SAMPLES]
-        requires member { record_at self.now.rooms listener.now.number ≡ Some listener.now }
-        ensures value { result ≡ map (heard_now self.now listener.now) (range_with_len 0 160) }
+    /// The payload of what a member is sent: itself in a loopback, else all that flow to it.
+    fn payload(&mut self, sender: &Record, law: Law, outbox: &Outbox) -> [u8; SAMPLES]
+        requires member { record_at self.old.rooms sender.now.number ≡ Some sender.now }
+        requires sends { IsTrue (sends sender.now.mode) }
+        requires room { length outbox.now.items < TERMINATIONS }
+        requires shared { AreShared self.old outbox.now.items }
+        ensures value { result ≡ map (byte_of law) (mixed_now self.old sender.now) }
+        ensures shared { (sent : Datagram) → payload_of sent ≡ result → AreShared self.new (outbox.now.items ++ sent ∷ []) }
+        ensures same { self.new ≡ with_mixes self.old self.new.sums.work self.new.shares }
+        ensures work { RisesAtMost (mix_work_now self.old sender.now) self.old.sums.work self.new.sums.work }
+    {
+        gateways_are_sound(&self.rooms);
+        what_is_found_is_within_limits();
+        members_are_those_in_the_context();
+        if is_loopback(sender.mode) {
+            return encode_frame(law, self.sums.frame(Row::new(sender.slot)));
+        }
+        match place_of(&self.rooms, sender) {
+            Some(place) => self.heard(sender, place, law, outbox),
+            None => [0; SAMPLES],
+        }
+    }
+
+    /// The payload of what a member on a place hears. Who hears the same, by the same law, has the same payload, which is
+    /// made once.
+    fn heard(&mut self, listener: &Record, place: Place, law: Law, outbox: &Outbox) -> [u8; SAMPLES]
+        requires place { IsOnPlace self.old.rooms listener.now.number listener.now place }
+        requires listens { IsTrue (listens listener.now.mode) }
+        requires room { length outbox.now.items < TERMINATIONS }
+        requires shared { AreShared self.old outbox.now.items }
+        ensures value { result ≡ map (byte_of law) (map (λ i. limited (heard_now self.old listener.now i)) (range_with_len 0 160)) }
+        ensures shared { (sent : Datagram) → payload_of sent ≡ result → AreShared self.new (outbox.now.items ++ sent ∷ []) }
+        ensures same { self.new ≡ with_mixes self.old self.new.sums.work self.new.shares }
+        ensures work { RisesAtMost (1 + silenced_now self.old listener.now) self.old.sums.work self.new.sums.work }
+    {
+        gateways_are_sound(&self.rooms);
+        each_is_found();
+        what_is_found_is_within_limits();
+        nothing_is_held_twice();
+        let talkers = *self.flows.open(place);
+        if let Some(packet) = self.shares.find(place.room, talkers, law) {
+            return payload_at(outbox, packet);
+        }
+        let packet = outbox.len() as u8;
+        self.shares.put(
+            place.room,
+            Share {
+                talkers,
+                law,
+                packet,
+            },
+        );
+        self.mix(listener, place, law)
+    }
+
+    /// The payload of the total of a room without the listener on a place and those that are silenced for it.
+    fn mix(&mut self, listener: &Record, place: Place, law: Law) -> [u8; SAMPLES]
+        requires place { IsOnPlace self.old.rooms listener.now.number listener.now place }
+        requires listens { IsTrue (listens listener.now.mode) }
+        ensures value { result ≡ map (byte_of law) (map (λ i. limited (heard_now self.old listener.now i)) (range_with_len 0 160)) }
+        ensures same { self.new ≡ with_mixes self.old self.new.sums.work self.old.shares }
+        ensures work { RisesAtMost (1 + silenced_now self.old listener.now) self.old.sums.work self.new.sums.work }
     {
         gateways_are_sound(&self.rooms);
         each_is_found();
         what_is_found_is_within_limits();
         nothing_is_held_twice();
         members_are_those_in_the_context();
-        match place_of(&self.rooms, listener) {
-            Some(place) => {
-                let open = *self.flows.open(place);
-                sum_seats(self.media.as_slice(), &self.seating, place.room, open)
-            }
-            None => [0; SAMPLES],
-        }
-    }
-
-    /// What a member is sent: itself in a loopback, else all that flow to it.
-    fn mix(&self, listener: &Record) -> Frame
-        requires member { record_at self.now.rooms listener.now.number ≡ Some listener.now }
-        ensures value { result ≡ mixed_now self.now listener.now }
-    {
-        gateways_are_sound(&self.rooms);
-        what_is_found_is_within_limits();
-        if is_loopback(listener.mode) {
-            return own_frame(self.media.as_slice(), listener.slot);
-        }
-        limit(&self.sum_heard(listener))
-    }
-
-    /// Puts the packet of the termination that holds a slot, if it sends.
-    fn put_packet(&self, slot: u8, outbox: &mut Outbox)
-        requires room { length outbox.old.items < TERMINATIONS }
-        ensures put { (r : Record) → holder_of self.now.rooms slot ≡ Some r →
-            outbox.new.items ≡ outbox.old.items ++ option_to_list (option_map (packet_now self.now r) (sent_to r)) }
-        ensures few { length outbox.new.items ≤ length outbox.old.items + 1 }
-    {
-        gateways_are_sound(&self.rooms);
-        each_is_found();
-        let Some(sender) = self.rooms.held(slot) else {
-            return;
-        };
-        if let Some(to) = sent_to(&sender) {
-            outbox.push(self.packet(&sender, to));
-        }
+        sums_are_valid(&self.sums);
+        total_is_left_out_and_heard();
+        let silenced = rows_on(&self.seating, place.room, *self.flows.silenced(place));
+        self.sums.mix(
+            Room::new(place.room),
+            own_row(listener),
+            silenced.as_slice(),
+            law,
+        )
     }
 }
 
-/// Fills an outbox with the packets of those who send.
-fn fill(engine: &Engine, slots: &[u8], outbox: &mut Outbox)
-    requires slots { slots.now ≡ map (λ r. r.slot) engine.now.rooms.terminations }
-    requires few { length slots.now ≤ TERMINATIONS }
-    requires sound { IsConsistent engine.now.rooms }
-    ensures value { outbox.new.items ≡ packets_now engine.now }
+/// Fills an outbox with the packets of those who send, the terminations in the order of their numbers.
+fn fill(engine: &mut Engine, count: usize, outbox: &mut Outbox)
+    requires all { count ≡ length engine.old.rooms.terminations }
+    requires few { count ≤ TERMINATIONS }
+    requires sound { IsConsistent engine.old.rooms }
+    requires nothing { outbox.old.items ≡ [] }
+    requires unshared { engine.old.shares ≡ replicate context_limit [] }
+    ensures value { outbox.new.items ≡ packets_now engine.old }
+    ensures same { engine.new ≡ with_mixes engine.old engine.new.sums.work engine.new.shares }
+    ensures work { RisesAtMost (sum_by (sending_work_now engine.old) engine.old.rooms.terminations) engine.old.sums.work engine.new.sums.work }
 {
     each_is_found();
-    outbox.clear();
-    for slot in slots {
-        engine.put_packet(*slot, outbox);
+    for i in 0..count {
+        let slot = engine.held_at(i);
+        engine.put_packet(slot, outbox);
     }
 }
 
-/// Has each play list tick.
-fn play_all(media: &mut Vec<Media>)
-    ensures value { media.new.items ≡ map played media.old.items }
+/// Has the play list of a slot tick, and its frame is in the slot's row from then on.
+fn play(media: &mut Vec<Media>, sums: &mut Sums, slot: u8)
+    requires slot { (slot < length media.old.items) × (slot < termination_limit) }
+    ensures long { length media.new.items ≡ length media.old.items }
+    ensures played { IsPlayed media.old.items media.new.items sums.new.frames slot }
+    ensures others { (other : ℕ) → other ≢ slot → (media_at media.new.items other ≡ media_at media.old.items other)
+        × (frame_of sums.new other ≡ frame_of sums.old other) }
+    ensures rooms { sums.new.rooms ≡ sums.old.rooms }
+    ensures work { RisesAtMost 2 sums.old.work sums.new.work }
 {
-    for i in 0..media.len() {
-        media[i].play();
+    sums_are_valid(sums);
+    let frame = media[usize::from(slot)].play();
+    sums.set_frame(Row::new(slot), frame.as_ref());
+}
+
+/// Has each play list of the slots that are held tick.
+fn play_slots(held: &[u8], media: &mut Vec<Media>, sums: &mut Sums)
+    requires slots { EachIndex held.now (λ i. slice_index_or held.now i 0 < length media.old.items) }
+    requires few { length media.old.items ≤ TERMINATIONS }
+    requires apart { AreApart held.now }
+    ensures long { length media.new.items ≡ length media.old.items }
+    ensures each { EachIndex held.now (λ i. IsPlayed media.old.items media.new.items sums.new.frames (slice_index_or held.now i 0)) }
+    ensures rooms { sums.new.rooms ≡ sums.old.rooms }
+    ensures work { RisesAtMost (2 * length held.now) sums.old.work sums.new.work }
+{
+    for slot in held {
+        play(media, sums, *slot);
     }
 }
 
@@ -538,7 +723,7 @@ fn sends_in(rooms: &Rooms, slot: u8) -> bool
 }
 
 /// Ends a tick in which all that send have sent a packet.
-fn end_all(rooms: &Rooms, media: &mut Vec<Media>)
+fn end_slots(rooms: &Rooms, media: &mut Vec<Media>)
     requires few { length media.old.items ≤ TERMINATIONS }
     ensures long { length media.new.items ≡ length media.old.items }
     ensures each { EachIndex media.old.items (λ slot. media_at media.new.items slot
@@ -599,15 +784,21 @@ fn tune(rooms: &Rooms, media: &mut Vec<Media>, number: u32, depth: Option<u16>)
     }
 }
 
-/// Begins the media of a termination that was made.
-fn begin(rooms: &Rooms, media: &mut Vec<Media>, number: u32, config: &Config)
+/// Begins the media of a termination that was made, with a silent frame.
+fn begin(rooms: &Rooms, media: &mut Vec<Media>, sums: &mut Sums, number: u32, config: &Config)
     requires slots { rooms.now.limits.slots ≤ length media.old.items }
     ensures long { length media.new.items ≡ length media.old.items }
     ensures begun { (r : Record) → record_at rooms.now number ≡ Some r →
         media.new.items ≡ slice_set media.old.items r.slot (begun config.now) }
+    ensures silent { (r : Record) → record_at rooms.now number ≡ Some r →
+        sums.new.frames ≡ slice_set sums.old.frames r.slot silence }
+    ensures joined { sums.new.rooms ≡ sums.old.rooms }
+    ensures work { RisesAtMost 2 sums.old.work sums.new.work }
 {
+    gateways_are_sound(rooms);
     if let Some(slot) = slot_of(rooms, number) {
         media[usize::from(slot)].begin(config.timestamp, config.sequence);
+        sums.set_frame(Row::new(slot), None);
     }
 }
 
@@ -626,6 +817,18 @@ fn without(held: &mut ArrayVec<u8, TERMINATIONS>, slot: u8)
     ensures value { held.new.items ≡ filter (λ s. not (s == slot)) held.old.items }
 {
     held.retain(|other| *other != slot);
+}
+
+/// The row of a slot is joined to no room from then on.
+fn silence(sums: &mut Sums, slot: Option<u8>)
+    requires slot { IfSome slot (λ k. k < termination_limit) }
+    ensures joined { (k : ℕ) → slot ≡ Some k → SetsRow sums.old.rooms sums.new.rooms k None }
+    ensures frames { sums.new.frames ≡ sums.old.frames }
+    ensures work { RisesAtMost 2 sums.old.work sums.new.work }
+{
+    if let Some(slot) = slot {
+        part(sums, Row::new(slot));
+    }
 }
 
 /// Takes the slot of a termination out of those that are held.

@@ -1,8 +1,6 @@
 ghost use Rattle.std.specs.Prelude.{◌≡◌, IfOk};
-ghost use Rattle.mg_g711.specs.Frame.{IsFrame};
 
 use mg_g711::Frame;
-use mg_g711::theorems::frames_are_whole;
 use mg_playout::{Placed, Playout};
 use mg_rooms::depth_within;
 use mg_rtp::Header;
@@ -14,7 +12,6 @@ use std::marker::Model;
 #[derive(Drop)]
 pub struct Media {
     play: Playout,
-    frame: Frame,
     stats: Stats,
     /// The timestamp of this tick.
     timestamp: u32,
@@ -29,11 +26,12 @@ impl Model for Media {
 
     ghost Value = { SlotMedia };
 
-    ghost view = { λ m. record { play = m.play; frame = m.frame; stats = m.stats; timestamp = m.timestamp; sequence = m.sequence; is_sending = m.is_sending } };
+    ghost view = { λ m. record { play = m.play; stats = m.stats; timestamp = m.timestamp; sequence = m.sequence; is_sending = m.is_sending } };
 }
 
 impl Media {
-    ghost use Rattle.mg_engine.specs.Media.{idle, begun_at, tuned, placed, played, header, ended};
+    ghost use Rattle.mg_engine.specs.Media.{idle, begun_at, tuned, placed, played, frame_played, header, ended};
+    ghost use Rattle.mg_engine.specs.Steps.{frame_or_silence};
 
     /// Media of nobody. It takes the memory for a play list.
     pub fn new(alloc: Global) -> Result<Media, AllocError>
@@ -41,7 +39,6 @@ impl Media {
     {
         Ok(Media {
             play: Playout::new(alloc)?,
-            frame: [0; SAMPLES],
             stats: Stats::new(),
             timestamp: 0,
             sequence: 0,
@@ -55,7 +52,6 @@ impl Media {
         ensures value { self.new ≡ begun_at timestamp sequence }
     {
         self.play.clear();
-        self.frame = [0; SAMPLES];
         self.stats = Stats::new();
         self.timestamp = timestamp.wrapping_sub(SAMPLES as u32);
         self.sequence = sequence;
@@ -80,21 +76,13 @@ impl Media {
         self.play.place(header.ssrc, header.sequence, frame)
     }
 
-    /// Passes on by 20 ms: what the play list gives is the frame of this tick.
-    pub fn play(&mut self)
+    /// Passes on by 20 ms. What the play list gives is the frame of this tick, which is silent where it gives none.
+    pub fn play(&mut self) -> Option<Frame>
         ensures value { self.new ≡ played self.old }
+        ensures frame { frame_or_silence result ≡ frame_played self.old }
     {
-        self.frame = self.play.tick().unwrap_or([0; SAMPLES]);
         self.timestamp = self.timestamp.wrapping_add(SAMPLES as u32);
-    }
-
-    /// The frame of this tick.
-    pub fn frame(&self) -> &Frame
-        ensures value { result.now ≡ self.now.frame }
-        ensures whole { IsFrame result.now }
-    {
-        frames_are_whole(&self.frame);
-        &self.frame
+        self.play.tick()
     }
 
     /// The counters.

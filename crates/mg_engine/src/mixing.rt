@@ -1,36 +1,57 @@
-//! Sums of frames, sample by sample.
+//! What a mix is made of: the rows that are taken away from a total, and payloads that were made before.
 
-ghost use Rattle.std.specs.Prelude.{◌≡◌, ℕ, pos, ◌+ℤ◌, map, slice_index_or, EachIndex, FitsSigned};
-ghost use Rattle.std.specs.Int.{w32};
-ghost use Rattle.mg_engine.specs.Mixing.{limited};
+ghost use Rattle.std.specs.Prelude.{◌≡◌, ℕ, ◌<◌, ◌≤◌, length, map, IsTrue, Some, None, if◌then◌else◌};
+ghost use Rattle.mg_words.specs.Limits.{context_limit, termination_limit, member_limit};
+ghost use Rattle.mg_words.specs.Mode.{talks};
+ghost use Rattle.mg_topology.specs.Mask.{has_seat, seats_of};
+ghost use Rattle.mg_engine.specs.aids.Seating.{slot_at};
+ghost use Rattle.mg_engine.specs.aids.Shares.{packet_at, payload_of};
 
-use mg_g711::Frame;
+use crate::datagram::Outbox;
+use crate::seating::Seating;
+use arrayvec::ArrayVec;
+use mg_flow::Place;
+use mg_rooms::{MEMBERS, Record, mode_talks};
+use mg_sums::Row;
+use mg_topology::mask::{self, Mask};
 use mg_words::SAMPLES;
 
-/// Adds a frame to a sum.
-pub fn add_frame(sum: &mut [i32; SAMPLES], frame: &Frame)
-    requires fits { EachIndex sum.old (λ i. FitsSigned w32 (slice_index_or sum.old i (pos 0) +ℤ slice_index_or frame.now i (pos 0))) }
-    ensures sums { EachIndex sum.new (λ i. slice_index_or sum.new i (pos 0) ≡ slice_index_or sum.old i (pos 0) +ℤ slice_index_or frame.now i (pos 0)) }
+/// The row of a listener that talks, which isn't to hear itself.
+pub fn own_row(listener: &Record) -> Option<Row>
+    requires slot { listener.now.slot < termination_limit }
+    ensures value { result ≡ (if talks listener.now.mode then Some listener.now.slot else None) }
 {
-    for i in 0..SAMPLES {
-        sum[i] += i32::from(frame[i]);
+    if mode_talks(listener.mode) {
+        Some(Row::new(listener.slot))
+    } else {
+        None
     }
 }
 
-/// The nearest 16-bit sample.
-fn limited(sample: i32) -> i16
-    ensures value { result ≡ limited sample }
+/// The rows of those on some seats of a room.
+pub fn rows_on(seating: &Seating, room: u8, seats: Mask) -> ArrayVec<Row, MEMBERS>
+    requires room { room < context_limit }
+    requires slots { (seat : ℕ) → IsTrue (has_seat seats seat) → slot_at seating.now (record { room = room; seat = seat }) < termination_limit }
+    ensures value { result.items ≡ map (λ seat. slot_at seating.now (record { room = room; seat = seat })) (seats_of seats) }
 {
-    sample.clamp(-32768, 32767) as i16
+    let mut rows = ArrayVec::new();
+    for seat in mask::seats(seats) {
+        let place = Place {
+            room,
+            seat: seat as u8,
+        };
+        rows.push(Row::new(seating.slot(place)));
+    }
+    rows
 }
 
-/// A sum as a frame, each sample limited to 16 bits.
-pub fn limit(sum: &[i32; SAMPLES]) -> Frame
-    ensures value { result ≡ map limited sum.now }
+/// The payload of a packet in an outbox.
+pub fn payload_at(outbox: &Outbox, at: u8) -> [u8; SAMPLES]
+    requires there { at < length outbox.now.items }
+    ensures value { result ≡ payload_of (packet_at outbox.now.items at) }
 {
-    let mut frame = [0; SAMPLES];
-    for i in 0..SAMPLES {
-        frame[i] = limited(sum[i]);
-    }
-    frame
+    let mut payload = [0; SAMPLES];
+    let (_, sent) = outbox[usize::from(at)].bytes.split_at(12);
+    payload.copy_from_slice(sent);
+    payload
 }

@@ -1,11 +1,12 @@
 use crate::{
     Association, Config, Done, DropCause, Edit, Engine, ErrorNumber, MediaSetting, Mode, Outbox,
-    Peer, Settings, Taken, Target, TopologyTriple, TopologyTriples, TripleTerm,
+    Peer, Room, Row, Settings, Taken, Target, TopologyTriple, TopologyTriples, TripleTerm,
 };
 use mg_playout::Placed;
 use mg_rtp::{Header, RtpFault, write};
 use mg_sdp::read_sessions;
 use std::alloc::Global;
+use std::process::Abort;
 use std::test::Fail;
 
 const CALLER: Peer = Peer {
@@ -34,6 +35,9 @@ const REMOTES: [&[u8]; 4] = [
     b"v=0\nc=IN IP4 127.0.0.1\nm=audio 40006 RTP/AVP 0\n",
 ];
 
+/// A peer who is sent A-law.
+const A_LAW: &[u8] = b"v=0\nc=IN IP4 127.0.0.1\nm=audio 40004 RTP/AVP 8\n";
+
 /// A packet of 160 equal bytes, mu-law, from one source.
 fn packet(byte: u8) -> [u8; 172] {
     let header = Header {
@@ -46,16 +50,40 @@ fn packet(byte: u8) -> [u8; 172] {
     write(header, &[byte; 160])
 }
 
-/// A conference of the first callers.
-fn conference(alloc: Global, callers: usize) -> Result<Engine, Fail> {
-    let mut engine = Engine::new(alloc, Config::default()).map_err(|_| "sound")?;
+/// Adds a caller to a context.
+fn add(engine: &mut Engine, target: Target, settings: &Settings) -> Result<Target, Fail> {
+    let done = engine.add(target, settings).map_err(|_| "an Add")?;
+    Ok(Target::Number(done.context))
+}
+
+/// Makes a conference of the first callers.
+fn add_callers(engine: &mut Engine, callers: usize) -> Result<(), Fail> {
     let mut target = Target::New;
     for remote in REMOTES.iter().take(callers) {
         let settings = caller(Mode::SendReceive, MU, remote)?;
-        let done = engine.add(target, &settings).map_err(|_| "an Add")?;
-        target = Target::Number(done.context);
+        target = add(engine, target, &settings)?;
     }
+    Ok(())
+}
+
+/// A conference of the first callers.
+fn conference(alloc: Global, callers: usize) -> Result<Engine, Fail> {
+    let mut engine = Engine::new(alloc, Config::default()).map_err(|_| "sound")?;
+    add_callers(&mut engine, callers)?;
     Ok(engine)
+}
+
+/// Some ticks.
+fn tick(engine: &mut Engine, outbox: &mut Outbox, ticks: usize) {
+    for _ in 0..ticks {
+        engine.tick(outbox);
+    }
+}
+
+/// The first bytes of the payloads of one more tick.
+fn next_payloads(alloc: Global, engine: &mut Engine, outbox: &mut Outbox) -> Result<Vec<u8>, Fail> {
+    engine.tick(outbox);
+    payloads(alloc, outbox)
 }
 
 /// The header of the last packet of an outbox.
@@ -80,11 +108,13 @@ fn payloads(alloc: Global, outbox: &Outbox) -> Result<Vec<u8>, Fail> {
     Ok(bytes)
 }
 
-#[test]
-fn mixes_the_others(rt: HostRuntime) -> Result<(), Fail> {
-    let alloc = rt.alloc();
-    let mut engine = conference(alloc, 4)?;
-    let mut outbox = Outbox::new();
+/// Each of four callers is sent the others, and totals follow a Move.
+fn mix_the_others(
+    rt: &impl Abort,
+    alloc: Global,
+    engine: &mut Engine,
+    outbox: &mut Outbox,
+) -> Result<(), Fail> {
     assert_eq!(rt;
         engine.media(30000, CALLER, &packet(0x80)),
         Taken::Placed(Placed::Started)
@@ -97,15 +127,12 @@ fn mixes_the_others(rt: HostRuntime) -> Result<(), Fail> {
         engine.media(30004, CALLER, &packet(0x00)),
         Taken::Placed(Placed::Started)
     );
-    for _ in 0..2 {
-        engine.tick(&mut outbox);
-        let want: &[u8] = &[0xff, 0xff, 0xff, 0xff];
-        assert_eq!(rt; payloads(alloc, &outbox)?.as_slice(), want);
-    }
-    engine.tick(&mut outbox);
+    let want: &[u8] = &[0xff, 0xff, 0xff, 0xff];
+    assert_eq!(rt; next_payloads(alloc, engine, outbox)?.as_slice(), want);
+    assert_eq!(rt; next_payloads(alloc, engine, outbox)?.as_slice(), want);
     let want: &[u8] = &[0xff, 0xff, 0x80, 0x80];
-    assert_eq!(rt; payloads(alloc, &outbox)?.as_slice(), want);
-    let header = last_header(alloc, &outbox)?;
+    assert_eq!(rt; next_payloads(alloc, engine, outbox)?.as_slice(), want);
+    let header = last_header(alloc, outbox)?;
     let head: &[u8] = &[0x80, 0, 0, 2, 0, 0, 1, 0x40, 0, 0, 0, 4];
     assert_eq!(rt; header.as_slice(), head);
     let last = outbox
@@ -128,10 +155,18 @@ fn mixes_the_others(rt: HostRuntime) -> Result<(), Fail> {
 }
 
 #[test]
-fn loops_back(rt: HostRuntime) -> Result<(), Fail> {
-    let alloc = rt.alloc();
-    let mut engine = conference(alloc, 2)?;
-    let mut outbox = Outbox::new();
+fn mixes_the_others(rt: HostRuntime) -> Result<(), Fail> {
+    let mut engine = conference(rt.alloc(), 4)?;
+    mix_the_others(&rt, rt.alloc(), &mut engine, &mut Outbox::new())
+}
+
+/// One in Loopback is sent itself, and heard by nobody.
+fn loop_back(
+    rt: &impl Abort,
+    alloc: Global,
+    engine: &mut Engine,
+    outbox: &mut Outbox,
+) -> Result<(), Fail> {
     let settings = Settings {
         mode: Some(Mode::Loopback),
         ..Settings::default()
@@ -149,13 +184,17 @@ fn loops_back(rt: HostRuntime) -> Result<(), Fail> {
     assert_eq!(rt; done, Done::Termination(member));
     engine.media(30000, CALLER, &packet(0x80));
     engine.media(30002, CALLER, &packet(0x00));
-    for _ in 0..3 {
-        engine.tick(&mut outbox);
-    }
+    tick(engine, outbox, 3);
     let want: &[u8] = &[0x80, 0xff];
-    assert_eq!(rt; payloads(alloc, &outbox)?.as_slice(), want);
+    assert_eq!(rt; payloads(alloc, outbox)?.as_slice(), want);
     assert_eq!(rt; engine.total(1, 0), Some(-32124));
     Ok(())
+}
+
+#[test]
+fn loops_back(rt: HostRuntime) -> Result<(), Fail> {
+    let mut engine = conference(rt.alloc(), 2)?;
+    loop_back(&rt, rt.alloc(), &mut engine, &mut Outbox::new())
 }
 
 /// The same packet with another byte at a place.
@@ -182,9 +221,8 @@ fn first_wrong(
     None
 }
 
-#[test]
-fn drops_what_is_no_frame(rt: HostRuntime) -> Result<(), Fail> {
-    let mut engine = conference(rt.alloc(), 1)?;
+/// What is no packet of the right type and length is dropped.
+fn drop_what_is_no_frame(rt: &impl Abort, engine: &mut Engine) -> Result<(), Fail> {
     let bytes = packet(0x80);
     let padded = with_byte(with_byte(bytes, 0, 0xa0), 171, 0);
     let extended = with_byte(with_byte(bytes, 0, 0x90), 14, 0xff);
@@ -199,40 +237,53 @@ fn drops_what_is_no_frame(rt: HostRuntime) -> Result<(), Fail> {
         ),
         (&other_law, DropCause::PayloadType),
     ];
-    assert_eq!(rt; first_wrong(&mut engine, 30000, CALLER, &cases), None);
+    assert_eq!(rt; first_wrong(engine, 30000, CALLER, &cases), None);
     assert_eq!(rt; engine.stats(1).map(|stats| stats.pr), Some(0));
     Ok(())
 }
 
 #[test]
-fn drops_what_comes_to_nobody(rt: HostRuntime) -> Result<(), Fail> {
+fn drops_what_is_no_frame(rt: HostRuntime) -> Result<(), Fail> {
     let mut engine = conference(rt.alloc(), 1)?;
+    drop_what_is_no_frame(&rt, &mut engine)
+}
+
+/// So is what comes from a stranger, or to a port that nobody listens at.
+fn drop_what_comes_to_nobody(rt: &impl Abort, engine: &mut Engine) -> Result<(), Fail> {
     let bytes = packet(0x80);
     let stranger = Peer {
         address: [127, 0, 0, 2],
         port: 40000,
     };
     let stray: [(&[u8], DropCause); 1] = [(&bytes, DropCause::Stray)];
-    assert_eq!(rt; first_wrong(&mut engine, 30000, stranger, &stray), None);
+    assert_eq!(rt; first_wrong(engine, 30000, stranger, &stray), None);
     let nobody: [(&[u8], DropCause); 1] = [(&bytes, DropCause::NoTermination)];
-    assert_eq!(rt; first_wrong(&mut engine, 30002, CALLER, &nobody), None);
-    assert_eq!(rt; first_wrong(&mut engine, 30001, CALLER, &nobody), None);
+    assert_eq!(rt; first_wrong(engine, 30002, CALLER, &nobody), None);
+    assert_eq!(rt; first_wrong(engine, 30001, CALLER, &nobody), None);
     engine
         .add(Target::New, &Settings::default())
         .map_err(|_| "an Add")?;
     let deaf: [(&[u8], DropCause); 1] = [(&bytes, DropCause::NoLocal)];
-    assert_eq!(rt; first_wrong(&mut engine, 30002, CALLER, &deaf), None);
+    assert_eq!(rt; first_wrong(engine, 30002, CALLER, &deaf), None);
     Ok(())
 }
 
 #[test]
-fn numbers_packets(rt: HostRuntime) -> Result<(), Fail> {
-    let alloc = rt.alloc();
-    let mut engine = conference(alloc, 1)?;
-    let mut outbox = Outbox::new();
-    engine.tick(&mut outbox);
+fn drops_what_comes_to_nobody(rt: HostRuntime) -> Result<(), Fail> {
+    let mut engine = conference(rt.alloc(), 1)?;
+    drop_what_comes_to_nobody(&rt, &mut engine)
+}
+
+/// Numbers of packets and timestamps go on while nothing is sent.
+fn number_packets(
+    rt: &impl Abort,
+    alloc: Global,
+    engine: &mut Engine,
+    outbox: &mut Outbox,
+) -> Result<(), Fail> {
+    engine.tick(outbox);
     let head: &[u8] = &[0x80, 0x80, 0, 0, 0, 0, 0, 0, 0, 0, 0, 1];
-    assert_eq!(rt; last_header(alloc, &outbox)?.as_slice(), head);
+    assert_eq!(rt; last_header(alloc, outbox)?.as_slice(), head);
     let quiet = Settings {
         mode: Some(Mode::Inactive),
         ..Settings::default()
@@ -240,7 +291,7 @@ fn numbers_packets(rt: HostRuntime) -> Result<(), Fail> {
     engine
         .modify(Target::Number(1), 1, &quiet)
         .map_err(|_| "a Modify")?;
-    engine.tick(&mut outbox);
+    engine.tick(outbox);
     assert!(rt; outbox.is_empty());
     let loud = Settings {
         mode: Some(Mode::SendReceive),
@@ -249,33 +300,48 @@ fn numbers_packets(rt: HostRuntime) -> Result<(), Fail> {
     engine
         .modify(Target::Number(1), 1, &loud)
         .map_err(|_| "a Modify")?;
-    engine.tick(&mut outbox);
+    engine.tick(outbox);
     let head: &[u8] = &[0x80, 0x80, 0, 1, 0, 0, 1, 0x40, 0, 0, 0, 1];
-    assert_eq!(rt; last_header(alloc, &outbox)?.as_slice(), head);
+    assert_eq!(rt; last_header(alloc, outbox)?.as_slice(), head);
     assert_eq!(rt; engine.stats(1).map(|stats| stats.ps), Some(2));
     assert_eq!(rt; engine.stats(1).map(|stats| stats.os), Some(320));
     Ok(())
 }
 
 #[test]
-fn numbers_the_second_packet(rt: HostRuntime) -> Result<(), Fail> {
-    let alloc = rt.alloc();
-    let mut engine = conference(alloc, 1)?;
-    let mut outbox = Outbox::new();
-    engine.tick(&mut outbox);
-    engine.tick(&mut outbox);
+fn numbers_packets(rt: HostRuntime) -> Result<(), Fail> {
+    let mut engine = conference(rt.alloc(), 1)?;
+    number_packets(&rt, rt.alloc(), &mut engine, &mut Outbox::new())
+}
+
+/// Two ticks send two packets, whose numbers and timestamps rise.
+fn number_the_second(
+    rt: &impl Abort,
+    alloc: Global,
+    engine: &mut Engine,
+    outbox: &mut Outbox,
+) -> Result<(), Fail> {
+    tick(engine, outbox, 2);
     let head: &[u8] = &[0x80, 0, 0, 1, 0, 0, 0, 0xa0, 0, 0, 0, 1];
-    assert_eq!(rt; last_header(alloc, &outbox)?.as_slice(), head);
+    assert_eq!(rt; last_header(alloc, outbox)?.as_slice(), head);
     let want: &[u8] = &[0xff];
-    assert_eq!(rt; payloads(alloc, &outbox)?.as_slice(), want);
+    assert_eq!(rt; payloads(alloc, outbox)?.as_slice(), want);
     Ok(())
 }
 
 #[test]
-fn waits_for_half_of_the_depth(rt: HostRuntime) -> Result<(), Fail> {
-    let alloc = rt.alloc();
-    let mut engine = conference(alloc, 2)?;
-    let mut outbox = Outbox::new();
+fn numbers_the_second_packet(rt: HostRuntime) -> Result<(), Fail> {
+    let mut engine = conference(rt.alloc(), 1)?;
+    number_the_second(&rt, rt.alloc(), &mut engine, &mut Outbox::new())
+}
+
+/// A play list of depth 2 waits for one tick.
+fn wait_for_half_of_the_depth(
+    rt: &impl Abort,
+    alloc: Global,
+    engine: &mut Engine,
+    outbox: &mut Outbox,
+) -> Result<(), Fail> {
     let short = Settings {
         depth: Some(2),
         ..Settings::default()
@@ -284,19 +350,26 @@ fn waits_for_half_of_the_depth(rt: HostRuntime) -> Result<(), Fail> {
         .modify(Target::Number(1), 1, &short)
         .map_err(|_| "a Modify")?;
     engine.media(30000, CALLER, &packet(0x80));
-    for last in [0xff, 0x80] {
-        engine.tick(&mut outbox);
-        let want: &[u8] = &[0xff, last];
-        assert_eq!(rt; payloads(alloc, &outbox)?.as_slice(), want);
-    }
+    let want: &[u8] = &[0xff, 0xff];
+    assert_eq!(rt; next_payloads(alloc, engine, outbox)?.as_slice(), want);
+    let want: &[u8] = &[0xff, 0x80];
+    assert_eq!(rt; next_payloads(alloc, engine, outbox)?.as_slice(), want);
     Ok(())
 }
 
 #[test]
-fn newcomer_says_nothing_of_its_forerunner(rt: HostRuntime) -> Result<(), Fail> {
-    let alloc = rt.alloc();
-    let mut engine = conference(alloc, 2)?;
-    let mut outbox = Outbox::new();
+fn waits_for_half_of_the_depth(rt: HostRuntime) -> Result<(), Fail> {
+    let mut engine = conference(rt.alloc(), 2)?;
+    wait_for_half_of_the_depth(&rt, rt.alloc(), &mut engine, &mut Outbox::new())
+}
+
+/// A termination that takes the slot of another begins in silence.
+fn follow_a_forerunner(
+    rt: &impl Abort,
+    alloc: Global,
+    engine: &mut Engine,
+    outbox: &mut Outbox,
+) -> Result<(), Fail> {
     engine.media(30000, CALLER, &packet(0x80));
     engine
         .subtract(Target::Number(1), 1)
@@ -306,12 +379,17 @@ fn newcomer_says_nothing_of_its_forerunner(rt: HostRuntime) -> Result<(), Fail> 
         .add(Target::Number(1), &settings)
         .map_err(|_| "an Add")?;
     assert_eq!(rt; done.termination, 3);
-    for _ in 0..3 {
-        engine.tick(&mut outbox);
-        let want: &[u8] = &[0xff, 0xff];
-        assert_eq!(rt; payloads(alloc, &outbox)?.as_slice(), want);
-    }
+    let want: &[u8] = &[0xff, 0xff];
+    assert_eq!(rt; next_payloads(alloc, engine, outbox)?.as_slice(), want);
+    assert_eq!(rt; next_payloads(alloc, engine, outbox)?.as_slice(), want);
+    assert_eq!(rt; next_payloads(alloc, engine, outbox)?.as_slice(), want);
     Ok(())
+}
+
+#[test]
+fn newcomer_says_nothing_of_its_forerunner(rt: HostRuntime) -> Result<(), Fail> {
+    let mut engine = conference(rt.alloc(), 2)?;
+    follow_a_forerunner(&rt, rt.alloc(), &mut engine, &mut Outbox::new())
 }
 
 /// A triple of two terms.
@@ -354,9 +432,7 @@ fn first_let_pass(
 fn third_payloads(alloc: Global, engine: &mut Engine) -> Result<Vec<u8>, Fail> {
     let mut outbox = Outbox::new();
     engine.media(30000, CALLER, &packet(0x80));
-    for _ in 0..3 {
-        engine.tick(&mut outbox);
-    }
+    tick(engine, &mut outbox, 3);
     payloads(alloc, &outbox)
 }
 
@@ -364,36 +440,45 @@ const FIRST: TripleTerm = TripleTerm::Number(1);
 
 const THIRD: TripleTerm = TripleTerm::Number(3);
 
-#[test]
-fn isolates_by_an_edit(rt: HostRuntime) -> Result<(), Fail> {
-    let mut engine = conference(rt.alloc(), 3)?;
+/// An Isolate parts two of three callers.
+fn isolate_by_an_edit(rt: &impl Abort, alloc: Global, engine: &mut Engine) -> Result<(), Fail> {
     let isolate = Edit::Triples {
         target: Target::Number(1),
         triples: triples(&[triple(FIRST, THIRD, Association::Isolate)]),
     };
     assert_eq!(rt; engine.edit(&isolate), Ok(Done::Topology(1)));
     let want: &[u8] = &[0xff, 0x80, 0xff];
-    assert_eq!(rt; third_payloads(rt.alloc(), &mut engine)?.as_slice(), want);
+    assert_eq!(rt; third_payloads(alloc, engine)?.as_slice(), want);
     assert_eq!(rt; engine.total(1, 0), Some(32124));
     assert!(rt; !engine.flow(1, 3) && !engine.flow(3, 1) && engine.flow(1, 2));
     Ok(())
 }
 
 #[test]
-fn leads_one_way(rt: HostRuntime) -> Result<(), Fail> {
+fn isolates_by_an_edit(rt: HostRuntime) -> Result<(), Fail> {
     let mut engine = conference(rt.alloc(), 3)?;
+    isolate_by_an_edit(&rt, rt.alloc(), &mut engine)
+}
+
+/// A Oneway leads from the first to the third.
+fn lead_one_way(rt: &impl Abort, alloc: Global, engine: &mut Engine) -> Result<(), Fail> {
     let oneway = triple(FIRST, THIRD, Association::Oneway);
-    assert_eq!(rt; apply(&mut engine, &[oneway]), Ok(1));
+    assert_eq!(rt; apply(engine, &[oneway]), Ok(1));
     let want: &[u8] = &[0xff, 0x80, 0x80];
-    assert_eq!(rt; third_payloads(rt.alloc(), &mut engine)?.as_slice(), want);
+    assert_eq!(rt; third_payloads(alloc, engine)?.as_slice(), want);
     assert!(rt; engine.flow(1, 3) && !engine.flow(3, 1));
     assert!(rt; engine.hears(3, 1) && !engine.hears(1, 3) && !engine.hears(1, 1));
     Ok(())
 }
 
 #[test]
-fn refuses_triples_whole(rt: HostRuntime) -> Result<(), Fail> {
-    let mut engine = conference(rt.alloc(), 2)?;
+fn leads_one_way(rt: HostRuntime) -> Result<(), Fail> {
+    let mut engine = conference(rt.alloc(), 3)?;
+    lead_one_way(&rt, rt.alloc(), &mut engine)
+}
+
+/// One triple at fault refuses all.
+fn refuse_triples(rt: &impl Abort, engine: &mut Engine) -> Result<(), Fail> {
     let every = TripleTerm::Every;
     let isolate = triple(FIRST, TripleTerm::Number(2), Association::Isolate);
     let overlap = triple(every, FIRST, Association::Oneway);
@@ -411,14 +496,19 @@ fn refuses_triples_whole(rt: HostRuntime) -> Result<(), Fail> {
         (&[barred, unknown], ErrorNumber::IdentifierNotAllowed),
         (&[isolate, barred], ErrorNumber::IdentifierNotAllowed),
     ];
-    assert_eq!(rt; first_let_pass(&mut engine, &cases), None);
+    assert_eq!(rt; first_let_pass(engine, &cases), None);
     assert!(rt; engine.hears(1, 2) && engine.hears(2, 1));
     Ok(())
 }
 
 #[test]
-fn topology_needs_its_context(rt: HostRuntime) -> Result<(), Fail> {
+fn refuses_triples_whole(rt: HostRuntime) -> Result<(), Fail> {
     let mut engine = conference(rt.alloc(), 2)?;
+    refuse_triples(&rt, &mut engine)
+}
+
+/// Triples are refused where the context is not there.
+fn need_a_context(rt: &impl Abort, engine: &mut Engine) -> Result<(), Fail> {
     let none = triples(&[]);
     let absent = Err(ErrorNumber::UnknownContext);
     assert_eq!(rt; engine.apply_triples(Target::Number(2), &none), absent);
@@ -428,10 +518,15 @@ fn topology_needs_its_context(rt: HostRuntime) -> Result<(), Fail> {
 }
 
 #[test]
-fn who_comes_back_hears_all(rt: HostRuntime) -> Result<(), Fail> {
-    let mut engine = conference(rt.alloc(), 3)?;
+fn topology_needs_its_context(rt: HostRuntime) -> Result<(), Fail> {
+    let mut engine = conference(rt.alloc(), 2)?;
+    need_a_context(&rt, &mut engine)
+}
+
+/// Who left and came back hears all, and is heard.
+fn come_back(rt: &impl Abort, engine: &mut Engine) -> Result<(), Fail> {
     let isolate = triple(FIRST, TripleTerm::Every, Association::Isolate);
-    assert_eq!(rt; apply(&mut engine, &[isolate]), Ok(1));
+    assert_eq!(rt; apply(engine, &[isolate]), Ok(1));
     assert!(rt; !engine.hears(2, 1) && !engine.hears(3, 1) && engine.hears(2, 3));
     let plain = Settings::default();
     let away = engine.move_to(Target::New, 1, &plain);
@@ -441,4 +536,192 @@ fn who_comes_back_hears_all(rt: HostRuntime) -> Result<(), Fail> {
     assert_eq!(rt; back.map(|done| done.context), Ok(1));
     assert!(rt; engine.hears(2, 1) && engine.hears(1, 3) && engine.hears(2, 3));
     Ok(())
+}
+
+#[test]
+fn who_comes_back_hears_all(rt: HostRuntime) -> Result<(), Fail> {
+    let mut engine = conference(rt.alloc(), 3)?;
+    come_back(&rt, &mut engine)
+}
+
+/// Makes a conference of callers who all have one peer, each in a mode.
+fn add_crowd(engine: &mut Engine, modes: &[Mode]) -> Result<(), Fail> {
+    let mut target = Target::New;
+    for mode in modes {
+        let settings = caller(*mode, MU, REMOTES[0])?;
+        target = add(engine, target, &settings)?;
+    }
+    Ok(())
+}
+
+/// A conference of callers who all have one peer, each in a mode.
+fn crowd(alloc: Global, modes: &[Mode]) -> Result<Engine, Fail> {
+    let mut engine = Engine::new(alloc, Config::default()).map_err(|_| "sound")?;
+    add_crowd(&mut engine, modes)?;
+    Ok(engine)
+}
+
+/// How many rows a call took.
+fn rows_since(engine: &Engine, before: u32) -> u32 {
+    engine.work().wrapping_sub(before)
+}
+
+/// How many rows a tick takes.
+fn tick_rows(engine: &mut Engine, outbox: &mut Outbox) -> u32 {
+    let before = engine.work();
+    engine.tick(outbox);
+    rows_since(engine, before)
+}
+
+/// Three callers speak, and the third tick plays what they said.
+fn speak(engine: &mut Engine, outbox: &mut Outbox) {
+    engine.media(30000, CALLER, &packet(0x80));
+    engine.media(30002, CALLER, &packet(0x80));
+    engine.media(30004, CALLER, &packet(0x00));
+    tick(engine, outbox, 3);
+}
+
+/// Changes the mode of a member of the first context.
+fn set_mode(engine: &mut Engine, number: u32, mode: Mode) -> Result<(), Fail> {
+    let settings = Settings {
+        mode: Some(mode),
+        ..Settings::default()
+    };
+    engine
+        .modify(Target::Number(1), number, &settings)
+        .map_err(|_| "a Modify")?;
+    Ok(())
+}
+
+/// Totals follow the modes of members, and forget who left.
+fn follow_modes(rt: &impl Abort, engine: &mut Engine, outbox: &mut Outbox) -> Result<(), Fail> {
+    speak(engine, outbox);
+    assert_eq!(rt; engine.total(1, 0), Some(32124));
+    set_mode(engine, 3, Mode::SendOnly)?;
+    assert_eq!(rt; engine.total(1, 0), Some(64248));
+    assert!(rt; !engine.flow(3, 1) && engine.flow(1, 3));
+    set_mode(engine, 3, Mode::SendReceive)?;
+    assert_eq!(rt; engine.total(1, 0), Some(32124));
+    engine
+        .subtract(Target::Number(1), 1)
+        .map_err(|_| "a Subtract")?;
+    assert_eq!(rt; engine.total(1, 159), Some(0));
+    Ok(())
+}
+
+#[test]
+fn totals_follow_modes(rt: HostRuntime) -> Result<(), Fail> {
+    let mut engine = conference(rt.alloc(), 4)?;
+    follow_modes(&rt, &mut engine, &mut Outbox::new())
+}
+
+/// The frames and totals that are kept are lent.
+fn lend_frames_and_totals(
+    rt: &impl Abort,
+    engine: &mut Engine,
+    outbox: &mut Outbox,
+) -> Result<(), Fail> {
+    speak(engine, outbox);
+    let sums = engine.sums();
+    assert_eq!(rt; *sums.total(Room::new(0), 0), 32124);
+    assert_eq!(rt; sums.frame(Row::new(2))[159], -32124);
+    assert_eq!(rt; sums.frame(Row::new(3))[0], 0);
+    Ok(())
+}
+
+#[test]
+fn lends_the_frames_and_totals(rt: HostRuntime) -> Result<(), Fail> {
+    let mut engine = conference(rt.alloc(), 4)?;
+    lend_frames_and_totals(&rt, &mut engine, &mut Outbox::new())
+}
+
+/// Ticks, packets and edits take as many rows as they may.
+fn tick_at_a_price(rt: &impl Abort, engine: &mut Engine, outbox: &mut Outbox) -> Result<(), Fail> {
+    speak(engine, outbox);
+    assert!(rt; tick_rows(engine, outbox) <= 12);
+    let isolate = triple(FIRST, THIRD, Association::Isolate);
+    assert_eq!(rt; apply(engine, &[isolate]), Ok(1));
+    assert!(rt; tick_rows(engine, outbox) <= 14);
+    let before = engine.work();
+    engine.media(30000, CALLER, &packet(0x80));
+    assert_eq!(rt; rows_since(engine, before), 0);
+    set_mode(engine, 3, Mode::Inactive)?;
+    assert!(rt; rows_since(engine, before) <= 4);
+    Ok(())
+}
+
+#[test]
+fn ticks_at_the_price_of_a_few_rows(rt: HostRuntime) -> Result<(), Fail> {
+    let mut engine = conference(rt.alloc(), 4)?;
+    tick_at_a_price(&rt, &mut engine, &mut Outbox::new())
+}
+
+/// A tick of 32 talkers takes three rows for each.
+fn tick_with_many(rt: &impl Abort, engine: &mut Engine, outbox: &mut Outbox) -> Result<(), Fail> {
+    assert!(rt; tick_rows(engine, outbox) <= 96);
+    assert_eq!(rt; outbox.len(), 32);
+    Ok(())
+}
+
+#[test]
+fn ticks_of_many_talkers_cost_three_rows_each(rt: HostRuntime) -> Result<(), Fail> {
+    let mut engine = crowd(rt.alloc(), &[Mode::SendReceive; 32])?;
+    tick_with_many(&rt, &mut engine, &mut Outbox::new())
+}
+
+/// One who talks, and 31 who listen.
+fn lecture() -> [Mode; 32] {
+    let mut modes = [Mode::SendOnly; 32];
+    modes[0] = Mode::SendReceive;
+    modes
+}
+
+/// The 31 who hear one talker share a payload.
+fn share_a_payload(
+    rt: &impl Abort,
+    alloc: Global,
+    engine: &mut Engine,
+    outbox: &mut Outbox,
+) -> Result<(), Fail> {
+    engine.media(30000, CALLER, &packet(0x80));
+    tick(engine, outbox, 2);
+    assert!(rt; tick_rows(engine, outbox) <= 4);
+    let payloads = payloads(alloc, outbox)?;
+    let want: &[u8] = &[0xff, 0x80, 0x80];
+    assert_eq!(rt; payloads.len(), 32);
+    assert_eq!(rt; payloads.as_slice().split_at(3).0, want);
+    assert_eq!(rt; payloads.as_slice().last(), Some(&0x80));
+    Ok(())
+}
+
+#[test]
+fn listeners_who_hear_the_same_share_a_payload(rt: HostRuntime) -> Result<(), Fail> {
+    let mut engine = crowd(rt.alloc(), &lecture())?;
+    share_a_payload(&rt, rt.alloc(), &mut engine, &mut Outbox::new())
+}
+
+/// Payloads of two laws, and those of loopbacks, are not shared.
+fn keep_payloads_apart(
+    rt: &impl Abort,
+    alloc: Global,
+    engine: &mut Engine,
+    outbox: &mut Outbox,
+) -> Result<(), Fail> {
+    let a_law = caller(Mode::SendOnly, MU, A_LAW)?;
+    let target = add(engine, Target::Number(1), &a_law)?;
+    add(engine, target, &a_law)?;
+    set_mode(engine, 2, Mode::SendOnly)?;
+    set_mode(engine, 4, Mode::Loopback)?;
+    engine.media(30000, CALLER, &packet(0x80));
+    engine.media(30006, CALLER, &packet(0x00));
+    tick(engine, outbox, 3);
+    let want: &[u8] = &[0xff, 0x80, 0xaa, 0x2a];
+    assert_eq!(rt; payloads(alloc, outbox)?.as_slice(), want);
+    Ok(())
+}
+
+#[test]
+fn laws_and_loopbacks_have_payloads_of_their_own(rt: HostRuntime) -> Result<(), Fail> {
+    let mut engine = conference(rt.alloc(), 2)?;
+    keep_payloads_apart(&rt, rt.alloc(), &mut engine, &mut Outbox::new())
 }

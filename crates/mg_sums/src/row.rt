@@ -22,6 +22,17 @@ impl Model for Row {
     ghost inverse = { λ number. record { number = number } };
 }
 
+/// The first row.
+impl Default for Row {
+    ghost use Rattle.std.specs.Prelude.{◌≡◌};
+
+    ghost is_default = { λ row. row ≡ 0 };
+
+    fn default() -> Self {
+        Row { number: 0 }
+    }
+}
+
 impl Row {
     /// The row with a number.
     pub fn new(number: u8) -> Self

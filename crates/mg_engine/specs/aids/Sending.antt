@@ -1,7 +1,7 @@
 -- What is sent in a tick, by what an engine keeps.
 use Rattle.std.specs.Prelude.{◌≡◌, ℕ, ℤ, pos, ◌+◌, ◌%◌, ◌^◌, Bool, false, List, ◌++◌, map}
-use Rattle.std.specs.Prelude.{filter_map, Option, Some, None, slice_index_or, slice_set, Ok, Err}
-use Rattle.std.specs.Prelude.{if◌then◌else◌}
+use Rattle.std.specs.Prelude.{filter_map, Option, Some, None, slice_set, Ok, Err}
+use Rattle.std.specs.Prelude.{if◌then◌else◌, is_some, count_by}
 use Rattle.std.specs.List.{range_with_len}
 use Rattle.std.specs.Option.{option_map}
 use Rattle.mg_g711.specs.Law.{byte_of}
@@ -10,10 +10,11 @@ use Rattle.mg_sdp.specs.declared.chosen.Chosen.{Chosen}
 use Rattle.mg_rooms.specs.declared.record.Record.{Record}
 use Rattle.mg_rooms.specs.Limits.{slot_port}
 use Rattle.mg_rooms.specs.Registry as rooms
-use Rattle.mg_words.specs.Mode.{talks}
 use Rattle.mg_flow.specs.declared.place.Place.{Place}
 use Rattle.mg_flow.specs.Table as flow
+use Rattle.mg_sums.specs.Sums.{sample_in}
 use Rattle.mg_engine.specs.declared.datagram.Datagram.{Datagram}
+use Rattle.mg_engine.specs.declared.share.Share.{Share}
 use Rattle.mg_engine.specs.declared.taken.Taken.{Taken}
 use Rattle.mg_engine.specs.declared.taken.Taken.TheVariants.{Placed, Dropped}
 use Rattle.mg_engine.specs.Arrival.{Arrived}
@@ -24,13 +25,9 @@ use Rattle.mg_engine.specs.Mix.{sum_of, is_loopback}
 use Rattle.mg_engine.specs.Stands.{EngineState, media_at}
 use Rattle.mg_engine.specs.Tick.{type_of, sent_to, is_sender}
 
-abbrev pub sample_at : List media.SlotMedia → ℕ → ℕ → ℤ
-sample_at kept slot i = slice_index_or (media_at kept slot).frame i (pos 0)
-
--- what a member adds to the total of its context
-abbrev pub talking_now : List media.SlotMedia → ℕ → Option Record → ℤ
-talking_now kept i None = pos 0
-talking_now kept i (Some r) = if talks r.mode then sample_at kept r.slot i else pos 0
+-- a sample of the frame in the row of a slot
+abbrev pub sample_at : List (List ℤ) → ℕ → ℕ → ℤ
+sample_at frames slot i = sample_in frames i slot
 
 -- whether the speech of one on a place goes to one on another; nowhere else does any
 abbrev pub flows_between : List flow.Room → Option Place → Option Place → Bool
@@ -38,18 +35,24 @@ flows_between table (Some p) (Some q) = flow.flows table q p
 flows_between table (Some p) None = false
 flows_between table None q = false
 
+-- whether one on a place is silenced for one on another
+abbrev pub is_silenced_between : List flow.Room → Option Place → Option Place → Bool
+is_silenced_between table (Some p) (Some q) = flow.is_silenced table q p
+is_silenced_between table (Some p) None = false
+is_silenced_between table None q = false
+
 abbrev pub flows_now : EngineState → Record → Record → Bool
 flows_now k t l = flows_between k.flows (place_of k.rooms t) (place_of k.rooms l)
 
 abbrev pub part_now : EngineState → Record → ℕ → Record → ℤ
-part_now k l i t = if flows_now k t l then sample_at k.media t.slot i else pos 0
+part_now k l i t = if flows_now k t l then sample_at k.sums.frames t.slot i else pos 0
 
 abbrev pub heard_now : EngineState → Record → ℕ → ℤ
 heard_now k l i = sum_of (part_now k l i) k.rooms.terminations
 
 abbrev pub mix_now : EngineState → Record → ℕ → ℤ
 mix_now k l i =
-    if is_loopback l.mode then sample_at k.media l.slot i else limited (heard_now k l i)
+    if is_loopback l.mode then sample_at k.sums.frames l.slot i else limited (heard_now k l i)
 
 abbrev pub mixed_now : EngineState → Record → List ℤ
 mixed_now k l = map (mix_now k l) (range_with_len 0 160)
@@ -63,12 +66,29 @@ packet_now k r to = record {
       ++ map (byte_of to.law) (mixed_now k r);
 }
 
+-- what is sent costs one row, and one for each on the seats that are silenced for the listener
+abbrev pub silenced_now : EngineState → Record → ℕ
+silenced_now k l =
+    count_by
+    (λ t. is_silenced_between k.flows (place_of k.rooms t) (place_of k.rooms l))
+    k.rooms.terminations
+
+abbrev pub mix_work_now : EngineState → Record → ℕ
+mix_work_now k l = 1 + (if is_loopback l.mode then 0 else silenced_now k l)
+
+abbrev pub sending_work_now : EngineState → Record → ℕ
+sending_work_now k l = if is_some (sent_to l) then mix_work_now k l else 0
+
 abbrev pub packets_now : EngineState → List Datagram
 packets_now k = filter_map (λ r. option_map (packet_now k r) (sent_to r)) k.rooms.terminations
 
 -- whether the termination that holds a slot sends
 abbrev pub slot_sends : rooms.Registry → ℕ → Bool
 slot_sends w slot = is_sender (rooms.holder_of w slot)
+
+-- the same state after mixes, which count their rows, and after packets that lend their payloads
+abbrev pub with_mixes : EngineState → ℕ → List (List Share) → EngineState
+with_mixes k work shares = record k { sums = record k.sums { work = work }; shares = shares }
 
 -- what became of what came to a slot: a frame was placed, or the media stayed as they were
 abbrev pub PlacedAt : List media.SlotMedia → List media.SlotMedia → ℕ → Arrived → Taken → Type 0

@@ -1,5 +1,5 @@
 use Rattle.std.proofs.lemmas.Result.{err_from_is_err_and}
-use Rattle.mg_core.proofs.ScriptLaws.{if_known, not_started, script_fault, script_done}
+use Rattle.mg_core.proofs.ScriptLaws.{if_known, not_bad, not_started, script_fault, script_done}
 use Rattle.mg_core.proofs.running.run.Goals as goal
 
 pub returns-in_err-runner-clause-script : goal.returns-in_err-runner-clause-script
@@ -13,6 +13,11 @@ returns-in_err-take_all-clause-script g c =
     rw (p.1, p.2) (if_known (g.R.Read.remaining c.args.reader.now) _ (λ script is.
     script_fault c.args.config script c.take_all.new.self.runner.core.state (g.W.Write.contents c.args.writer.now) (g.W.Write.contents c.take_all.new.writer) c.in_err-take_all.field-0.0
     (c.in_err-take_all.ensures.value c.args.config c.in_ok-runner.ensures.start script is)))
+
+pub returns-in_err-take_all-clause-bad : goal.returns-in_err-take_all-clause-bad
+returns-in_err-take_all-clause-bad g c =
+    let p = err_from_is_err_and c.from_residual-in_err-take_all.result c.from_residual-in_err-take_all.ensures.1 in
+    ((λ bad valid. not_bad c.from_residual-in_err-take_all.result p.0 c.in_err-take_all.field-0.0 p.1 p.2 bad), (λ no. absurd (no c.in_ok-runner.ensures.sound)))
 
 pub returns-clause-script : goal.returns-clause-script
 returns-clause-script g c = if_known (g.R.Read.remaining c.args.reader.now) _ (λ script is.

@@ -1,27 +1,57 @@
-use Rattle.std.proofs.Common.{◌<◌, List, ◌++◌, length, get_or, sym, ap, ◌∙◌, arith}
-use Rattle.std.specs.Prelude.{option_to_list}
+use Rattle.std.proofs.Common.{◌≡◌, ◌<◌, ◌+◌, ℕ, List, ◌++◌, length, get_or, map, take, refl, sym, ap, subst, ◌∙◌, arith}
+use Rattle.std.specs.Prelude.{option_to_list, sum_by}
 use Rattle.std.specs.Option.{option_map}
-use Rattle.std.proofs.lemmas.List.{length-map, get_or-map}
+use Rattle.std.proofs.lemmas.List.{get_or-map}
+use Rattle.std.proofs.lemmas.List.Sums.{sum_by_more}
 use Rattle.mg_rooms.specs.declared.record.Record.{Record}
+use Rattle.mg_rooms.specs.Registry as rooms
 use Rattle.mg_rooms.specs.Registry.{holder_of}
 use Rattle.mg_engine.specs.declared.datagram.Datagram.{Datagram}
-use Rattle.mg_engine.specs.aids.Sending.{packet_now}
+use Rattle.mg_engine.specs.Stands.{EngineState}
 use Rattle.mg_engine.specs.Tick.{sent_to}
+use Rattle.mg_engine.specs.Work.{RisesAtMost}
+use Rattle.mg_engine.specs.aids.Sending.{packet_now, sending_work_now, with_mixes}
 use Rattle.mg_engine.proofs.SendingLaws.{nobody, one_more}
+use Rattle.mg_engine.proofs.ShareLaws.{none_shared}
+use Rattle.mg_engine.proofs.WorkLaws.{rises_twice, stays}
 use Rattle.mg_engine.proofs.engine.fill.Goals as goal
 
-pub loop-slot-preserved : goal.loop-slot-preserved
-loop-slot-preserved c =
-    let engine = c.args.engine.now in
-    let rs = engine.rooms.terminations in
-    let k = c.loop-slot.slot-index in
-    let f = λ (r : Record). option_map (packet_now engine r) (sent_to r) in
-    let within : k < length rs = omega (arith, c.loop-slot-test.true, ap length c.requires.slots ∙ length-map rs (λ r. r.slot)) in
-    let r = get_or rs k nobody in
-    let slot = ap (λ (slots : List _). get_or slots k 0) c.requires.slots ∙ get_or-map (λ r. r.slot) rs k nobody 0 within in
-    let holder = ap (holder_of engine.rooms) slot ∙ c.each_is_found.ensures.slot engine.rooms k nobody c.requires.sound within in record {
+pub held_at-slot-requires : goal.held_at-slot-requires
+held_at-slot-requires c = record {
+  there = omega (arith, c.loop-i-test.true, c.requires.all, ap (λ (x : EngineState). length x.rooms.terminations) c.loop-i.invariant.same);
+}
+
+pub loop-i-init : goal.loop-i-init
+loop-i-init c = record {
+  same = refl;
+  items = c.requires.nothing;
+  few = omega (arith, ap (λ (xs : List Datagram). length xs) c.requires.nothing);
+  shared = none_shared c.args.engine.now c.args.outbox.now.items c.requires.unshared;
+  work = stays 0 c.args.engine.now.sums.work c.args.engine.now.sums.work refl;
+}
+
+pub loop-i-preserved : goal.loop-i-preserved
+loop-i-preserved c =
+    let k = c.args.engine.now in
+    let rs = k.rooms.terminations in
+    let i = c.loop-i.i in
+    let now = c.loop-i.engine in
+    let after = c.put_packet.new.self in
+    let f = λ (r : Record). option_map (packet_now k r) (sent_to r) in
+    let within : i < length rs = omega (arith, c.loop-i-test.true, c.requires.all) in
+    let r = get_or rs i nobody in
+    let same = c.loop-i.invariant.same in
+    let there : now.rooms ≡ k.rooms = ap (λ (x : EngineState). x.rooms) same in
+    let slot = c.held_at-slot.ensures.value ∙ ap (λ (x : rooms.Registry). get_or (map (λ r. r.slot) x.terminations) i 0) there ∙ get_or-map (λ r. r.slot) rs i nobody 0 within in
+    let holder = ap (λ (x : rooms.Registry). holder_of x c.held_at-slot.result) there ∙ ap (holder_of k.rooms) slot ∙ c.each_is_found.ensures.slot k.rooms i nobody c.requires.sound within in
+    let put = subst (λ (m : ℕ). RisesAtMost m now.sums.work after.sums.work) (ap (λ (x : EngineState). sending_work_now x r) same) (c.put_packet.ensures.work r holder) in
+    record {
+      same = c.put_packet.ensures.same ∙ ap (λ (x : EngineState). with_mixes x after.sums.work after.shares) same;
       items = c.put_packet.ensures.put r holder
-          ∙ ap (λ (xs : List Datagram). xs ++ option_to_list (f r)) c.loop-slot.invariant.items
-          ∙ sym (one_more f rs k nobody within);
-      few = omega (arith, c.put_packet.ensures.few, c.loop-slot.invariant.few);
+          ∙ ap (λ (x : EngineState). c.loop-i.outbox.items ++ option_to_list (option_map (packet_now x r) (sent_to r))) same
+          ∙ ap (λ (xs : List Datagram). xs ++ option_to_list (f r)) c.loop-i.invariant.items
+          ∙ sym (one_more f rs i nobody within);
+      few = omega (arith, c.put_packet.ensures.few, c.loop-i.invariant.few);
+      shared = c.put_packet.ensures.shared;
+      work = rises_twice (sum_by (sending_work_now k) (take i rs)) (sending_work_now k r) (sum_by (sending_work_now k) (take (i + 1) rs)) k.sums.work now.sums.work after.sums.work (omega (arith, sum_by_more (sending_work_now k) rs i nobody within)) c.loop-i.invariant.work put;
     }

@@ -1,4 +1,5 @@
-use Rattle.std.proofs.Common.{[], refl, sym, subst}
+use Rattle.std.proofs.Common.{[], refl, sym, ap, subst, ◌∙◌}
+use Rattle.mg_engine.specs.Stands.{EngineState}
 use Rattle.mg_core.specs.CoreView.{CoreView}
 use Rattle.mg_core.specs.declared.event.Event.TheVariants.{Media}
 use Rattle.mg_core.specs.World.{StandsFor, with_taken}
@@ -18,3 +19,7 @@ pub returns-clause-headline : goal.returns-clause-headline
 returns-clause-headline c = goes_on c.args.self.now.state c.count_media.new.self (Media c.args.port c.args.source c.args.bytes.now) [] (λ w h.
     let (next, took, stands) = returns-clause-taken c w h in
     (next, (c.media-taken.result, took, refl), stands))
+
+pub returns-clause-work : goal.returns-clause-work
+returns-clause-work c =
+    ap (λ (e : EngineState). e.sums.work) c.count_media.ensures.engine ∙ c.media-taken.ensures.work ∙ ap (λ (x : CoreView). x.state.engine.sums.work) c.self.view_is

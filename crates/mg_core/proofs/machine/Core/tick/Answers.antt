@@ -1,4 +1,6 @@
-use Rattle.std.proofs.Common.{map, refl, sym, ap, subst}
+use Rattle.std.proofs.Common.{ℕ, map, refl, sym, ap, subst}
+use Rattle.mg_engine.specs.Stands.{EngineState}
+use Rattle.mg_engine.specs.Work.{RisesAtMost, tick_work}
 use Rattle.mg_engine.specs.Tick.{after_tick}
 use Rattle.mg_core.specs.CoreView.{CoreView}
 use Rattle.mg_core.specs.declared.event.Event.TheVariants.{Tick}
@@ -17,3 +19,10 @@ pub returns-clause-headline : goal.returns-clause-headline
 returns-clause-headline c = goes_on c.args.self.now.state c.count_tick.new.self Tick (map Packet c.tick.new.outbox.items) (λ w h.
     let held = subst (λ (x : CoreView). StandsFor x.state w) (sym c.self.view_is) h in
     (ticked w, (ap (map Packet) (c.tick.ensures.sent w.gateway held.gateway), refl), returns-clause-next c w h))
+
+pub returns-clause-work : goal.returns-clause-work
+returns-clause-work c w h =
+    let held = subst (λ (x : CoreView). StandsFor x.state w) (sym c.self.view_is) h in
+    let rises = c.tick.ensures.work w.gateway held.gateway in
+    subst (λ (n : ℕ). RisesAtMost (tick_work w.gateway) n c.count_tick.new.self.engine.sums.work) (ap (λ (x : CoreView). x.state.engine.sums.work) c.self.view_is)
+    (subst (λ (e : EngineState). RisesAtMost (tick_work w.gateway) c.self.inside.state.engine.sums.work e.sums.work) (sym c.count_tick.ensures.engine) rises)

@@ -14,13 +14,13 @@ use Rattle.mg_engine.proofs.engine.Engine.apply_triples.Goals as goal
 
 pub returns-in_err-at-clause-outcome : goal.returns-in_err-at-clause-outcome
 returns-in_err-at-clause-outcome c w h =
-    let k : EngineState = record { config = c.self.inside.config; rooms = c.self.inside.rooms; media = c.self.inside.media.items; flows = c.self.inside.flows } in
+    let k : EngineState = record { config = c.self.inside.config; rooms = c.self.inside.rooms; media = c.self.inside.media.items; flows = c.self.inside.flows; sums = c.self.inside.sums; shares = c.self.inside.shares } in
     let stands = subst (λ (x : EngineState). StandsFor x w) (sym c.self.view_is) h in
     err_is c.args.self.now c.from_residual.result _ c.in_err-at.field-0.0 (search rules) (refused_there k w c.args.target c.args.triples.now.items c.in_err-at.field-0.0 stands c.in_err-at.ensures.value)
 
 pub returns-in_err-by_seats-clause-outcome : goal.returns-in_err-by_seats-clause-outcome
 returns-in_err-by_seats-clause-outcome c w h =
-    let k : EngineState = record { config = c.self.inside.config; rooms = c.self.inside.rooms; media = c.self.inside.media.items; flows = c.self.inside.flows } in
+    let k : EngineState = record { config = c.self.inside.config; rooms = c.self.inside.rooms; media = c.self.inside.media.items; flows = c.self.inside.flows; sums = c.self.inside.sums; shares = c.self.inside.shares } in
     let stands = subst (λ (x : EngineState). StandsFor x w) (sym c.self.view_is) h in
     err_is c.args.self.now c.from_residual-in_err-by_seats.result _ c.in_err-by_seats.field-0.0 (search rules) (refused_triples k w c.args.target c.args.triples.now.items c.in_ok-at.at.context c.in_err-by_seats.field-0.0 stands c.in_ok-at.ensures.value.0 (rw (sym c.as_slice.ensures.value) c.in_err-by_seats.ensures.value))
 
@@ -33,11 +33,12 @@ invariant_of-self c = record {
   members = has_still c.self.inside.rooms c.self.inside.flows c.on_triples.new.self c.on_triples.ensures.places c.self.invariant.members;
   seats = c.self.invariant.seats;
   places = c.self.invariant.places;
+  joined = c.self.invariant.joined;
 }
 
 pub returns-clause-outcome : goal.returns-clause-outcome
 returns-clause-outcome c w h =
-    let k : EngineState = record { config = c.self.inside.config; rooms = c.self.inside.rooms; media = c.self.inside.media.items; flows = c.self.inside.flows } in
+    let k : EngineState = record { config = c.self.inside.config; rooms = c.self.inside.rooms; media = c.self.inside.media.items; flows = c.self.inside.flows; sums = c.self.inside.sums; shares = c.self.inside.shares } in
     let stands = subst (λ (x : EngineState). StandsFor x w) (sym c.self.view_is) h in
     let at = c.in_ok-at.at in
     let xs = c.args.triples.now.items in

@@ -12,7 +12,7 @@ open-requires c = (c.self.invariant.members.each c.args.listener c.in-Some-Some.
 pub returns-then-from-to : goal.returns-then-from-to
 returns-then-from-to c = record {
   value = λ w h.
-      let k : EngineState = record { config = c.self.inside.config; rooms = c.self.inside.rooms; media = c.self.inside.media.items; flows = c.self.inside.flows } in
+      let k : EngineState = record { config = c.self.inside.config; rooms = c.self.inside.rooms; media = c.self.inside.media.items; flows = c.self.inside.flows; sums = c.self.inside.sums; shares = c.self.inside.shares } in
       let stands = subst (λ (x : EngineState). StandsFor x w) (sym c.self.view_is) h in
       let from = c.in-Some-Some.from in
       let to = c.in-Some-Some.to in

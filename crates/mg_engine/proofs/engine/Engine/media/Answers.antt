@@ -1,9 +1,10 @@
-use Rattle.std.proofs.Common.{◌<◌, length, Option, sym, ap, subst, ◌∙◌, arith}
+use Rattle.std.proofs.Common.{◌<◌, length, Option, refl, sym, ap, subst, ◌∙◌, arith}
 use Rattle.mg_rooms.specs.declared.limits.Limits.{Limits}
 use Rattle.mg_rooms.specs.declared.record.Record.{Record}
 use Rattle.mg_rooms.specs.Consistent.{IsConsistent}
 use Rattle.mg_rooms.specs.Registry as rooms
 use Rattle.mg_rtp.specs.Reading.{reading_of}
+use Rattle.mg_sums.specs.Sums.{SumsState}
 use Rattle.mg_engine.specs.Arrival.{arrived, at_port, taken_by}
 use Rattle.mg_engine.specs.Stands.{EngineState, StandsFor}
 use Rattle.mg_engine.proofs.ArrivalLaws.{is_reading, media_alone, took_stands}
@@ -11,6 +12,7 @@ use Rattle.mg_engine.proofs.engine.Engine.media.Goals as goal
 
 pub returns-in-None : goal.returns-in-None
 returns-in-None c = record {
+  work = refl;
   taken = λ w h.
       let reading = reading_of c.read-packet.result in
       let none = ap (λ (x : rooms.Registry). at_port x c.args.port) h.rooms ∙ sym c.at_port.ensures.value ∙ c.in-None.is in
@@ -19,6 +21,7 @@ returns-in-None c = record {
 
 pub returns-in-Some : goal.returns-in-Some
 returns-in-Some c = record {
+  work = ap (λ (s : SumsState). s.work) c.place.ensures.sums;
   taken = λ w h.
       let k = c.args.self.now in
       let r = c.in-Some.termination in
@@ -31,6 +34,6 @@ returns-in-Some c = record {
       let here = ap (λ (x : rooms.Registry). at_port x c.args.port) h.rooms ∙ sym c.at_port.ensures.value ∙ c.in-Some.is in (
         now,
         (reading, is_reading c.args.bytes.now c.read-packet.result c.read-packet.ensures.found c.read-packet.ensures.fault, ap (λ (o : Option Record). taken_by w o c.args.source.address reading) here ∙ came),
-        subst (λ (x : EngineState). StandsFor x now) (media_alone k c.place.new.self c.place.ensures.config c.place.ensures.rooms c.place.ensures.flows) stands,
+        subst (λ (x : EngineState). StandsFor x now) (media_alone k c.place.new.self c.place.ensures.config c.place.ensures.rooms c.place.ensures.flows c.place.ensures.sums c.place.ensures.shares) stands,
       );
 }

@@ -1,43 +1,124 @@
-use Rattle.std.proofs.Common.{Bool, cond, List, length, map, sym, ap, ◌∙◌, arith}
+use Rattle.std.proofs.Common.{ℕ, ◌+◌, ℤ, cond, List, length, map, get_or, Option, Some, None, sym, ap, subst, ◌∙◌, arith}
 use Rattle.std.specs.List.{range_with_len}
-use Rattle.std.proofs.lemmas.Simd.{map-map}
-use Rattle.mg_rooms.specs.declared.limits.Limits.{Limits}
-use Rattle.mg_rooms.specs.Registry.{record_at}
-use Rattle.mg_engine.specs.Media as media
+use Rattle.mg_g711.specs.Law.{byte_of}
+use Rattle.mg_words.specs.Mode.{talks}
+use Rattle.mg_rooms.specs.Registry.{context_at}
+use Rattle.mg_flow.specs.Place.{beside}
+use Rattle.mg_sums.specs.Sums.{SumsState, AreOfRoom, left_out_by, mix_of}
 use Rattle.mg_engine.specs.Mixing.{limited}
-use Rattle.mg_engine.specs.aids.Sending.{sample_at, heard_now, mixed_now}
+use Rattle.mg_engine.specs.Place.{IsOnPlace}
 use Rattle.mg_engine.specs.Stands.{EngineState}
+use Rattle.mg_engine.specs.aids.Sending.{heard_now, silenced_now}
+use Rattle.mg_engine.proofs.MaskLaws.{seats_there}
+use Rattle.mg_engine.proofs.MixLaws.{left_out, how_many, mix_is}
 use Rattle.mg_engine.proofs.engine.Engine.mix.Goals as goal
 
-pub own_frame-requires : goal.own_frame-requires
-own_frame-requires c =
+pub silenced-requires : goal.silenced-requires
+silenced-requires c =
+    let k : EngineState = record { config = c.self.inside.config; rooms = c.self.inside.rooms; media = c.self.inside.media.items; flows = c.self.inside.flows; sums = c.self.inside.sums; shares = c.self.inside.shares } in
     let l = c.args.listener.now in
+    let p = c.args.place in
+    let sound = c.gateways_are_sound.ensures.sound in
+    let on : IsOnPlace k.rooms l.number l p = subst (λ (x : EngineState). IsOnPlace x.rooms l.number l p) (sym c.self.view_is) c.requires.place in
+    (c.self.invariant.members.each l.number l p on).held
+
+pub rows_on-silenced-requires-clause-slots : goal.rows_on-silenced-requires-clause-slots
+rows_on-silenced-requires-clause-slots c seat h =
     let w = c.self.inside.rooms in
-    let found = ap (λ (x : EngineState). record_at x.rooms l.number) c.self.view_is ∙ c.requires.member in
-    let (number, is) = c.what_is_found_is_within_limits.ensures.termination w l.number l c.gateways_are_sound.ensures.sound found in
-    let slots = ap (λ (limits : Limits). limits.slots) c.self.invariant.limits in
+    let p = c.args.place in
+    let sound = c.gateways_are_sound.ensures.sound in
+    let (n, r, on) = c.self.invariant.members.nobody (beside p seat) (c.silenced.ensures.held seat h) in
+    let (number, limited) = c.what_is_found_is_within_limits.ensures.termination w n r sound on.found in
+    omega (arith, c.self.invariant.seats n r (beside p seat) on, limited.slot, sound.limits.0.few_slots)
+
+pub mix-requires : goal.mix-requires
+mix-requires c =
+    let k : EngineState = record { config = c.self.inside.config; rooms = c.self.inside.rooms; media = c.self.inside.media.items; flows = c.self.inside.flows; sums = c.self.inside.sums; shares = c.self.inside.shares } in
+    let l = c.args.listener.now in
+    let p = c.args.place in
+    let sound = c.gateways_are_sound.ensures.sound in
+    let on : IsOnPlace k.rooms l.number l p = subst (λ (x : EngineState). IsOnPlace x.rooms l.number l p) (sym c.self.view_is) c.requires.place in
+    let mask = c.silenced.result.now in
+    let (y, context, is) = seats_there l.seat (context_at k.rooms l.context) p on.place in
+    let own = c.own_row.ensures.value in
+    let rows = c.as_slice.ensures.value ∙ c.rows_on-silenced.ensures.value in
+    let out = left_out k c.self.inside.seating l p y mask sound c.self.invariant.members c.self.invariant.joined c.self.invariant.seats
+    (λ i d lt. c.each_is_found.ensures.number k.rooms i d sound lt)
+    (λ n r found. c.members_are_those_in_the_context.ensures.there k.rooms n r sound found)
+    (λ a b x z first second same. c.nothing_is_held_twice.ensures.room k.rooms a b x z sound first second same)
+    (λ a b x z first second same there. c.nothing_is_held_twice.ensures.seat k.rooms a b x z sound first second same there)
+    (λ n r found. (c.what_is_found_is_within_limits.ensures.termination k.rooms n r sound found).1.seat)
+    (λ i d lt. let (number, limited) = c.what_is_found_is_within_limits.ensures.termination k.rooms (get_or k.rooms.terminations i d).number (get_or k.rooms.terminations i d) sound (c.each_is_found.ensures.number k.rooms i d sound lt) in omega (arith, limited.slot, sound.limits.0.few_slots))
+    c.sums_are_valid.ensures.valid.rooms
+    (λ a b x z first second same. c.nothing_is_held_twice.ensures.slot k.rooms a b x z sound first second same)
+    context is on c.requires.listens c.silenced.ensures.kept c.silenced.ensures.held in
     record {
-      slot = omega (arith, is.slot, slots, c.self.invariant.media, ap (λ (ms : List media.SlotMedia). length ms) c.as_slice.ensures.value);
+      rows = subst (λ (room : ℕ). AreOfRoom k.sums.rooms room (left_out_by c.own_row.result c.as_slice.result.now)) (sym c.new.ensures)
+          (subst (λ (b : Option ℕ). AreOfRoom k.sums.rooms p.room (left_out_by b c.as_slice.result.now)) (sym own)
+          (subst (λ (m : List ℕ). AreOfRoom k.sums.rooms p.room (left_out_by (cond (talks l.mode) (Some l.slot) None) m)) (sym rows) out));
     }
 
-pub returns-then-is_loopback : goal.returns-then-is_loopback
-returns-then-is_loopback c =
-    let k : EngineState = record { config = c.self.inside.config; rooms = c.self.inside.rooms; media = c.self.inside.media.items; flows = c.self.inside.flows } in
+pub returns-clause-value : goal.returns-clause-value
+returns-clause-value c =
+    let k : EngineState = record { config = c.self.inside.config; rooms = c.self.inside.rooms; media = c.self.inside.media.items; flows = c.self.inside.flows; sums = c.self.inside.sums; shares = c.self.inside.shares } in
     let l = c.args.listener.now in
-    record {
-      value = c.own_frame.ensures.value
-          ∙ ap (λ (ms : List media.SlotMedia). map (sample_at ms l.slot) (range_with_len 0 160)) c.as_slice.ensures.value
-          ∙ ap (λ (b : Bool). map (λ i. cond b (sample_at k.media l.slot i) (limited (heard_now k l i))) (range_with_len 0 160)) (sym c.if-is_loopback.true ∙ c.is_loopback.ensures.value)
-          ∙ ap (λ (x : EngineState). mixed_now x l) c.self.view_is;
-    }
+    let p = c.args.place in
+    let sound = c.gateways_are_sound.ensures.sound in
+    let on : IsOnPlace k.rooms l.number l p = subst (λ (x : EngineState). IsOnPlace x.rooms l.number l p) (sym c.self.view_is) c.requires.place in
+    let mask = c.silenced.result.now in
+    let (y, context, is) = seats_there l.seat (context_at k.rooms l.context) p on.place in
+    let own = c.own_row.ensures.value in
+    let rows = c.as_slice.ensures.value ∙ c.rows_on-silenced.ensures.value in
+    let out = left_out k c.self.inside.seating l p y mask sound c.self.invariant.members c.self.invariant.joined c.self.invariant.seats
+    (λ i d lt. c.each_is_found.ensures.number k.rooms i d sound lt)
+    (λ n r found. c.members_are_those_in_the_context.ensures.there k.rooms n r sound found)
+    (λ a b x z first second same. c.nothing_is_held_twice.ensures.room k.rooms a b x z sound first second same)
+    (λ a b x z first second same there. c.nothing_is_held_twice.ensures.seat k.rooms a b x z sound first second same there)
+    (λ n r found. (c.what_is_found_is_within_limits.ensures.termination k.rooms n r sound found).1.seat)
+    (λ i d lt. let (number, limited) = c.what_is_found_is_within_limits.ensures.termination k.rooms (get_or k.rooms.terminations i d).number (get_or k.rooms.terminations i d) sound (c.each_is_found.ensures.number k.rooms i d sound lt) in omega (arith, limited.slot, sound.limits.0.few_slots))
+    c.sums_are_valid.ensures.valid.rooms
+    (λ a b x z first second same. c.nothing_is_held_twice.ensures.slot k.rooms a b x z sound first second same)
+    context is on c.requires.listens c.silenced.ensures.kept c.silenced.ensures.held in
+    let mixed = mix_is k c.self.inside.seating l p y mask sound c.self.invariant.members c.self.invariant.joined c.self.invariant.seats
+    (λ i d lt. c.each_is_found.ensures.number k.rooms i d sound lt)
+    (λ n r found. c.members_are_those_in_the_context.ensures.there k.rooms n r sound found)
+    (λ a b x z first second same. c.nothing_is_held_twice.ensures.room k.rooms a b x z sound first second same)
+    (λ a b x z first second same there. c.nothing_is_held_twice.ensures.seat k.rooms a b x z sound first second same there)
+    (λ n r found. (c.what_is_found_is_within_limits.ensures.termination k.rooms n r sound found).1.seat)
+    (λ i d lt. let (number, limited) = c.what_is_found_is_within_limits.ensures.termination k.rooms (get_or k.rooms.terminations i d).number (get_or k.rooms.terminations i d) sound (c.each_is_found.ensures.number k.rooms i d sound lt) in omega (arith, limited.slot, sound.limits.0.few_slots))
+    c.sums_are_valid.ensures.valid.rooms
+    (λ a b x z first second same. c.nothing_is_held_twice.ensures.slot k.rooms a b x z sound first second same)
+    context is on c.requires.listens c.silenced.ensures.kept c.silenced.ensures.held (λ i. c.total_is_left_out_and_heard.ensures k.sums p.room i _ out) in
+    let law = c.args.law in
+    c.mix.ensures.mix
+    ∙ ap (λ (room : ℕ). map (byte_of law) (mix_of k.sums room (left_out_by c.own_row.result c.as_slice.result.now))) c.new.ensures
+    ∙ ap (λ (b : Option ℕ). map (byte_of law) (mix_of k.sums p.room (left_out_by b c.as_slice.result.now))) own
+    ∙ ap (λ (m : List ℕ). map (byte_of law) (mix_of k.sums p.room (left_out_by (cond (talks l.mode) (Some l.slot) None) m))) rows
+    ∙ ap (λ (xs : List ℤ). map (byte_of law) xs) mixed
+    ∙ ap (λ (x : EngineState). map (byte_of law) (map (λ i. limited (heard_now x l i)) (range_with_len 0 160))) c.self.view_is
 
-pub returns : goal.returns
-returns c =
-    let k = c.args.self.now in
+pub returns-clause-work : goal.returns-clause-work
+returns-clause-work c =
+    let k : EngineState = record { config = c.self.inside.config; rooms = c.self.inside.rooms; media = c.self.inside.media.items; flows = c.self.inside.flows; sums = c.self.inside.sums; shares = c.self.inside.shares } in
     let l = c.args.listener.now in
-    record {
-      value = c.limit.ensures.value
-          ∙ ap (map limited) c.sum_heard.ensures.value
-          ∙ map-map limited (heard_now k l) (range_with_len 0 160)
-          ∙ ap (λ (b : Bool). map (λ i. cond b (sample_at k.media l.slot i) (limited (heard_now k l i))) (range_with_len 0 160)) (sym c.if-is_loopback.false ∙ c.is_loopback.ensures.value);
-    }
+    let p = c.args.place in
+    let sound = c.gateways_are_sound.ensures.sound in
+    let on : IsOnPlace k.rooms l.number l p = subst (λ (x : EngineState). IsOnPlace x.rooms l.number l p) (sym c.self.view_is) c.requires.place in
+    let mask = c.silenced.result.now in
+    let (y, context, is) = seats_there l.seat (context_at k.rooms l.context) p on.place in
+    let own = c.own_row.ensures.value in
+    let rows = c.as_slice.ensures.value ∙ c.rows_on-silenced.ensures.value in
+    let many = how_many k c.self.inside.seating l p y mask sound c.self.invariant.members c.self.invariant.joined c.self.invariant.seats
+    (λ i d lt. c.each_is_found.ensures.number k.rooms i d sound lt)
+    (λ n r found. c.members_are_those_in_the_context.ensures.there k.rooms n r sound found)
+    (λ a b x z first second same. c.nothing_is_held_twice.ensures.room k.rooms a b x z sound first second same)
+    (λ a b x z first second same there. c.nothing_is_held_twice.ensures.seat k.rooms a b x z sound first second same there)
+    (λ n r found. (c.what_is_found_is_within_limits.ensures.termination k.rooms n r sound found).1.seat)
+    (λ i d lt. let (number, limited) = c.what_is_found_is_within_limits.ensures.termination k.rooms (get_or k.rooms.terminations i d).number (get_or k.rooms.terminations i d) sound (c.each_is_found.ensures.number k.rooms i d sound lt) in omega (arith, limited.slot, sound.limits.0.few_slots))
+    c.sums_are_valid.ensures.valid.rooms
+    (λ a b x z first second same. c.nothing_is_held_twice.ensures.slot k.rooms a b x z sound first second same)
+    context is on c.requires.listens c.silenced.ensures.kept c.silenced.ensures.held in
+    let count = ap (λ (xs : List ℕ). length xs) rows ∙ many ∙ ap (λ (x : EngineState). silenced_now x l) c.self.view_is in
+    let old = ap (λ (x : EngineState). x.sums.work) c.self.view_is in
+    let now = ap (λ (s : SumsState). s.work) c.mix.ensures.kept in
+    (1 + length c.as_slice.result.now, omega (arith, count), omega (arith, old, now))

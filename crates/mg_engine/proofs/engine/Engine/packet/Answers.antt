@@ -1,5 +1,6 @@
-use Rattle.std.proofs.Common.{ℕ, ◌+◌, ◌%◌, ◌^◌, ◌<◌, length, List, get_or, sym, ap, ◌∙◌, arith}
+use Rattle.std.proofs.Common.{map, ℕ, ◌+◌, ◌%◌, ◌^◌, ◌<◌, length, List, get_or, sym, ap, ◌∙◌, arith}
 use Rattle.std.proofs.lemmas.List.{get_or_default}
+use Rattle.mg_g711.specs.Law.{byte_of}
 use Rattle.mg_rooms.specs.declared.limits.Limits.{Limits}
 use Rattle.mg_rooms.specs.Limits.{slot_port}
 use Rattle.mg_rooms.specs.Registry.{record_at}
@@ -10,9 +11,9 @@ use Rattle.mg_engine.specs.Stands.{EngineState}
 use Rattle.mg_engine.proofs.SendingLaws.{packet_is}
 use Rattle.mg_engine.proofs.engine.Engine.packet.Goals as goal
 
-pub returns : goal.returns
-returns c =
-    let k : EngineState = record { config = c.self.inside.config; rooms = c.self.inside.rooms; media = c.self.inside.media.items; flows = c.self.inside.flows } in
+pub returns-clause-value : goal.returns-clause-value
+returns-clause-value c =
+    let k : EngineState = record { config = c.self.inside.config; rooms = c.self.inside.rooms; media = c.self.inside.media.items; flows = c.self.inside.flows; sums = c.self.inside.sums; shares = c.self.inside.shares } in
     let r = c.args.sender.now in
     let to = c.args.to in
     let all = c.as_slice-media.ensures.value in
@@ -25,11 +26,10 @@ returns c =
     ∙ ap (λ (ms : List media.SlotMedia). get_or ms r.slot c.index-media-from.result) all
     ∙ get_or_default k.media r.slot c.index-media-from.result idle within in
     let port = c.slot_port.ensures.value ∙ ap (λ (l : Limits). slot_port l r.slot) (c.limits.ensures.value ∙ sym c.self.invariant.limits) in
-    let mixed = c.mix-frame.ensures.value ∙ ap (λ (x : EngineState). mixed_now x r) (sym c.self.view_is) in
+    let payload = c.requires.payload ∙ ap (λ (x : EngineState). map (byte_of to.law) (mixed_now x r)) (sym c.self.view_is) in
     let head = c.header-header.ensures.value ∙ ap (λ (t : ℕ). media.header c.index-media-from.result t ((k.config.ssrc + r.number) % 2 ^ 32)) c.payload_type.ensures.value in
-    let made = packet_is k r to c.slot_port.result c.write-bytes.result c.encode_frame.result c.header-header.result c.mix-frame.result c.index-media-from.result port c.write-bytes.ensures.bytes c.encode_frame.ensures mixed head place in record {
-      value = made ∙ ap (λ (x : EngineState). packet_now x r to) c.self.view_is;
-    }
+    let made = packet_is k r to c.slot_port.result c.write-bytes.result c.args.payload.now c.header-header.result c.index-media-from.result port c.write-bytes.ensures.bytes payload head place in
+    made ∙ ap (λ (x : EngineState). packet_now x r to) c.self.view_is
 
 pub slot_port-requires-clause-slot : goal.slot_port-requires-clause-slot
 slot_port-requires-clause-slot c =

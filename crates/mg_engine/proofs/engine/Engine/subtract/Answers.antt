@@ -1,4 +1,4 @@
-use Rattle.std.proofs.Common.{sym, ap, subst, ◌∙◌}
+use Rattle.std.proofs.Common.{arith, sym, ap, subst, ◌∙◌}
 use Rattle.std.specs.Option.{option_map}
 use Rattle.mg_rooms.specs.declared.record.Record.{Record}
 use Rattle.mg_rooms.specs.Outcome as commands
@@ -8,6 +8,9 @@ use Rattle.mg_engine.specs.Stands.{EngineState, StandsFor}
 use Rattle.mg_engine.proofs.OutcomeLaws.{subtract_removes}
 use Rattle.mg_engine.proofs.EditLaws.{whole_removed, removed_stands, gone}
 use Rattle.mg_engine.proofs.MemberLaws.{same_others, carry, hears_carry, has_left, hears_left, members_all, hears_all}
+use Rattle.mg_engine.specs.Work.{RisesAtMost}
+use Rattle.mg_engine.proofs.JoinedLaws.{joined_left}
+use Rattle.mg_engine.proofs.WorkLaws.{rises_less}
 use Rattle.mg_engine.proofs.PlaceLaws.{held_if, on_place}
 use Rattle.mg_engine.proofs.SeatingLaws.{carry_seats, seated_all}
 use Rattle.mg_engine.proofs.engine.Engine.subtract.Goals as goal
@@ -24,7 +27,7 @@ invariant_of-self-2 c =
     let n = c.args.number in
     let d = c.in_ok-done.done in
     let done = c.in_ok-done.ensures.outcome in
-    let k : EngineState = record { config = c.self.inside.config; rooms = c.self.inside.rooms; media = c.self.inside.media.items; flows = c.self.inside.flows } in
+    let k : EngineState = record { config = c.self.inside.config; rooms = c.self.inside.rooms; media = c.self.inside.media.items; flows = c.self.inside.flows; sums = c.self.inside.sums; shares = c.self.inside.shares } in
     let before = c.gateways_are_sound.ensures.sound in
     let sound = c.gateways_are_sound-2.ensures.sound in
     let a = subtract_removes old c.args.target n new d done in
@@ -35,7 +38,8 @@ invariant_of-self-2 c =
     let slot = c.slot_of-slot.ensures.value ∙ ap (option_map (λ (r : Record). r.slot)) a.there in
     let members = members_all new n c.vacate.new.flows (gone k new n d a before) (carry old new n c.vacate.new.flows same (has_left old n a.was from c.self.inside.flows c.vacate.new.flows (λ x y u v. c.nothing_is_held_twice.ensures.room old x y u v before) (λ x y u v. c.nothing_is_held_twice.ensures.seat old x y u v before) was left c.self.invariant.members)) in
     let seats = seated_all new n c.self.inside.seating (gone k new n d a before) (carry_seats old new n c.self.inside.seating same c.self.invariant.seats) in
-    whole_removed k new n d c.self.inside.ports c.self.inside.held.items c.leave.new.held.items c.vacate.new.flows c.self.inside.seating c.self.invariant a before (c.leave.ensures.value a.was.slot slot) members seats
+    let joined = joined_left old new n a.was c.self.inside.sums.rooms c.silence.new.sums.rooms (λ x y r s. c.nothing_is_held_twice.ensures.slot old x y r s before) same a.there (gone k new n d a before) (c.silence.ensures.joined a.was.slot slot) c.self.invariant.joined in
+    whole_removed k new n d c.self.inside.ports c.self.inside.held.items c.leave.new.held.items c.vacate.new.flows c.self.inside.seating c.silence.new.sums.rooms c.self.invariant a before (c.leave.ensures.value a.was.slot slot) members seats joined
 
 pub returns-clause-outcome : goal.returns-clause-outcome
 returns-clause-outcome c w h =
@@ -44,7 +48,7 @@ returns-clause-outcome c w h =
     let n = c.args.number in
     let d = c.in_ok-done.done in
     let done = c.in_ok-done.ensures.outcome in
-    let k : EngineState = record { config = c.self.inside.config; rooms = c.self.inside.rooms; media = c.self.inside.media.items; flows = c.self.inside.flows } in
+    let k : EngineState = record { config = c.self.inside.config; rooms = c.self.inside.rooms; media = c.self.inside.media.items; flows = c.self.inside.flows; sums = c.self.inside.sums; shares = c.self.inside.shares } in
     let before = c.gateways_are_sound.ensures.sound in
     let sound = c.gateways_are_sound-2.ensures.sound in
     let a = subtract_removes old c.args.target n new d done in
@@ -55,4 +59,9 @@ returns-clause-outcome c w h =
     let stands = subst (λ (x : EngineState). StandsFor x w) (sym c.self.view_is) h in
     let hears = hears_all new n c.vacate.new.flows w.edits (gone k new n d a before) (hears_carry old new n c.vacate.new.flows w.edits same (hears_left old n a.was from k.flows c.vacate.new.flows (λ x y u v. c.nothing_is_held_twice.ensures.room old x y u v before) (λ x y u v. c.nothing_is_held_twice.ensures.seat old x y u v before) was left w.edits stands.hears)) in
     let here = ap (λ (x : rooms.Registry). done_with (subtracted w) (commands.subtract x c.args.target n)) stands.rooms ∙ ap (done_with (subtracted w)) done in
-    (subtracted w new d, here, removed_stands k new c.vacate.new.flows w n d a before others.termination hears stands)
+    (subtracted w new d, here, removed_stands k new c.vacate.new.flows c.silence.new.sums w n d a before others.termination hears c.silence.ensures.frames stands)
+
+pub returns-clause-work : goal.returns-clause-work
+returns-clause-work c =
+    subst (λ (x : EngineState). RisesAtMost 4 x.sums.work c.silence.new.sums.work) c.self.view_is
+    (rises_less 2 4 c.self.inside.sums.work c.silence.new.sums.work (omega arith) c.silence.ensures.work)

@@ -1,0 +1,84 @@
+-- Sums over rows that are joined to a room, as sums over terminations.
+use Rattle.std.proofs.Common.{◌≡◌, ℕ, ◌<◌, ◌&&◌, eqb, Bool, true, false, cond, ℤ, pos, ◌+ℤ◌, List, [], ◌∷◌, length, map, get_or, Option, Some, None, refl, sym, ap, ◌∙◌, arith}
+use Rattle.std.specs.List.{count_by, range_with_len}
+use Rattle.std.proofs.lemmas.Bool.{eq-eqb}
+use Rattle.mg_words.specs.declared.mode.Mode.{Mode}
+use Rattle.mg_words.specs.Mode.{talks}
+use Rattle.mg_words.specs.Limits.{termination_limit}
+use Rattle.mg_rooms.specs.declared.record.Record.{Record}
+use Rattle.mg_rooms.specs.Consistent.{IsConsistent}
+use Rattle.mg_rooms.specs.Registry.{Registry}
+use Rattle.mg_flow.specs.declared.place.Place.{Place}
+use Rattle.mg_sums.specs.Samples as samples
+use Rattle.mg_sums.specs.Sums.{SumsState, sample_in, is_room, is_joined, joined_rows, total_of}
+use Rattle.mg_engine.specs.Mix.{sum_of}
+use Rattle.mg_engine.specs.aids.Joined.{AreJoined, room_at, room_for}
+use Rattle.mg_engine.specs.aids.Sending.{sample_at}
+use Rattle.mg_engine.proofs.SendingLaws.{nobody}
+use Rattle.mg_engine.proofs.SeatSums.{sum-cons, sum-nil, sum-filter, found_counts, seat_sums}
+
+rows-nil : {A : Type 0} (f : A → ℤ) → samples.sum_of f [] ≡ pos 0
+unfolding samples.sum_of
+rows-nil f = refl
+
+rows-cons : {A : Type 0} (f : A → ℤ) (x : A) (xs : List A) → samples.sum_of f (x ∷ xs) ≡ f x +ℤ samples.sum_of f xs
+unfolding samples.sum_of
+rows-cons f x xs = refl
+
+-- a sum of rows is a sum of samples
+pub same_sum : {A : Type 0} (f : A → ℤ) (xs : List A) → samples.sum_of f xs ≡ sum_of f xs
+same_sum f [] = rows-nil f ∙ sym (sum-nil f)
+same_sum f (x ∷ xs) = rows-cons f x xs ∙ ap (λ (z : ℤ). f x +ℤ z) (same_sum f xs) ∙ sym (sum-cons f x xs)
+
+pub sum-map : {A B : Type 0} (f : B → ℤ) (g : A → B) (xs : List A) → sum_of f (map g xs) ≡ sum_of (λ x. f (g x)) xs
+sum-map f g [] = sum-nil f ∙ sym (sum-nil (λ x. f (g x)))
+sum-map f g (x ∷ xs) = sum-cons f (g x) (map g xs) ∙ ap (λ (z : ℤ). f (g x) +ℤ z) (sum-map f g xs) ∙ sym (sum-cons (λ y. f (g y)) x xs)
+
+-- ## Rows that are joined to a room
+
+joined_by : (mode : Mode) (b : Bool) (at room : ℕ) → talks mode ≡ b → is_room (room_for mode at) room ≡ (b && eqb at room)
+joined_by mode true at room e = ap (λ (b : Bool). is_room (cond b (Some at) None) room) e
+joined_by mode false at room e = ap (λ (b : Bool). is_room (cond b (Some at) None) room) e
+
+-- the row of one on a place is joined to a room where it talks and the place is in it
+pub joined_is : (joined : List (Option ℕ)) (r : Record) (p : Place) (room : ℕ) → room_at joined r.slot ≡ room_for r.mode p.room → is_joined joined room r.slot ≡ (talks r.mode && eqb p.room room)
+joined_is joined r p room h = ap (λ (o : Option ℕ). is_room o room) h ∙ joined_by r.mode (talks r.mode) p.room room refl
+
+some_room : (o : Option ℕ) (room : ℕ) → is_room o room ≡ true → (at : ℕ) × (o ≡ Some at)
+some_room (Some at) room h = (at, refl)
+some_room None room h = absurd (cc h)
+
+abbrev pub Spots : Registry → Type 0
+Spots w = (i : ℕ) (d : Record) → i < length w.terminations → (get_or w.terminations i d).slot < termination_limit
+
+module _ (w : Registry) (kept : SumsState) (room i : ℕ) (sound : IsConsistent w) (joined : AreJoined w kept.rooms) (spots : Spots w) (long : length kept.rooms ≡ termination_limit) where
+  abbrev row_part : ℕ → ℤ
+  row_part row = cond (is_joined kept.rooms room row) (sample_at kept.frames row i) (pos 0)
+
+  abbrev pub joined_part : Record → ℤ
+  joined_part t = cond (is_joined kept.rooms room t.slot) (sample_at kept.frames t.slot i) (pos 0)
+
+  -- a row whose slot nobody holds is joined nowhere
+  silent_row : (row : ℕ) (b : Bool) → is_joined kept.rooms room row ≡ b → count_by (λ t. eqb t.slot row) w.terminations ≡ 0 → cond b (sample_at kept.frames row i) (pos 0) ≡ pos 0
+  silent_row row true e none =
+      let (at, is) = some_room (room_at kept.rooms row) room e in
+      let (n, r, p, on, slot) = joined.nobody row at is in
+      absurd (omega (arith, none, found_counts (λ t. eqb t.number n) (λ t. eqb t.slot row) r w.terminations on.found (eq-eqb r.slot row slot)))
+  silent_row row false e none = refl
+
+  total_by_rows : total_of kept room i ≡ sum_of row_part (range_with_len 0 termination_limit)
+  unfolding joined_rows
+  total_by_rows =
+      same_sum (sample_in kept.frames i) (joined_rows kept.rooms room)
+      ∙ sum-filter (is_joined kept.rooms room) (sample_in kept.frames i) (range_with_len 0 (length kept.rooms))
+      ∙ ap (λ (n : ℕ). sum_of row_part (range_with_len 0 n)) long
+
+  -- the total of a room is the sum over the terminations whose rows are joined to it
+  pub total_by_terminations : total_of kept room i ≡ sum_of joined_part w.terminations
+  total_by_terminations =
+      total_by_rows
+      ∙ seat_sums w.terminations (λ t. true) (λ t. t.slot) termination_limit row_part joined_part nobody
+      (λ j lt. spots j nobody lt)
+      (λ j lt. refl)
+      (λ row. sound.terminations.one_slot row)
+      (λ row none. silent_row row (is_joined kept.rooms room row) refl none)

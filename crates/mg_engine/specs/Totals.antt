@@ -1,0 +1,16 @@
+-- What the kept frames and totals say of a world (this project's own).
+use Rattle.std.specs.Prelude.{◌≡◌, ℕ, ◌<◌, Some}
+use Rattle.mg_rooms.specs.declared.context.Context.{Context}
+use Rattle.mg_rooms.specs.declared.record.Record.{Record}
+use Rattle.mg_rooms.specs.Registry.{record_at, context_at}
+use Rattle.mg_sums.specs.Sums as sums
+use Rattle.mg_engine.specs.Gateway.{Gateway, frame_of}
+use Rattle.mg_engine.specs.Mix.{total}
+
+-- The frame in the row of each termination's slot is the one that it plays in this tick. The total
+-- of each context's room is the sum over those of its members who talk.
+pub record TellsTotals (w : Gateway) (kept : sums.SumsState) : Type 0 where
+  pub frames : (n : ℕ) (r : Record) → record_at w.rooms n ≡ Some r
+      → sums.frame_of kept r.slot ≡ frame_of w n
+  pub totals : (c i : ℕ) (x : Context) → context_at w.rooms c ≡ Some x → i < 160
+      → sums.total_of kept x.room i ≡ total w c i

@@ -1,0 +1,76 @@
+-- The packets of a tick that lend their payloads, by room.
+use Rattle.std.specs.Prelude.{◌≡◌, ℕ, ℤ, pos, ◌<◌, ◌&&◌, ◌==◌, Bool, false, List, [], ◌∷◌, ◌++◌}
+use Rattle.std.specs.Prelude.{All, length, nat_lt, map, drop, slice_index_or, slice_set}
+use Rattle.std.specs.Prelude.{Option, Some, None, if◌then◌else◌}
+use Rattle.std.specs.List.{range_with_len}
+use Rattle.mg_words.specs.Limits.{member_limit}
+use Rattle.mg_topology.specs.Mask.{has_seat}
+use Rattle.mg_g711.specs.declared.law.Law.{Law}
+use Rattle.mg_g711.specs.declared.law.Law.TheVariants.{Mu}
+use Rattle.mg_g711.specs.Law.{byte_of}
+use Rattle.mg_rooms.specs.declared.record.Record.{Record}
+use Rattle.mg_rooms.specs.Registry as rooms
+use Rattle.mg_flow.specs.declared.place.Place.{Place}
+use Rattle.mg_engine.specs.declared.datagram.Datagram.{Datagram}
+use Rattle.mg_engine.specs.declared.share.Share.{Share}
+use Rattle.mg_engine.specs.Datagram.{blank}
+use Rattle.mg_engine.specs.Mixing.{limited}
+use Rattle.mg_engine.specs.Mix.{sum_of}
+use Rattle.mg_engine.specs.Place.{place_of}
+use Rattle.mg_engine.specs.Stands.{EngineState}
+use Rattle.mg_engine.specs.aids.Sending.{sample_at}
+
+abbrev pub first_share : Share
+first_share = record { talkers = 0; law = Mu; packet = 0 }
+
+-- those of a room
+abbrev pub shares_in : List (List Share) → ℕ → List Share
+shares_in shares room = slice_index_or shares room []
+
+-- one more in a room, if there is a place for it
+abbrev pub one_more : List Share → Share → List Share
+one_more shares share =
+    if nat_lt (length shares) member_limit then shares ++ share ∷ [] else shares
+
+abbrev pub with_share : List (List Share) → ℕ → Share → List (List Share)
+with_share shares room share = slice_set shares room (one_more (shares_in shares room) share)
+
+-- ## What those on some seats of a room say
+
+abbrev pub is_seated_in : ℕ → ℕ → Option Place → Bool
+is_seated_in room mask None = false
+is_seated_in room mask (Some p) = (p.room == room) && has_seat mask p.seat
+
+-- whether a termination is on one of the seats
+abbrev pub sits_among : rooms.Registry → ℕ → ℕ → Record → Bool
+sits_among w room mask t = is_seated_in room mask (place_of w t)
+
+abbrev pub heard_on : EngineState → ℕ → ℕ → ℕ → ℤ
+heard_on k room mask i =
+    sum_of
+    (λ t. if sits_among k.rooms room mask t then sample_at k.sums.frames t.slot i else pos 0)
+    k.rooms.terminations
+
+-- the payload for one who hears them
+abbrev pub payload_on : EngineState → ℕ → ℕ → Law → List ℕ
+payload_on k room mask law =
+    map (byte_of law) (map (λ i. limited (heard_on k room mask i)) (range_with_len 0 160))
+
+-- ## Payloads that are lent
+
+abbrev pub packet_at : List Datagram → ℕ → Datagram
+packet_at outbox i = slice_index_or outbox i blank
+
+-- what stands after the header of a packet
+abbrev pub payload_of : Datagram → List ℕ
+payload_of datagram = drop 12 datagram.bytes
+
+-- a packet of the outbox has the payload that it lends
+pub record IsShared (k : EngineState) (outbox : List Datagram) (room : ℕ) (share : Share)
+    : Type 0 where
+  pub sent : share.packet < length outbox
+  pub payload : payload_of (packet_at outbox share.packet)
+      ≡ payload_on k room share.talkers share.law
+
+abbrev pub AreShared : EngineState → List Datagram → Type 0
+AreShared k outbox = (room : ℕ) → All (IsShared k outbox room) (shares_in k.shares room)

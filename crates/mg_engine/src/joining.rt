@@ -1,0 +1,73 @@
+//! Which rows are joined to the rooms of contexts: those of the members who talk.
+
+ghost use Rattle.std.specs.Prelude.{◌≡◌, ◌<◌, ◌↔◌, IsTrue, None, Some};
+ghost use Rattle.mg_words.specs.Limits.{context_limit, termination_limit};
+ghost use Rattle.mg_sums.specs.Sums.{room_of};
+ghost use Rattle.mg_engine.specs.Work.{RisesAtMost};
+ghost use Rattle.mg_engine.specs.aids.Joined.{SetsRow, room_for};
+
+use mg_rooms::{Mode, mode_talks};
+use mg_sums::laws::sums_are_valid;
+use mg_sums::{Room, Row, Sums};
+
+/// The room that the row of one who is in a room with a mode is joined to: that one, if it talks.
+fn room_for(mode: Mode, room: u8) -> Option<Room>
+    requires room { room < context_limit }
+    ensures value { result ≡ room_for mode room }
+{
+    if mode_talks(mode) {
+        Some(Room::new(room))
+    } else {
+        None
+    }
+}
+
+/// Whether they are the same room, or both none.
+fn is_same(a: Option<Room>, b: Option<Room>) -> bool
+    ensures value { IsTrue result ↔ (a ≡ b) }
+{
+    match (a, b) {
+        (Some(a), Some(b)) => a.number() == b.number(),
+        (None, None) => true,
+        _ => false,
+    }
+}
+
+/// A row is joined to no room from then on.
+pub fn part(sums: &mut Sums, row: Row)
+    ensures rooms { SetsRow sums.old.rooms sums.new.rooms row None }
+    ensures frames { sums.new.frames ≡ sums.old.frames }
+    ensures work { RisesAtMost 1 sums.old.work sums.new.work }
+{
+    sums_are_valid(sums);
+    if let Some(room) = sums.room(row) {
+        sums.leave(room, row);
+    }
+}
+
+/// A row that is joined to none is joined to a room from then on, if there is one.
+fn join(sums: &mut Sums, row: Row, room: Option<Room>)
+    requires free { room_of sums.old row ≡ None }
+    ensures rooms { SetsRow sums.old.rooms sums.new.rooms row room }
+    ensures frames { sums.new.frames ≡ sums.old.frames }
+    ensures work { RisesAtMost 1 sums.old.work sums.new.work }
+{
+    sums_are_valid(sums);
+    if let Some(room) = room {
+        sums.join(room, row);
+    }
+}
+
+/// The row of one who is in a room with a mode is joined to that room alone, if it talks.
+pub fn join_if_talking(sums: &mut Sums, row: Row, room: u8, mode: Mode)
+    requires room { room < context_limit }
+    ensures rooms { SetsRow sums.old.rooms sums.new.rooms row (room_for mode room) }
+    ensures frames { sums.new.frames ≡ sums.old.frames }
+    ensures work { RisesAtMost 2 sums.old.work sums.new.work }
+{
+    if is_same(sums.room(row), room_for(mode, room)) {
+        return;
+    }
+    part(sums, row);
+    join(sums, row, room_for(mode, room));
+}

@@ -1,0 +1,29 @@
+use mg_g711::Law;
+use mg_topology::mask::Mask;
+
+/// A packet of this tick that lends its payload to listeners of its room who are sent the same.
+#[derive(Clone, Copy, Debug, PartialEq, Eq)]
+pub struct Share {
+    /// The seats of those whose speech goes to its listener.
+    pub talkers: Mask,
+    /// The law of its payload.
+    pub law: Law,
+    /// Where it stands in the outbox.
+    pub packet: u8,
+}
+
+/// The first packet of an outbox, to one who hears nobody.
+impl Default for Share {
+    ghost use Rattle.std.specs.Prelude.{◌≡◌};
+    ghost use Rattle.mg_engine.specs.aids.Shares.{first_share};
+
+    ghost is_default = { λ share. share ≡ first_share };
+
+    fn default() -> Self {
+        Share {
+            talkers: 0,
+            law: Law::Mu,
+            packet: 0,
+        }
+    }
+}

@@ -1,7 +1,8 @@
 #!/bin/sh
 # Proves, builds and runs the program FOLDER/main.rt.in over crates of this repository. Needs rt.
 # usage: program.sh FOLDER CRATE ..
-# What it builds stands in a folder of its own that is removed at the end.
+# What it builds stands in a folder of its own that is removed at the end. It is run TURNS times (1 by default), on one
+# processor, each time followed by the program BESIDE, if there is one.
 set -eu
 folder=$1
 shift
@@ -20,4 +21,8 @@ cp "$folder/main.rt.in" "$work/crates/bench/src/main.rt"
 cp "$root/crates.txt" "$work/"
 echo "bench: $*" >> "$work/crates.txt"
 cd "$work/crates/bench"
-rt run 2> "$work/log" || { tail -n 20 "$work/log" >&2; exit 1; }
+rt run > /dev/null 2> "$work/log" || { tail -n 20 "$work/log" >&2; exit 1; }
+for _ in $(seq "${TURNS:-1}"); do
+    taskset -c 0 out/bench
+    [ -z "${BESIDE:-}" ] || taskset -c 0 "$BESIDE"
+done

@@ -1,4 +1,10 @@
 #!/bin/sh
-# Measures a tick of a bridge and the arrival of a packet, and prints nanoseconds. Run it from anywhere.
+# Measures a tick of a bridge and the arrival of a packet, beside the same by hand in C, and prints nanoseconds.
+# usage: run.sh [TURNS]
+# It needs rt and gcc.
+set -eu
 here=$(CDPATH= cd -- "$(dirname -- "$0")" && pwd)
-exec "$here/../program.sh" "$here" mg_core mg_rtp
+work=$(mktemp -d)
+trap 'rm -rf "$work"' EXIT
+gcc -O3 -march=x86-64-v2 -Wall -Wextra -o "$work/kept" "$here/kept.c"
+BESIDE=$work/kept TURNS=${1:-5} "$here/../program.sh" "$here" mg_core mg_rtp

@@ -13,11 +13,11 @@ use Rattle.mg_topology.specs.Triple.{lets}
 use Rattle.mg_words.specs.Mode.{talks, listens}
 use Rattle.mg_words.specs.declared.association.Association.TheVariants.{Isolate}
 use Rattle.mg_rooms.specs.declared.record.Record.{Record}
+use Rattle.mg_sums.specs.Samples.{sum_of, nearest_sample}
 use Rattle.mg_engine.specs.declared.datagram.Datagram.{Datagram}
 use Rattle.mg_engine.specs.Gateway.{Gateway, TerminationMedia, ContextEdit, Enter, Leave, Apply, media_of, frame_of, frame_in, mode_of, context_of}
 use Rattle.mg_engine.specs.Flow.{flow, leads, speaks_of, lets_hear}
-use Rattle.mg_engine.specs.Mix.{sum_of, sample_of, part_of_mix, heard, mix, mixed, is_loopback}
-use Rattle.mg_engine.specs.Mixing.{limited}
+use Rattle.mg_engine.specs.Mix.{sample_of, part_of_mix, heard, mix, mixed, is_loopback}
 use Rattle.mg_engine.specs.Tick.{packet, packet_to, header_of, sent_to}
 use Rattle.mg_engine.specs.Isolation.{NobodyHearsHimself, leaves_isolated, IsolatedAreNotHeard, replayed, with_frame, UnheardChangesNoPacket, PayloadsAreMixes}
 
@@ -146,9 +146,9 @@ module _ (t : ℕ) (frame : List ℤ) where
     apart true h = h
     apart false h = refl
 
-    cases : (b : Bool) → is_loopback (mode_of w n) ≡ b → (if b then sample_of (with_frame w t frame) n i else limited (heard (with_frame w t frame) n i)) ≡ (if b then sample_of w n i else limited (heard w n i))
+    cases : (b : Bool) → is_loopback (mode_of w n) ≡ b → (if b then sample_of (with_frame w t frame) n i else nearest_sample (heard (with_frame w t frame) n i)) ≡ (if b then sample_of w n i else nearest_sample (heard w n i))
     cases true e = sample_stays w n i (apart (eqb n t) (ap (λ (x : Bool). eqb n t && x) (sym e) ∙ other))
-    cases false e = ap limited (sum_stays (part_of_mix (with_frame w t frame) n i) (part_of_mix w n i) _ (λ k. part_stays w n i k none))
+    cases false e = ap nearest_sample (sum_stays (part_of_mix (with_frame w t frame) n i) (part_of_mix w n i) _ (λ k. part_stays w n i k none))
 
   map_stays : (f g : ℕ → ℤ) (xs : List ℕ) → ((k : ℕ) → f k ≡ g k) → map f xs ≡ map g xs
   map_stays f g [] same = refl

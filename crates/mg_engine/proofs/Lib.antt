@@ -15,6 +15,8 @@ pub mod SeatSums
 pub mod SendingLaws
 pub mod KeyLaws
 pub mod GatewayLaws
+pub mod HeldLaws
+pub mod OutboxLaws
 pub mod FlowLaws
 pub mod SentLaws
 pub mod TickLaws

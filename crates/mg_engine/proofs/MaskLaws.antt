@@ -1,5 +1,5 @@
 -- Sums over the seats of a mask, as sums over the terminations that are on them.
-use Rattle.std.proofs.Common.{◌≡◌, ℕ, ◌<◌, ◌≤◌, ◌&&◌, eqb, Bool, true, false, cond, ℤ, pos, List, map, length, get_or, inl, inr, Option, Some, None, refl, sym, ap, ◌∙◌, arith}
+use Rattle.std.proofs.Common.{◌≡◌, ℕ, ◌<◌, ◌≤◌, ◌&&◌, eqb, Bool, true, false, cond, ℤ, pos, List, map, get_or, inl, inr, Option, Some, None, refl, sym, ap, ◌∙◌, arith}
 use Rattle.std.specs.Prelude.{IsTrue, IsSome}
 use Rattle.std.specs.List.{count_by, range_with_len}
 use Rattle.std.specs.Option.{option_map}
@@ -14,19 +14,19 @@ use Rattle.mg_rooms.specs.Consistent.{IsConsistent}
 use Rattle.mg_flow.specs.declared.place.Place.{Place}
 use Rattle.mg_flow.specs.Place.{beside}
 use Rattle.mg_flow.specs.Table as flow
+use Rattle.mg_sums.specs.Samples.{sum_of, nearest_sample}
+use Rattle.mg_sums.proofs.SumLemmas.{sum_of-same}
 use Rattle.mg_engine.specs.Place.{place_of, IsOnPlace}
-use Rattle.mg_engine.specs.Mix.{sum_of}
 use Rattle.mg_engine.specs.aids.Seating.{slot_at, AreSeated}
 use Rattle.mg_engine.specs.aids.Sending.{sample_at, flows_between, heard_now}
 use Rattle.mg_engine.specs.aids.Shares.{is_seated_in, sits_among, heard_on, payload_on}
-use Rattle.mg_engine.specs.Mixing.{limited}
 use Rattle.mg_g711.specs.declared.law.Law.{Law}
 use Rattle.mg_g711.specs.Law.{byte_of}
 use Rattle.mg_engine.proofs.SumLaws.{map-cong}
 use Rattle.mg_engine.specs.Stands.{EngineState}
 use Rattle.mg_engine.proofs.SendingLaws.{nobody}
 use Rattle.mg_engine.proofs.PlaceLaws.{ByNumber, HaveContexts, OneRoom, seated, place, hears_apart, no_hearing}
-use Rattle.mg_engine.proofs.SeatSums.{sum-same, sum-seats_of, found_counts, seat_sums}
+use Rattle.mg_engine.proofs.SeatSums.{sum-seats_of, found_counts, seat_sums}
 
 -- ## Places
 
@@ -72,13 +72,13 @@ module _ (k : EngineState) (l : Record) (p : Place) (mask : ℕ) (on : place_of 
 
   -- it is what those on the open seats say
   pub heard_is_on : (i : ℕ) → heard_now k l i ≡ heard_on k p.room mask i
-  heard_is_on i = sum-same _ _ k.rooms.terminations (λ t.
+  heard_is_on i = sum_of-same _ _ k.rooms.terminations (λ t.
       ap (λ (o : Option Place). cond (flows_between k.flows (place_of k.rooms t) o) (sample_at k.sums.frames t.slot i) (pos 0)) on
       ∙ ap (λ (b : Bool). cond b (sample_at k.sums.frames t.slot i) (pos 0)) (flows_by (place_of k.rooms t)))
 
   -- and the payload is that of them
-  pub payload_is_on : (law : Law) → map (byte_of law) (map (λ i. limited (heard_now k l i)) (range_with_len 0 160)) ≡ payload_on k p.room mask law
-  payload_is_on law = ap (λ (xs : List ℤ). map (byte_of law) xs) (map-cong (λ i. limited (heard_now k l i)) (λ i. limited (heard_on k p.room mask i)) (range_with_len 0 160) (λ i. ap limited (heard_is_on i)))
+  pub payload_is_on : (law : Law) → map (byte_of law) (map (λ i. nearest_sample (heard_now k l i)) (range_with_len 0 160)) ≡ payload_on k p.room mask law
+  payload_is_on law = ap (λ (xs : List ℤ). map (byte_of law) xs) (map-cong (λ i. nearest_sample (heard_now k l i)) (λ i. nearest_sample (heard_on k p.room mask i)) (range_with_len 0 160) (λ i. ap nearest_sample (heard_is_on i)))
 
 -- ## Sums over seats
 

@@ -1,33 +1,31 @@
 -- A total without the listener itself and those silenced for it is what the listener hears.
-use Rattle.std.proofs.Common.{◌≡◌, ◌≢◌, ℕ, ◌+◌, ◌<◌, ◌≤◌, ◌&&◌, not, eqb, Bool, true, false, cond, ℤ, pos, ◌+ℤ◌, List, [], ◌∷◌, length, map, get_or, Option, Some, None, refl, sym, ap, subst, ◌∙◌, arith}
+use Rattle.std.proofs.Common.{◌≡◌, ◌≢◌, ℕ, ◌+◌, ◌<◌, ◌&&◌, not, eqb, Bool, true, false, cond, ℤ, pos, ◌+ℤ◌, List, [], ◌∷◌, length, map, get_or, Option, Some, None, refl, sym, ap, ◌∙◌, arith}
 use Rattle.std.specs.Prelude.{IsTrue, All, AllPairs}
-use Rattle.std.specs.List.{count_by, range_with_len, filter}
+use Rattle.std.specs.List.{count_by, range_with_len}
 use Rattle.std.proofs.lemmas.Int.{ints}
-use Rattle.std.proofs.lemmas.Bool.{eqb-true, eq-eqb, ne_eqb}
+use Rattle.std.proofs.lemmas.Bool.{eqb-true, eq-eqb}
 use Rattle.std.proofs.lemmas.Bool.Decides.{nat_tests}
 use Rattle.std.proofs.lemmas.List.{get_or-map, length-map}
-use Rattle.std.proofs.lemmas.List.Elements.{All-cons, All-map, All-filter, filter_passes, All-weaker}
+use Rattle.std.proofs.lemmas.List.Elements.{All-cons, All-map, filter_passes, All-weaker}
 use Rattle.std.proofs.lemmas.List.FromFn.{length-range_with_len, get_or-range_with_len}
 use Rattle.std.proofs.lemmas.List.Kept.{AllPairs-cons, AllPairs-filter}
-use Rattle.std.proofs.lemmas.List.Sums.{sum_by-cons, length-filter}
+use Rattle.std.proofs.lemmas.List.Sums.{sum_by-cons}
 use Rattle.mg_words.specs.Mode as mode
 use Rattle.mg_words.specs.Limits.{termination_limit}
 use Rattle.mg_topology.specs.Mask.{seat_limit, has_seat, seats_of}
 use Rattle.mg_rooms.specs.declared.context.Context.{Context}
 use Rattle.mg_rooms.specs.declared.record.Record.{Record}
 use Rattle.mg_rooms.specs.Consistent.{IsConsistent}
-use Rattle.mg_rooms.specs.Registry as rooms
 use Rattle.mg_rooms.specs.Registry.{record_at, context_at}
 use Rattle.mg_flow.specs.declared.place.Place.{Place}
 use Rattle.mg_flow.specs.Place.{beside}
 use Rattle.mg_flow.specs.Table as flow
-use Rattle.mg_sums.specs.Samples as samples
-use Rattle.mg_sums.specs.Sums.{SumsState, AreOfRoom, sample_in, is_joined, total_of, heard_of, left_out_by, mix_of}
-use Rattle.mg_engine.specs.Mixing.{limited}
-use Rattle.mg_engine.specs.Mix.{sum_of}
+use Rattle.mg_sums.specs.Sums.{AreOfRoom, sample_in, is_joined, total_of, heard_of, left_out_by, mix_of}
+use Rattle.mg_sums.specs.Samples.{sum_of, nearest_sample}
+use Rattle.mg_sums.proofs.SumLemmas.{sum_of-cons, sum_of-map, sum_of-nil, sum_of-none, sum_of-plus, sum_of-same}
 use Rattle.mg_engine.specs.Place.{place_of, IsOnPlace}
 use Rattle.mg_engine.specs.Stands.{EngineState, ShareContext}
-use Rattle.mg_engine.specs.aids.Joined.{AreJoined, room_at, room_for}
+use Rattle.mg_engine.specs.aids.Joined.{AreJoined}
 use Rattle.mg_engine.specs.aids.Members.{HasMembers}
 use Rattle.mg_engine.specs.aids.Seating.{slot_at, AreSeated}
 use Rattle.mg_engine.specs.aids.Sending.{sample_at, flows_between, is_silenced_between, part_now, heard_now, silenced_now}
@@ -35,9 +33,9 @@ use Rattle.mg_engine.specs.aids.Shares.{sits_among, is_seated_in}
 use Rattle.mg_engine.proofs.FlowLaws.{nobody_hears_itself, silenced_apart, not_itself}
 use Rattle.mg_engine.proofs.MaskLaws.{SeatWithin, flows_apart, seated_is, sum_on_seats}
 use Rattle.mg_engine.proofs.MemberLaws.{seats_differ, unequal}
-use Rattle.mg_engine.proofs.PlaceLaws.{ByNumber, HaveContexts, OneRoom, OneSeat, seated, no_hearing, one_record, one_place, one_member, on_place, in_one_context}
-use Rattle.mg_engine.proofs.RowSums.{Spots, same_sum, sum-map, joined_is, total_by_terminations}
-use Rattle.mg_engine.proofs.SeatSums.{sum-same, sum-none, sum-plus, sum-cons, sum-nil, one_passes, found_counts}
+use Rattle.mg_engine.proofs.PlaceLaws.{ByNumber, HaveContexts, OneRoom, OneSeat, seated, no_hearing, one_record, one_place, on_place, in_one_context}
+use Rattle.mg_engine.proofs.RowSums.{Spots, joined_is, total_by_terminations}
+use Rattle.mg_engine.proofs.SeatSums.{one_passes, found_counts}
 use Rattle.mg_engine.proofs.SendingLaws.{nobody}
 use Rattle.mg_engine.proofs.SumLaws.{sum-cong, map-cong}
 
@@ -92,17 +90,17 @@ mapped_apart f P xs all inj apart i j d lt within same =
 
 -- as many as there are
 ones : {A : Type 0} (xs : List A) → sum_of (λ x. pos 1) xs ≡ pos (length xs)
-ones [] = sum-nil (λ x. pos 1)
-ones (x ∷ xs) = sum-cons (λ y. pos 1) x xs ∙ omega (arith, ints, ones xs)
+ones [] = sum_of-nil (λ x. pos 1)
+ones (x ∷ xs) = sum_of-cons (λ y. pos 1) x xs ∙ omega (arith, ints, ones xs)
 
 one_more : (b : Bool) (n : ℕ) (rest : ℤ) → rest ≡ pos n → cond b (pos 1) (pos 0) +ℤ rest ≡ pos (cond b 1 0 + n)
 one_more true n rest e = omega (arith, ints, e)
 one_more false n rest e = omega (arith, ints, e)
 
 counted_ones : {A : Type 0} (p : A → Bool) (xs : List A) → sum_of (λ x. cond (p x) (pos 1) (pos 0)) xs ≡ pos (count_by p xs)
-counted_ones p [] = sum-nil (λ x. cond (p x) (pos 1) (pos 0))
+counted_ones p [] = sum_of-nil (λ x. cond (p x) (pos 1) (pos 0))
 counted_ones p (x ∷ xs) =
-    sum-cons (λ y. cond (p y) (pos 1) (pos 0)) x xs
+    sum_of-cons (λ y. cond (p y) (pos 1) (pos 0)) x xs
     ∙ one_more (p x) (count_by p xs) (sum_of (λ y. cond (p y) (pos 1) (pos 0)) xs) (counted_ones p xs)
     ∙ ap (λ (n : ℕ). pos n) (sym (sum_by-cons (λ y. cond (p y) 1 0) x xs))
 
@@ -192,7 +190,7 @@ module _ (k : EngineState) (seating : List ℕ) (l : Record) (p : Place) (y : Co
       ∙ same_number (length (seats_of mask)) (silenced_now k l)
       (sym (ones (seats_of mask))
       ∙ sum_on_seats k.rooms seating l p y mask sound seats by_number there one_room within context is held (λ slot. pos 1)
-      ∙ sum-same (λ (t : Record). cond (sits_among k.rooms p.room mask t) (pos 1) (pos 0)) (λ (t : Record). cond (is_silenced_between k.flows (place_of k.rooms t) (place_of k.rooms l)) (pos 1) (pos 0)) k.rooms.terminations
+      ∙ sum_of-same (λ (t : Record). cond (sits_among k.rooms p.room mask t) (pos 1) (pos 0)) (λ (t : Record). cond (is_silenced_between k.flows (place_of k.rooms t) (place_of k.rooms l)) (pos 1) (pos 0)) k.rooms.terminations
       (λ t. ap (λ (b : Bool). cond b (pos 1) (pos 0)) (silenced_is (place_of k.rooms t) ∙ ap (λ (o : Option Place). is_silenced_between k.flows (place_of k.rooms t) o) (sym on.place)))
       ∙ counted_ones (λ (t : Record). is_silenced_between k.flows (place_of k.rooms t) (place_of k.rooms l)) k.rooms.terminations)
 
@@ -274,24 +272,24 @@ module _ (k : EngineState) (seating : List ℕ) (l : Record) (p : Place) (y : Co
           own_at : (t : Record) → record_at k.rooms t.number ≡ Some t → (b : Bool) → eqb t.number l.number ≡ b → cond (b && true) (sample_of t) (pos 0) ≡ cond b (sample_at k.sums.frames l.slot i) (pos 0)
           own_at t found true e = ap (λ (x : Record). sample_of x) (one_record k.rooms t.number l.number t l found on.found (eqb-true t.number l.number e))
           own_at t found false e = refl
-    own_by false = sum-none (λ (t : Record). cond (eqb t.number l.number && false) (sample_of t) (pos 0)) k.rooms.terminations (λ t. ap (λ (b : Bool). cond b (sample_of t) (pos 0)) (and_false (eqb t.number l.number)))
+    own_by false = sum_of-none (λ (t : Record). cond (eqb t.number l.number && false) (sample_of t) (pos 0)) k.rooms.terminations (λ t. ap (λ (b : Bool). cond b (sample_of t) (pos 0)) (and_false (eqb t.number l.number)))
 
-    out_sum : (b : Bool) → samples.sum_of (sample_in k.sums.frames i) (left_out_by (cond b (Some l.slot) None) minus) ≡ cond b (sample_at k.sums.frames l.slot i) (pos 0) +ℤ sum_of (sample_in k.sums.frames i) minus
-    out_sum true = same_sum (sample_in k.sums.frames i) (l.slot ∷ minus) ∙ sum-cons (sample_in k.sums.frames i) l.slot minus
-    out_sum false = same_sum (sample_in k.sums.frames i) minus ∙ omega (arith, ints)
+    out_sum : (b : Bool) → sum_of (sample_in k.sums.frames i) (left_out_by (cond b (Some l.slot) None) minus) ≡ cond b (sample_at k.sums.frames l.slot i) (pos 0) +ℤ sum_of (sample_in k.sums.frames i) minus
+    out_sum true = sum_of-cons (sample_in k.sums.frames i) l.slot minus
+    out_sum false = omega (arith, ints)
 
     silenced_sum : sum_of (sample_in k.sums.frames i) minus ≡ sum_of silenced_part k.rooms.terminations
     silenced_sum =
-        sum-map (sample_in k.sums.frames i) row_on (seats_of mask)
+        sum_of-map (sample_in k.sums.frames i) row_on (seats_of mask)
         ∙ sum_on_seats k.rooms seating l p y mask sound seats by_number there one_room within context is held (λ slot. sample_at k.sums.frames slot i)
 
-    total_splits : total_of k.sums p.room i ≡ samples.sum_of (sample_in k.sums.frames i) (left_out_by base minus) +ℤ heard_now k l i
+    total_splits : total_of k.sums p.room i ≡ sum_of (sample_in k.sums.frames i) (left_out_by base minus) +ℤ heard_now k l i
     total_splits =
         let rs = k.rooms.terminations in
         let all = total_by_terminations k.rooms k.sums p.room i sound joined spots long in
         let parted = sum-cong total_part (λ (t : Record). (own_part t +ℤ silenced_part t) +ℤ part_now k l i t) rs nobody (λ j lt. split (get_or rs j nobody) (by_number j nobody lt)) in
-        let first = sum-plus (λ (t : Record). (own_part t +ℤ silenced_part t) +ℤ part_now k l i t) (λ (t : Record). own_part t +ℤ silenced_part t) (part_now k l i) rs (λ t. refl) in
-        let second = sum-plus (λ (t : Record). own_part t +ℤ silenced_part t) own_part silenced_part rs (λ t. refl) in
+        let first = sum_of-plus (λ (t : Record). (own_part t +ℤ silenced_part t) +ℤ part_now k l i t) (λ (t : Record). own_part t +ℤ silenced_part t) (part_now k l i) rs (λ t. refl) in
+        let second = sum_of-plus (λ (t : Record). own_part t +ℤ silenced_part t) own_part silenced_part rs (λ t. refl) in
         let own = own_by (mode.talks l.mode) in
         let out = out_sum (mode.talks l.mode) in
         all ∙ parted ∙ first
@@ -301,8 +299,8 @@ module _ (k : EngineState) (seating : List ℕ) (l : Record) (p : Place) (y : Co
   same_rest a b c d e f = omega (arith, ints, e, f)
 
   -- what is left of the total is what the listener hears
-  pub mix_is : ((i : ℕ) → total_of k.sums p.room i ≡ samples.sum_of (sample_in k.sums.frames i) (left_out_by base minus) +ℤ heard_of k.sums p.room (left_out_by base minus) i)
-      → mix_of k.sums p.room (left_out_by base minus) ≡ map (λ i. limited (heard_now k l i)) (range_with_len 0 160)
+  pub mix_is : ((i : ℕ) → total_of k.sums p.room i ≡ sum_of (sample_in k.sums.frames i) (left_out_by base minus) +ℤ heard_of k.sums p.room (left_out_by base minus) i)
+      → mix_of k.sums p.room (left_out_by base minus) ≡ map (λ i. nearest_sample (heard_now k l i)) (range_with_len 0 160)
   unfolding mix_of
-  mix_is law = map-cong (λ i. limited (heard_of k.sums p.room (left_out_by base minus) i)) (λ i. limited (heard_now k l i)) (range_with_len 0 160) (λ i.
-      ap (λ (z : ℤ). limited z) (same_rest (total_of k.sums p.room i) (samples.sum_of (sample_in k.sums.frames i) (left_out_by base minus)) (heard_of k.sums p.room (left_out_by base minus) i) (heard_now k l i) (law i) (total_splits i)))
+  mix_is law = map-cong (λ i. nearest_sample (heard_of k.sums p.room (left_out_by base minus) i)) (λ i. nearest_sample (heard_now k l i)) (range_with_len 0 160) (λ i.
+      ap (λ (z : ℤ). nearest_sample z) (same_rest (total_of k.sums p.room i) (sum_of (sample_in k.sums.frames i) (left_out_by base minus)) (heard_of k.sums p.room (left_out_by base minus) i) (heard_now k l i) (law i) (total_splits i)))

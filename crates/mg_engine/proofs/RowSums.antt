@@ -1,5 +1,5 @@
 -- Sums over rows that are joined to a room, as sums over terminations.
-use Rattle.std.proofs.Common.{◌≡◌, ℕ, ◌<◌, ◌&&◌, eqb, Bool, true, false, cond, ℤ, pos, ◌+ℤ◌, List, [], ◌∷◌, length, map, get_or, Option, Some, None, refl, sym, ap, ◌∙◌, arith}
+use Rattle.std.proofs.Common.{◌≡◌, ℕ, ◌<◌, ◌&&◌, eqb, Bool, true, false, cond, ℤ, pos, List, length, get_or, Option, Some, None, refl, ap, ◌∙◌, arith}
 use Rattle.std.specs.List.{count_by, range_with_len}
 use Rattle.std.proofs.lemmas.Bool.{eq-eqb}
 use Rattle.mg_words.specs.declared.mode.Mode.{Mode}
@@ -9,30 +9,13 @@ use Rattle.mg_rooms.specs.declared.record.Record.{Record}
 use Rattle.mg_rooms.specs.Consistent.{IsConsistent}
 use Rattle.mg_rooms.specs.Registry.{Registry}
 use Rattle.mg_flow.specs.declared.place.Place.{Place}
-use Rattle.mg_sums.specs.Samples as samples
 use Rattle.mg_sums.specs.Sums.{SumsState, sample_in, is_room, is_joined, joined_rows, total_of}
-use Rattle.mg_engine.specs.Mix.{sum_of}
+use Rattle.mg_sums.specs.Samples.{sum_of}
+use Rattle.mg_sums.proofs.SumLemmas.{sum_of-filter}
 use Rattle.mg_engine.specs.aids.Joined.{AreJoined, room_at, room_for}
 use Rattle.mg_engine.specs.aids.Sending.{sample_at}
 use Rattle.mg_engine.proofs.SendingLaws.{nobody}
-use Rattle.mg_engine.proofs.SeatSums.{sum-cons, sum-nil, sum-filter, found_counts, seat_sums}
-
-rows-nil : {A : Type 0} (f : A → ℤ) → samples.sum_of f [] ≡ pos 0
-unfolding samples.sum_of
-rows-nil f = refl
-
-rows-cons : {A : Type 0} (f : A → ℤ) (x : A) (xs : List A) → samples.sum_of f (x ∷ xs) ≡ f x +ℤ samples.sum_of f xs
-unfolding samples.sum_of
-rows-cons f x xs = refl
-
--- a sum of rows is a sum of samples
-pub same_sum : {A : Type 0} (f : A → ℤ) (xs : List A) → samples.sum_of f xs ≡ sum_of f xs
-same_sum f [] = rows-nil f ∙ sym (sum-nil f)
-same_sum f (x ∷ xs) = rows-cons f x xs ∙ ap (λ (z : ℤ). f x +ℤ z) (same_sum f xs) ∙ sym (sum-cons f x xs)
-
-pub sum-map : {A B : Type 0} (f : B → ℤ) (g : A → B) (xs : List A) → sum_of f (map g xs) ≡ sum_of (λ x. f (g x)) xs
-sum-map f g [] = sum-nil f ∙ sym (sum-nil (λ x. f (g x)))
-sum-map f g (x ∷ xs) = sum-cons f (g x) (map g xs) ∙ ap (λ (z : ℤ). f (g x) +ℤ z) (sum-map f g xs) ∙ sym (sum-cons (λ y. f (g y)) x xs)
+use Rattle.mg_engine.proofs.SeatSums.{found_counts, seat_sums}
 
 -- ## Rows that are joined to a room
 
@@ -69,8 +52,7 @@ module _ (w : Registry) (kept : SumsState) (room i : ℕ) (sound : IsConsistent 
   total_by_rows : total_of kept room i ≡ sum_of row_part (range_with_len 0 termination_limit)
   unfolding joined_rows
   total_by_rows =
-      same_sum (sample_in kept.frames i) (joined_rows kept.rooms room)
-      ∙ sum-filter (is_joined kept.rooms room) (sample_in kept.frames i) (range_with_len 0 (length kept.rooms))
+      sum_of-filter (is_joined kept.rooms room) (sample_in kept.frames i) (range_with_len 0 (length kept.rooms))
       ∙ ap (λ (n : ℕ). sum_of row_part (range_with_len 0 n)) long
 
   -- the total of a room is the sum over the terminations whose rows are joined to it

@@ -1,62 +1,29 @@
 -- Sums over the seats of a room, and over the terminations that are on them.
 use Rattle.std.proofs.Common.{◌≡◌, ℕ, zero, suc, ◌+◌, ◌<◌, ◌≤◌, ◌&&◌, eqb, Bool, true, false, cond, ℤ, pos, ◌+ℤ◌, List, [], ◌∷◌, inl, inr, length, get_or, Option, Some, refl, sym, ap, ◌∙◌, arith}
 use Rattle.std.specs.Prelude.{find}
-use Rattle.std.specs.List.{count_by, filter, range_with_len}
+use Rattle.std.specs.List.{count_by, range_with_len}
 use Rattle.std.proofs.lemmas.Int.{ints}
 use Rattle.std.proofs.lemmas.Bool.{cases_eq, eq-eqb}
 use Rattle.std.proofs.lemmas.Bool.Decides.{nat_tests}
 use Rattle.std.proofs.lemmas.List.Sums.{sum_by-cons}
 use Rattle.mg_topology.specs.Mask.{seat_limit, has_seat, seats_of}
-use Rattle.mg_engine.specs.Mix.{sum_of}
+use Rattle.mg_sums.specs.Samples.{sum_of}
+use Rattle.mg_sums.proofs.SumLemmas.{sum_of-cons, sum_of-filter, sum_of-nil, sum_of-none, sum_of-plus, sum_of-same}
 use Rattle.mg_engine.proofs.SumLaws.{sum-cong}
 
 -- ## Sums of sums
 
-pub sum-same : {A : Type 0} (f g : A → ℤ) (xs : List A) → ((x : A) → f x ≡ g x) → sum_of f xs ≡ sum_of g xs
-unfolding sum_of
-sum-same f g [] h = refl
-sum-same f g (x ∷ xs) h = omega (arith, ints, h x, sum-same f g xs h)
-
-pub sum-none : {A : Type 0} (f : A → ℤ) (xs : List A) → ((x : A) → f x ≡ pos 0) → sum_of f xs ≡ pos 0
-unfolding sum_of
-sum-none f [] h = refl
-sum-none f (x ∷ xs) h = omega (arith, ints, h x, sum-none f xs h)
-
-pub sum-plus : {A : Type 0} (f g h : A → ℤ) (xs : List A) → ((x : A) → f x ≡ g x +ℤ h x) → sum_of f xs ≡ sum_of g xs +ℤ sum_of h xs
-unfolding sum_of
-sum-plus f g h [] e = refl
-sum-plus f g h (x ∷ xs) e = omega (arith, ints, e x, sum-plus f g h xs e)
-
-pub sum-cons : {A : Type 0} (f : A → ℤ) (x : A) (xs : List A) → sum_of f (x ∷ xs) ≡ f x +ℤ sum_of f xs
-unfolding sum_of
-sum-cons f x xs = refl
-
-pub sum-nil : {A : Type 0} (f : A → ℤ) → sum_of f [] ≡ pos 0
-unfolding sum_of
-sum-nil f = refl
-
 swapped : {A : Type 0} (f : A → ℕ → ℤ) (rs : List A) (ks : List ℕ) → sum_of (λ k. sum_of (λ t. f t k) rs) ks ≡ sum_of (λ t. sum_of (f t) ks) rs
-swapped f [] ks = sum-none (λ k. sum_of (λ t. f t k) []) ks (λ k. sum-nil (λ t. f t k)) ∙ sym (sum-nil (λ t. sum_of (f t) ks))
+swapped f [] ks = sum_of-none (λ k. sum_of (λ t. f t k) []) ks (λ k. sum_of-nil (λ t. f t k)) ∙ sym (sum_of-nil (λ t. sum_of (f t) ks))
 swapped f (r ∷ rs) ks =
-    sum-plus (λ k. sum_of (λ t. f t k) (r ∷ rs)) (f r) (λ k. sum_of (λ t. f t k) rs) ks (λ k. sum-cons (λ t. f t k) r rs)
+    sum_of-plus (λ k. sum_of (λ t. f t k) (r ∷ rs)) (f r) (λ k. sum_of (λ t. f t k) rs) ks (λ k. sum_of-cons (λ t. f t k) r rs)
     ∙ ap (λ (z : ℤ). sum_of (f r) ks +ℤ z) (swapped f rs ks)
-    ∙ sym (sum-cons (λ t. sum_of (f t) ks) r rs)
-
-one_filtered : {A : Type 0} (b : Bool) (f : A → ℤ) (x : A) (xs : List A) (n : ℤ) → sum_of f xs ≡ n → sum_of f (cond b (x ∷ xs) xs) ≡ cond b (f x) (pos 0) +ℤ n
-unfolding sum_of
-one_filtered true f x xs n h = ap (λ m. f x +ℤ m) h
-one_filtered false f x xs n h = omega (arith, ints, h)
-
--- the sum over those that pass a test counts the others as 0
-pub sum-filter : {A : Type 0} (p : A → Bool) (f : A → ℤ) (xs : List A) → sum_of f (filter p xs) ≡ sum_of (λ x. cond (p x) (f x) (pos 0)) xs
-unfolding sum_of
-sum-filter p f [] = refl
-sum-filter p f (x ∷ xs) = one_filtered (p x) f x (filter p xs) (sum_of (λ y. cond (p y) (f y) (pos 0)) xs) (sum-filter p f xs)
+    ∙ sym (sum_of-cons (λ t. sum_of (f t) ks) r rs)
 
 -- what seats of a mask add up to, over all seats
 pub sum-seats_of : (mask : ℕ) (f : ℕ → ℤ) → sum_of f (seats_of mask) ≡ sum_of (λ seat. cond (has_seat mask seat) (f seat) (pos 0)) (range_with_len 0 seat_limit)
 unfolding seats_of
-sum-seats_of mask f = sum-filter (has_seat mask) f (range_with_len 0 seat_limit)
+sum-seats_of mask f = sum_of-filter (has_seat mask) f (range_with_len 0 seat_limit)
 
 -- ## One seat among those of a range
 
@@ -67,12 +34,12 @@ alone_at : (h : ℕ → ℤ) (s k : ℕ) (b : Bool) → eqb s k ≡ b → alone 
 alone_at h s k b e = ap (λ (x : Bool). cond x (h k) (pos 0)) e
 
 none_above : (h : ℕ → ℤ) (s a n : ℕ) → s < a → sum_of (alone h s) (range_with_len a n) ≡ pos 0
-none_above h s a zero l = sum-nil (alone h s)
+none_above h s a zero l = sum_of-nil (alone h s)
 none_above h s a (suc n) l =
     let no : eqb s a ≡ false = grind (arith, nat_tests) in
     let here = alone_at h s a false no in
     let rest = none_above h s (a + 1) n (omega (arith, l)) in
-    sum-cons (alone h s) a (range_with_len (a + 1) n) ∙ omega (arith, ints, here, rest)
+    sum_of-cons (alone h s) a (range_with_len (a + 1) n) ∙ omega (arith, ints, here, rest)
 
 one_among : (h : ℕ → ℤ) (s a n : ℕ) → a ≤ s → s < a + n → sum_of (alone h s) (range_with_len a n) ≡ h s
 one_among h s a zero l r = absurd (omega (arith, l, r))
@@ -80,17 +47,17 @@ one_among h s a (suc n) l r = elim (cases_eq s a) [
   | inl e ↦
       (let here = alone_at h s a true (eq-eqb s a e) ∙ ap h (sym e) in
       let rest = none_above h s (a + 1) n (omega (arith, e)) in
-      sum-cons (alone h s) a (range_with_len (a + 1) n) ∙ omega (arith, ints, here, rest))
+      sum_of-cons (alone h s) a (range_with_len (a + 1) n) ∙ omega (arith, ints, here, rest))
   | inr ne ↦
       (let no : eqb s a ≡ false = grind (arith, nat_tests) in
       let here = alone_at h s a false no in
       let rest = one_among h s (a + 1) n (omega (arith, l, ne)) (omega (arith, r)) in
-      sum-cons (alone h s) a (range_with_len (a + 1) n) ∙ omega (arith, ints, here, rest))
+      sum_of-cons (alone h s) a (range_with_len (a + 1) n) ∙ omega (arith, ints, here, rest))
 ]
 
 part_among : (b : Bool) (h : ℕ → ℤ) (s n : ℕ) → s < n → sum_of (λ k. cond (b && eqb s k) (h k) (pos 0)) (range_with_len 0 n) ≡ cond b (h s) (pos 0)
 part_among true h s n lt = one_among h s 0 n (omega arith) (omega (arith, lt))
-part_among false h s n lt = sum-none (λ (k : ℕ). pos 0) (range_with_len 0 n) (λ k. refl)
+part_among false h s n lt = sum_of-none (λ (k : ℕ). pos 0) (range_with_len 0 n) (λ k. refl)
 
 -- ## One that passes a test
 
@@ -107,12 +74,12 @@ module _ {A : Type 0} (p : A → Bool) (z : ℤ) where
   at t = cond (p t) z (pos 0)
 
   pub none_pass : (rs : List A) → count_by p rs ≡ 0 → sum_of at rs ≡ pos 0
-  none_pass [] e = sum-nil at
-  none_pass (r ∷ rs) e = sum-cons at r rs ∙ none_at (p r) z (sum_of at rs) (count_by p rs) (sym (sum_by-cons (λ x. cond (p x) 1 0) r rs) ∙ e) (none_pass rs)
+  none_pass [] e = sum_of-nil at
+  none_pass (r ∷ rs) e = sum_of-cons at r rs ∙ none_at (p r) z (sum_of at rs) (count_by p rs) (sym (sum_by-cons (λ x. cond (p x) 1 0) r rs) ∙ e) (none_pass rs)
 
   pub one_passes : (rs : List A) → count_by p rs ≡ 1 → sum_of at rs ≡ z
   one_passes [] e = absurd (omega (arith, e))
-  one_passes (r ∷ rs) e = sum-cons at r rs ∙ one_at (p r) z (sum_of at rs) (count_by p rs) (sym (sum_by-cons (λ x. cond (p x) 1 0) r rs) ∙ e) (none_pass rs) (one_passes rs)
+  one_passes (r ∷ rs) e = sum_of-cons at r rs ∙ one_at (p r) z (sum_of at rs) (count_by p rs) (sym (sum_by-cons (λ x. cond (p x) 1 0) r rs) ∙ e) (none_pass rs) (one_passes rs)
 
   by_count : (rs : List A) (n : ℕ) → count_by p rs ≡ n → n ≤ 1 → (n ≡ 0 → z ≡ pos 0) → z ≡ sum_of at rs
   by_count rs zero e few none = none refl ∙ sym (none_pass rs e)
@@ -147,7 +114,7 @@ pub seat_sums : {A : Type 0} (rs : List A) (is_in : A → Bool) (seat : A → �
     → sum_of h (range_with_len 0 n) ≡ sum_of g rs
 seat_sums {A} rs is_in seat n h g d below parts once none =
     let part = λ (t : A). λ (k : ℕ). cond (is_in t && eqb (seat t) k) (h k) (pos 0) in
-    sum-same h (λ k. sum_of (λ t. part t k) rs) (range_with_len 0 n) (λ k. by_count (λ t. is_in t && eqb (seat t) k) (h k) rs (count_by (λ t. is_in t && eqb (seat t) k) rs) refl (once k) (none k))
+    sum_of-same h (λ k. sum_of (λ t. part t k) rs) (range_with_len 0 n) (λ k. by_count (λ t. is_in t && eqb (seat t) k) (h k) rs (count_by (λ t. is_in t && eqb (seat t) k) rs) refl (once k) (none k))
     ∙ swapped part rs (range_with_len 0 n)
     ∙ sum-cong (λ t. sum_of (part t) (range_with_len 0 n)) g rs d
     (λ i lt. let t = get_or rs i d in part_among (is_in t) h (seat t) n (below i lt) ∙ sym (parts i lt))

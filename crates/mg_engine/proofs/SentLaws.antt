@@ -13,18 +13,18 @@ use Rattle.mg_rooms.specs.declared.record.Record.{Record}
 use Rattle.mg_rooms.specs.Limits.{slot_port}
 use Rattle.mg_rooms.specs.Registry.{record_at}
 use Rattle.mg_rooms.specs.Registry as rooms
+use Rattle.mg_sums.specs.Samples.{sum_of, nearest_sample}
+use Rattle.mg_sums.proofs.SumLemmas.{sum_of-map}
 use Rattle.mg_engine.specs.declared.config.Config.{Config}
 use Rattle.mg_engine.specs.declared.datagram.Datagram.{Datagram}
 use Rattle.mg_engine.specs.Gateway.{Gateway, TerminationMedia, media_of, frame_in}
-use Rattle.mg_engine.specs.Mixing.{limited}
-use Rattle.mg_engine.specs.Mix.{sum_of, sample_of, part_of_mix, heard, mix, mixed, is_loopback}
+use Rattle.mg_engine.specs.Mix.{sample_of, part_of_mix, heard, mix, mixed, is_loopback}
 use Rattle.mg_engine.specs.Media as media
 use Rattle.mg_engine.specs.Tick.{type_of, header_of, packet, packet_to, packet_of, packets, sent_to}
 use Rattle.mg_engine.specs.aids.Members.{HasMembers}
 use Rattle.mg_engine.specs.aids.Sending.{flows_now, sample_at, part_now, heard_now, mix_now, mixed_now, packet_now, packets_now}
 use Rattle.mg_engine.specs.Stands.{EngineState, StandsFor, IsMediaOf, media_at}
 use Rattle.mg_engine.specs.aids.Playing.{AreOld}
-use Rattle.mg_engine.proofs.RowSums.{sum-map}
 use Rattle.mg_engine.proofs.SumLaws.{sum-cong, map-cong}
 use Rattle.mg_engine.proofs.SendingLaws.{nobody}
 use Rattle.mg_engine.proofs.FlowLaws.{flow_is, mode_found}
@@ -54,14 +54,14 @@ part_is k w l t i sound members h listens talks =
 heard_is : (k : EngineState) (w : Gateway) (l : Record) (i : ℕ) → AreApart k.rooms → HasMembers k.rooms k.flows → ByNumber k.rooms → StandsFor k w → record_at k.rooms l.number ≡ Some l → heard w l.number i ≡ heard_now k l i
 heard_is k w l i sound members by_number h found =
     ap (λ (x : rooms.Registry). sum_of (part_of_mix w l.number i) (map (λ r. r.number) x.terminations)) h.rooms
-    ∙ sum-map (part_of_mix w l.number i) (λ r. r.number) k.rooms.terminations
+    ∙ sum_of-map (part_of_mix w l.number i) (λ r. r.number) k.rooms.terminations
     ∙ sum-cong (λ (r : Record). part_of_mix w l.number i r.number) (part_now k l i) k.rooms.terminations nobody (λ j lt. part_is k w l (get_or k.rooms.terminations j nobody) i sound members h found (by_number j nobody lt))
 
 mix_is : (k : EngineState) (w : Gateway) (l : Record) (i : ℕ) → AreApart k.rooms → HasMembers k.rooms k.flows → ByNumber k.rooms → StandsFor k w → record_at k.rooms l.number ≡ Some l → mix w l.number i ≡ mix_now k l i
 mix_is k w l i sound members by_number h found =
-    ap (λ (m : Mode). cond (is_loopback m) (sample_of w l.number i) (limited (heard w l.number i))) (mode_found k w l.number l h found)
-    ∙ ap (λ (z : ℤ). cond (is_loopback l.mode) z (limited (heard w l.number i))) (sample_is k w l i h found)
-    ∙ ap (λ (z : ℤ). cond (is_loopback l.mode) (sample_at k.sums.frames l.slot i) (limited z)) (heard_is k w l i sound members by_number h found)
+    ap (λ (m : Mode). cond (is_loopback m) (sample_of w l.number i) (nearest_sample (heard w l.number i))) (mode_found k w l.number l h found)
+    ∙ ap (λ (z : ℤ). cond (is_loopback l.mode) z (nearest_sample (heard w l.number i))) (sample_is k w l i h found)
+    ∙ ap (λ (z : ℤ). cond (is_loopback l.mode) (sample_at k.sums.frames l.slot i) (nearest_sample z)) (heard_is k w l i sound members by_number h found)
 
 pub mixed_is : (k : EngineState) (w : Gateway) (l : Record) → AreApart k.rooms → HasMembers k.rooms k.flows → ByNumber k.rooms → StandsFor k w → record_at k.rooms l.number ≡ Some l → mixed w l.number ≡ mixed_now k l
 mixed_is k w l sound members by_number h found = map-cong (mix w l.number) (mix_now k l) (range_with_len 0 160) (λ i. mix_is k w l i sound members by_number h found)

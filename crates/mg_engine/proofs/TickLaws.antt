@@ -1,5 +1,5 @@
 -- An engine stands for the world after each step of a tick.
-use Rattle.std.proofs.Common.{◌≡◌, ℕ, ◌<◌, ◌≤◌, eqb, Bool, true, false, List, ℤ, [], ◌∷◌, length, map, get_or, Option, Some, None, refl, sym, ap, subst, ◌∙◌, arith}
+use Rattle.std.proofs.Common.{◌≡◌, ℕ, ◌≤◌, eqb, Bool, true, false, List, ℤ, [], ◌∷◌, map, get_or, Option, Some, None, refl, sym, ap, subst, ◌∙◌, arith}
 use Rattle.std.specs.Prelude.{find}
 use Rattle.std.specs.Option.{option_map}
 use Rattle.std.proofs.lemmas.Option.{same_Some}
@@ -17,13 +17,9 @@ use Rattle.mg_engine.specs.Steps.{transmitted, frame_or_silence}
 use Rattle.mg_engine.specs.Media as media
 use Rattle.mg_engine.specs.Tick.{played, all_played, sent, is_sender, sends_at, all_ended}
 use Rattle.mg_engine.specs.aids.Playing.{AreOld, IsPlayed}
-use Rattle.mg_engine.specs.aids.Sending.{slot_sends, with_mixes}
+use Rattle.mg_engine.specs.aids.Sending.{slot_sends, with_mixes, IsEnded}
 use Rattle.mg_engine.specs.Stands.{EngineState, StandsFor, IsMediaOf, media_at}
 use Rattle.mg_engine.proofs.GatewayLaws.{found_in_map, found_key, media_is}
-
--- each termination's slot has media
-abbrev pub HasMedia : EngineState → Type 0
-HasMedia k = (n : ℕ) (r : Record) → record_at k.rooms n ≡ Some r → r.slot < length k.media
 
 abbrev pub with_media : EngineState → List media.SlotMedia → EngineState
 with_media k kept = record k { media = kept }
@@ -95,9 +91,9 @@ sent_at w s = sent (sends_at w s.number) s
 same_sender : (w : rooms.Registry) (n : ℕ) (r : Record) → record_at w n ≡ Some r → holder_of w r.slot ≡ Some r → slot_sends w r.slot ≡ sends_at w n
 same_sender w n r by_number by_slot = ap is_sender (by_slot ∙ sym by_number)
 
--- what is kept of each slot's media after the packets of a tick
+-- what is kept of each termination's media after the packets of a tick
 abbrev pub AreEnded : rooms.Registry → List media.SlotMedia → List media.SlotMedia → Type 0
-AreEnded w old new = (slot : ℕ) → slot < length old → media_at new slot ≡ media.ended (slot_sends w slot) (media_at old slot)
+AreEnded w old new = (n : ℕ) (r : Record) → record_at w n ≡ Some r → IsEnded w old new r.slot
 
 abbrev pub BySlot : rooms.Registry → Type 0
 BySlot w = (n : ℕ) (r : Record) → record_at w n ≡ Some r → holder_of w r.slot ≡ Some r
@@ -109,8 +105,8 @@ numbers_kept : (w : rooms.Registry) (ss : List TerminationMedia) → map (λ s. 
 numbers_kept w [] = refl
 numbers_kept w (s ∷ ss) = ap (λ (n : ℕ). n ∷ map (λ s. (sent_at w s).number) ss) (sent_number (sends_at w s.number) s) ∙ ap (λ (ns : List ℕ). s.number ∷ ns) (numbers_kept w ss)
 
-pub ended_stands : (k : EngineState) (w : Gateway) (new : List media.SlotMedia) → HasMedia k → BySlot k.rooms → AreEnded k.rooms k.media new → StandsFor k w → StandsFor (with_media k new) (all_ended w)
-ended_stands k w new has by_slot ended h = record {
+pub ended_stands : (k : EngineState) (w : Gateway) (new : List media.SlotMedia) → BySlot k.rooms → AreEnded k.rooms k.media new → StandsFor k w → StandsFor (with_media k new) (all_ended w)
+ended_stands k w new by_slot ended h = record {
   config = h.config;
   rooms = h.rooms;
   numbers = map-map (λ s. s.number) (sent_at w.rooms) w.media ∙ numbers_kept w.rooms w.media ∙ h.numbers;
@@ -118,7 +114,7 @@ ended_stands k w new has by_slot ended h = record {
       from_mapped (sent_at w.rooms) (λ t. IsMediaOf k.config (media_at new r.slot) (get_or k.sums.frames r.slot []) t) (media_of w n) s (sym (found_in_map (λ s. s.number) (sent_at w.rooms) n w.media (λ t. sent_number (sends_at w.rooms t.number) t)) ∙ there)
       (λ t was.
       let b : slot_sends k.rooms r.slot ≡ sends_at w.rooms t.number = same_sender k.rooms n r found (by_slot n r found) ∙ ap (λ (x : rooms.Registry). sends_at x n) (sym h.rooms) ∙ ap (sends_at w.rooms) (sym (found_number n w.media t was)) in
-      let m = ended r.slot (has n r found) ∙ ap (λ (x : Bool). media.ended x (media_at k.media r.slot)) b in
+      let m = ended n r found ∙ ap (λ (x : Bool). media.ended x (media_at k.media r.slot)) b in
       subst (λ (x : media.SlotMedia). IsMediaOf k.config x (get_or k.sums.frames r.slot []) (sent_at w.rooms t)) (sym m) (ended_is k.config (sends_at w.rooms t.number) (media_at k.media r.slot) (get_or k.sums.frames r.slot []) t (h.media n r t found was)));
   hears = h.hears;
 }

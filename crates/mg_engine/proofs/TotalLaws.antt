@@ -3,7 +3,6 @@ use Rattle.std.proofs.Common.{◌≡◌, ℕ, zero, suc, ◌+◌, ◌<◌, ◌�
 use Rattle.std.specs.Prelude.{is_some, IsTrue, ◌↔◌}
 use Rattle.std.specs.List.{count_by, list_any, range_with_len}
 use Rattle.std.specs.Option.{option_map}
-use Rattle.std.proofs.Math.Bool.{and-false}
 use Rattle.std.proofs.lemmas.Bool.{lt-ltb, eqb-true, eq-eqb, ne_eqb}
 use Rattle.std.proofs.lemmas.Option.{same_Some}
 use Rattle.std.proofs.lemmas.List.Sums.{sum_by-cons}
@@ -17,8 +16,9 @@ use Rattle.mg_rooms.specs.Registry as rooms
 use Rattle.mg_rooms.specs.Registry.{record_at, context_at, members_at, IsMember}
 use Rattle.mg_flow.specs.declared.place.Place.{Place}
 use Rattle.mg_sums.specs.Sums.{total_of}
+use Rattle.mg_sums.specs.Samples.{sum_of}
 use Rattle.mg_engine.specs.Gateway.{Gateway}
-use Rattle.mg_engine.specs.Mix.{sum_of, sample_of, part_of_total, total, total_at}
+use Rattle.mg_engine.specs.Mix.{sample_of, part_of_total, total, total_at}
 use Rattle.mg_engine.specs.Place.{IsOnPlace}
 use Rattle.mg_engine.specs.Stands.{EngineState, StandsFor}
 use Rattle.mg_engine.specs.aids.Joined.{AreJoined}

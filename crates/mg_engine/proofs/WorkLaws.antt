@@ -1,5 +1,5 @@
 -- Numbers that rise, one step after another.
-use Rattle.std.proofs.Common.{◌≡◌, ℕ, ◌+◌, ◌%◌, ◌^◌, ◌≤◌, arith}
+use Rattle.std.proofs.Common.{◌≡◌, ℕ, ◌+◌, ◌≤◌, arith}
 use Rattle.mg_engine.specs.Work.{RisesAtMost}
 
 pub rises_twice : (a b most x y z : ℕ) → a + b ≤ most → RisesAtMost a x y → RisesAtMost b y z → RisesAtMost most x z

@@ -3,7 +3,6 @@ pub mod Gateway
 pub mod Flow
 pub mod Triples
 pub mod Place
-pub mod Mixing
 pub mod Mix
 pub mod Steps
 pub mod Outcome

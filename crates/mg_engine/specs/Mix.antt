@@ -1,19 +1,15 @@
 -- What is said in a context in this tick, and what each listener is sent of it (this project's own:
 -- sums are plain, and a mix is limited once).
-use Rattle.std.specs.Prelude.{ℕ, ℤ, pos, ◌+ℤ◌, Bool, true, false, List, [], ◌∷◌, map, ◌&&◌, nat_lt}
+use Rattle.std.specs.Prelude.{ℕ, ℤ, pos, Bool, true, false, List, map, ◌&&◌, nat_lt}
 use Rattle.std.specs.Prelude.{Option, Some, None, is_some, slice_index_or, if◌then◌else◌}
 use Rattle.std.specs.List.{range_with_len}
 use Rattle.mg_words.specs.declared.mode.Mode.{Mode}
 use Rattle.mg_words.specs.declared.mode.Mode.TheVariants.{Loopback}
 use Rattle.mg_words.specs.Mode.{talks}
 use Rattle.mg_rooms.specs.Registry.{context_at, members_at}
+use Rattle.mg_sums.specs.Samples.{sum_of, nearest_sample}
 use Rattle.mg_engine.specs.Gateway.{Gateway, frame_of, mode_of, numbers_of}
-use Rattle.mg_engine.specs.Mixing.{limited}
 use Rattle.mg_engine.specs.Flow.{flow}
-
-unfoldable pub sum_of : {A : Type 0} → (A → ℤ) → List A → ℤ
-sum_of f [] = pos 0
-sum_of f (x ∷ xs) = f x +ℤ sum_of f xs
 
 -- sample i of the frame that this tick plays
 abbrev pub sample_of : Gateway → ℕ → ℕ → ℤ
@@ -46,7 +42,7 @@ is_loopback _ = false
 -- what a termination is sent as sample i: itself in a loopback, else all whose speech goes to it,
 -- limited once
 abbrev pub mix : Gateway → ℕ → ℕ → ℤ
-mix w n i = if is_loopback (mode_of w n) then sample_of w n i else limited (heard w n i)
+mix w n i = if is_loopback (mode_of w n) then sample_of w n i else nearest_sample (heard w n i)
 
 abbrev pub mixed : Gateway → ℕ → List ℤ
 mixed w n = map (mix w n) (range_with_len 0 160)

@@ -1,7 +1,14 @@
+ghost use Rattle.std.specs.Prelude.{◌≡◌, ◌<◌, ◌++◌, List, [], ◌∷◌, length};
+ghost use Rattle.mg_engine.specs.declared.datagram.Datagram.{Datagram};
+ghost use Rattle.mg_engine.specs.aids.Shares.{IsPut, packet_at, payload_of};
+ghost use Rattle.mg_engine.specs.aids.Sending.{addressed};
+ghost use Rattle.mg_words.specs.declared.limits.TheConstants.{TERMINATIONS};
+
 use crate::peer::Peer;
 use arrayvec::ArrayVec;
 use mg_rooms::TERMINATIONS;
-use mg_rtp::PACKET_LEN;
+use mg_rtp::{Header, PACKET_LEN, write_header, write_payload};
+use mg_words::SAMPLES;
 
 /// An RTP packet that is to be sent.
 #[derive(Clone, Copy, Debug, PartialEq, Eq)]
@@ -31,5 +38,49 @@ impl Default for Datagram {
     }
 }
 
+impl Datagram {
+    /// Is from a port of the gateway, to a peer, and has a header from then on.
+    pub(crate) fn address(&mut self, from: u16, to: Peer, header: Header)
+        requires seven_bits { header.payload_type < 128 }
+        ensures value { self.new ≡ addressed from to header self.old }
+        ensures payload { payload_of self.new ≡ payload_of self.old }
+    {
+        self.from = from;
+        self.to = to;
+        write_header(header, &mut self.bytes);
+    }
+}
+
 /// The packets of one tick, in the order of their terminations' numbers.
 pub type Outbox = ArrayVec<Datagram, TERMINATIONS>;
+
+/// Puts a packet with a payload at the end of an outbox. Its header and its addresses are to come.
+pub fn push_payload(outbox: &mut Outbox, payload: &[u8; SAMPLES])
+    requires room { length outbox.old.items < TERMINATIONS }
+    ensures put { IsPut outbox.old.items outbox.new.items payload.now }
+{
+    outbox.push(Datagram::default());
+    let last = outbox.len() - 1;
+    write_payload(payload, &mut outbox[last].bytes);
+}
+
+/// The last packet of an outbox is from a port of the gateway, to a peer, and has a header from then on.
+pub fn address_last(outbox: &mut Outbox, from: u16, to: Peer, header: Header)
+    requires last { 0 < length outbox.old.items }
+    requires seven_bits { header.payload_type < 128 }
+    ensures value { (before : List Datagram) (last : Datagram) → outbox.old.items ≡ before ++ last ∷ [] →
+        outbox.new.items ≡ before ++ addressed from to header last ∷ [] }
+{
+    let last = outbox.len() - 1;
+    outbox[last].address(from, to, header);
+}
+
+/// Puts a packet like another of the outbox at its end.
+pub fn lend(outbox: &mut Outbox, packet: u8)
+    requires there { packet < length outbox.old.items }
+    requires room { length outbox.old.items < TERMINATIONS }
+    ensures value { outbox.new.items ≡ outbox.old.items ++ packet_at outbox.old.items packet ∷ [] }
+{
+    let lent = outbox[usize::from(packet)];
+    outbox.push(lent);
+}

@@ -1,20 +1,21 @@
-ghost use Rattle.std.specs.Prelude.{◌≡◌, ◌≢◌, ℕ, [], ◌∷◌, ◌<◌, ◌≤◌, ◌+◌, ◌++◌, ◌↔◌, ◌==◌, not, Err, Some, IfOk, IfSome, OnOk, OnErr, MatchResult, Ok, EachIndex, length, map, filter, replicate, slice_set, option_map, option_to_list, slice_index_or, IsTrue, None, ◌*◌, sum_by};
+ghost use Rattle.std.specs.Prelude.{◌≡◌, ◌≢◌, ℕ, List, [], ◌∷◌, ◌<◌, ◌≤◌, ◌+◌, ◌++◌, ◌↔◌, ◌==◌, not, Err, Some, IfOk, IfSome, OnOk, OnErr, MatchResult, Ok, EachIndex, length, map, filter, replicate, slice_set, option_map, option_to_list, slice_index_or, IsTrue, None, ◌*◌, sum_by};
 ghost use Rattle.mg_rooms.specs.declared.record.Record.{Record};
 ghost use Rattle.mg_words.specs.declared.limits.TheConstants.{TERMINATIONS};
 ghost use Rattle.std.specs.List.{range_with_len};
 ghost use Rattle.mg_rooms.specs.Registry.{holder_of, record_at};
 ghost use Rattle.mg_words.specs.Limits.{context_limit, termination_limit};
+ghost use Rattle.mg_sums.specs.Samples.{nearest_sample};
 ghost use Rattle.mg_engine.specs.Outcome.{outcome, add, modify, move_to, subtract, context_there, apply_triples};
 ghost use Rattle.mg_engine.specs.aids.Triples.{IsRoomOf};
 ghost use Rattle.mg_rooms.specs.Consistent.{IsConsistent};
 ghost use Rattle.mg_engine.specs.aids.Joined.{SetsRow};
 ghost use Rattle.mg_engine.specs.aids.Playing.{AreApart, AreOld, IsPlayed};
-ghost use Rattle.mg_engine.specs.aids.Sending.{heard_now, mixed_now, silenced_now, mix_work_now, sending_work_now, packet_now, packets_now, slot_sends, with_mixes, PlacedAt};
-ghost use Rattle.mg_engine.specs.aids.Shares.{AreShared, payload_of};
+ghost use Rattle.mg_engine.specs.aids.Sending.{heard_now, mixed_now, silenced_now, mix_work_now, sending_work_now, packet_now, packets_now, slot_sends, with_mixes, IsEnded, PlacedAt};
+ghost use Rattle.mg_engine.specs.aids.Shares.{AreShared, IsPut, payload_of};
 ghost use Rattle.mg_engine.specs.Masks.{TellsFlows};
 ghost use Rattle.mg_engine.specs.Totals.{TellsTotals};
 ghost use Rattle.mg_engine.specs.Work.{RisesAtMost, sending_work, tick_work};
-ghost use Rattle.mg_engine.specs.Mixing.{limited};
+ghost use Rattle.mg_engine.specs.declared.datagram.Datagram.{Datagram};
 ghost use Rattle.mg_engine.specs.Place.{IsOnPlace};
 ghost use Rattle.mg_engine.specs.Tick.{sends, sent_to, packets, all_played, all_ended, sent_in_tick, after_tick};
 ghost use Rattle.mg_g711.specs.Law.{byte_of};
@@ -31,14 +32,14 @@ ghost use Rattle.mg_engine.specs.Stands.{StandsFor, IsOutcome, media_at};
 
 use crate::arrival::{frame_in, law_for};
 use crate::config::Config;
-use crate::datagram::{Datagram, Outbox};
+use crate::datagram::{Outbox, address_last, lend, push_payload};
 use crate::done::Done;
 use crate::edit::Edit;
 use crate::fault::StartFault;
 use crate::joining::part;
 use crate::media::Media;
 use crate::membership::{enter, member, place, place_of, take_mode, vacate};
-use crate::mixing::{own_row, payload_at, rows_on};
+use crate::mixing::{own_row, rows_on};
 use crate::peer::Peer;
 use crate::ports::Ports;
 use crate::seating::Seating;
@@ -56,7 +57,7 @@ use mg_rooms::laws::{
     others_are_left_alone, what_is_found_is_within_limits,
 };
 use mg_rooms::{ErrorNumber, Record, Rooms, Settings, TERMINATIONS, Target};
-use mg_rtp::{Packet, RtpFault, read, write};
+use mg_rtp::{Packet, RtpFault, read};
 use mg_sdp::Chosen;
 use mg_sums::laws::{first_rows_are_silent, sums_are_valid, total_is_left_out_and_heard};
 use mg_sums::{Room, Row, Sums};
@@ -527,7 +528,8 @@ impl Engine {
         gateways_are_sound(&self.rooms);
         each_is_found();
         what_is_found_is_within_limits();
-        end_slots(&self.rooms, &mut self.media);
+        nothing_is_held_twice();
+        end_slots(&self.rooms, self.held.as_slice(), &mut self.media);
     }
 
     /// The slot of the i-th termination, in the order of their numbers.
@@ -558,40 +560,40 @@ impl Engine {
         let Some(to) = sent_to(&sender) else {
             return;
         };
-        let payload = self.payload(&sender, to.law, outbox);
-        outbox.push(self.packet(&sender, to, &payload));
+        self.put_payload(&sender, to.law, outbox);
+        self.address(&sender, to, outbox);
     }
 
-    /// The packet of this tick from a termination to its peer.
-    fn packet(&self, sender: &Record, to: Chosen, payload: &[u8; SAMPLES]) -> Datagram
+    /// Makes the last packet of an outbox, which has its payload, that of this tick from a termination to its peer.
+    fn address(&self, sender: &Record, to: Chosen, outbox: &mut Outbox)
         requires member { record_at self.now.rooms sender.now.number ≡ Some sender.now }
-        requires payload { payload.now ≡ map (byte_of to.law) (mixed_now self.now sender.now) }
-        ensures value { result ≡ packet_now self.now sender.now to }
-        ensures payload { payload_of result ≡ payload.now }
+        requires last { 0 < length outbox.old.items }
+        ensures put { (before : List Datagram) (last : Datagram) → outbox.old.items ≡ before ++ last ∷ [] →
+            payload_of last ≡ map (byte_of to.law) (mixed_now self.now sender.now) →
+            outbox.new.items ≡ before ++ packet_now self.now sender.now to ∷ [] }
+        ensures payload { payload_of (packet_now self.now sender.now to) ≡ map (byte_of to.law) (mixed_now self.now sender.now) }
     {
         gateways_are_sound(&self.rooms);
         what_is_found_is_within_limits();
         let media = self.media.as_slice();
         let ssrc = self.config.ssrc.wrapping_add(sender.number);
         let header = media[usize::from(sender.slot)].header(payload_type(to.law), ssrc);
-        let bytes = write(header, payload);
+        let from = self.config.limits().slot_port(sender.slot);
         let address = to.address;
         let port = to.port;
-        Datagram {
-            from: self.config.limits().slot_port(sender.slot),
-            to: Peer { address, port },
-            bytes,
-        }
+        address_last(outbox, from, Peer { address, port }, header);
     }
 
-    /// The payload of what a member is sent: itself in a loopback, else all that flow to it.
-    fn payload(&mut self, sender: &Record, law: Law, outbox: &Outbox) -> [u8; SAMPLES]
+    /// Puts a packet with the payload of what a member is sent: itself in a loopback, else all that flow to it. Its header
+    /// and its addresses are to come.
+    fn put_payload(&mut self, sender: &Record, law: Law, outbox: &mut Outbox)
         requires member { record_at self.old.rooms sender.now.number ≡ Some sender.now }
         requires sends { IsTrue (sends sender.now.mode) }
-        requires room { length outbox.now.items < TERMINATIONS }
-        requires shared { AreShared self.old outbox.now.items }
-        ensures value { result ≡ map (byte_of law) (mixed_now self.old sender.now) }
-        ensures shared { (sent : Datagram) → payload_of sent ≡ result → AreShared self.new (outbox.now.items ++ sent ∷ []) }
+        requires room { length outbox.old.items < TERMINATIONS }
+        requires shared { AreShared self.old outbox.old.items }
+        ensures put { IsPut outbox.old.items outbox.new.items (map (byte_of law) (mixed_now self.old sender.now)) }
+        ensures shared { (sent : Datagram) → payload_of sent ≡ map (byte_of law) (mixed_now self.old sender.now) →
+            AreShared self.new (outbox.old.items ++ sent ∷ []) }
         ensures same { self.new ≡ with_mixes self.old self.new.sums.work self.new.shares }
         ensures work { RisesAtMost (mix_work_now self.old sender.now) self.old.sums.work self.new.sums.work }
     {
@@ -599,23 +601,26 @@ impl Engine {
         what_is_found_is_within_limits();
         members_are_those_in_the_context();
         if is_loopback(sender.mode) {
-            return encode_frame(law, self.sums.frame(Row::new(sender.slot)));
+            let payload = encode_frame(law, self.sums.frame(Row::new(sender.slot)));
+            push_payload(outbox, &payload);
+            return;
         }
         match place_of(&self.rooms, sender) {
-            Some(place) => self.heard(sender, place, law, outbox),
-            None => [0; SAMPLES],
+            Some(place) => self.put_heard(sender, place, law, outbox),
+            None => {}
         }
     }
 
-    /// The payload of what a member on a place hears. Who hears the same, by the same law, has the same payload, which is
-    /// made once.
-    fn heard(&mut self, listener: &Record, place: Place, law: Law, outbox: &Outbox) -> [u8; SAMPLES]
+    /// Puts a packet with the payload of what a member on a place hears. Who hears the same, by the same law, has the same
+    /// payload, which is made once.
+    fn put_heard(&mut self, listener: &Record, place: Place, law: Law, outbox: &mut Outbox)
         requires place { IsOnPlace self.old.rooms listener.now.number listener.now place }
         requires listens { IsTrue (listens listener.now.mode) }
-        requires room { length outbox.now.items < TERMINATIONS }
-        requires shared { AreShared self.old outbox.now.items }
-        ensures value { result ≡ map (byte_of law) (map (λ i. limited (heard_now self.old listener.now i)) (range_with_len 0 160)) }
-        ensures shared { (sent : Datagram) → payload_of sent ≡ result → AreShared self.new (outbox.now.items ++ sent ∷ []) }
+        requires room { length outbox.old.items < TERMINATIONS }
+        requires shared { AreShared self.old outbox.old.items }
+        ensures put { IsPut outbox.old.items outbox.new.items (map (byte_of law) (map (λ i. nearest_sample (heard_now self.old listener.now i)) (range_with_len 0 160))) }
+        ensures shared { (sent : Datagram) → payload_of sent ≡ map (byte_of law) (map (λ i. nearest_sample (heard_now self.old listener.now i)) (range_with_len 0 160)) →
+            AreShared self.new (outbox.old.items ++ sent ∷ []) }
         ensures same { self.new ≡ with_mixes self.old self.new.sums.work self.new.shares }
         ensures work { RisesAtMost (1 + silenced_now self.old listener.now) self.old.sums.work self.new.sums.work }
     {
@@ -625,7 +630,8 @@ impl Engine {
         nothing_is_held_twice();
         let talkers = *self.flows.open(place);
         if let Some(packet) = self.shares.find(place.room, talkers, law) {
-            return payload_at(outbox, packet);
+            lend(outbox, packet);
+            return;
         }
         let packet = outbox.len() as u8;
         self.shares.put(
@@ -636,14 +642,15 @@ impl Engine {
                 packet,
             },
         );
-        self.mix(listener, place, law)
+        let payload = self.mix(listener, place, law);
+        push_payload(outbox, &payload);
     }
 
     /// The payload of the total of a room without the listener on a place and those that are silenced for it.
     fn mix(&mut self, listener: &Record, place: Place, law: Law) -> [u8; SAMPLES]
         requires place { IsOnPlace self.old.rooms listener.now.number listener.now place }
         requires listens { IsTrue (listens listener.now.mode) }
-        ensures value { result ≡ map (byte_of law) (map (λ i. limited (heard_now self.old listener.now i)) (range_with_len 0 160)) }
+        ensures value { result ≡ map (byte_of law) (map (λ i. nearest_sample (heard_now self.old listener.now i)) (range_with_len 0 160)) }
         ensures same { self.new ≡ with_mixes self.old self.new.sums.work self.old.shares }
         ensures work { RisesAtMost (1 + silenced_now self.old listener.now) self.old.sums.work self.new.sums.work }
     {
@@ -693,8 +700,12 @@ fn play(media: &mut Vec<Media>, sums: &mut Sums, slot: u8)
     ensures work { RisesAtMost 2 sums.old.work sums.new.work }
 {
     sums_are_valid(sums);
+    let row = Row::new(slot);
     let frame = media[usize::from(slot)].play();
-    sums.set_frame(Row::new(slot), frame.as_ref());
+    if frame.is_none() && sums.is_silent(row) {
+        return;
+    }
+    sums.set_frame(row, frame.as_ref());
 }
 
 /// Has each play list of the slots that are held tick.
@@ -722,16 +733,24 @@ fn sends_in(rooms: &Rooms, slot: u8) -> bool
     }
 }
 
-/// Ends a tick in which all that send have sent a packet.
-fn end_slots(rooms: &Rooms, media: &mut Vec<Media>)
-    requires few { length media.old.items ≤ TERMINATIONS }
-    ensures long { length media.new.items ≡ length media.old.items }
-    ensures each { EachIndex media.old.items (λ slot. media_at media.new.items slot
-        ≡ ended (slot_sends rooms.now slot) (media_at media.old.items slot)) }
+/// Ends a tick of the termination that holds a slot, in which it has sent a packet if it sends.
+fn end_slot(rooms: &Rooms, media: &mut Vec<Media>, slot: u8)
+    requires slot { slot < length media.old.items }
+    ensures value { media.new.items ≡ slice_set media.old.items slot (ended (slot_sends rooms.now slot) (media_at media.old.items slot)) }
 {
-    for i in 0..media.len() {
-        let is_sent = sends_in(rooms, i as u8);
-        media[i].end_tick(is_sent);
+    let is_sent = sends_in(rooms, slot);
+    media[usize::from(slot)].end_tick(is_sent);
+}
+
+/// Ends a tick of those who hold the slots, in which all that send have sent a packet.
+fn end_slots(rooms: &Rooms, held: &[u8], media: &mut Vec<Media>)
+    requires slots { EachIndex held.now (λ i. slice_index_or held.now i 0 < length media.old.items) }
+    requires apart { AreApart held.now }
+    ensures long { length media.new.items ≡ length media.old.items }
+    ensures each { EachIndex held.now (λ i. IsEnded rooms.now media.old.items media.new.items (slice_index_or held.now i 0)) }
+{
+    for slot in held {
+        end_slot(rooms, media, *slot);
     }
 }
 

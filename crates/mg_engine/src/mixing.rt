@@ -1,20 +1,17 @@
-//! What a mix is made of: the rows that are taken away from a total, and payloads that were made before.
+//! What a mix is made of: the rows that are taken away from a total.
 
 ghost use Rattle.std.specs.Prelude.{◌≡◌, ℕ, ◌<◌, ◌≤◌, length, map, IsTrue, Some, None, if◌then◌else◌};
 ghost use Rattle.mg_words.specs.Limits.{context_limit, termination_limit, member_limit};
 ghost use Rattle.mg_words.specs.Mode.{talks};
 ghost use Rattle.mg_topology.specs.Mask.{has_seat, seats_of};
 ghost use Rattle.mg_engine.specs.aids.Seating.{slot_at};
-ghost use Rattle.mg_engine.specs.aids.Shares.{packet_at, payload_of};
 
-use crate::datagram::Outbox;
 use crate::seating::Seating;
 use arrayvec::ArrayVec;
 use mg_flow::Place;
 use mg_rooms::{MEMBERS, Record, mode_talks};
 use mg_sums::Row;
 use mg_topology::mask::{self, Mask};
-use mg_words::SAMPLES;
 
 /// The row of a listener that talks, which isn't to hear itself.
 pub fn own_row(listener: &Record) -> Option<Row>
@@ -43,15 +40,4 @@ pub fn rows_on(seating: &Seating, room: u8, seats: Mask) -> ArrayVec<Row, MEMBER
         rows.push(Row::new(seating.slot(place)));
     }
     rows
-}
-
-/// The payload of a packet in an outbox.
-pub fn payload_at(outbox: &Outbox, at: u8) -> [u8; SAMPLES]
-    requires there { at < length outbox.now.items }
-    ensures value { result ≡ payload_of (packet_at outbox.now.items at) }
-{
-    let mut payload = [0; SAMPLES];
-    let (_, sent) = outbox[usize::from(at)].bytes.split_at(12);
-    payload.copy_from_slice(sent);
-    payload
 }

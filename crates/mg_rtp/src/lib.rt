@@ -22,7 +22,7 @@ pub use header::Header;
 pub use packet::Packet;
 pub use reading::read;
 pub use rtp_fault::RtpFault;
-pub use writing::{PACKET_LEN, PAYLOAD_LEN, write};
+pub use writing::{PACKET_LEN, PAYLOAD_LEN, write, write_header, write_payload};
 
 #[cfg(test)]
 mod tests;

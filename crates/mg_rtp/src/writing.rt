@@ -1,4 +1,4 @@
-ghost use Rattle.std.specs.Prelude.{◌≡◌, ◌<◌, ◌^◌, ◌++◌, length};
+ghost use Rattle.std.specs.Prelude.{◌≡◌, ◌<◌, ◌^◌, ◌++◌, length, drop};
 ghost use Rattle.mg_rtp.specs.Header.{header_bytes, plain};
 ghost use Rattle.mg_rtp.specs.Packet.{IsPacket};
 
@@ -19,9 +19,25 @@ pub fn write(header: Header, payload: &[u8; PAYLOAD_LEN]) -> [u8; PACKET_LEN]
     ensures packet { IsPacket result header payload.now }
 {
     let mut bytes = [0; PACKET_LEN];
-    bytes[..HEADER_LEN].copy_from_slice(&head_of(header));
-    bytes[HEADER_LEN..].copy_from_slice(payload);
+    write_payload(payload, &mut bytes);
+    write_header(header, &mut bytes);
     bytes
+}
+
+/// Writes a header over that of a packet, with no padding, no extension and no contributing sources. The payload stays.
+pub fn write_header(header: Header, bytes: &mut [u8; PACKET_LEN])
+    requires seven_bits { header.payload_type < 128 }
+    ensures bytes { bytes.new ≡ header_bytes plain header ++ drop 12 bytes.old }
+    ensures payload { drop 12 bytes.new ≡ drop 12 bytes.old }
+{
+    bytes[..HEADER_LEN].copy_from_slice(&head_of(header));
+}
+
+/// Writes a payload over that of a packet whose header takes twelve bytes.
+pub fn write_payload(payload: &[u8; PAYLOAD_LEN], bytes: &mut [u8; PACKET_LEN])
+    ensures payload { drop 12 bytes.new ≡ payload.now }
+{
+    bytes[HEADER_LEN..].copy_from_slice(payload);
 }
 
 /// The twelve bytes of a header with nothing between it and the payload.

@@ -3,10 +3,10 @@
 //! The fields of a row are private to this module. Elsewhere a row is read by its readers alone,
 //! so no other code can add up rows.
 
-ghost use Rattle.std.specs.Prelude.{◌≡◌, ℕ, ◌+◌, ◌%◌, ◌^◌, ◌<◌, ◌+ℤ◌, ◌-ℤ◌, pos, length, replicate};
+ghost use Rattle.std.specs.Prelude.{◌≡◌, ℕ, ◌+◌, ◌%◌, ◌^◌, ◌<◌, ◌+ℤ◌, ◌-ℤ◌, pos, length, replicate, IsTrue};
 ghost use Rattle.std.specs.Option.{option_copied};
 ghost use Rattle.mg_g711.specs.Frame.{IsFrame};
-ghost use Rattle.mg_sums.specs.Samples.{sample, nearest_sample, frame_or_silence};
+ghost use Rattle.mg_sums.specs.Samples.{sample, nearest_sample, silence, frame_or_silence};
 ghost use Rattle.mg_sums.specs.Sums.{work_after};
 ghost use Rattle.mg_sums.specs.aids.Totals.{AreNear};
 
@@ -20,14 +20,19 @@ use std::marker::Model;
 #[derive(Drop)]
 pub struct FrameRow {
     samples: Frame,
+    /// Whether it is known to be silent.
+    is_silent: bool,
 }
 
 impl Model for FrameRow {
-    ghost use Rattle.std.specs.Prelude.{ℤ, List};
+    ghost use Rattle.std.specs.Prelude.{◌≡◌, ℤ, List, IsTrue};
+    ghost use Rattle.mg_sums.specs.Samples.{silence};
 
     ghost Value = { List ℤ };
 
     ghost view = { λ row. row.samples };
+
+    ghost invariant = { λ row. IsTrue row.is_silent → row.samples ≡ silence };
 }
 
 /// Sums of samples: a total, or what is left of one.
@@ -57,12 +62,42 @@ impl FrameRow {
         ensures value { result ≡ frame_or_silence (option_copied frame.entry) }
         ensures frame { IsFrame result }
     {
-        let samples = match frame {
-            Some(frame) => *frame,
-            None => [0; SAMPLES],
-        };
+        match frame {
+            Some(frame) => FrameRow::of(*frame),
+            None => FrameRow::silent(),
+        }
+    }
+
+    /// The row of a frame.
+    fn of(samples: Frame) -> Self
+        ensures value { result ≡ samples }
+        ensures frame { IsFrame result }
+    {
         frames_are_whole(&samples);
-        FrameRow { samples }
+        FrameRow {
+            samples,
+            is_silent: false,
+        }
+    }
+
+    /// The row of silence.
+    fn silent() -> Self
+        ensures value { result ≡ silence }
+        ensures frame { IsFrame result }
+    {
+        let samples = [0; SAMPLES];
+        frames_are_whole(&samples);
+        FrameRow {
+            samples,
+            is_silent: true,
+        }
+    }
+
+    /// Whether it is known to be silent.
+    pub fn is_silent(&self) -> bool
+        ensures value { IsTrue result → self.now ≡ silence }
+    {
+        self.is_silent
     }
 
     /// The samples.
@@ -78,6 +113,7 @@ impl FrameRow {
             sample self.new i ≡ nearest_sample (sample sums.now i) }
         ensures long { length self.new ≡ 160 }
     {
+        self.is_silent = false;
         kernels::limit(&mut self.samples, &sums.sums);
     }
 }

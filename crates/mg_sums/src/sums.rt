@@ -1,4 +1,4 @@
-ghost use Rattle.std.specs.Prelude.{◌≡◌, ℕ, ◌+◌, ◌^◌, ◌<◌, ◌≤◌, ◌-ℤ◌, [], length, All, map, replicate, slice_set, Some, None, IfOk};
+ghost use Rattle.std.specs.Prelude.{◌≡◌, ℕ, ◌+◌, ◌^◌, ◌<◌, ◌≤◌, ◌-ℤ◌, [], length, All, map, replicate, slice_set, Some, None, IfOk, IsTrue};
 ghost use Rattle.std.specs.Option.{option_copied};
 ghost use Rattle.mg_words.specs.Limits.{context_limit, termination_limit};
 ghost use Rattle.mg_g711.specs.Frame.{IsFrame};
@@ -141,6 +141,13 @@ impl Sums {
         ensures frame { IsFrame result.now }
     {
         self.frames[row.number()].frame()
+    }
+
+    /// Whether a row is known to be silent: no frame was set for it since it was last set to none, or ever.
+    pub fn is_silent(&self, row: Row) -> bool
+        ensures value { IsTrue result → frame_of self.now row ≡ silence }
+    {
+        self.frames[row.number()].is_silent()
     }
 
     /// The room that a row is joined to, if any.

@@ -227,6 +227,8 @@ fn totals_are_not_limited(rt: HostRuntime) -> Result<(), Fail> {
     sums.set_frame(second, None);
     assert_eq!(rt; *sums.total(room, 0), 32124);
     assert_eq!(rt; *sums.frame(second), [0; 160]);
+    assert!(rt; sums.is_silent(second));
+    assert!(rt; !sums.is_silent(third));
     assert_eq!(rt; sums.work(), 3 + 2 + 1 + 2);
     Ok(())
 }

@@ -110,7 +110,8 @@ Finishes count (b ∷ bs) w next old new result = LineRan (count + 1) (b ∷ bs)
 abbrev pub AllRan : Config → List ℕ → CoreState → Option (List ℕ) → Option (List ℕ)
     → Result (Unit {0}) ScriptFault → Type 0
 AllRan config script state old new (Ok done) =
-    (last : World) × Ran (start_of config) (lines_of true script) last old new × StandsFor state last
+    (last : World) × Ran (start_of config) (lines_of true script) last old new
+    × StandsFor state last
 AllRan config script state old new (Err (scripts.Bad n)) = RanToBadLine config script n old new
 AllRan config script state old new (Err scripts.Read) = RanFirst config script old new
 AllRan config script state old new (Err scripts.Write) = RanFirstInPart config script old new

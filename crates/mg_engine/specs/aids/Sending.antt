@@ -1,10 +1,11 @@
 -- What is sent in a tick, by what an engine keeps.
 use Rattle.std.specs.Prelude.{◌≡◌, ℕ, ℤ, pos, ◌+◌, ◌%◌, ◌^◌, Bool, false, List, ◌++◌, map}
-use Rattle.std.specs.Prelude.{filter_map, Option, Some, None, slice_set, Ok, Err}
+use Rattle.std.specs.Prelude.{filter_map, Option, Some, None, slice_set, drop, Ok, Err}
 use Rattle.std.specs.Prelude.{if◌then◌else◌, is_some, count_by}
 use Rattle.std.specs.List.{range_with_len}
 use Rattle.std.specs.Option.{option_map}
 use Rattle.mg_g711.specs.Law.{byte_of}
+use Rattle.mg_rtp.specs.declared.header.Header.{Header}
 use Rattle.mg_rtp.specs.Header.{header_bytes, plain}
 use Rattle.mg_sdp.specs.declared.chosen.Chosen.{Chosen}
 use Rattle.mg_rooms.specs.declared.record.Record.{Record}
@@ -13,15 +14,16 @@ use Rattle.mg_rooms.specs.Registry as rooms
 use Rattle.mg_flow.specs.declared.place.Place.{Place}
 use Rattle.mg_flow.specs.Table as flow
 use Rattle.mg_sums.specs.Sums.{sample_in}
+use Rattle.mg_sums.specs.Samples.{sum_of, nearest_sample}
 use Rattle.mg_engine.specs.declared.datagram.Datagram.{Datagram}
+use Rattle.mg_engine.specs.declared.peer.Peer.{Peer}
 use Rattle.mg_engine.specs.declared.share.Share.{Share}
 use Rattle.mg_engine.specs.declared.taken.Taken.{Taken}
 use Rattle.mg_engine.specs.declared.taken.Taken.TheVariants.{Placed, Dropped}
 use Rattle.mg_engine.specs.Arrival.{Arrived}
 use Rattle.mg_engine.specs.Media as media
-use Rattle.mg_engine.specs.Mixing.{limited}
 use Rattle.mg_engine.specs.Place.{place_of}
-use Rattle.mg_engine.specs.Mix.{sum_of, is_loopback}
+use Rattle.mg_engine.specs.Mix.{is_loopback}
 use Rattle.mg_engine.specs.Stands.{EngineState, media_at}
 use Rattle.mg_engine.specs.Tick.{type_of, sent_to, is_sender}
 
@@ -52,7 +54,8 @@ heard_now k l i = sum_of (part_now k l i) k.rooms.terminations
 
 abbrev pub mix_now : EngineState → Record → ℕ → ℤ
 mix_now k l i =
-    if is_loopback l.mode then sample_at k.sums.frames l.slot i else limited (heard_now k l i)
+    if is_loopback l.mode then sample_at k.sums.frames l.slot i
+    else nearest_sample (heard_now k l i)
 
 abbrev pub mixed_now : EngineState → Record → List ℤ
 mixed_now k l = map (mix_now k l) (range_with_len 0 160)
@@ -65,6 +68,11 @@ packet_now k r to = record {
       ((k.config.ssrc + r.number) % 2 ^ 32))
       ++ map (byte_of to.law) (mixed_now k r);
 }
+
+-- a packet with another header, and from and to other places
+abbrev pub addressed : ℕ → Peer → Header → Datagram → Datagram
+addressed from to header d =
+    record { from = from; to = to; bytes = header_bytes plain header ++ drop 12 d.bytes }
 
 -- what is sent costs one row, and one for each on the seats that are silenced for the listener
 abbrev pub silenced_now : EngineState → Record → ℕ
@@ -85,6 +93,10 @@ packets_now k = filter_map (λ r. option_map (packet_now k r) (sent_to r)) k.roo
 -- whether the termination that holds a slot sends
 abbrev pub slot_sends : rooms.Registry → ℕ → Bool
 slot_sends w slot = is_sender (rooms.holder_of w slot)
+
+-- the media of a slot are those after a tick in which who holds it has sent a packet if it sends
+abbrev pub IsEnded : rooms.Registry → List media.SlotMedia → List media.SlotMedia → ℕ → Type 0
+IsEnded w old new slot = media_at new slot ≡ media.ended (slot_sends w slot) (media_at old slot)
 
 -- the same state after mixes, which count their rows, and after packets that lend their payloads
 abbrev pub with_mixes : EngineState → ℕ → List (List Share) → EngineState

@@ -11,11 +11,10 @@ use Rattle.mg_g711.specs.Law.{byte_of}
 use Rattle.mg_rooms.specs.declared.record.Record.{Record}
 use Rattle.mg_rooms.specs.Registry as rooms
 use Rattle.mg_flow.specs.declared.place.Place.{Place}
+use Rattle.mg_sums.specs.Samples.{sum_of, nearest_sample}
 use Rattle.mg_engine.specs.declared.datagram.Datagram.{Datagram}
 use Rattle.mg_engine.specs.declared.share.Share.{Share}
 use Rattle.mg_engine.specs.Datagram.{blank}
-use Rattle.mg_engine.specs.Mixing.{limited}
-use Rattle.mg_engine.specs.Mix.{sum_of}
 use Rattle.mg_engine.specs.Place.{place_of}
 use Rattle.mg_engine.specs.Stands.{EngineState}
 use Rattle.mg_engine.specs.aids.Sending.{sample_at}
@@ -54,7 +53,7 @@ heard_on k room mask i =
 -- the payload for one who hears them
 abbrev pub payload_on : EngineState → ℕ → ℕ → Law → List ℕ
 payload_on k room mask law =
-    map (byte_of law) (map (λ i. limited (heard_on k room mask i)) (range_with_len 0 160))
+    map (byte_of law) (map (λ i. nearest_sample (heard_on k room mask i)) (range_with_len 0 160))
 
 -- ## Payloads that are lent
 
@@ -64,6 +63,12 @@ packet_at outbox i = slice_index_or outbox i blank
 -- what stands after the header of a packet
 abbrev pub payload_of : Datagram → List ℕ
 payload_of datagram = drop 12 datagram.bytes
+
+-- one packet more with a payload is in an outbox
+pub record IsPut (old new : List Datagram) (payload : List ℕ) : Type 0 where
+  pub last : Datagram
+  pub all : new ≡ old ++ last ∷ []
+  pub same : payload_of last ≡ payload
 
 -- a packet of the outbox has the payload that it lends
 pub record IsShared (k : EngineState) (outbox : List Datagram) (room : ℕ) (share : Share)

@@ -1,11 +1,11 @@
 use Rattle.std.proofs.Common.{◌≡◌, ℕ, ◌<◌, ◌≤◌, get_or, length}
-use Rattle.mg_engine.specs.Media.{idle, ended}
-use Rattle.mg_engine.specs.aids.Sending.{slot_sends}
+use Rattle.mg_engine.specs.Stands.{media_at}
+use Rattle.mg_engine.specs.aids.Sending.{IsEnded}
 use Rattle.mg_engine.proofs.engine.end_slots.Given as goal
 
-abbrev pub invariant-loop-i : goal.invariant-loop-i
-invariant-loop-i l = record {
-  long : length l.media.items ≡ length l.initial.media.items;
-  done : (k : ℕ) → k < l.i → get_or l.media.items k idle ≡ ended (slot_sends l.rooms k) (get_or l.initial.media.items k idle);
-  rest : (k : ℕ) → l.i ≤ k → get_or l.media.items k idle ≡ get_or l.initial.media.items k idle;
+abbrev pub invariant-loop-slot : goal.invariant-loop-slot
+invariant-loop-slot l = record {
+  long : length l.media.items ≡ length l.fn.media.items;
+  done : (j : ℕ) → j < l.slot-index → IsEnded l.rooms l.fn.media.items l.media.items (get_or l.held j 0);
+  rest : (j : ℕ) → l.slot-index ≤ j → j < length l.held → media_at l.media.items (get_or l.held j 0) ≡ media_at l.fn.media.items (get_or l.held j 0);
 }

@@ -5,7 +5,7 @@ use Rattle.mg_words.specs.Mode.{talks}
 use Rattle.mg_rooms.specs.Registry.{context_at}
 use Rattle.mg_flow.specs.Place.{beside}
 use Rattle.mg_sums.specs.Sums.{SumsState, AreOfRoom, left_out_by, mix_of}
-use Rattle.mg_engine.specs.Mixing.{limited}
+use Rattle.mg_sums.specs.Samples.{nearest_sample}
 use Rattle.mg_engine.specs.Place.{IsOnPlace}
 use Rattle.mg_engine.specs.Stands.{EngineState}
 use Rattle.mg_engine.specs.aids.Sending.{heard_now, silenced_now}
@@ -95,7 +95,7 @@ returns-clause-value c =
     ∙ ap (λ (b : Option ℕ). map (byte_of law) (mix_of k.sums p.room (left_out_by b c.as_slice.result.now))) own
     ∙ ap (λ (m : List ℕ). map (byte_of law) (mix_of k.sums p.room (left_out_by (cond (talks l.mode) (Some l.slot) None) m))) rows
     ∙ ap (λ (xs : List ℤ). map (byte_of law) xs) mixed
-    ∙ ap (λ (x : EngineState). map (byte_of law) (map (λ i. limited (heard_now x l i)) (range_with_len 0 160))) c.self.view_is
+    ∙ ap (λ (x : EngineState). map (byte_of law) (map (λ i. nearest_sample (heard_now x l i)) (range_with_len 0 160))) c.self.view_is
 
 pub returns-clause-work : goal.returns-clause-work
 returns-clause-work c =

@@ -1,4 +1,7 @@
-use Rattle.std.proofs.Common.{map, ℕ, ◌+◌, ◌%◌, ◌^◌, ◌<◌, length, List, get_or, sym, ap, ◌∙◌, arith}
+use Rattle.std.proofs.Common.{map, ℕ, ◌+◌, ◌%◌, ◌^◌, ◌<◌, ◌++◌, ◌∷◌, [], length, List, get_or, refl, sym, ap, ◌∙◌, arith}
+use Rattle.mg_rtp.specs.Header.{header_bytes, plain}
+use Rattle.mg_engine.specs.declared.datagram.Datagram.{Datagram}
+use Rattle.mg_engine.specs.aids.Shares.{payload_of}
 use Rattle.std.proofs.lemmas.List.{get_or_default}
 use Rattle.mg_g711.specs.Law.{byte_of}
 use Rattle.mg_rooms.specs.declared.limits.Limits.{Limits}
@@ -9,10 +12,10 @@ use Rattle.mg_engine.specs.Media.{idle}
 use Rattle.mg_engine.specs.aids.Sending.{mixed_now, packet_now}
 use Rattle.mg_engine.specs.Stands.{EngineState}
 use Rattle.mg_engine.proofs.SendingLaws.{packet_is}
-use Rattle.mg_engine.proofs.engine.Engine.packet.Goals as goal
+use Rattle.mg_engine.proofs.engine.Engine.address.Goals as goal
 
-pub returns-clause-value : goal.returns-clause-value
-returns-clause-value c =
+pub returns-clause-put : goal.returns-clause-put
+returns-clause-put c before last was body =
     let k : EngineState = record { config = c.self.inside.config; rooms = c.self.inside.rooms; media = c.self.inside.media.items; flows = c.self.inside.flows; sums = c.self.inside.sums; shares = c.self.inside.shares } in
     let r = c.args.sender.now in
     let to = c.args.to in
@@ -25,14 +28,18 @@ returns-clause-value c =
     ∙ ap (λ (n : ℕ). get_or c.as_slice-media.result.now n c.index-media-from.result) c.from.ensures
     ∙ ap (λ (ms : List media.SlotMedia). get_or ms r.slot c.index-media-from.result) all
     ∙ get_or_default k.media r.slot c.index-media-from.result idle within in
-    let port = c.slot_port.ensures.value ∙ ap (λ (l : Limits). slot_port l r.slot) (c.limits.ensures.value ∙ sym c.self.invariant.limits) in
-    let payload = c.requires.payload ∙ ap (λ (x : EngineState). map (byte_of to.law) (mixed_now x r)) (sym c.self.view_is) in
+    let port = c.slot_port-from.ensures.value ∙ ap (λ (l : Limits). slot_port l r.slot) (c.limits.ensures.value ∙ sym c.self.invariant.limits) in
+    let payload = body ∙ ap (λ (x : EngineState). map (byte_of to.law) (mixed_now x r)) (sym c.self.view_is) in
     let head = c.header-header.ensures.value ∙ ap (λ (t : ℕ). media.header c.index-media-from.result t ((k.config.ssrc + r.number) % 2 ^ 32)) c.payload_type.ensures.value in
-    let made = packet_is k r to c.slot_port.result c.write-bytes.result c.args.payload.now c.header-header.result c.index-media-from.result port c.write-bytes.ensures.bytes payload head place in
-    made ∙ ap (λ (x : EngineState). packet_now x r to) c.self.view_is
+    let made = packet_is k r to c.slot_port-from.result (header_bytes plain c.header-header.result ++ payload_of last) (payload_of last) c.header-header.result c.index-media-from.result port refl payload head place in
+    c.address_last.ensures.value before last was
+    ∙ ap (λ (d : Datagram). before ++ d ∷ []) (made ∙ ap (λ (x : EngineState). packet_now x r to) c.self.view_is)
 
-pub slot_port-requires-clause-slot : goal.slot_port-requires-clause-slot
-slot_port-requires-clause-slot c =
+pub returns-clause-payload : goal.returns-clause-payload
+returns-clause-payload c = refl
+
+pub slot_port-from-requires-clause-slot : goal.slot_port-from-requires-clause-slot
+slot_port-from-requires-clause-slot c =
     let w = c.self.inside.rooms in
     let r = c.args.sender.now in
     let found = ap (λ (x : EngineState). record_at x.rooms r.number) c.self.view_is ∙ c.requires.member in

@@ -2,16 +2,16 @@ use Rattle.std.proofs.Common.{◌+◌, ◌∷◌, ◌++◌, [], List, map, sym, 
 use Rattle.std.specs.List.{range_with_len}
 use Rattle.std.proofs.lemmas.List.Elements.{All-contains}
 use Rattle.mg_g711.specs.Law.{byte_of}
+use Rattle.mg_sums.specs.Samples.{nearest_sample}
 use Rattle.mg_engine.specs.declared.share.Share.{Share}
-use Rattle.mg_engine.specs.Mixing.{limited}
 use Rattle.mg_engine.specs.Place.{IsOnPlace}
 use Rattle.mg_engine.specs.Stands.{EngineState}
 use Rattle.mg_engine.specs.aids.Sending.{heard_now, silenced_now, with_mixes}
-use Rattle.mg_engine.specs.aids.Shares.{AreShared, IsShared, shares_in}
+use Rattle.mg_engine.specs.aids.Shares.{AreShared, IsShared, packet_at, shares_in}
 use Rattle.mg_engine.proofs.MaskLaws.{payload_is_on}
 use Rattle.mg_engine.proofs.ShareLaws.{still_shared, now_shared}
 use Rattle.mg_engine.specs.Work.{RisesAtMost}
-use Rattle.mg_engine.proofs.engine.Engine.heard.Goals as goal
+use Rattle.mg_engine.proofs.engine.Engine.put_heard.Goals as goal
 
 pub open-talkers-requires : goal.open-talkers-requires
 open-talkers-requires c =
@@ -23,8 +23,8 @@ open-talkers-requires c =
     let lent : AreShared k outbox = subst (λ (x : EngineState). AreShared x outbox) (sym c.self.view_is) c.requires.shared in
     (c.self.invariant.members.each l.number l p on).held
 
-pub payload_at-requires : goal.payload_at-requires
-payload_at-requires c =
+pub lend-requires-clause-there : goal.lend-requires-clause-there
+lend-requires-clause-there c =
     let k : EngineState = record { config = c.self.inside.config; rooms = c.self.inside.rooms; media = c.self.inside.media.items; flows = c.self.inside.flows; sums = c.self.inside.sums; shares = c.self.inside.shares } in
     let l = c.args.listener.now in
     let p = c.args.place in
@@ -33,10 +33,10 @@ payload_at-requires c =
     let lent : AreShared k outbox = subst (λ (x : EngineState). AreShared x outbox) (sym c.self.view_is) c.requires.shared in
     let share : Share = record { talkers = c.open-talkers.result.now; law = c.args.law; packet = c.in-Some.packet } in
     let is = All-contains (IsShared k outbox p.room) (shares_in k.shares p.room) share (lent p.room) c.in-Some.ensures.found in
-    record { there = is.sent }
+    is.sent
 
-pub returns-in-Some-clause-value : goal.returns-in-Some-clause-value
-returns-in-Some-clause-value c =
+pub returns-in-Some-clause-put : goal.returns-in-Some-clause-put
+returns-in-Some-clause-put c =
     let k : EngineState = record { config = c.self.inside.config; rooms = c.self.inside.rooms; media = c.self.inside.media.items; flows = c.self.inside.flows; sums = c.self.inside.sums; shares = c.self.inside.shares } in
     let l = c.args.listener.now in
     let p = c.args.place in
@@ -45,18 +45,27 @@ returns-in-Some-clause-value c =
     let lent : AreShared k outbox = subst (λ (x : EngineState). AreShared x outbox) (sym c.self.view_is) c.requires.shared in
     let share : Share = record { talkers = c.open-talkers.result.now; law = c.args.law; packet = c.in-Some.packet } in
     let is = All-contains (IsShared k outbox p.room) (shares_in k.shares p.room) share (lent p.room) c.in-Some.ensures.found in
-    c.payload_at.ensures.value
-    ∙ is.payload
-    ∙ sym (payload_is_on k l p c.open-talkers.result.now on.place c.open-talkers.ensures.kept c.args.law)
-    ∙ ap (λ (x : EngineState). map (byte_of c.args.law) (map (λ i. limited (heard_now x l i)) (range_with_len 0 160))) c.self.view_is
+    record {
+      last = packet_at outbox c.in-Some.packet;
+      all = c.lend.ensures.value;
+      same = is.payload
+          ∙ sym (payload_is_on k l p c.open-talkers.result.now on.place c.open-talkers.ensures.kept c.args.law)
+          ∙ ap (λ (x : EngineState). map (byte_of c.args.law) (map (λ i. nearest_sample (heard_now x l i)) (range_with_len 0 160))) c.self.view_is;
+    }
 
 pub returns-in-Some-clause-shared : goal.returns-in-Some-clause-shared
 returns-in-Some-clause-shared c sent e = still_shared c.args.self.now c.args.outbox.now.items sent c.requires.shared
 
-pub returns-clause-value : goal.returns-clause-value
-returns-clause-value c =
+pub returns-clause-put : goal.returns-clause-put
+returns-clause-put c =
     let l = c.args.listener.now in
-    c.mix.ensures.value ∙ ap (λ (x : EngineState). map (byte_of c.args.law) (map (λ i. limited (heard_now x l i)) (range_with_len 0 160))) c.self.view_is
+    let put = c.push_payload.ensures.put in
+    record {
+      last = put.last;
+      all = put.all;
+      same = put.same ∙ c.mix-payload.ensures.value
+          ∙ ap (λ (x : EngineState). map (byte_of c.args.law) (map (λ i. nearest_sample (heard_now x l i)) (range_with_len 0 160))) c.self.view_is;
+    }
 
 pub returns-clause-shared : goal.returns-clause-shared
 returns-clause-shared c sent e =
@@ -67,13 +76,13 @@ returns-clause-shared c sent e =
     let on : IsOnPlace k.rooms l.number l p = subst (λ (x : EngineState). IsOnPlace x.rooms l.number l p) (sym c.self.view_is) c.requires.place in
     let lent : AreShared k outbox = subst (λ (x : EngineState). AreShared x outbox) (sym c.self.view_is) c.requires.shared in
     let share : Share = record { talkers = c.open-talkers.result.now; law = c.args.law; packet = c.len-packet.result } in
-    let work = c.mix.new.self.sums.work in
-    let payload = e ∙ c.mix.ensures.value ∙ payload_is_on k l p c.open-talkers.result.now on.place c.open-talkers.ensures.kept c.args.law in
+    let work = c.mix-payload.new.self.sums.work in
+    let payload = e ∙ sym (ap (λ (x : EngineState). map (byte_of c.args.law) (map (λ i. nearest_sample (heard_now x l i)) (range_with_len 0 160))) c.self.view_is) ∙ payload_is_on k l p c.open-talkers.result.now on.place c.open-talkers.ensures.kept c.args.law in
     let now = now_shared k outbox sent work p.room share c.put.ensures.there c.len-packet.ensures.value payload lent in
-    subst (λ (x : EngineState). AreShared x (outbox ++ sent ∷ [])) (sym c.mix.ensures.same)
+    subst (λ (x : EngineState). AreShared x (outbox ++ sent ∷ [])) (sym c.mix-payload.ensures.same)
     (subst (λ (s : List (List Share)). AreShared (with_mixes k work s) (outbox ++ sent ∷ [])) (sym c.put.ensures.value) now)
 
 pub returns-clause-work : goal.returns-clause-work
 returns-clause-work c =
     let l = c.args.listener.now in
-    subst (λ (x : EngineState). RisesAtMost (1 + silenced_now x l) x.sums.work c.mix.new.self.sums.work) c.self.view_is c.mix.ensures.work
+    subst (λ (x : EngineState). RisesAtMost (1 + silenced_now x l) x.sums.work c.mix-payload.new.self.sums.work) c.self.view_is c.mix-payload.ensures.work

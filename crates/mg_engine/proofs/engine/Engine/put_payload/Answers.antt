@@ -2,31 +2,42 @@ use Rattle.std.proofs.Common.{ℕ, ℤ, Bool, cond, List, [], map, pos, get_or, 
 use Rattle.std.specs.List.{range_with_len}
 use Rattle.mg_g711.specs.Law.{byte_of}
 use Rattle.mg_rooms.specs.Registry.{record_at, context_at}
-use Rattle.mg_engine.specs.Mixing.{limited}
+use Rattle.mg_sums.specs.Samples.{nearest_sample}
 use Rattle.mg_engine.specs.Stands.{EngineState}
 use Rattle.mg_engine.specs.aids.Sending.{sample_at, heard_now, mixed_now}
 use Rattle.mg_engine.proofs.MaskLaws.{somewhere}
 use Rattle.mg_engine.proofs.ShareLaws.{still_shared}
 use Rattle.mg_engine.proofs.SumLaws.{list_is}
-use Rattle.mg_engine.proofs.engine.Engine.payload.Goals as goal
+use Rattle.mg_engine.proofs.engine.Engine.put_payload.Goals as goal
 
-pub returns-then-is_loopback-clause-value : goal.returns-then-is_loopback-clause-value
-returns-then-is_loopback-clause-value c =
+pub returns-then-is_loopback-clause-put : goal.returns-then-is_loopback-clause-put
+returns-then-is_loopback-clause-put c =
     let k : EngineState = record { config = c.self.inside.config; rooms = c.self.inside.rooms; media = c.self.inside.media.items; flows = c.self.inside.flows; sums = c.self.inside.sums; shares = c.self.inside.shares } in
     let l = c.args.sender.now in
     let frame = c.frame.ensures.value ∙ ap (λ (row : ℕ). get_or k.sums.frames row []) c.new.ensures in
     let samples = list_is (sample_at k.sums.frames l.slot) c.frame.result.now 160 (pos 0) c.frame.ensures.frame.whole (λ i lt. ap (λ (xs : List ℤ). get_or xs i (pos 0)) frame) in
-    c.encode_frame.ensures
+    let put = c.push_payload.ensures.put in
+    let payload = put.same
+    ∙ c.encode_frame-payload.ensures
     ∙ ap (λ (xs : List ℤ). map (byte_of c.args.law) xs)
     (samples
-    ∙ ap (λ (b : Bool). map (λ i. cond b (sample_at k.sums.frames l.slot i) (limited (heard_now k l i))) (range_with_len 0 160)) (sym c.if-is_loopback.true ∙ c.is_loopback.ensures.value)
-    ∙ ap (λ (x : EngineState). mixed_now x l) c.self.view_is)
+    ∙ ap (λ (b : Bool). map (λ i. cond b (sample_at k.sums.frames l.slot i) (nearest_sample (heard_now k l i))) (range_with_len 0 160)) (sym c.if-is_loopback.true ∙ c.is_loopback.ensures.value)
+    ∙ ap (λ (x : EngineState). mixed_now x l) c.self.view_is) in
+    record { last = put.last; all = put.all; same = payload }
 
 pub returns-then-is_loopback-clause-shared : goal.returns-then-is_loopback-clause-shared
 returns-then-is_loopback-clause-shared c sent e = still_shared c.args.self.now c.args.outbox.now.items sent c.requires.shared
 
-pub returns-in-None-clause-value : goal.returns-in-None-clause-value
-returns-in-None-clause-value c =
+pub returns-in-Some-clause-shared : goal.returns-in-Some-clause-shared
+returns-in-Some-clause-shared c sent e =
+    let k = c.args.self.now in
+    let l = c.args.sender.now in
+    let quiet = sym c.is_loopback.ensures.value ∙ c.if-is_loopback.false in
+    let heard = ap (λ (b : Bool). map (λ i. cond b (sample_at k.sums.frames l.slot i) (nearest_sample (heard_now k l i))) (range_with_len 0 160)) quiet in
+    c.put_heard.ensures.shared sent (e ∙ ap (λ (xs : List ℤ). map (byte_of c.args.law) xs) heard)
+
+pub returns-in-None-clause-put : goal.returns-in-None-clause-put
+returns-in-None-clause-put c =
     let l = c.args.sender.now in
     let w = c.self.inside.rooms in
     let found = ap (λ (x : EngineState). record_at x.rooms l.number) c.self.view_is ∙ c.requires.member in

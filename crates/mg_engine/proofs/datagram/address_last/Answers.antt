@@ -1,0 +1,29 @@
+use Rattle.std.proofs.Common.{◌≡◌, ℕ, ◌-◌, ◌++◌, ◌∷◌, [], List, length, length-append, get_or, ap, ◌∙◌, arith}
+use Rattle.std.specs.List.{refill}
+use Rattle.std.proofs.Math.ListN.{set}
+use Rattle.std.proofs.Math.Seq.{get_or-append_seam}
+use Rattle.mg_engine.specs.declared.datagram.Datagram.{Datagram}
+use Rattle.mg_engine.specs.aids.Sending.{addressed}
+use Rattle.mg_engine.proofs.OutboxLaws.{refilled, last_set}
+use Rattle.mg_engine.proofs.datagram.address_last.Goals as goal
+
+-- what is read past the end of a list
+abbrev none : Datagram
+none = record { from = 0; to = record { address = []; port = 0 }; bytes = [] }
+
+pub returns : goal.returns
+returns c = record {
+  value = λ before last was.
+      let items = c.args.outbox.now.items in
+      let i = c.len-last.result - 1 in
+      let from = c.args.from in
+      let to = c.args.to in
+      let header = c.args.header in
+      let at : i ≡ length before = omega (arith, c.len-last.ensures.value, ap (λ (xs : List Datagram). length xs) was, length-append before (last ∷ [])) in
+      let there = ap (λ (xs : List Datagram). get_or xs i none) (c.deref_mut.ensures.value ∙ was) ∙ ap (λ (n : ℕ). get_or (before ++ last ∷ []) n none) at ∙ get_or-append_seam before last [] none in
+      let now = c.address.ensures.value ∙ ap (addressed from to header) there in
+      ap (λ (xs : List Datagram). refill (length items) items (set xs i c.address.new.self)) c.deref_mut.ensures.value
+      ∙ refilled items i c.address.new.self
+      ∙ last_set before last c.address.new.self items i was at
+      ∙ ap (λ (d : Datagram). before ++ d ∷ []) now;
+}

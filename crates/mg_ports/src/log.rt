@@ -1,4 +1,4 @@
-ghost use Rattle.std.specs.Prelude.{◌≡◌, Some, None, []};
+ghost use Rattle.std.specs.Prelude.{◌≡◌, Some, None, [], IfSome, IfNone};
 ghost use Rattle.mg_ports.specs.aids.Log.{TellsNext};
 
 use crate::call::Call;
@@ -48,7 +48,8 @@ impl Log {
 
     /// The calls so far, where they are told.
     pub fn calls(&self) -> Option<&[Call]>
-        ensures none { result ≡ None → self.now ≡ None }
+        ensures some { IfSome result (λ calls. self.now ≡ Some calls.now) }
+        ensures none { IfNone result (self.now ≡ None) }
     {
         match &self.calls {
             Some(calls) => Some(calls.as_slice()),

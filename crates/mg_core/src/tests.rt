@@ -19,6 +19,11 @@ const LINE: &[u8] =
 const REPLY_LINE: &[u8] =
     b"say 127.0.0.1:2945 MEGACO/1 [127.0.0.1]:2944\\nReply=1{Context=-{AuditValue=ROOT}}\n";
 
+/// Hands a message of the controller to a core.
+fn hand(alloc: Global, core: &mut Core, message: &[u8]) -> Result<Answer, NoMemory> {
+    core.control(alloc, CONTROLLER, message)
+}
+
 /// The first of some messages, one after another, that a core doesn't answer so.
 fn first_wrong(
     alloc: Global,
@@ -26,12 +31,18 @@ fn first_wrong(
     cases: &[(&[u8], &[u8])],
 ) -> Result<Option<usize>, Fail> {
     for (i, (message, answer)) in cases.iter().enumerate() {
-        let sent = core.control(alloc, CONTROLLER, message)?;
+        let sent = hand(alloc, core, message)?;
         if sent != Answer::Send || core.answer() != *answer {
             return Ok(Some(i));
         }
     }
     Ok(None)
+}
+
+/// The first of some messages, one after another, that a new bridge doesn't answer so.
+fn first_wrong_message(alloc: Global, cases: &[(&[u8], &[u8])]) -> Result<Option<usize>, Fail> {
+    let mut core = Core::new(alloc, Config::default())?;
+    first_wrong(alloc, &mut core, cases)
 }
 
 /// What stands before a text, and then the text.
@@ -98,8 +109,7 @@ fn answers_messages(rt: HostRuntime) -> Result<(), Fail> {
             SYNTAX,
         ),
     ];
-    let mut core = Core::new(alloc, Config::default())?;
-    assert_eq!(rt; first_wrong(alloc, &mut core, &cases)?, None);
+    assert_eq!(rt; first_wrong_message(alloc, &cases)?, None);
     Ok(())
 }
 
@@ -132,10 +142,13 @@ fn answers_each_request(rt: HostRuntime) -> Result<(), Fail> {
         ),
         (
             b"Transaction=12{Context=${Add=$,Add=$}}Transaction=13{Context=2{Topology{RTP/2,RTP/3,Isolate}}}\
-            Transaction=14{Context=2{ContextAudit{Topology},Subtract=RTP/3,Add=$}}",
+            Transaction=14{Context=2{ContextAudit{Topology},Subtract=RTP/3,Add=$}}\
+            Transaction=15{Context=2{Modify=RTP/4{Media{Local{v=0\nc=IN IP4 $\nm=audio $ RTP/AVP 0\n}}}}}",
             b"Reply=12{Context=2{Add=RTP/2,Add=RTP/3}}\nReply=13{Context=2}\n\
             Reply=14{Context=2{Topology{RTP/2,RTP/4,Bothway},\
-            Subtract=RTP/3{Statistics{rtp/ps=0,rtp/pr=0,nt/os=0,nt/or=0}},Add=RTP/4}}",
+            Subtract=RTP/3{Statistics{rtp/ps=0,rtp/pr=0,nt/os=0,nt/or=0}},Add=RTP/4}}\n\
+            Reply=15{Context=2{Modify=RTP/4{Media{Stream=1{Local{\
+            v=0\r\nc=IN IP4 127.0.0.1\r\nm=audio 30002 RTP/AVP 0\r\na=ptime:20\r\n}}}}}}",
         ),
     ];
     let wrong = first_wrong_reply(rt.alloc(), Config::default(), &cases)?;
@@ -194,8 +207,7 @@ fn keeps_replies_by_sender(rt: HostRuntime) -> Result<(), Fail> {
         ),
         (b"MEGACO/1 <Mgc.Example>:2945 T=1{C=${A=$}}", first),
     ];
-    let mut core = Core::new(alloc, Config::default())?;
-    assert_eq!(rt; first_wrong(alloc, &mut core, &cases)?, None);
+    assert_eq!(rt; first_wrong_message(alloc, &cases)?, None);
     Ok(())
 }
 
@@ -203,7 +215,7 @@ fn keeps_replies_by_sender(rt: HostRuntime) -> Result<(), Fail> {
 fn send_heartbeats(alloc: Global, core: &mut Core, last: u32) -> Result<(), Fail> {
     for number in 2..=last {
         let heartbeat = format!(in alloc; "!/1 [127.0.0.1]:2945 T={number}{{C=-{{AV=ROOT}}}}")?;
-        core.control(alloc, CONTROLLER, heartbeat.as_bytes())?;
+        hand(alloc, core, heartbeat.as_bytes())?;
     }
     Ok(())
 }
@@ -216,7 +228,7 @@ fn is_answered_after(
     answer: &[u8],
 ) -> Result<bool, Fail> {
     let mut core = Core::new(alloc, Config::default())?;
-    core.control(alloc, CONTROLLER, request)?;
+    hand(alloc, &mut core, request)?;
     send_heartbeats(alloc, &mut core, last)?;
     let is_same = is_answered(alloc, &mut core, request, answer)?;
     Ok(is_same)
@@ -231,6 +243,19 @@ fn keeps_the_last_32_replies(rt: HostRuntime) -> Result<(), Fail> {
     assert!(rt; is_answered_after(alloc, 32, request, kept)?);
     assert!(rt; is_answered_after(alloc, 33, request, run_again)?);
     Ok(())
+}
+
+/// Whether a core has the first termination alone.
+fn has_one(core: &Core) -> bool {
+    let is_alone = core.stats(1).is_some() && core.stats(2).is_none();
+    is_alone && core.rooms().members(1) == [1].as_slice()
+}
+
+/// Whether a new bridge answers some messages so, and has the first termination alone then.
+fn makes_one(alloc: Global, cases: &[(&[u8], &[u8])]) -> Result<bool, Fail> {
+    let mut core = Core::new(alloc, Config::default())?;
+    let wrong = first_wrong(alloc, &mut core, cases)?;
+    Ok(wrong.is_none() && has_one(&core))
 }
 
 #[test]
@@ -254,10 +279,7 @@ fn answers_a_message_of_many_lines(rt: HostRuntime) -> Result<(), Fail> {
             Statistics{rtp/ps=0,rtp/pr=0,nt/os=0,nt/or=0}}}}",
         ),
     ];
-    let mut core = Core::new(alloc, Config::default())?;
-    assert_eq!(rt; first_wrong(alloc, &mut core, &cases)?, None);
-    assert_eq!(rt; core.rooms().members(1), [1].as_slice());
-    assert!(rt; core.stats(1).is_some() && core.stats(2).is_none());
+    assert!(rt; makes_one(alloc, &cases)?);
     Ok(())
 }
 
@@ -412,7 +434,7 @@ fn limits_terminations(rt: HostRuntime) -> Result<(), Fail> {
 /// Hands a request of the controller to a core.
 fn send(alloc: Global, core: &mut Core, request: &[u8]) -> Result<(), Fail> {
     let message = with_front(alloc, b"MEGACO/1 [127.0.0.1]:2945 ", request)?;
-    core.control(alloc, CONTROLLER, message.as_slice())?;
+    hand(alloc, core, message.as_slice())?;
     Ok(())
 }
 
@@ -444,7 +466,7 @@ fn ignores_answers(rt: HostRuntime) -> Result<(), Fail> {
         b"MEGACO/1 [127.0.0.1]:2945 Error=400{\"syntax\"}",
         b"MEGACO/1 [127.0.0.1]:2945 Reply=1{Context=1{Add=RTP/1}}",
     ] {
-        assert_eq!(rt; core.control(alloc, CONTROLLER, message)?, Answer::Silent);
+        assert_eq!(rt; hand(alloc, &mut core, message)?, Answer::Silent);
         assert!(rt; core.answer().is_empty());
     }
     Ok(())
@@ -457,7 +479,7 @@ fn is_answered(
     bytes: &[u8],
     text: &[u8],
 ) -> Result<bool, NoMemory> {
-    let answer = core.control(alloc, CONTROLLER, bytes)?;
+    let answer = hand(alloc, core, bytes)?;
     Ok(answer == Answer::Send && core.answer() == text)
 }
 
@@ -490,7 +512,7 @@ fn refuses_fronts(
     let mut are_refused = true;
     for length in lengths {
         let (front, _) = message.split_at((*length).min(message.len()));
-        let answer = core.control(alloc, CONTROLLER, front)?;
+        let answer = hand(alloc, core, front)?;
         are_refused = are_refused && answer == Answer::Send && core.answer() == SYNTAX;
     }
     Ok(are_refused)

@@ -43,19 +43,22 @@ __attribute__((noinline)) static void decode(int alaw, const uint8_t *restrict i
 
 #define LEAST(a, b) ((a) < (b) ? (a) : (b))
 
-// The level is the least of eight lines, which gcc makes vectors of.
+// The level is the least of some lines, of which gcc makes vectors: these seven, and one before them by mu-law.
+static inline int16_t least_of_seven(int16_t x) {
+    int16_t level = (int16_t)(x >> 4);
+    level = LEAST(level, (int16_t)((x >> 5) + 16));
+    level = LEAST(level, (int16_t)((x >> 6) + 32));
+    level = LEAST(level, (int16_t)((x >> 7) + 48));
+    level = LEAST(level, (int16_t)((x >> 8) + 64));
+    level = LEAST(level, (int16_t)((x >> 9) + 80));
+    return LEAST(level, (int16_t)((x >> 10) + 96));
+}
+
 __attribute__((noinline)) static void encode_ulaw(const int16_t *restrict in, uint8_t *restrict out) {
     for (int i = 0; i < FRAME; i++) {
         uint16_t size = (uint16_t)(in[i] < 0 ? -in[i] : in[i]);
         int16_t x = (int16_t)(size > 32635 ? 32767 : size + 132);
-        int16_t level = (int16_t)((x >> 3) - 16);
-        level = LEAST(level, (int16_t)(x >> 4));
-        level = LEAST(level, (int16_t)((x >> 5) + 16));
-        level = LEAST(level, (int16_t)((x >> 6) + 32));
-        level = LEAST(level, (int16_t)((x >> 7) + 48));
-        level = LEAST(level, (int16_t)((x >> 8) + 64));
-        level = LEAST(level, (int16_t)((x >> 9) + 80));
-        level = LEAST(level, (int16_t)((x >> 10) + 96));
+        int16_t level = LEAST((int16_t)((x >> 3) - 16), least_of_seven(x));
         out[i] = (uint8_t)(in[i] < 0 ? 127 - level : 255 - level);
     }
 }
@@ -63,14 +66,7 @@ __attribute__((noinline)) static void encode_ulaw(const int16_t *restrict in, ui
 __attribute__((noinline)) static void encode_alaw(const int16_t *restrict in, uint8_t *restrict out) {
     for (int i = 0; i < FRAME; i++) {
         uint16_t size = (uint16_t)(in[i] < 0 ? -in[i] - 1 : in[i]);
-        int16_t x = (int16_t)(size > 32767 ? 32767 : size);
-        int16_t level = (int16_t)(x >> 4);
-        level = LEAST(level, (int16_t)((x >> 5) + 16));
-        level = LEAST(level, (int16_t)((x >> 6) + 32));
-        level = LEAST(level, (int16_t)((x >> 7) + 48));
-        level = LEAST(level, (int16_t)((x >> 8) + 64));
-        level = LEAST(level, (int16_t)((x >> 9) + 80));
-        level = LEAST(level, (int16_t)((x >> 10) + 96));
+        int16_t level = least_of_seven((int16_t)size);
         out[i] = (uint8_t)((in[i] < 0 ? level : level + 128) ^ 0x55);
     }
 }

@@ -22,8 +22,8 @@
 //! ```
 //!
 //! [`Sums::work`] counts the calls of three row kernels: to add a row, to take one away, and to
-//! write the difference of two. No other code of this crate or above can add up rows, since no
-//! other module sees their fields. To join or to leave takes one call, to set the frame of a row
+//! write the difference of two. No other module sees the fields of a row; elsewhere frames and
+//! totals are read by [`Sums::frame`] and [`Sums::total`]. To join or to leave takes one call, to set the frame of a row
 //! that is joined two, and a mix one and one more for each row that is silenced.
 //!
 //! [`Sums::new`] takes all memory, and no other call takes any. What a total and a mix are stands

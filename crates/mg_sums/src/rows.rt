@@ -1,7 +1,6 @@
 //! The rows of a mixer, and the three kernels that add them up and count their calls.
 //!
-//! The fields of a row are private to this module. Elsewhere a row is read by its readers alone,
-//! so no other code can add up rows.
+//! The fields of a row are private to this module. Elsewhere a row is read by its readers alone.
 
 ghost use Rattle.std.specs.Prelude.{◌≡◌, ℕ, ◌+◌, ◌%◌, ◌^◌, ◌<◌, ◌+ℤ◌, ◌-ℤ◌, pos, length, replicate, IsTrue};
 ghost use Rattle.std.specs.Option.{option_copied};

@@ -17,7 +17,8 @@ use Rattle.mg_rooms.specs.Registry as rooms
 use Rattle.mg_rooms.specs.Registry.{record_at}
 use Rattle.mg_engine.specs.declared.config.Config.{Config}
 use Rattle.mg_flow.specs.Table as flow
-use Rattle.mg_engine.specs.Gateway.{Gateway, TerminationMedia, Enter, silence, new_media, media_of}
+use Rattle.mg_sums.specs.Samples.{silence}
+use Rattle.mg_engine.specs.Gateway.{Gateway, TerminationMedia, Enter, new_media, media_of}
 use Rattle.mg_engine.specs.Steps.{play_after}
 use Rattle.mg_engine.specs.Media as media
 use Rattle.mg_engine.specs.Media.{idle}

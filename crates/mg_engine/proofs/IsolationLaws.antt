@@ -1,5 +1,5 @@
 -- Who isn't heard.
-use Rattle.std.proofs.Common.{◌≡◌, ℕ, ℤ, pos, ◌+◌, ◌+ℤ◌, ◌<◌, eqb, not, ◌&&◌, ◌||◌, Bool, true, false, List, [], ◌∷◌, ◌++◌, length, map, get_or, find, Option, Some, None, refl, sym, ap, ◌∙◌, arith, if◌then◌else◌}
+use Rattle.std.proofs.Common.{◌≡◌, ℕ, ℤ, pos, ◌+◌, ◌<◌, eqb, not, ◌&&◌, ◌||◌, Bool, true, false, List, [], ◌∷◌, ◌++◌, length, map, get_or, find, Option, Some, None, refl, sym, ap, ◌∙◌, arith, if◌then◌else◌}
 use Rattle.std.specs.List.{list_all, range_with_len}
 use Rattle.std.specs.Option.{option_map}
 use Rattle.std.specs.Prelude.{slice_index_or}
@@ -13,7 +13,9 @@ use Rattle.mg_topology.specs.Triple.{lets}
 use Rattle.mg_words.specs.Mode.{talks, listens}
 use Rattle.mg_words.specs.declared.association.Association.TheVariants.{Isolate}
 use Rattle.mg_rooms.specs.declared.record.Record.{Record}
-use Rattle.mg_sums.specs.Samples.{sum_of, nearest_sample}
+use Rattle.mg_sums.specs.Samples.{nearest_sample}
+use Rattle.mg_sums.proofs.HeardLemmas.{map_agree}
+use Rattle.mg_sums.proofs.SumLemmas.{sum_of-same}
 use Rattle.mg_engine.specs.declared.datagram.Datagram.{Datagram}
 use Rattle.mg_engine.specs.Gateway.{Gateway, TerminationMedia, ContextEdit, Enter, Leave, Apply, media_of, frame_of, frame_in, mode_of, context_of}
 use Rattle.mg_engine.specs.Flow.{flow, leads, speaks_of, lets_hear}
@@ -135,11 +137,6 @@ module _ (t : ℕ) (frame : List ℤ) where
     cases true e = sample_stays w k i (not_it w listener k none e)
     cases false e = refl
 
-  sum_stays : (f g : ℕ → ℤ) (xs : List ℕ) → ((k : ℕ) → f k ≡ g k) → sum_of f xs ≡ sum_of g xs
-  unfolding sum_of
-  sum_stays f g [] same = refl
-  sum_stays f g (x ∷ xs) same = ap (λ (z : ℤ). z +ℤ sum_of f xs) (same x) ∙ ap (λ (z : ℤ). g x +ℤ z) (sum_stays f g xs same)
-
   mix_stays : (w : Gateway) (n i : ℕ) → flow w t n ≡ false → (eqb n t && is_loopback (mode_of w n)) ≡ false → mix (with_frame w t frame) n i ≡ mix w n i
   mix_stays w n i none other = cases (is_loopback (mode_of w n)) refl where
     apart : (x : Bool) → (x && true) ≡ false → x ≡ false
@@ -148,11 +145,7 @@ module _ (t : ℕ) (frame : List ℤ) where
 
     cases : (b : Bool) → is_loopback (mode_of w n) ≡ b → (if b then sample_of (with_frame w t frame) n i else nearest_sample (heard (with_frame w t frame) n i)) ≡ (if b then sample_of w n i else nearest_sample (heard w n i))
     cases true e = sample_stays w n i (apart (eqb n t) (ap (λ (x : Bool). eqb n t && x) (sym e) ∙ other))
-    cases false e = ap nearest_sample (sum_stays (part_of_mix (with_frame w t frame) n i) (part_of_mix w n i) _ (λ k. part_stays w n i k none))
-
-  map_stays : (f g : ℕ → ℤ) (xs : List ℕ) → ((k : ℕ) → f k ≡ g k) → map f xs ≡ map g xs
-  map_stays f g [] same = refl
-  map_stays f g (x ∷ xs) same = ap (λ (z : ℤ). z ∷ map f xs) (same x) ∙ ap (λ (zs : List ℤ). g x ∷ zs) (map_stays f g xs same)
+    cases false e = ap nearest_sample (sum_of-same (part_of_mix (with_frame w t frame) n i) (part_of_mix w n i) _ (λ k. part_stays w n i k none))
 
   packet_stays : (w : Gateway) (r : Record) (to : Chosen) (s : TerminationMedia) → mixed (with_frame w t frame) r.number ≡ mixed w r.number → packet (with_frame w t frame) r to (replayed t frame s) ≡ packet w r to s
   packet_stays w r to s same = cases (eqb s.number t) ∙ ap carrying same where
@@ -171,7 +164,7 @@ module _ (t : ℕ) (frame : List ℤ) where
     each (Some s) = ap (λ (d : Datagram). let o : Option Datagram = Some d in o) (packet_stays w r to s same)
 
 pub unheard_changes_no_packet : UnheardChangesNoPacket
-unheard_changes_no_packet w t frame r none other = sent_stays t frame w r (sent_to r) (map_stays t frame (mix (with_frame w t frame) r.number) (mix w r.number) (range_with_len 0 160) (λ i. mix_stays t frame w r.number i none other))
+unheard_changes_no_packet w t frame r none other = sent_stays t frame w r (sent_to r) (map_agree (mix (with_frame w t frame) r.number) (mix w r.number) (range_with_len 0 160) (λ i. mix_stays t frame w r.number i none other))
 
 -- ## Payloads
 

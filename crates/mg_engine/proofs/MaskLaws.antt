@@ -22,7 +22,7 @@ use Rattle.mg_engine.specs.aids.Sending.{sample_at, flows_between, heard_now}
 use Rattle.mg_engine.specs.aids.Shares.{is_seated_in, sits_among, heard_on, payload_on}
 use Rattle.mg_g711.specs.declared.law.Law.{Law}
 use Rattle.mg_g711.specs.Law.{byte_of}
-use Rattle.mg_engine.proofs.SumLaws.{map-cong}
+use Rattle.mg_sums.proofs.HeardLemmas.{map_agree}
 use Rattle.mg_engine.specs.Stands.{EngineState}
 use Rattle.mg_engine.proofs.SendingLaws.{nobody}
 use Rattle.mg_engine.proofs.PlaceLaws.{ByNumber, HaveContexts, OneRoom, seated, place, hears_apart, no_hearing}
@@ -78,7 +78,7 @@ module _ (k : EngineState) (l : Record) (p : Place) (mask : ℕ) (on : place_of 
 
   -- and the payload is that of them
   pub payload_is_on : (law : Law) → map (byte_of law) (map (λ i. nearest_sample (heard_now k l i)) (range_with_len 0 160)) ≡ payload_on k p.room mask law
-  payload_is_on law = ap (λ (xs : List ℤ). map (byte_of law) xs) (map-cong (λ i. nearest_sample (heard_now k l i)) (λ i. nearest_sample (heard_on k p.room mask i)) (range_with_len 0 160) (λ i. ap nearest_sample (heard_is_on i)))
+  payload_is_on law = ap (λ (xs : List ℤ). map (byte_of law) xs) (map_agree (λ i. nearest_sample (heard_now k l i)) (λ i. nearest_sample (heard_on k p.room mask i)) (range_with_len 0 160) (λ i. ap nearest_sample (heard_is_on i)))
 
 -- ## Sums over seats
 

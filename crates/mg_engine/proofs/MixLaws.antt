@@ -37,7 +37,8 @@ use Rattle.mg_engine.proofs.PlaceLaws.{ByNumber, HaveContexts, OneRoom, OneSeat,
 use Rattle.mg_engine.proofs.RowSums.{Spots, joined_is, total_by_terminations}
 use Rattle.mg_engine.proofs.SeatSums.{one_passes, found_counts}
 use Rattle.mg_engine.proofs.SendingLaws.{nobody}
-use Rattle.mg_engine.proofs.SumLaws.{sum-cong, map-cong}
+use Rattle.mg_sums.proofs.HeardLemmas.{map_agree}
+use Rattle.mg_engine.proofs.SumLaws.{sum-cong}
 
 -- ## One part of a total
 
@@ -302,5 +303,5 @@ module _ (k : EngineState) (seating : List ℕ) (l : Record) (p : Place) (y : Co
   pub mix_is : ((i : ℕ) → total_of k.sums p.room i ≡ sum_of (sample_in k.sums.frames i) (left_out_by base minus) +ℤ heard_of k.sums p.room (left_out_by base minus) i)
       → mix_of k.sums p.room (left_out_by base minus) ≡ map (λ i. nearest_sample (heard_now k l i)) (range_with_len 0 160)
   unfolding mix_of
-  mix_is law = map-cong (λ i. nearest_sample (heard_of k.sums p.room (left_out_by base minus) i)) (λ i. nearest_sample (heard_now k l i)) (range_with_len 0 160) (λ i.
+  mix_is law = map_agree (λ i. nearest_sample (heard_of k.sums p.room (left_out_by base minus) i)) (λ i. nearest_sample (heard_now k l i)) (range_with_len 0 160) (λ i.
       ap (λ (z : ℤ). nearest_sample z) (same_rest (total_of k.sums p.room i) (sum_of (sample_in k.sums.frames i) (left_out_by base minus)) (heard_of k.sums p.room (left_out_by base minus) i) (heard_now k l i) (law i) (total_splits i)))

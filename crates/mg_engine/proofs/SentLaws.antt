@@ -25,7 +25,8 @@ use Rattle.mg_engine.specs.aids.Members.{HasMembers}
 use Rattle.mg_engine.specs.aids.Sending.{flows_now, sample_at, part_now, heard_now, mix_now, mixed_now, packet_now, packets_now}
 use Rattle.mg_engine.specs.Stands.{EngineState, StandsFor, IsMediaOf, media_at}
 use Rattle.mg_engine.specs.aids.Playing.{AreOld}
-use Rattle.mg_engine.proofs.SumLaws.{sum-cong, map-cong}
+use Rattle.mg_sums.proofs.HeardLemmas.{map_agree}
+use Rattle.mg_engine.proofs.SumLaws.{sum-cong}
 use Rattle.mg_engine.proofs.SendingLaws.{nobody}
 use Rattle.mg_engine.proofs.FlowLaws.{flow_is, mode_found}
 use Rattle.mg_engine.proofs.PlaceLaws.{AreApart, ByNumber}
@@ -64,7 +65,7 @@ mix_is k w l i sound members by_number h found =
     ∙ ap (λ (z : ℤ). cond (is_loopback l.mode) (sample_at k.sums.frames l.slot i) (nearest_sample z)) (heard_is k w l i sound members by_number h found)
 
 pub mixed_is : (k : EngineState) (w : Gateway) (l : Record) → AreApart k.rooms → HasMembers k.rooms k.flows → ByNumber k.rooms → StandsFor k w → record_at k.rooms l.number ≡ Some l → mixed w l.number ≡ mixed_now k l
-mixed_is k w l sound members by_number h found = map-cong (mix w l.number) (mix_now k l) (range_with_len 0 160) (λ i. mix_is k w l i sound members by_number h found)
+mixed_is k w l sound members by_number h found = map_agree (mix w l.number) (mix_now k l) (range_with_len 0 160) (λ i. mix_is k w l i sound members by_number h found)
 
 -- ## Packets
 

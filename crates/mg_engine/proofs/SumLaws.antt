@@ -12,10 +12,6 @@ sum-cong f g (x ∷ xs) d h =
     ap (λ (z : ℤ). z +ℤ sum_of f xs) (h 0 (omega arith))
     ∙ ap (λ (z : ℤ). g x +ℤ z) (sum-cong f g xs d (λ i lt. h (suc i) (omega (arith, lt))))
 
-pub map-cong : {A B : Type 0} (f g : A → B) (xs : List A) → ((x : A) → f x ≡ g x) → map f xs ≡ map g xs
-map-cong f g [] h = refl
-map-cong f g (x ∷ xs) h = ap (λ (y : _). y ∷ map f xs) (h x) ∙ ap (λ (ys : List _). g x ∷ ys) (map-cong f g xs h)
-
 -- a list of n parts is what it has at each place
 pub list_is : {A : Type 0} (f : ℕ → A) (xs : List A) (n : ℕ) (d : A) → length xs ≡ n → ((i : ℕ) → i < n → get_or xs i d ≡ f i) → xs ≡ map f (range_with_len 0 n)
 list_is f xs n d len at =

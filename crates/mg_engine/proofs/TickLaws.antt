@@ -13,7 +13,8 @@ use Rattle.mg_sums.specs.Sums as sums
 use Rattle.mg_engine.specs.declared.config.Config.{Config}
 use Rattle.mg_engine.specs.declared.share.Share.{Share}
 use Rattle.mg_engine.specs.Gateway.{Gateway, TerminationMedia, media_of}
-use Rattle.mg_engine.specs.Steps.{transmitted, frame_or_silence}
+use Rattle.mg_engine.specs.Steps.{transmitted}
+use Rattle.mg_sums.specs.Samples.{frame_or_silence}
 use Rattle.mg_engine.specs.Media as media
 use Rattle.mg_engine.specs.Tick.{played, all_played, sent, is_sender, sends_at, all_ended}
 use Rattle.mg_engine.specs.aids.Playing.{AreOld, IsPlayed}

@@ -1,7 +1,6 @@
 -- What a gateway is, seen from outside: its configuration, its terminations with their media, its
 -- contexts with their members, and what happened in them (RFC 3525, section 6; RFC 3550).
-use Rattle.std.specs.Prelude.{ℕ, ℤ, pos, ◌==◌, Bool, false, List, [], Option, Some, None, find, map}
-use Rattle.std.specs.Prelude.{replicate}
+use Rattle.std.specs.Prelude.{ℕ, ℤ, ◌==◌, Bool, false, List, [], Option, Some, None, find, map}
 use Rattle.std.specs.Option.{option_map}
 use Rattle.mg_words.specs.declared.association.Association.{Association}
 use Rattle.mg_playout.specs.Playout.{PlayList, first_state}
@@ -13,6 +12,7 @@ use Rattle.mg_engine.specs.declared.config.Config.{Config}
 use Rattle.mg_engine.specs.Config.{limits_of}
 use Rattle.mg_words.specs.declared.stats.Stats.{Stats}
 use Rattle.mg_words.specs.Stats.{no_packets}
+use Rattle.mg_sums.specs.Samples.{silence}
 
 -- The media of one termination: the frames that wait for their turn, the frame that this tick plays
 -- (160 samples), its counters, how many ticks it has lived, how many packets it has sent, and
@@ -51,9 +51,6 @@ start_of config = record {
   media = [];
   edits = [];
 }
-
-abbrev pub silence : List ℤ
-silence = replicate 160 (pos 0)
 
 -- the media of a termination as it is made
 abbrev pub new_media : ℕ → TerminationMedia

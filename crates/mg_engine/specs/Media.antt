@@ -7,7 +7,8 @@ use Rattle.mg_playout.specs.Playout.{PlayList, first_state}
 use Rattle.mg_engine.specs.declared.config.Config.{Config}
 use Rattle.mg_words.specs.declared.stats.Stats.{Stats}
 use Rattle.mg_words.specs.Stats.{no_packets}
-use Rattle.mg_engine.specs.Steps.{play_after, received, transmitted, frame_or_silence}
+use Rattle.mg_engine.specs.Steps.{play_after, received, transmitted}
+use Rattle.mg_sums.specs.Samples.{frame_or_silence}
 
 -- The play list, the counters, the timestamp of this tick, the sequence number of the next packet,
 -- and whether the last tick sent one. The frame of this tick is kept in the row of the slot.

@@ -1,9 +1,8 @@
 -- The parts of a termination's media, a step each.
-use Rattle.std.specs.Prelude.{ℕ, ℤ, ◌+◌, ◌-◌, ◌^◌, min, List, Option, Some, None}
+use Rattle.std.specs.Prelude.{ℕ, ◌+◌, ◌-◌, ◌^◌, min, Option, Some, None}
 use Rattle.mg_playout.specs.Playout.{PlayList, with_depth}
 use Rattle.mg_rooms.specs.Settings.{depth_after}
 use Rattle.mg_words.specs.declared.stats.Stats.{Stats}
-use Rattle.mg_engine.specs.Gateway.{silence}
 
 -- a command that names a depth sets that of the play list
 abbrev pub play_after : Option ℕ → PlayList → PlayList
@@ -21,8 +20,3 @@ received s = record s { pr = counted_up 1 s.pr; or_ = counted_up 160 s.or_ }
 -- one was sent
 abbrev pub transmitted : Stats → Stats
 transmitted s = record s { ps = counted_up 1 s.ps; os = counted_up 160 s.os }
-
--- what a play list gives, or silence
-abbrev pub frame_or_silence : Option (List ℤ) → List ℤ
-frame_or_silence None = silence
-frame_or_silence (Some frame) = frame

@@ -18,7 +18,8 @@ use Rattle.mg_rooms.specs.Limits.{slot_port}
 use Rattle.mg_rooms.specs.Registry as rooms
 use Rattle.mg_engine.specs.declared.datagram.Datagram.{Datagram}
 use Rattle.mg_engine.specs.Gateway.{Gateway, TerminationMedia, media_of}
-use Rattle.mg_engine.specs.Steps.{transmitted, frame_or_silence}
+use Rattle.mg_engine.specs.Steps.{transmitted}
+use Rattle.mg_sums.specs.Samples.{frame_or_silence}
 use Rattle.mg_engine.specs.Mix.{mixed}
 
 -- ## Frames

@@ -27,7 +27,8 @@ ghost use Rattle.mg_engine.specs.Flow.{flow, hears};
 ghost use Rattle.mg_engine.specs.Mix.{total_at};
 ghost use Rattle.mg_engine.specs.Media.{idle, begun, ended, tuned as tuned_media};
 ghost use Rattle.mg_engine.specs.Config.{IsValidConfig};
-ghost use Rattle.mg_engine.specs.Gateway.{Gateway, silence, start_of, stats_of};
+ghost use Rattle.mg_engine.specs.Gateway.{Gateway, start_of, stats_of};
+ghost use Rattle.mg_sums.specs.Samples.{silence};
 ghost use Rattle.mg_engine.specs.Stands.{StandsFor, IsOutcome, media_at};
 
 use crate::arrival::{frame_in, law_for};

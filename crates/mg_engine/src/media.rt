@@ -31,7 +31,7 @@ impl Model for Media {
 
 impl Media {
     ghost use Rattle.mg_engine.specs.Media.{idle, begun_at, tuned, placed, played, frame_played, header, ended};
-    ghost use Rattle.mg_engine.specs.Steps.{frame_or_silence};
+    ghost use Rattle.mg_sums.specs.Samples.{frame_or_silence};
 
     /// Media of nobody. It takes the memory for a play list.
     pub fn new(alloc: Global) -> Result<Media, AllocError>

@@ -125,12 +125,12 @@ others_are f rooms room out others h =
     let whole = whole_is f rooms room out (first_of rooms room out others h.are) in
     (omega (arith, ints, all, both, whole), omega (arith, ints, all, both))
 
-map_agree : {A B : Type 0} (f g : A → B) → ((x : A) → f x ≡ g x) → (xs : List A) → map f xs ≡ map g xs
-map_agree f g h [] = refl
-map_agree f g h (x ∷ xs) = ap₂ ◌∷◌ (h x) (map_agree f g h xs)
+pub map_agree : {A B : Type 0} (f g : A → B) (xs : List A) → ((x : A) → f x ≡ g x) → map f xs ≡ map g xs
+map_agree f g [] h = refl
+map_agree f g (x ∷ xs) h = ap₂ ◌∷◌ (h x) (map_agree f g xs h)
 
 pub mix_of-others : (kept : SumsState) (room : ℕ) (out others : List ℕ) → AreAllOfRoom kept.rooms room (out ++ others)
     → mix_of kept room out ≡ map (λ i. nearest_sample (sum_of (sample_in kept.frames i) others)) (range_with_len 0 160)
 unfolding mix_of
 mix_of-others kept room out others h =
-    map_agree (λ i. nearest_sample (heard_of kept room out i)) (λ i. nearest_sample (sum_of (sample_in kept.frames i) others)) (λ i. ap nearest_sample (others_are (sample_in kept.frames i) kept.rooms room out others h).0) (range_with_len 0 160)
+    map_agree (λ i. nearest_sample (heard_of kept room out i)) (λ i. nearest_sample (sum_of (sample_in kept.frames i) others)) (range_with_len 0 160) (λ i. ap nearest_sample (others_are (sample_in kept.frames i) kept.rooms room out others h).0)

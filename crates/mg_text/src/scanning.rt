@@ -1,7 +1,7 @@
-ghost use Rattle.std.specs.Prelude.{IfOk};
+ghost use Rattle.std.specs.Prelude.{◌≡◌, [], ◌∷◌, ◌++◌, IfOk};
 ghost use Rattle.mg_text.specs.Message.{AreTokens};
 
-use mg_scan::{ScanFault, Scanner, Token};
+use mg_scan::{ScanFault, Scanner, Span, Token, TokenKind};
 use std::alloc::{AllocError, Global};
 
 /// All tokens of a source, up to its end or a fault.
@@ -15,13 +15,24 @@ pub fn tokens_of(
     let mut tokens = Vec::with_capacity(alloc, source.len() / 3 + 8)?;
     loop {
         match scanner.next() {
-            // Made anew of its parts, without the bytes between them.
-            Some(Ok(token)) => tokens.push(Token {
-                kind: token.kind,
-                span: token.span,
-            })?,
+            Some(Ok(token)) => put(&mut tokens, token.kind, token.span.start, token.span.end)?,
             Some(Err(fault)) => return Ok((tokens, Some(fault))),
             None => return Ok((tokens, None)),
         }
     }
+}
+
+/// Adds a token of these parts, which come in registers: a whole token would be written to the stack and read
+/// again in other sizes, and the processor waits for that.
+#[inline(never)]
+fn put(tokens: &mut Vec<Token>, kind: TokenKind, start: usize, end: usize) -> Result<(), AllocError>
+    ensures items { IfOk result (λ _.
+        tokens.new.items
+        ≡ tokens.old.items ++ record { kind = kind; span = record { start = start; end = end } } ∷ []) }
+{
+    tokens.push(Token {
+        kind,
+        span: Span { start, end },
+    })?;
+    Ok(())
 }

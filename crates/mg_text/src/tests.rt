@@ -1,7 +1,7 @@
 use crate::{
-    Association, AuditWord, Body, CommandWord, ContextId, ContextProperty, ContextWord,
+    Association, AuditWord, Body, Command, CommandWord, ContextId, ContextProperty, ContextWord,
     ControlPart, Descriptor, MediaPart, MessageItem, Mode, OtherWord, PropertyValue, Range,
-    ReadFault, StreamPart, read,
+    ReadFault, StreamPart, Triple, read,
 };
 use mg_scan::Span;
 use std::alloc::{AllocError, Global};
@@ -38,75 +38,68 @@ fn is_fault(alloc: Global, text: &[u8]) -> Result<bool, AllocError> {
     Ok(matches!(read(alloc, source.as_slice()), Err(ReadFault::Syntax(_))))
 }
 
-#[test]
-fn reads_an_add_with_a_stream(rt: HostRuntime) -> Result<(), Fail> {
-    let source: &[u8] =
-        b"!/1 <gw.example>:2944 T=9 { C = $ { TP{$,*,BW,a,b,oneway}, CA{TP,EG}, PR=5, EG,\
-        O-W-Add = $ { Media { Stream = 1 { LocalControl { Mode = SendReceive, rv=OFF, nt/jit=40, \
-        a/b=\"x y\", c/d={{}} }, Local{v=0\nm=audio $ RTP/AVP 18\nv=0\nm=audio $ RTP/AVP 8\n}, \
-        R{} }, TS{x} }, Signals{ }, DM={(0|xxx)}, AT{M,SA} }, S=ROOT{Audit{}}, N=x/1{y=z{}} } }";
-    let message = read(rt.alloc(), source)?;
-    assert!(rt; is_text(message.sender, source, b"<gw.example>:2944"));
-    let Body::Requests(items) = &message.body else {
-        return Err("requests".into());
+/// An action with properties of its own, an Add with nearly all that there is, a Subtract and a Notify.
+const SOURCE: &[u8] =
+    b"!/1 <gw.example>:2944 T=9 { C = $ { TP{$,*,BW,a,b,oneway}, CA{TP,EG}, PR=5, EG,\
+    O-W-Add = $ { Media { Stream = 1 { LocalControl { Mode = SendReceive, rv=OFF, nt/jit=40, \
+    a/b=\"x y\", c/d={{}} }, Local{v=0\nm=audio $ RTP/AVP 18\nv=0\nm=audio $ RTP/AVP 8\n}, \
+    R{} }, TS{x} }, Signals{ }, DM={(0|xxx)}, AT{M,SA} }, S=ROOT{Audit{}}, N=x/1{y=z{}} } }";
+
+/// Whether a span has this text in it.
+fn says(span: Span, text: &[u8]) -> bool {
+    is_text(span, SOURCE, text)
+}
+
+/// Whether triples are the two, of which the second is a Oneway from a to b.
+fn are_triples(triples: &[Triple]) -> bool {
+    let [first, second] = triples else {
+        return false;
     };
-    let [MessageItem::Request(request)] = items.as_slice() else {
-        return Err("one request".into());
-    };
-    assert_eq!(rt; request.number, 9);
-    let [action] = request.actions.as_slice() else {
-        return Err("one action".into());
-    };
-    assert_eq!(rt; action.context, ContextId::Choose);
+    first.association == Association::Bothway
+        && second.association == Association::Oneway
+        && says(second.first, b"a")
+        && says(second.second, b"b")
+}
+
+/// Whether an action's properties are those four.
+fn are_properties(properties: &[ContextProperty]) -> bool {
     let [
         ContextProperty::Topology(triples),
         ContextProperty::ContextAudit(words),
         ContextProperty::Priority(priority),
         ContextProperty::Emergency(None),
-    ] = action.properties.as_slice()
+    ] = properties
     else {
-        return Err("four properties".into());
+        return false;
     };
-    let [first, second] = triples.as_slice() else {
-        return Err("two triples".into());
-    };
-    assert_eq!(rt; first.association, Association::Bothway);
-    assert!(rt; is_text(second.first, source, b"a"));
-    assert!(rt; is_text(second.second, source, b"b"));
-    assert_eq!(rt; second.association, Association::Oneway);
-    assert!(rt; words.as_slice() == [ContextWord::Topology, ContextWord::Emergency].as_slice());
-    assert!(rt; is_text(*priority, source, b"5"));
-    let [add, subtract, notify] = action.commands.as_slice() else {
-        return Err("three commands".into());
-    };
-    assert_eq!(rt; add.word, CommandWord::Add);
-    assert!(rt; add.is_optional && add.wants_wildcard);
-    assert!(rt; is_text(add.term, source, b"$"));
-    assert_eq!(rt; subtract.word, CommandWord::Subtract);
-    assert!(rt; !subtract.is_optional && !subtract.wants_wildcard);
-    let [Descriptor::Audit(none)] = subtract.descriptors.as_slice() else {
-        return Err("an audit".into());
-    };
-    assert_eq!(rt; none.as_slice().len(), 0);
-    assert_eq!(rt; notify.word, CommandWord::Notify);
-    assert!(rt; is_text(notify.term, source, b"x/1"));
-    assert_eq!(rt; notify.descriptors.as_slice().len(), 0);
+    are_triples(triples.as_slice())
+        && words.as_slice() == [ContextWord::Topology, ContextWord::Emergency].as_slice()
+        && says(*priority, b"5")
+}
+
+/// Whether the parts of a LocalControl are those five.
+fn are_controls(controls: &[ControlPart]) -> bool {
     let [
-        Descriptor::Media(media),
-        Descriptor::Other(OtherWord::Signals, false),
-        Descriptor::Other(OtherWord::DigitMap, true),
-        Descriptor::Audit(audited),
-    ] = add.descriptors.as_slice()
+        ControlPart::Mode(Mode::SendReceive),
+        ControlPart::ReservedValue(false),
+        ControlPart::Property(jitter, Some(PropertyValue::Word(depth))),
+        ControlPart::Property(_, Some(PropertyValue::Quoted(quoted))),
+        ControlPart::Property(_, Some(PropertyValue::Group)),
+    ] = controls
     else {
-        return Err("four descriptors".into());
+        return false;
     };
-    assert!(rt; audited.as_slice() == [AuditWord::Media, AuditWord::Statistics].as_slice());
+    says(*jitter, b"nt/jit") && says(*depth, b"40") && says(*quoted, b"x y")
+}
+
+/// Whether a Media descriptor is that of one stream and a state.
+fn is_media(media: &[MediaPart]) -> bool {
     let [
         MediaPart::Stream(1, parts),
         MediaPart::TerminationState(true),
-    ] = media.as_slice()
+    ] = media
     else {
-        return Err("a stream and a state".into());
+        return false;
     };
     let [
         StreamPart::LocalControl(controls),
@@ -114,24 +107,81 @@ fn reads_an_add_with_a_stream(rt: HostRuntime) -> Result<(), Fail> {
         StreamPart::Remote(remote),
     ] = parts.as_slice()
     else {
-        return Err("three parts".into());
+        return false;
     };
-    let description: &[u8] = b"v=0\nm=audio $ RTP/AVP 18\nv=0\nm=audio $ RTP/AVP 8\n";
-    assert!(rt; is_text(*local, source, description));
-    assert!(rt; is_text(*remote, source, b""));
+    are_controls(controls.as_slice())
+        && says(
+            *local,
+            b"v=0\nm=audio $ RTP/AVP 18\nv=0\nm=audio $ RTP/AVP 8\n",
+        )
+        && says(*remote, b"")
+}
+
+/// Whether the descriptors of the Add are those four.
+fn are_descriptors(descriptors: &[Descriptor]) -> bool {
     let [
-        ControlPart::Mode(Mode::SendReceive),
-        ControlPart::ReservedValue(false),
-        ControlPart::Property(jitter, Some(PropertyValue::Word(depth))),
-        ControlPart::Property(_, Some(PropertyValue::Quoted(quoted))),
-        ControlPart::Property(_, Some(PropertyValue::Group)),
-    ] = controls.as_slice()
+        Descriptor::Media(media),
+        Descriptor::Other(OtherWord::Signals, false),
+        Descriptor::Other(OtherWord::DigitMap, true),
+        Descriptor::Audit(audited),
+    ] = descriptors
     else {
-        return Err("five parts".into());
+        return false;
     };
-    assert!(rt; is_text(*jitter, source, b"nt/jit"));
-    assert!(rt; is_text(*depth, source, b"40"));
-    assert!(rt; is_text(*quoted, source, b"x y"));
+    is_media(media.as_slice())
+        && audited.as_slice() == [AuditWord::Media, AuditWord::Statistics].as_slice()
+}
+
+/// Whether the descriptors of the Subtract are an audit of nothing.
+fn is_empty_audit(descriptors: &[Descriptor]) -> bool {
+    match descriptors {
+        [Descriptor::Audit(words)] => words.as_slice().is_empty(),
+        _ => false,
+    }
+}
+
+/// Whether commands are those three.
+fn are_commands(commands: &[Command]) -> bool {
+    let [add, subtract, notify] = commands else {
+        return false;
+    };
+    let has_marks = add.is_optional && add.wants_wildcard;
+    let has_none = !subtract.is_optional && !subtract.wants_wildcard;
+    let are_words = add.word == CommandWord::Add
+        && subtract.word == CommandWord::Subtract
+        && notify.word == CommandWord::Notify;
+    let are_terms = says(add.term, b"$") && says(notify.term, b"x/1");
+    has_marks
+        && has_none
+        && are_words
+        && are_terms
+        && are_descriptors(add.descriptors.as_slice())
+        && is_empty_audit(subtract.descriptors.as_slice())
+        && notify.descriptors.as_slice().is_empty()
+}
+
+/// Whether a message is one request with that action.
+fn is_request_9(items: &[MessageItem]) -> bool {
+    let [MessageItem::Request(request)] = items else {
+        return false;
+    };
+    let [action] = request.actions.as_slice() else {
+        return false;
+    };
+    request.number == 9
+        && action.context == ContextId::Choose
+        && are_properties(action.properties.as_slice())
+        && are_commands(action.commands.as_slice())
+}
+
+#[test]
+fn reads_an_add_with_a_stream(rt: HostRuntime) -> Result<(), Fail> {
+    let message = read(rt.alloc(), SOURCE)?;
+    assert!(rt; says(message.sender, b"<gw.example>:2944"));
+    let Body::Requests(items) = &message.body else {
+        return Err("requests".into());
+    };
+    assert!(rt; is_request_9(items.as_slice()));
     Ok(())
 }
 

@@ -16,7 +16,7 @@ use Rattle.mg_words.specs.declared.limits.TheConstants.{CONTEXTS, MEMBERS, LAST_
 use Rattle.mg_rooms.specs.aids.Tables.{IsKept, IsTable, world_of}
 use Rattle.mg_rooms.specs.Registry.{Registry, members_of, record_at, context_at, free_slot, free_room}
 use Rattle.mg_rooms.proofs.OrderLaws.{any-in_order, KeepsKey, change_at, change_none, found_key, in_order-push, length-in_order_room, length-in_order_full, find-in_order, first_at_zero}
-use Rattle.mg_rooms.proofs.TableLaws.{lookup_some, lookup_none, free-in_order, find_spot, entry_at, empty_place, IsTable-set}
+use Rattle.mg_rooms.proofs.TableLaws.{OnlyAt, lookup_some, lookup_none, free-in_order, find_spot, entry_at, empty_place, IsTable-set}
 
 pub record_some : (a : Inside) (n s : ℕ) (o : Option Record) → Some s ≡ position_from (has_key (λ r. r.number) n) 0 a.slots.items → o ≡ get_or a.slots.items s o → o ≡ record_at (world_of a) n
 record_some a n s o found at = lookup_some (λ r. r.number) (λ r. r.slot) n a.slots.items s o found at
@@ -102,7 +102,7 @@ replaced_kept next size t r s h found same =
     let spot : x.slot ≡ s = h.at_spot s x at in
     let below : x.number < next = h.below s x at in
     let key : x.number ≡ r.number = eqb-true x.number r.number (found_key (λ y. y.number == r.number) (in_order (λ y. y.number) t) x is) in
-    IsTable-set (λ x. x.number) (λ x. x.slot) next next size t s (Some r) (omega arith) (sym slot ∙ spot, omega arith) h
+    IsTable-set (λ x. x.number) (λ x. x.slot) next next size t s (Some r) (omega arith) (sym slot ∙ spot, omega arith, λ i z got same. h.once i s z x got at (same ∙ sym key)) h
 
 pub replaced_is : (t : List (Option Record)) (r : Record) (s : ℕ) → Some s ≡ position_from (has_key (λ x. x.number) r.number) 0 t → in_order (λ x. x.number) (set t s (Some r)) ≡ change (λ x. x.number) r.number (λ _. Some r) (in_order (λ x. x.number) t)
 replaced_is t r s found =
@@ -145,14 +145,14 @@ pub room_is_empty : (a : Inside) (s : ℕ) → IsKept a → free_room (world_of 
 room_is_empty a s kept free = empty_place (λ x. x.number) (λ x. x.room) a.next_context CONTEXTS a.rooms.items s kept.rooms free
 
 pub inserted_kept : (next size : ℕ) (t : List (Option Record)) (r : Record) → AreSlots next size t → r.number ≡ next → AreSlots (next + 1) size (set t r.slot (Some r))
-inserted_kept next size t r h number = IsTable-set (λ x. x.number) (λ x. x.slot) next (next + 1) size t r.slot (Some r) (omega arith) (refl, omega arith) h
+inserted_kept next size t r h number = IsTable-set (λ x. x.number) (λ x. x.slot) next (next + 1) size t r.slot (Some r) (omega arith) (refl, omega arith, λ i z got same. let lt : z.number < next = h.below i z got in absurd (omega arith)) h
 
 pub inserted_is : (a : Inside) (r : Record) → IsKept a → free_slot (world_of a) ≡ Some r.slot → r.number ≡ a.next_termination → in_order (λ x. x.number) (set a.slots.items r.slot (Some r)) ≡ in_order (λ x. x.number) a.slots.items ++ (r ∷ [])
 inserted_is a r kept free number =
     in_order-push (λ x. x.number) a.slots.items r.slot r (slot_is_empty a r.slot kept free).0 (λ i y at. let lt : y.number < a.next_termination = kept.slots.below i y at in omega arith)
 
 pub made_kept : (next size : ℕ) (t : List (Option Context)) (x : Context) → AreRooms next size t → x.number ≡ next → AreRooms (next + 1) size (set t x.room (Some x))
-made_kept next size t x h number = IsTable-set (λ y. y.number) (λ y. y.room) next (next + 1) size t x.room (Some x) (omega arith) (refl, omega arith) h
+made_kept next size t x h number = IsTable-set (λ y. y.number) (λ y. y.room) next (next + 1) size t x.room (Some x) (omega arith) (refl, omega arith, λ i z got same. let lt : z.number < next = h.below i z got in absurd (omega arith)) h
 
 pub made_is : (a : Inside) (x : Context) → IsKept a → free_room (world_of a) ≡ Some x.room → x.number ≡ a.next_context → in_order (λ y. y.number) (set a.rooms.items x.room (Some x)) ≡ in_order (λ y. y.number) a.rooms.items ++ (x ∷ [])
 made_is a x kept free number =
@@ -162,9 +162,9 @@ keeps_key : (x : Context) (o : Option Context) → IfSome o (λ y. (y.number ≡
 keeps_key x None k = tt
 keeps_key x (Some y) k = k.0
 
-keeps_place : (x : Context) (o : Option Context) (s next : ℕ) → IfSome o (λ y. (y.number ≡ x.number) × (y.room ≡ x.room)) → x.room ≡ s → x.number < next → IfSome o (λ y. (y.room ≡ s) × (y.number < next))
-keeps_place x None s next k spot lt = tt
-keeps_place x (Some y) s next k spot lt = (k.1 ∙ spot, rw (k.0) lt)
+keeps_place : (t : List (Option Context)) (x : Context) (o : Option Context) (s next : ℕ) → IfSome o (λ y. (y.number ≡ x.number) × (y.room ≡ x.room)) → x.room ≡ s → x.number < next → OnlyAt (λ y. y.number) x.number s t → IfSome o (λ y. (y.room ≡ s) × (y.number < next) × OnlyAt (λ z. z.number) y.number s t)
+keeps_place t x None s next k spot lt only = tt
+keeps_place t x (Some y) s next k spot lt only = (k.1 ∙ spot, rw (k.0) lt, λ i z got same. only i z got (same ∙ k.0))
 
 -- a room's entry that keeps its number and room, or goes
 pub context_change : (next size : ℕ) (t : List (Option Context)) (n s : ℕ) (f : Context → Option Context) (old new : Option Context) → ((x : Context) → IfSome (f x) (λ y. (y.number ≡ x.number) × (y.room ≡ x.room))) → AreRooms next size t → Some s ≡ position_from (has_key (λ x. x.number) n) 0 t → old ≡ get_or t s old → new ≡ option_and_then f old
@@ -174,7 +174,7 @@ context_change next size t n s f old new keeps h found was is =
     let old_is : old ≡ Some x = was ∙ get_or_from_slice_get t s (Some x) old at in
     let new_is : new ≡ f x = is ∙ ap (option_and_then f) old_is in
     rw new_is
-    (IsTable-set (λ y. y.number) (λ y. y.room) next next size t s (f x) (omega arith) (keeps_place x (f x) s next (keeps x) (h.at_spot s x at) (h.below s x at)) h, change_is)
+    (IsTable-set (λ y. y.number) (λ y. y.room) next next size t s (f x) (omega arith) (keeps_place t x (f x) s next (keeps x) (h.at_spot s x at) (h.below s x at) (λ i z got key. h.once i s z x got at key)) h, change_is)
 
 keeps_entered : (n : ℕ) (x : Context) → IfSome (entered_entry n (Some x)) (λ y. (y.number ≡ x.number) × (y.room ≡ x.room))
 keeps_entered n x = (refl, refl)

@@ -1,6 +1,6 @@
 pub mod OrderLaws
 pub mod TableLaws
-pub mod HeldLaws
+pub mod HintLaws
 pub mod MemberLaws
 pub mod CallLaws
 pub mod RegistryLaws

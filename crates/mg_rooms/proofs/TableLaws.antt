@@ -54,20 +54,40 @@ find_in_range p k (suc n) s h =
           (passed, omega arith, omega arith)
     ]
 
+-- a table has no other place with this key
+abbrev pub OnlyAt : {A : Type 0} → (A → ℕ) → ℕ → ℕ → List (Option A) → Type 0
+OnlyAt {A} key n s t = (i : ℕ) (x : A) → slice_get t i ≡ Some (Some x) → key x ≡ n → i ≡ s
+
 module _ {A : Type 0} (key spot : A → ℕ) where
   pub IsTable-empty : (next n : ℕ) → IsTable {A = A} key spot next n (replicate n None)
-  IsTable-empty next n = record { len = length-replicate {A = Option A} n None; at_spot = λ i x h. absurd (get-replicate_none n i x h); below = λ i x h. absurd (get-replicate_none n i x h) }
+  IsTable-empty next n = record {
+    len = length-replicate {A = Option A} n None;
+    at_spot = λ i x h. absurd (get-replicate_none n i x h);
+    below = λ i x h. absurd (get-replicate_none n i x h);
+    once = λ i j x y h k same. absurd (get-replicate_none n i x h);
+  }
 
-  pub IsTable-set : (next later size : ℕ) (t : List (Option A)) (s : ℕ) (o : Option A) → next ≤ later → IfSome o (λ x. (spot x ≡ s) × (key x < later)) → IsTable key spot next size t → IsTable key spot later size (set t s o)
+  pub IsTable-set : (next later size : ℕ) (t : List (Option A)) (s : ℕ) (o : Option A) → next ≤ later → IfSome o (λ x. (spot x ≡ s) × (key x < later) × OnlyAt key (key x) s t) → IsTable key spot next size t → IsTable key spot later size (set t s o)
   IsTable-set next later size t s None le is h = record {
     len = length-set t s _ ∙ h.len;
     at_spot = λ i x got. elim (get-set t s i None (Some x) got) [ inl p ↦ absurd (cc) | inr p ↦ h.at_spot i x p ];
     below = λ i x got. elim (get-set t s i None (Some x) got) [ inl p ↦ absurd (cc) | inr p ↦ let lt : key x < next = h.below i x p in omega arith ];
+    once = λ i j x y got_x got_y same. elim (get-set t s i None (Some x) got_x) [ inl p ↦ absurd (cc) | inr p ↦ elim (get-set t s j None (Some y) got_y) [ inl q ↦ absurd (cc) | inr q ↦ h.once i j x y p q same ] ];
   }
   IsTable-set next later size t s (Some y) le is h = record {
     len = length-set t s _ ∙ h.len;
     at_spot = λ i x got. elim (get-set t s i (Some y) (Some x) got) [ inl p ↦ let same : y ≡ x = cc in subst (λ (z : A). spot z ≡ i) same (is.0 ∙ sym p.0) | inr p ↦ h.at_spot i x p ];
     below = λ i x got. elim (get-set t s i (Some y) (Some x) got) [ inl p ↦ let same : y ≡ x = cc in subst (λ (z : A). key z < later) same is.1 | inr p ↦ let lt : key x < next = h.below i x p in omega arith ];
+    once = λ i j x z got_x got_z same. elim (get-set t s i (Some y) (Some x) got_x) [
+      | inl p ↦ elim (get-set t s j (Some y) (Some z) got_z) [
+        | inl q ↦ p.0 ∙ sym q.0
+        | inr q ↦ let is_y : y ≡ x = cc in p.0 ∙ sym (is.2 j z q (sym same ∙ ap key (sym is_y)))
+      ]
+      | inr p ↦ elim (get-set t s j (Some y) (Some z) got_z) [
+        | inl q ↦ let is_y : y ≡ z = cc in is.2 i x p (same ∙ ap key (sym is_y)) ∙ sym q.0
+        | inr q ↦ h.once i j x z p q same
+      ]
+    ];
   }
 
   -- a place before the first is named by none

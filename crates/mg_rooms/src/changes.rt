@@ -6,7 +6,7 @@ ghost use Rattle.mg_rooms.specs.Changes.{inserted, replaced, removed, made, join
 ghost use Rattle.mg_rooms.specs.aids.Entering.{CanEnter, CanEnterAt};
 
 use crate::context::Context;
-use crate::entries::{enter_entry, leave_entry, room_of, slot_held, slot_of};
+use crate::entries::{enter_entry, leave_entry, room_of, slot_of};
 use crate::members::Members;
 use crate::place::Place;
 use crate::record::Record;
@@ -28,6 +28,7 @@ impl Tables {
         requires number { fresh.number ≡ self.old.next_termination }
         ensures value { self.new ≡ inserted self.old fresh }
     {
+        self.slot_hints.note(fresh.number, fresh.slot);
         self.slots[fresh.slot as usize] = Some(fresh);
         self.next_termination += 1;
     }
@@ -37,7 +38,7 @@ impl Tables {
         requires slot { IfSome (record_at self.old changed.number) (λ r. r.slot ≡ changed.slot) }
         ensures value { self.new ≡ replaced self.old changed }
     {
-        if let Some(slot) = slot_held(&self.slots, changed.slot, changed.number) {
+        if let Some(slot) = slot_of(&self.slots, changed.slot, changed.number) {
             self.slots[slot] = Some(changed);
         }
     }
@@ -46,7 +47,7 @@ impl Tables {
     pub(crate) fn remove(&mut self, number: u32)
         ensures value { self.new ≡ removed self.old number }
     {
-        if let Some(slot) = slot_of(&self.slots, number) {
+        if let Some(slot) = slot_of(&self.slots, self.slot_hints.place(number), number) {
             self.slots[slot] = None;
         }
     }
@@ -55,7 +56,7 @@ impl Tables {
     pub(crate) fn leave(&mut self, context: u32, number: u32)
         ensures value { self.new ≡ left self.old context number }
     {
-        if let Some(room) = room_of(&self.rooms, context) {
+        if let Some(room) = room_of(&self.rooms, self.room_hints.place(context), context) {
             leave_entry(&mut self.rooms[room], number);
         }
     }
@@ -76,7 +77,7 @@ impl Tables {
         requires room { length (members_at self.old context) < MEMBERS }
         ensures value { self.new ≡ joined self.old context number }
     {
-        if let Some(room) = room_of(&self.rooms, context) {
+        if let Some(room) = room_of(&self.rooms, self.room_hints.place(context), context) {
             enter_entry(&mut self.rooms[room], number);
         }
     }
@@ -86,6 +87,7 @@ impl Tables {
         requires can { CanEnterAt self.old.contexts self.old.next_context context (Some room) }
         ensures value { self.new ≡ made self.old context room member }
     {
+        self.room_hints.note(context, room);
         self.rooms[room as usize] = Some(Context {
             number: context,
             room,

@@ -1,9 +1,9 @@
 //! Searches in tables by slot and by room, and what changes in one entry of them.
 
-ghost use Rattle.std.specs.Prelude.{◌≡◌, ◌<◌, ◌==◌, ◌&&◌, length, replicate, None, is_none, IfOk, IfSome, find};
+ghost use Rattle.std.specs.Prelude.{◌≡◌, ◌<◌, ◌==◌, ◌&&◌, length, replicate, None, is_none, IfOk, IfSome};
 ghost use Rattle.std.specs.List.{position_from, list_any};
-ghost use Rattle.mg_rooms.specs.aids.Order.{has_key, passes_at, in_order};
-ghost use Rattle.mg_rooms.specs.aids.Tables.{NamePlaces};
+ghost use Rattle.mg_rooms.specs.aids.Order.{has_key, passes_at};
+ghost use Rattle.mg_rooms.specs.aids.Tables.{HoldsOnce};
 ghost use Rattle.mg_rooms.specs.aids.Entries.{left_entry, entered_entry};
 
 use crate::context::Context;
@@ -31,47 +31,50 @@ pub fn empty_place<T>(table: &[Option<T>]) -> Option<usize>
     table.iter().position(|entry| entry.is_none())
 }
 
-/// The slot of a termination.
-pub fn slot_of(slots: &[Option<Record>], number: u32) -> Option<usize>
+/// Whether a slot's entry is the termination with this number.
+fn has_termination(entry: &Option<Record>, number: u32) -> bool
+    ensures { result ≡ has_key (λ r. r.number) number entry.now }
+{
+    entry.is_some_and(|record| record.number == number)
+}
+
+/// Whether a room's entry is the context with this number.
+fn has_context(entry: &Option<Context>, number: u32) -> bool
+    ensures { result ≡ has_key (λ x. x.number) number entry.now }
+{
+    match entry {
+        Some(context) => context.number == number,
+        None => false,
+    }
+}
+
+/// The slot of a termination: the one of the hint, where that holds it, and else the one that a search
+/// finds.
+pub fn slot_of(slots: &[Option<Record>], hint: u8, number: u32) -> Option<usize>
+    requires once { HoldsOnce (λ r. r.number) slots.now }
     ensures value { result ≡ position_from (has_key (λ r. r.number) number) 0 slots.now }
     ensures in_range { IfSome result (λ slot. slot < length slots.now) }
 {
-    slots.iter().position(|entry| entry.is_some_and(|record| record.number == number))
-}
-
-/// The slot of a termination that holds this one, if it is there: no search is needed.
-pub fn slot_held(slots: &[Option<Record>], slot: u8, number: u32) -> Option<usize>
-    requires places { NamePlaces (λ r. r.slot) slots.now }
-    requires held { IfSome (find (λ r. r.number == number) (in_order (λ r. r.number) slots.now)) (λ r. r.slot ≡ slot) }
-    ensures value { result ≡ position_from (has_key (λ r. r.number) number) 0 slots.now }
-    ensures in_range { IfSome result (λ place. place < length slots.now) }
-{
-    let slot = usize::from(slot);
-    if slot >= slots.len() {
-        return None;
-    }
-    let entry = slots[slot];
-    match entry {
-        Some(record) => {
-            if record.number == number {
-                Some(slot)
-            } else {
-                None
-            }
-        }
-        None => None,
+    let hinted = usize::from(hint);
+    match slots.get(hinted) {
+        Some(entry) if has_termination(entry, number) => Some(hinted),
+        _ => slots
+            .iter()
+            .position(|entry| has_termination(entry, number)),
     }
 }
 
-/// The room of a context.
-pub fn room_of(rooms: &[Option<Context>], number: u32) -> Option<usize>
+/// The room of a context: the one of the hint, where that holds it, and else the one that a search finds.
+pub fn room_of(rooms: &[Option<Context>], hint: u8, number: u32) -> Option<usize>
+    requires once { HoldsOnce (λ x. x.number) rooms.now }
     ensures value { result ≡ position_from (has_key (λ x. x.number) number) 0 rooms.now }
     ensures in_range { IfSome result (λ room. room < length rooms.now) }
 {
-    rooms.iter().position(|entry| match entry {
-        Some(context) => context.number == number,
-        None => false,
-    })
+    let hinted = usize::from(hint);
+    match rooms.get(hinted) {
+        Some(entry) if has_context(entry, number) => Some(hinted),
+        _ => rooms.iter().position(|entry| has_context(entry, number)),
+    }
 }
 
 /// Whether a termination of the context holds the seat.

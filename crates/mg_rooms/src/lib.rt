@@ -28,6 +28,7 @@ mod checks;
 mod context;
 mod done;
 mod entries;
+mod hints;
 pub mod laws;
 mod limits;
 mod media_setting;
@@ -57,6 +58,8 @@ pub use target::Target;
 // are exported.
 #[doc(hidden)]
 pub use context::Context;
+#[doc(hidden)]
+pub use hints::Hints;
 #[doc(hidden)]
 pub use members::Members;
 #[doc(hidden)]

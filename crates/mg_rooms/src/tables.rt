@@ -5,6 +5,7 @@ ghost use Rattle.mg_rooms.specs.Registry.{start_of, record_at, context_at, membe
 
 use crate::context::Context;
 use crate::entries::{self, empty_place, empty_table, room_of, slot_of};
+use crate::hints::Hints;
 use crate::limits::Limits;
 use crate::record::Record;
 use mg_words::{CONTEXTS, MEMBERS};
@@ -20,6 +21,8 @@ pub struct Tables {
     pub(crate) limits: Limits,
     pub(crate) slots: Vec<Option<Record>>,
     pub(crate) rooms: Vec<Option<Context>>,
+    pub(crate) slot_hints: Hints,
+    pub(crate) room_hints: Hints,
     pub(crate) next_termination: u64,
     pub(crate) next_context: u64,
 }
@@ -48,6 +51,8 @@ impl Tables {
             limits,
             slots,
             rooms,
+            slot_hints: Hints::new(),
+            room_hints: Hints::new(),
             next_termination: u64::from(limits.first_termination),
             next_context: u64::from(limits.first_context),
         })
@@ -58,7 +63,7 @@ impl Tables {
         ensures value { result ≡ record_at self.now number }
         ensures slot { IfSome result (λ r. r.slot < self.now.limits.slots) }
     {
-        let slot = slot_of(&self.slots, number)?;
+        let slot = slot_of(&self.slots, self.slot_hints.place(number), number)?;
         self.slots[slot]
     }
 
@@ -67,7 +72,7 @@ impl Tables {
         ensures value { result.now ≡ members_at self.now context }
         ensures few { length result.now ≤ MEMBERS }
     {
-        match room_of(&self.rooms, context) {
+        match room_of(&self.rooms, self.room_hints.place(context), context) {
             Some(room) => match &self.rooms[room] {
                 Some(found) => found.members.as_slice(),
                 None => &[],
@@ -80,7 +85,7 @@ impl Tables {
     pub(crate) fn room(&self, context: u32) -> Option<u8>
         ensures value { result ≡ option_map (λ x. x.room) (context_at self.now context) }
     {
-        let room = room_of(&self.rooms, context)?;
+        let room = room_of(&self.rooms, self.room_hints.place(context), context)?;
         Some(room as u8)
     }
 

@@ -16,16 +16,19 @@ world_of a =
       next_context = a.next_context;
     }
 
--- what a table holds at a place names that place
-abbrev pub NamePlaces : {A : Type 0} → (A → ℕ) → List (Option A) → Type 0
-NamePlaces {A} spot t = (i : ℕ) (x : A) → slice_get t i ≡ Some (Some x) → spot x ≡ i
+-- a table has each key once
+abbrev pub HoldsOnce : {A : Type 0} → (A → ℕ) → List (Option A) → Type 0
+HoldsOnce {A} key t =
+    (i j : ℕ) (x y : A) → slice_get t i ≡ Some (Some x) → slice_get t j ≡ Some (Some y)
+    → key x ≡ key y → i ≡ j
 
--- what a table holds at a place names that place, and its key is below the next
+-- what a table holds at a place names that place; its key is below the next, and is there once
 pub record IsTable {A : Type 0} (key spot : A → ℕ) (next size : ℕ)
     (t : List (Option A)) : Type 0 where
   pub len : length t ≡ size
   pub at_spot : (i : ℕ) (x : A) → slice_get t i ≡ Some (Some x) → spot x ≡ i
   pub below : (i : ℕ) (x : A) → slice_get t i ≡ Some (Some x) → key x < next
+  pub once : HoldsOnce key t
 
 pub record IsKept (a : Inside) : Type 0 where
   pub limits : AreValidLimits a.limits

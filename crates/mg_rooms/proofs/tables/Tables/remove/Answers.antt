@@ -1,7 +1,14 @@
 use Rattle.std.proofs.Common.{ap, None}
 use Rattle.mg_rooms.specs.aids.Tables.{world_of}
-use Rattle.mg_rooms.proofs.CallLaws.{removed_is, with_terminations, unchanged_termination}
+use Rattle.mg_rooms.proofs.CallLaws.{removed_is, removed_kept, with_terminations, unchanged_termination}
 use Rattle.mg_rooms.proofs.tables.Tables.remove.Goals as goal
+
+pub invariant_of-self : goal.invariant_of-self
+invariant_of-self c = record {
+  limits = c.self.invariant.limits;
+  slots = removed_kept _ _ _ c.in-Some.slot c.self.invariant.slots;
+  rooms = c.self.invariant.rooms;
+}
 
 pub returns-in-Some : goal.returns-in-Some
 returns-in-Some c = record {

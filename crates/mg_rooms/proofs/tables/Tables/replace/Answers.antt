@@ -1,17 +1,11 @@
-use Rattle.std.proofs.Common.{◌≡◌, List, Option, Some, ap, sym, subst, IfSome}
+use Rattle.std.proofs.Common.{List, Option, Some, ap, sym, subst}
 use Rattle.mg_rooms.specs.declared.record.Record.{Record}
-use Rattle.mg_rooms.specs.aids.Tables.{world_of, NamePlaces}
-use Rattle.mg_rooms.proofs.HeldLaws.{found}
+use Rattle.mg_rooms.specs.aids.Tables.{world_of, HoldsOnce}
 use Rattle.mg_rooms.proofs.CallLaws.{replaced_kept, replaced_is, with_terminations, unchanged_termination}
 use Rattle.mg_rooms.proofs.tables.Tables.replace.Goals as goal
 
-pub slot_held-requires-clause-places : goal.slot_held-requires-clause-places
-slot_held-requires-clause-places c = subst (λ (t : List (Option Record)). NamePlaces (λ r. r.slot) t) (sym c.deref.ensures.value) c.self.invariant.slots.at_spot
-
-pub slot_held-requires-clause-held : goal.slot_held-requires-clause-held
-slot_held-requires-clause-held c =
-    let same = rw (← c.self.view_is) at c.requires.slot in
-    subst (λ (t : List (Option Record)). IfSome (found t c.args.changed.number) (λ r. r.slot ≡ c.args.changed.slot)) (sym c.deref.ensures.value) same
+pub slot_of-requires : goal.slot_of-requires
+slot_of-requires c = record { once = subst (λ (t : List (Option Record)). HoldsOnce (λ r. r.number) t) (sym c.deref.ensures.value) c.self.invariant.slots.once }
 
 pub invariant_of-self : goal.invariant_of-self
 invariant_of-self c =

@@ -2,4 +2,3 @@ pub mod InvocationLaws
 pub mod AskedRows
 pub mod CommandLaws
 pub mod EndLaws
-pub mod NumberLaws

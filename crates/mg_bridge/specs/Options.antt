@@ -1,18 +1,16 @@
 -- The command line, as the parser of its words knows it, and what words ask of the program.
-use Rattle.std.specs.Prelude.{◌≡◌, ℕ, true, ◌&&◌, nat_lt, if◌then◌else◌, List, [], ◌∷◌, Option}
-use Rattle.std.specs.Prelude.{Some, None, unwrap_or, option_and_then, Result, Ok, Err, codes, pos}
+use Rattle.std.specs.Prelude.{◌≡◌, ℕ, true, if◌then◌else◌, List, [], ◌∷◌, Option, Some, unwrap_or}
+use Rattle.std.specs.Prelude.{Result, Ok, Err, codes}
 use Rattle.std.specs.Option.{option_map_or}
 use Rattle.std.specs.Str.{bytes_eq}
-use Rattle.std.specs.Str.Parse.{digits_value, without_leading_plus}
-use Rattle.clap.specs.ValueTests.{is_numeral}
-use Rattle.clap.specs.Walk.{Row, Rule, Text, first_of, one_of}
+use Rattle.clap.specs.Walk.{Row, Rule, Text, first_of}
 use Rattle.clap.specs.Simple.{App, new_app, new_rule, on_top, subcommand_of, with_rule}
 use Rattle.clap.specs.Simple.{with_subcommand}
 use Rattle.clap.specs.Kinds.{Kinds, IsAmong}
 use Rattle.clap.specs.Faults.{fault_of}
 use Rattle.clap.specs.declared.error.kind.ErrorKind.{ErrorKind}
 use Rattle.clap.specs.declared.error.kind.ErrorKind.TheVariants.{OutOfMemory, ValueValidation}
-use Rattle.clap.specs.declared.builder.value_parser.ValueParser.TheVariants.{Signed}
+use Rattle.mg_options.specs.Numbers.{number_given, number_rule}
 use Rattle.mg_engine.specs.declared.config.Config.{Config}
 use Rattle.mg_engine.specs.Config.{standard}
 use Rattle.mg_bridge.specs.declared.address.AddressFault.{AddressFault}
@@ -26,16 +24,12 @@ use Rattle.mg_bridge.specs.Address.{own_address}
 abbrev pub text_rule : Text → Rule
 text_rule name = record (new_rule name) { long = Some name; value_names = 1 }
 
--- an option with this name that takes one number, from 0 to `most`
-abbrev pub number_rule : Text → ℕ → Rule
-number_rule name most = record (text_rule name) { parser = Some (Signed (pos 0) (pos most)) }
-
 -- the options of both subcommands, each of which may be given once
 unfoldable pub options : List Rule
-options = text_rule (codes "address") ∷ number_rule (codes "control-port") 65535
-    ∷ number_rule (codes "base-port") 65535 ∷ number_rule (codes "slots") 65535
-    ∷ number_rule (codes "ssrc") 4294967295 ∷ number_rule (codes "sequence") 65535
-    ∷ number_rule (codes "timestamp") 4294967295 ∷ []
+options = text_rule (codes "address") ∷ number_rule (codes "control-port") 0 65535
+    ∷ number_rule (codes "base-port") 0 65535 ∷ number_rule (codes "slots") 0 65535
+    ∷ number_rule (codes "ssrc") 0 4294967295 ∷ number_rule (codes "sequence") 0 65535
+    ∷ number_rule (codes "timestamp") 0 4294967295 ∷ []
 
 abbrev pub with_rules : App → List Rule → App
 with_rules app [] = app
@@ -57,22 +51,12 @@ command_line =
 
 -- ## The values of the options
 
--- the number below `limit` that decimal digits write, with a plus before them or none
-abbrev pub number_below : ℕ → Text → Option ℕ
-number_below limit text = let digits = without_leading_plus text in
-    if is_numeral digits && nat_lt (digits_value 10 digits) limit
-    then Some (digits_value 10 digits) else None
-
 -- the number that an option was given, and what stands for it where it wasn't
-abbrev pub number_in : ℕ → Text → List Row → ℕ → ℕ
-number_in limit name found otherwise =
-    unwrap_or (option_and_then (number_below limit) (one_of name found)) otherwise
-
 abbrev pub short_in : Text → List Row → ℕ → ℕ
-short_in = number_in 65536
+short_in name found otherwise = unwrap_or (number_given 65536 name found) otherwise
 
 abbrev pub long_in : Text → List Row → ℕ → ℕ
-long_in = number_in 4294967296
+long_in name found otherwise = unwrap_or (number_given 4294967296 name found) otherwise
 
 -- the configuration that the options name, at this address: what isn't named is as in the standard
 -- one

@@ -1,14 +1,15 @@
 ghost use Rattle.std.specs.Prelude.{◌≡◌, IfErr, IfOk, Ok, map};
 ghost use Rattle.clap.specs.Words.{app_of, found_of, kind_of, rows_of, rule_of, with_rule};
 ghost use Rattle.mg_bridge.specs.Options.{IsRefused, address_in, asked, command_line, config_at};
-ghost use Rattle.mg_bridge.specs.Options.{number_rule, options, run_of, subcommand_line, text_rule};
+ghost use Rattle.mg_bridge.specs.Options.{options, run_of, subcommand_line, text_rule};
 ghost use Rattle.mg_bridge.specs.Options.{with_rules};
 
 use crate::address::{AddressFault, own_address};
 use crate::invocation::Invocation;
 use clap::error::ErrorKind;
-use clap::{Arg, ArgMatches, Command, Error, value_parser};
+use clap::{Arg, ArgMatches, Command, Error};
 use mg_core::Config;
+use mg_options::{long_number, long_value, short_number, short_value};
 use std::alloc::Global;
 use std::convert::AsStr;
 
@@ -17,26 +18,6 @@ fn address_option<'a>(alloc: Global, name: &'a str) -> Arg<'a>
     ensures rule { rule_of result ≡ text_rule name.now }
 {
     Arg::new(alloc, name).long(name).value_name("ADDRESS")
-}
-
-/// An option that takes one number of 16 bits.
-fn short_number<'a>(alloc: Global, name: &'a str) -> Arg<'a>
-    ensures rule { rule_of result ≡ number_rule name.now 65535 }
-{
-    Arg::new(alloc, name)
-        .long(name)
-        .value_name("NUMBER")
-        .value_parser(value_parser!(u16))
-}
-
-/// An option that takes one number of 32 bits.
-fn long_number<'a>(alloc: Global, name: &'a str) -> Arg<'a>
-    ensures rule { rule_of result ≡ number_rule name.now 4294967295 }
-{
-    Arg::new(alloc, name)
-        .long(name)
-        .value_name("NUMBER")
-        .value_parser(value_parser!(u32))
 }
 
 /// Adds the options of a gateway, which are those of each subcommand.
@@ -106,16 +87,14 @@ fn config_at(address: [u8; 4], matches: &ArgMatches<'_>) -> Config
     let standard = Config::default();
     Config {
         address,
-        control_port: matches
-            .get_one("control-port")
-            .unwrap_or(standard.control_port),
-        base_port: matches.get_one("base-port").unwrap_or(standard.base_port),
-        slots: matches.get_one("slots").unwrap_or(standard.slots),
+        control_port: short_value(matches, "control-port").unwrap_or(standard.control_port),
+        base_port: short_value(matches, "base-port").unwrap_or(standard.base_port),
+        slots: short_value(matches, "slots").unwrap_or(standard.slots),
         first_termination: standard.first_termination,
         first_context: standard.first_context,
-        ssrc: matches.get_one("ssrc").unwrap_or(standard.ssrc),
-        sequence: matches.get_one("sequence").unwrap_or(standard.sequence),
-        timestamp: matches.get_one("timestamp").unwrap_or(standard.timestamp),
+        ssrc: long_value(matches, "ssrc").unwrap_or(standard.ssrc),
+        sequence: short_value(matches, "sequence").unwrap_or(standard.sequence),
+        timestamp: long_value(matches, "timestamp").unwrap_or(standard.timestamp),
     }
 }
 

@@ -2,7 +2,6 @@ pub mod AskedRows
 pub mod CommandLaws
 pub mod DueLaws
 pub mod InvocationLaws
-pub mod NumberLaws
 pub mod OneLaws
 pub mod PaceLaws
 pub mod ProgramLaws

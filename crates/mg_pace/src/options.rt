@@ -1,10 +1,12 @@
 ghost use Rattle.std.specs.Prelude.{◌≡◌, ◌<◌, ◌≤◌, IfErr, IfOk, codes, map, max, min, unwrap_or};
 ghost use Rattle.clap.specs.Words.{app_of, found_of, kind_of, rows_of, rule_of};
-ghost use Rattle.mg_pace.specs.Options.{IsRefused, asked, command_line, number_rule, options_in, run};
+ghost use Rattle.mg_options.specs.Numbers.{number_rule};
+ghost use Rattle.mg_pace.specs.Options.{IsRefused, asked, command_line, options_in, run};
 
 use crate::schedule::MOST_POLLS;
 use clap::error::ErrorKind;
 use clap::{Arg, ArgMatches, Command, Error, value_parser};
+use mg_options::{long_number, long_value, short_value};
 use std::alloc::Global;
 use std::convert::AsStr;
 
@@ -21,11 +23,7 @@ pub struct Options {
 fn ticks_option<'a>(alloc: Global) -> Arg<'a>
     ensures rule { rule_of result ≡ number_rule (codes "ticks") 0 4294967295 }
 {
-    Arg::new(alloc, "ticks")
-        .long("ticks")
-        .value_name("NUMBER")
-        .value_parser(value_parser!(u32))
-        .help("Ends after so many ticks, with the line quit")
+    long_number(alloc, "ticks").help("Ends after so many ticks, with the line quit")
 }
 
 /// The option that names the polls in 20 ms.
@@ -71,8 +69,8 @@ fn options_of(matches: &ArgMatches<'_>) -> Options
     ensures value { result ≡ options_in (rows_of (found_of matches.now)) }
 {
     Options {
-        ticks: ticks_wanted(matches.get_one("ticks")),
-        polls: bounded_polls(matches.get_one("polls").unwrap_or(4)),
+        ticks: ticks_wanted(long_value(matches, "ticks")),
+        polls: bounded_polls(short_value(matches, "polls").unwrap_or(4)),
     }
 }
 

@@ -66,7 +66,7 @@ fn send_packets<P: Ports>(ports: &mut P, config: Config, packets: &[Datagram], s
 }
 
 /// The media port of a slot of the ports, the first of which is 1.
-fn port_of(config: Config, slot: u16) -> u16
+fn media_port(config: Config, slot: u16) -> u16
     requires sound { IsValidConfig config }
     requires first { 1 ≤ slot }
     requires last { slot ≤ config.slots }
@@ -117,7 +117,7 @@ impl Server {
         ensures value { Leads StandsFor self.old.core.state self.new.core.state (λ w next.
             Step w (event_at config slot source bytes.now) [] next) }
     {
-        let port = port_of(config, slot);
+        let port = media_port(config, slot);
         let _ = self.core.media(port, source, bytes);
     }
 

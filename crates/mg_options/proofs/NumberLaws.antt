@@ -1,6 +1,6 @@
 -- The number that an option is read as.
 use Rattle.std.proofs.Common.{◌≡◌, ◌∙◌, ◌<◌, ◌^◌, ◌&&◌, ℕ, Bool, true, false, [], ◌∷◌, length, nat_lt, Option, Some, None, Result, Ok, Err, refl, sym, ap, subst, lt-ltb, ltb-true}
-use Rattle.std.specs.Prelude.{option_and_then, unwrap_or}
+use Rattle.std.specs.Prelude.{option_and_then}
 use Rattle.std.specs.List.{list_all}
 use Rattle.std.specs.Char.{digit_value}
 use Rattle.std.specs.Str.Parse.{AllDigits, IsNumeral, ParsesUnsigned, digits_value, without_leading_plus}
@@ -10,7 +10,7 @@ use Rattle.clap.specs.Matches.{ReadsOne, one_text}
 use Rattle.clap.specs.Walk.{Text, rows_of}
 use Rattle.clap.specs.declared.parser.matches.Found.{Found}
 use Rattle.clap.proofs.WalkLemmas.{one_text-rows}
-use Rattle.mg_bridge.specs.Options.{number_below, number_in}
+use Rattle.mg_options.specs.Numbers.{number_below, number_given}
 
 digits_pass : (digits : Text) → AllDigits 10 digits → list_all (λ d. nat_lt (digit_value d) 10) digits ≡ true
 digits_pass [] all = refl
@@ -59,10 +59,8 @@ module _ (E : Type 0) (Gives : Text → Result ℕ E → Type 0) (bits limit : �
   read_one None value none some = none refl
   read_one (Some text) value none some = read_below text value (some text refl)
 
-  -- `get_one`, with what stands for an option that wasn't given
-  pub read_option : (found : Found) (name : Text) (otherwise : ℕ) (value : Option ℕ) (number : ℕ) → (one_text found name ≡ None → value ≡ None)
-      → ((text : Text) → one_text found name ≡ Some text → ReadsOne Gives text value) → number ≡ unwrap_or value otherwise
-      → number ≡ number_in limit name (rows_of found) otherwise
-  read_option found name otherwise value number none some is =
-      is ∙ ap (λ (v : Option ℕ). unwrap_or v otherwise) (read_one (one_text found name) value none some
-      ∙ ap (option_and_then (number_below limit)) (one_text-rows found name))
+  -- what `get_one` answers is the number that the option was given
+  pub given_is : (found : Found) (name : Text) (value : Option ℕ) → (one_text found name ≡ None → value ≡ None)
+      → ((text : Text) → one_text found name ≡ Some text → ReadsOne Gives text value) → value ≡ number_given limit name (rows_of found)
+  given_is found name value none some =
+      read_one (one_text found name) value none some ∙ ap (option_and_then (number_below limit)) (one_text-rows found name)

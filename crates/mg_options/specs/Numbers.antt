@@ -1,0 +1,27 @@
+-- Options that take one number, as the parser of a command line knows them, and what they were given.
+use Rattle.std.specs.Prelude.{ℕ, ◌&&◌, nat_lt, if◌then◌else◌, List, Option, Some, None}
+use Rattle.std.specs.Prelude.{option_and_then, pos}
+use Rattle.std.specs.Str.Parse.{digits_value, without_leading_plus}
+use Rattle.clap.specs.ValueTests.{is_numeral}
+use Rattle.clap.specs.Walk.{Row, Rule, Text, one_of}
+use Rattle.clap.specs.Simple.{new_rule}
+use Rattle.clap.specs.declared.builder.value_parser.ValueParser.TheVariants.{Signed}
+
+-- an option with this name that takes one number, from `least` to `most`
+abbrev pub number_rule : Text → ℕ → ℕ → Rule
+number_rule name least most =
+    record (new_rule name) {
+      long = Some name;
+      value_names = 1;
+      parser = Some (Signed (pos least) (pos most));
+    }
+
+-- the number below `limit` that decimal digits write, with a plus before them or none
+abbrev pub number_below : ℕ → Text → Option ℕ
+number_below limit text = let digits = without_leading_plus text in
+    if is_numeral digits && nat_lt (digits_value 10 digits) limit
+    then Some (digits_value 10 digits) else None
+
+-- the number that an option was given
+abbrev pub number_given : ℕ → Text → List Row → Option ℕ
+number_given limit name found = option_and_then (number_below limit) (one_of name found)

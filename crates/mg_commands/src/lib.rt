@@ -41,8 +41,6 @@ mod property_fault;
 mod reply_descriptors;
 mod reply_parts;
 mod served;
-#[cfg(test)]
-mod tests;
 mod transactions;
 
 pub use crate::name::{Name, name_of, written_name};

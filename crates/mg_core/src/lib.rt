@@ -28,8 +28,6 @@ mod running;
 mod script;
 mod script_runner;
 mod state;
-#[cfg(test)]
-mod tests;
 
 pub use crate::answer::Answer;
 pub use crate::counts::Counts;

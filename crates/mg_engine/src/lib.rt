@@ -42,8 +42,6 @@ mod sending;
 mod share;
 mod shares;
 mod taken;
-#[cfg(test)]
-mod tests;
 mod topology_triple;
 mod triple_term;
 mod triples;

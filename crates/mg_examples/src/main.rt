@@ -1,4 +1,5 @@
-//! Runs each example script on a new gateway, and tells whether what it writes is the output that is stored beside it.
+//! Runs each script of the examples and of the rules on a new gateway, and tells whether what it writes is the output that is
+//! stored beside it.
 #![tactic(auto)]
 
 use anyhow::{Result, anyhow};
@@ -8,29 +9,51 @@ use std::fs;
 use std::io::Cursor;
 use std::rt::Files;
 
-/// A script, and the output that is stored for it.
-struct Example {
-    script: &'static str,
-    output: &'static str,
-}
-
-const EXAMPLES: [Example; 4] = [
-    Example {
-        script: "conference.txt",
-        output: "conference.out",
-    },
-    Example {
-        script: "speech.txt",
-        output: "speech.out",
-    },
-    Example {
-        script: "coaching.txt",
-        output: "coaching.out",
-    },
-    Example {
-        script: "repeats.txt",
-        output: "repeats.out",
-    },
+/// The scripts, each by the name of its file and of the file with its output, without their ends.
+const SCRIPTS: [&str; 43] = [
+    "conference",
+    "speech",
+    "coaching",
+    "repeats",
+    "rules/a_context_is_made_with_what_is_done",
+    "rules/a_full_context",
+    "rules/a_lecture",
+    "rules/a_message_of_8192_bytes",
+    "rules/a_message_of_many_lines",
+    "rules/a_missing_frame_is_silence",
+    "rules/a_used_slot_is_silent",
+    "rules/all_members_refused_at_once",
+    "rules/an_action_refused_as_a_whole",
+    "rules/each_is_sent_the_others",
+    "rules/each_member_is_tried",
+    "rules/each_request_is_answered",
+    "rules/forms_of_a_message",
+    "rules/frames_are_played_by_their_numbers",
+    "rules/frames_wait_for_half_of_the_depth",
+    "rules/isolate",
+    "rules/laws_and_loopbacks_share_no_payload",
+    "rules/lines_of_a_script",
+    "rules/loopback",
+    "rules/one_command_after_another",
+    "rules/one_law_to_each",
+    "rules/oneway",
+    "rules/optional_commands",
+    "rules/packets_are_numbered",
+    "rules/repeated_requests",
+    "rules/replies_are_kept_by_sender",
+    "rules/silence",
+    "rules/the_first_check_refuses",
+    "rules/the_last_32_replies_are_kept",
+    "rules/the_last_word_counts",
+    "rules/two_conferences_share_nothing",
+    "rules/what_fails_ends_a_request",
+    "rules/what_is_dropped",
+    "rules/what_is_no_message",
+    "rules/what_was_done_is_told",
+    "rules/who_comes_back_hears_all",
+    "rules/who_hears_whom",
+    "rules/who_listens_and_who_talks",
+    "rules/who_moves_is_heard_elsewhere",
 ];
 
 /// What a script writes on a gateway with the standard configuration.
@@ -41,20 +64,19 @@ fn written(alloc: Global, script: &[u8]) -> Result<Vec<u8>> {
     Ok(writer)
 }
 
-/// Whether an example writes what is stored.
-fn is_as_stored<R: Files + AllocGlobal>(rt: &R, example: &Example) -> Result<bool> {
-    let script = fs::read(rt, example.script)?;
-    let output = fs::read(rt, example.output)?;
+/// Whether a script writes what is stored.
+fn is_as_stored<R: Files + AllocGlobal>(rt: &R, name: &str) -> Result<bool> {
+    let script = fs::read(rt, format!(in rt.alloc(); "{name}.txt")?.as_str())?;
+    let output = fs::read(rt, format!(in rt.alloc(); "{name}.out")?.as_str())?;
     Ok(written(rt.alloc(), script.as_slice())?.as_slice() == output.as_slice())
 }
 
 fn main(rt: HostRuntime) -> Result<()> {
-    for example in &EXAMPLES {
-        let script = example.script;
-        if !is_as_stored(&rt, example)? {
-            return Err(anyhow!("{script}: not as stored"));
+    for name in SCRIPTS {
+        if !is_as_stored(&rt, name)? {
+            return Err(anyhow!("{name}: not as stored"));
         }
-        println!(rt; "{script}: as stored")?;
+        println!(rt; "{name}: as stored")?;
     }
     Ok(())
 }

@@ -27,8 +27,6 @@ mod media;
 mod outcome;
 mod parts_writing;
 mod reply;
-#[cfg(test)]
-mod tests;
 pub mod theorems;
 mod writing;
 

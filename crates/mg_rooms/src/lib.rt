@@ -40,8 +40,6 @@ mod rooms;
 mod settings;
 mod tables;
 mod target;
-#[cfg(test)]
-mod tests;
 
 pub use crate::settings::{Settings, depth_within};
 pub use done::Done;

@@ -28,8 +28,6 @@ mod offer;
 mod part;
 mod reader;
 mod sessions;
-#[cfg(test)]
-mod tests;
 pub mod theorems;
 mod writing;
 

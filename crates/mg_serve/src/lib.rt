@@ -17,8 +17,6 @@ mod line_driver;
 mod output;
 mod server;
 mod serving;
-#[cfg(test)]
-mod tests;
 
 // A law can name a line's command in a contract only if the type is exported.
 #[doc(hidden)]

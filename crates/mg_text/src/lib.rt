@@ -39,8 +39,6 @@ mod scanning;
 mod sender;
 mod sequence;
 mod streams;
-#[cfg(test)]
-mod tests;
 mod tree_list;
 mod words;
 

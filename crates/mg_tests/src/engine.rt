@@ -1,4 +1,6 @@
-use crate::{
+//! The engine: causes of drops, totals, who hears whom by number, and the price of a tick.
+
+use mg_engine::{
     Association, Config, Done, DropCause, Edit, Engine, ErrorNumber, MediaSetting, Mode, Outbox,
     Peer, Room, Row, Settings, Taken, Target, TopologyTriple, TopologyTriples, TripleTerm,
 };
@@ -26,6 +28,16 @@ fn caller(mode: Mode, local: &[u8], remote: &[u8]) -> Result<Settings, Fail> {
     })
 }
 
+/// What a Modify sets that names a mode, a depth, or neither.
+fn changed(mode: Option<Mode>, depth: Option<u16>) -> Settings {
+    Settings {
+        mode,
+        depth,
+        local: None,
+        remote: None,
+    }
+}
+
 const MU: &[u8] = b"v=0\nc=IN IP4 $\nm=audio $ RTP/AVP 0\n";
 
 const REMOTES: [&[u8]; 4] = [
@@ -34,9 +46,6 @@ const REMOTES: [&[u8]; 4] = [
     b"v=0\nc=IN IP4 127.0.0.1\nm=audio 40004 RTP/AVP 0\n",
     b"v=0\nc=IN IP4 127.0.0.1\nm=audio 40006 RTP/AVP 0\n",
 ];
-
-/// A peer who is sent A-law.
-const A_LAW: &[u8] = b"v=0\nc=IN IP4 127.0.0.1\nm=audio 40004 RTP/AVP 8\n";
 
 /// A packet of 160 equal bytes, mu-law, from one source.
 fn packet(byte: u8) -> [u8; 172] {
@@ -73,30 +82,23 @@ fn conference(alloc: Global, callers: usize) -> Result<Engine, Fail> {
     Ok(engine)
 }
 
+/// Changes a member of the first context.
+fn modify(engine: &mut Engine, number: u32, settings: &Settings) -> Result<(), Fail> {
+    let done = engine.modify(Target::Number(1), number, settings);
+    done.map_err(|_| "a Modify")?;
+    Ok(())
+}
+
+/// Changes the mode of a member of the first context.
+fn set_mode(engine: &mut Engine, number: u32, mode: Mode) -> Result<(), Fail> {
+    modify(engine, number, &changed(Some(mode), None))
+}
+
 /// Some ticks.
 fn tick(engine: &mut Engine, outbox: &mut Outbox, ticks: usize) {
     for _ in 0..ticks {
         engine.tick(outbox);
     }
-}
-
-/// The first bytes of the payloads of one more tick.
-fn next_payloads(alloc: Global, engine: &mut Engine, outbox: &mut Outbox) -> Result<Vec<u8>, Fail> {
-    engine.tick(outbox);
-    payloads(alloc, outbox)
-}
-
-/// The header of the last packet of an outbox.
-fn last_header(alloc: Global, outbox: &Outbox) -> Result<Vec<u8>, Fail> {
-    let Some(last) = outbox.as_slice().last() else {
-        return Err("a packet".into());
-    };
-    let bytes = last.bytes.as_slice();
-    if bytes.len() < 12 {
-        return Err("a header".into());
-    }
-    let (header, _) = bytes.split_at(12);
-    Ok(Vec::from_slice(alloc, header)?)
 }
 
 /// The first byte of each payload of an outbox.
@@ -108,42 +110,12 @@ fn payloads(alloc: Global, outbox: &Outbox) -> Result<Vec<u8>, Fail> {
     Ok(bytes)
 }
 
-/// Each of four callers is sent the others, and totals follow a Move.
-fn mix_the_others(
-    rt: &impl Abort,
-    alloc: Global,
-    engine: &mut Engine,
-    outbox: &mut Outbox,
-) -> Result<(), Fail> {
-    assert_eq!(rt;
-        engine.media(30000, CALLER, &packet(0x80)),
-        Taken::Placed(Placed::Started)
-    );
-    assert_eq!(rt;
-        engine.media(30002, CALLER, &packet(0x80)),
-        Taken::Placed(Placed::Started)
-    );
-    assert_eq!(rt;
-        engine.media(30004, CALLER, &packet(0x00)),
-        Taken::Placed(Placed::Started)
-    );
-    let want: &[u8] = &[0xff, 0xff, 0xff, 0xff];
-    assert_eq!(rt; next_payloads(alloc, engine, outbox)?.as_slice(), want);
-    assert_eq!(rt; next_payloads(alloc, engine, outbox)?.as_slice(), want);
-    let want: &[u8] = &[0xff, 0xff, 0x80, 0x80];
-    assert_eq!(rt; next_payloads(alloc, engine, outbox)?.as_slice(), want);
-    let header = last_header(alloc, outbox)?;
-    let head: &[u8] = &[0x80, 0, 0, 2, 0, 0, 1, 0x40, 0, 0, 0, 4];
-    assert_eq!(rt; header.as_slice(), head);
-    let last = outbox
-        .as_slice()
-        .last()
-        .map(|last| (last.from, last.to.port));
-    assert_eq!(rt; last, Some((30006, 40006)));
+/// Totals follow a Move.
+fn leave_the_total(rt: &impl Abort, engine: &mut Engine, outbox: &mut Outbox) -> Result<(), Fail> {
+    speak(engine, outbox);
     assert_eq!(rt; engine.total(1, 0), Some(32124));
-    engine
-        .move_to(Target::New, 3, &Settings::default())
-        .map_err(|_| "a Move")?;
+    let moved = engine.move_to(Target::New, 3, &changed(None, None));
+    moved.map_err(|_| "a Move")?;
     assert_eq!(rt; engine.total(1, 0), Some(64248));
     assert_eq!(rt; engine.total(2, 0), Some(-32124));
     assert_eq!(rt; engine.total(3, 0), None);
@@ -155,55 +127,16 @@ fn mix_the_others(
 }
 
 #[test]
-fn mixes_the_others(rt: HostRuntime) -> Result<(), Fail> {
+fn totals_follow_a_move(rt: HostRuntime) -> Result<(), Fail> {
     let mut engine = conference(rt.alloc(), 4)?;
-    mix_the_others(&rt, rt.alloc(), &mut engine, &mut Outbox::new())
+    leave_the_total(&rt, &mut engine, &mut Outbox::new())
 }
 
-/// One in Loopback is sent itself, and heard by nobody.
-fn loop_back(
-    rt: &impl Abort,
-    alloc: Global,
-    engine: &mut Engine,
-    outbox: &mut Outbox,
-) -> Result<(), Fail> {
-    let settings = Settings {
-        mode: Some(Mode::Loopback),
-        ..Settings::default()
-    };
-    let edit = Edit::Modify {
-        target: Target::Number(1),
-        number: 1,
-        settings,
-    };
-    let done = engine.edit(&edit).map_err(|_| "a Modify")?;
-    let member = mg_rooms::Done {
-        context: 1,
-        termination: 1,
-    };
-    assert_eq!(rt; done, Done::Termination(member));
-    engine.media(30000, CALLER, &packet(0x80));
-    engine.media(30002, CALLER, &packet(0x00));
-    tick(engine, outbox, 3);
-    let want: &[u8] = &[0x80, 0xff];
-    assert_eq!(rt; payloads(alloc, outbox)?.as_slice(), want);
-    assert_eq!(rt; engine.total(1, 0), Some(-32124));
-    Ok(())
-}
-
-#[test]
-fn loops_back(rt: HostRuntime) -> Result<(), Fail> {
-    let mut engine = conference(rt.alloc(), 2)?;
-    loop_back(&rt, rt.alloc(), &mut engine, &mut Outbox::new())
-}
-
-/// The same packet with another byte at a place.
-fn with_byte(packet: [u8; 172], at: usize, byte: u8) -> [u8; 172] {
-    let mut bytes = packet;
-    if let Some(place) = bytes.get_mut(at) {
+/// Sets a byte of a packet.
+fn set_byte(packet: &mut [u8], at: usize, byte: u8) {
+    if let Some(place) = packet.get_mut(at) {
         *place = byte;
     }
-    bytes
 }
 
 /// The first of some datagrams at a port that isn't dropped for its cause.
@@ -224,9 +157,14 @@ fn first_wrong(
 /// What is no packet of the right type and length is dropped.
 fn drop_what_is_no_frame(rt: &impl Abort, engine: &mut Engine) -> Result<(), Fail> {
     let bytes = packet(0x80);
-    let padded = with_byte(with_byte(bytes, 0, 0xa0), 171, 0);
-    let extended = with_byte(with_byte(bytes, 0, 0x90), 14, 0xff);
-    let other_law = with_byte(bytes, 1, 8);
+    let mut padded = bytes;
+    set_byte(&mut padded, 0, 0xa0);
+    set_byte(&mut padded, 171, 0);
+    let mut extended = bytes;
+    set_byte(&mut extended, 0, 0x90);
+    set_byte(&mut extended, 14, 0xff);
+    let mut other_law = bytes;
+    set_byte(&mut other_law, 1, 8);
     let cases: [(&[u8], DropCause); 5] = [
         (bytes.as_slice().split_at(171).0, DropCause::Length),
         (&padded, DropCause::Rtp(RtpFault::Padding)),
@@ -274,124 +212,6 @@ fn drops_what_comes_to_nobody(rt: HostRuntime) -> Result<(), Fail> {
     drop_what_comes_to_nobody(&rt, &mut engine)
 }
 
-/// Numbers of packets and timestamps go on while nothing is sent.
-fn number_packets(
-    rt: &impl Abort,
-    alloc: Global,
-    engine: &mut Engine,
-    outbox: &mut Outbox,
-) -> Result<(), Fail> {
-    engine.tick(outbox);
-    let head: &[u8] = &[0x80, 0x80, 0, 0, 0, 0, 0, 0, 0, 0, 0, 1];
-    assert_eq!(rt; last_header(alloc, outbox)?.as_slice(), head);
-    let quiet = Settings {
-        mode: Some(Mode::Inactive),
-        ..Settings::default()
-    };
-    engine
-        .modify(Target::Number(1), 1, &quiet)
-        .map_err(|_| "a Modify")?;
-    engine.tick(outbox);
-    assert!(rt; outbox.is_empty());
-    let loud = Settings {
-        mode: Some(Mode::SendReceive),
-        ..Settings::default()
-    };
-    engine
-        .modify(Target::Number(1), 1, &loud)
-        .map_err(|_| "a Modify")?;
-    engine.tick(outbox);
-    let head: &[u8] = &[0x80, 0x80, 0, 1, 0, 0, 1, 0x40, 0, 0, 0, 1];
-    assert_eq!(rt; last_header(alloc, outbox)?.as_slice(), head);
-    assert_eq!(rt; engine.stats(1).map(|stats| stats.ps), Some(2));
-    assert_eq!(rt; engine.stats(1).map(|stats| stats.os), Some(320));
-    Ok(())
-}
-
-#[test]
-fn numbers_packets(rt: HostRuntime) -> Result<(), Fail> {
-    let mut engine = conference(rt.alloc(), 1)?;
-    number_packets(&rt, rt.alloc(), &mut engine, &mut Outbox::new())
-}
-
-/// Two ticks send two packets, whose numbers and timestamps rise.
-fn number_the_second(
-    rt: &impl Abort,
-    alloc: Global,
-    engine: &mut Engine,
-    outbox: &mut Outbox,
-) -> Result<(), Fail> {
-    tick(engine, outbox, 2);
-    let head: &[u8] = &[0x80, 0, 0, 1, 0, 0, 0, 0xa0, 0, 0, 0, 1];
-    assert_eq!(rt; last_header(alloc, outbox)?.as_slice(), head);
-    let want: &[u8] = &[0xff];
-    assert_eq!(rt; payloads(alloc, outbox)?.as_slice(), want);
-    Ok(())
-}
-
-#[test]
-fn numbers_the_second_packet(rt: HostRuntime) -> Result<(), Fail> {
-    let mut engine = conference(rt.alloc(), 1)?;
-    number_the_second(&rt, rt.alloc(), &mut engine, &mut Outbox::new())
-}
-
-/// A play list of depth 2 waits for one tick.
-fn wait_for_half_of_the_depth(
-    rt: &impl Abort,
-    alloc: Global,
-    engine: &mut Engine,
-    outbox: &mut Outbox,
-) -> Result<(), Fail> {
-    let short = Settings {
-        depth: Some(2),
-        ..Settings::default()
-    };
-    engine
-        .modify(Target::Number(1), 1, &short)
-        .map_err(|_| "a Modify")?;
-    engine.media(30000, CALLER, &packet(0x80));
-    let want: &[u8] = &[0xff, 0xff];
-    assert_eq!(rt; next_payloads(alloc, engine, outbox)?.as_slice(), want);
-    let want: &[u8] = &[0xff, 0x80];
-    assert_eq!(rt; next_payloads(alloc, engine, outbox)?.as_slice(), want);
-    Ok(())
-}
-
-#[test]
-fn waits_for_half_of_the_depth(rt: HostRuntime) -> Result<(), Fail> {
-    let mut engine = conference(rt.alloc(), 2)?;
-    wait_for_half_of_the_depth(&rt, rt.alloc(), &mut engine, &mut Outbox::new())
-}
-
-/// A termination that takes the slot of another begins in silence.
-fn follow_a_forerunner(
-    rt: &impl Abort,
-    alloc: Global,
-    engine: &mut Engine,
-    outbox: &mut Outbox,
-) -> Result<(), Fail> {
-    engine.media(30000, CALLER, &packet(0x80));
-    engine
-        .subtract(Target::Number(1), 1)
-        .map_err(|_| "a Subtract")?;
-    let settings = caller(Mode::SendReceive, MU, REMOTES[0])?;
-    let done = engine
-        .add(Target::Number(1), &settings)
-        .map_err(|_| "an Add")?;
-    assert_eq!(rt; done.termination, 3);
-    let want: &[u8] = &[0xff, 0xff];
-    assert_eq!(rt; next_payloads(alloc, engine, outbox)?.as_slice(), want);
-    assert_eq!(rt; next_payloads(alloc, engine, outbox)?.as_slice(), want);
-    assert_eq!(rt; next_payloads(alloc, engine, outbox)?.as_slice(), want);
-    Ok(())
-}
-
-#[test]
-fn newcomer_says_nothing_of_its_forerunner(rt: HostRuntime) -> Result<(), Fail> {
-    let mut engine = conference(rt.alloc(), 2)?;
-    follow_a_forerunner(&rt, rt.alloc(), &mut engine, &mut Outbox::new())
-}
-
 /// A triple of two terms.
 fn triple(first: TripleTerm, second: TripleTerm, association: Association) -> TopologyTriple {
     TopologyTriple {
@@ -413,19 +233,6 @@ fn triples(list: &[TopologyTriple]) -> TopologyTriples {
 /// What becomes of triples in the first context.
 fn apply(engine: &mut Engine, list: &[TopologyTriple]) -> Result<u32, ErrorNumber> {
     engine.apply_triples(Target::Number(1), &triples(list))
-}
-
-/// The first of some lists of triples that isn't refused for its fault.
-fn first_let_pass(
-    engine: &mut Engine,
-    cases: &[(&[TopologyTriple], ErrorNumber)],
-) -> Option<usize> {
-    for (i, (list, fault)) in cases.iter().enumerate() {
-        if apply(engine, list) != Err(*fault) {
-            return Some(i);
-        }
-    }
-    None
 }
 
 /// The first bytes of the payloads in the third tick after the first caller spoke.
@@ -477,73 +284,6 @@ fn leads_one_way(rt: HostRuntime) -> Result<(), Fail> {
     lead_one_way(&rt, rt.alloc(), &mut engine)
 }
 
-/// One triple at fault refuses all.
-fn refuse_triples(rt: &impl Abort, engine: &mut Engine) -> Result<(), Fail> {
-    let every = TripleTerm::Every;
-    let isolate = triple(FIRST, TripleTerm::Number(2), Association::Isolate);
-    let overlap = triple(every, FIRST, Association::Oneway);
-    let stranger = triple(TripleTerm::Stranger, every, Association::Isolate);
-    let unknown = triple(TripleTerm::Number(9), every, Association::Isolate);
-    let barred = triple(
-        TripleTerm::Barred,
-        TripleTerm::Stranger,
-        Association::Isolate,
-    );
-    let cases: [(&[TopologyTriple], ErrorNumber); 5] = [
-        (&[isolate, overlap], ErrorNumber::IllegalCombination),
-        (&[isolate, stranger], ErrorNumber::NotInContext),
-        (&[unknown, barred], ErrorNumber::NotInContext),
-        (&[barred, unknown], ErrorNumber::IdentifierNotAllowed),
-        (&[isolate, barred], ErrorNumber::IdentifierNotAllowed),
-    ];
-    assert_eq!(rt; first_let_pass(engine, &cases), None);
-    assert!(rt; engine.hears(1, 2) && engine.hears(2, 1));
-    Ok(())
-}
-
-#[test]
-fn refuses_triples_whole(rt: HostRuntime) -> Result<(), Fail> {
-    let mut engine = conference(rt.alloc(), 2)?;
-    refuse_triples(&rt, &mut engine)
-}
-
-/// Triples are refused where the context is not there.
-fn need_a_context(rt: &impl Abort, engine: &mut Engine) -> Result<(), Fail> {
-    let none = triples(&[]);
-    let absent = Err(ErrorNumber::UnknownContext);
-    assert_eq!(rt; engine.apply_triples(Target::Number(2), &none), absent);
-    assert_eq!(rt; engine.apply_triples(Target::Null, &none), absent);
-    assert_eq!(rt; engine.apply_triples(Target::Number(1), &none), Ok(1));
-    Ok(())
-}
-
-#[test]
-fn topology_needs_its_context(rt: HostRuntime) -> Result<(), Fail> {
-    let mut engine = conference(rt.alloc(), 2)?;
-    need_a_context(&rt, &mut engine)
-}
-
-/// Who left and came back hears all, and is heard.
-fn come_back(rt: &impl Abort, engine: &mut Engine) -> Result<(), Fail> {
-    let isolate = triple(FIRST, TripleTerm::Every, Association::Isolate);
-    assert_eq!(rt; apply(engine, &[isolate]), Ok(1));
-    assert!(rt; !engine.hears(2, 1) && !engine.hears(3, 1) && engine.hears(2, 3));
-    let plain = Settings::default();
-    let away = engine.move_to(Target::New, 1, &plain);
-    assert_eq!(rt; away.map(|done| done.context), Ok(2));
-    assert!(rt; !engine.hears(2, 1) && !engine.flow(1, 2));
-    let back = engine.move_to(Target::Number(1), 1, &plain);
-    assert_eq!(rt; back.map(|done| done.context), Ok(1));
-    assert!(rt; engine.hears(2, 1) && engine.hears(1, 3) && engine.hears(2, 3));
-    Ok(())
-}
-
-#[test]
-fn who_comes_back_hears_all(rt: HostRuntime) -> Result<(), Fail> {
-    let mut engine = conference(rt.alloc(), 3)?;
-    come_back(&rt, &mut engine)
-}
-
 /// Makes a conference of callers who all have one peer, each in a mode.
 fn add_crowd(engine: &mut Engine, modes: &[Mode]) -> Result<(), Fail> {
     let mut target = Target::New;
@@ -579,18 +319,6 @@ fn speak(engine: &mut Engine, outbox: &mut Outbox) {
     engine.media(30002, CALLER, &packet(0x80));
     engine.media(30004, CALLER, &packet(0x00));
     tick(engine, outbox, 3);
-}
-
-/// Changes the mode of a member of the first context.
-fn set_mode(engine: &mut Engine, number: u32, mode: Mode) -> Result<(), Fail> {
-    let settings = Settings {
-        mode: Some(mode),
-        ..Settings::default()
-    };
-    engine
-        .modify(Target::Number(1), number, &settings)
-        .map_err(|_| "a Modify")?;
-    Ok(())
 }
 
 /// Totals follow the modes of members, and forget who left.
@@ -698,30 +426,4 @@ fn share_a_payload(
 fn listeners_who_hear_the_same_share_a_payload(rt: HostRuntime) -> Result<(), Fail> {
     let mut engine = crowd(rt.alloc(), &lecture())?;
     share_a_payload(&rt, rt.alloc(), &mut engine, &mut Outbox::new())
-}
-
-/// Payloads of two laws, and those of loopbacks, are not shared.
-fn keep_payloads_apart(
-    rt: &impl Abort,
-    alloc: Global,
-    engine: &mut Engine,
-    outbox: &mut Outbox,
-) -> Result<(), Fail> {
-    let a_law = caller(Mode::SendOnly, MU, A_LAW)?;
-    let target = add(engine, Target::Number(1), &a_law)?;
-    add(engine, target, &a_law)?;
-    set_mode(engine, 2, Mode::SendOnly)?;
-    set_mode(engine, 4, Mode::Loopback)?;
-    engine.media(30000, CALLER, &packet(0x80));
-    engine.media(30006, CALLER, &packet(0x00));
-    tick(engine, outbox, 3);
-    let want: &[u8] = &[0xff, 0x80, 0xaa, 0x2a];
-    assert_eq!(rt; payloads(alloc, outbox)?.as_slice(), want);
-    Ok(())
-}
-
-#[test]
-fn laws_and_loopbacks_have_payloads_of_their_own(rt: HostRuntime) -> Result<(), Fail> {
-    let mut engine = conference(rt.alloc(), 2)?;
-    keep_payloads_apart(&rt, rt.alloc(), &mut engine, &mut Outbox::new())
 }

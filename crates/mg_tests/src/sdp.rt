@@ -1,5 +1,7 @@
-use crate::{Chosen, SdpFault, choose, choose_remote, read_sessions, write_local, write_remote};
+//! Session descriptions.
+
 use mg_g711::Law;
+use mg_sdp::{Chosen, SdpFault, choose, choose_remote, read_sessions, write_local, write_remote};
 use std::test::Fail;
 
 const ADDRESS: [u8; 4] = [127, 0, 0, 1];

@@ -1,10 +1,12 @@
+//! Replies.
+
 ghost use Rattle.std.specs.Prelude.{◌≤◌};
 
-use crate::{
+use mg_g711::Law;
+use mg_reply::{
     Association, Bytes, CommandWord, ContextId, Control, ErrorNumber, Item, Media, Mode, Outcome,
     Parts, Reply, Stats, Term, TooLong, write_error, write_head, write_reply,
 };
-use mg_g711::Law;
 use mg_sdp::Chosen;
 use std::test::Fail;
 

@@ -1,8 +1,10 @@
-use crate::{
+//! Terminations and contexts.
+
+use mg_g711::Law;
+use mg_rooms::{
     Done, ErrorNumber, Limits, MediaSetting, Mode, Record, Rooms, Settings, Target, mode_listens,
     mode_talks,
 };
-use mg_g711::Law;
 use mg_sdp::{Chosen, read_sessions};
 use std::process::Abort;
 use std::test::Fail;

@@ -1,5 +1,7 @@
-use crate::{Config, Counts, RunFault, serve};
+//! Sessions over ports in memory.
+
 use mg_ports::{Arrival, Call, FakePorts, Payload, Peer, Receipt};
+use mg_serve::{Config, Counts, RunFault, serve};
 use std::alloc::{AllocError, Global};
 use std::io::{self, Error, ErrorKind, Read, Write};
 use std::test::Fail;

@@ -1,9 +1,11 @@
-use crate::{
+//! Messages.
+
+use mg_scan::Span;
+use mg_text::{
     Association, AuditWord, Body, Command, CommandWord, ContextId, ContextProperty, ContextWord,
     ControlPart, Descriptor, MediaPart, MessageItem, Mode, OtherWord, PropertyValue, Range,
     ReadFault, StreamPart, Triple, read,
 };
-use mg_scan::Span;
 use std::alloc::{AllocError, Global};
 use std::test::Fail;
 

@@ -1,0 +1,304 @@
+//! The machine of events: what no line of a script shows.
+
+use mg_core::{Answer, Config, Core, Counts, NoMemory, Peer, RunFault, StartFault, run};
+use std::alloc::Global;
+use std::io::{self, Cursor, Error, ErrorKind, Read, Write};
+use std::process::Abort;
+use std::test::Fail;
+
+const CONTROLLER: Peer = Peer {
+    address: [127, 0, 0, 1],
+    port: 2945,
+};
+
+const HEARTBEAT: &[u8] =
+    b"MEGACO/1 [127.0.0.1]:2945 Transaction=1{Context=-{AuditValue=ROOT{Audit{}}}}";
+
+const REPLY: &[u8] = b"MEGACO/1 [127.0.0.1]:2944\nReply=1{Context=-{AuditValue=ROOT}}";
+
+const LINE: &[u8] =
+    b"say 127.0.0.1:2945 MEGACO/1 [127.0.0.1]:2945 Transaction=1{Context=-{AuditValue=ROOT{Audit{}}}}\n";
+
+const REPLY_LINE: &[u8] =
+    b"say 127.0.0.1:2945 MEGACO/1 [127.0.0.1]:2944\\nReply=1{Context=-{AuditValue=ROOT}}\n";
+
+/// Hands a message of the controller to a core.
+fn hand(alloc: Global, core: &mut Core, message: &[u8]) -> Result<Answer, NoMemory> {
+    core.control(alloc, CONTROLLER, message)
+}
+
+/// Whether a core has the first termination alone.
+fn has_one(core: &Core) -> bool {
+    let is_alone = core.stats(1).is_some() && core.stats(2).is_none();
+    is_alone && core.rooms().members(1) == [1].as_slice()
+}
+
+/// Whether a core answers a message of the controller by silence.
+fn is_silent(alloc: Global, core: &mut Core, message: &[u8]) -> Result<bool, NoMemory> {
+    let answer = hand(alloc, core, message)?;
+    Ok(answer == Answer::Silent && core.answer().is_empty())
+}
+
+/// Whether a core answers a datagram of the controller with a text.
+fn is_answered(
+    alloc: Global,
+    core: &mut Core,
+    bytes: &[u8],
+    text: &[u8],
+) -> Result<bool, NoMemory> {
+    let answer = hand(alloc, core, bytes)?;
+    Ok(answer == Answer::Send && core.answer() == text)
+}
+
+const ADD: &[u8] = b"!/1 [127.0.0.1]:2945 T=2{C=${A=$}}";
+
+const ADDED: &[u8] = b"MEGACO/1 [127.0.0.1]:2944\nReply=2{Context=1{Add=RTP/1}}";
+
+const FULL: &[u8] = b"!/1 [127.0.0.1]:2945 T=3{C=1{A=$}}";
+
+const FULL_REPLY: &[u8] = b"MEGACO/1 [127.0.0.1]:2944\n\
+    Reply=3{Context=1{Add=${Error=432{\"no termination or port left\"}}}}";
+
+/// A heartbeat, silence, an Add, and one that finds no slot.
+fn answer_in_turn(rt: &impl Abort, alloc: Global, core: &mut Core) -> Result<(), NoMemory> {
+    assert!(rt; is_answered(alloc, core, HEARTBEAT, REPLY)?);
+    assert!(rt; is_silent(alloc, core, b"MEGACO/1 mg K{7}")?);
+    assert!(rt; is_answered(alloc, core, ADD, ADDED)?);
+    assert!(rt; has_one(core));
+    assert!(rt; is_answered(alloc, core, FULL, FULL_REPLY)?);
+    Ok(())
+}
+
+#[test]
+fn answers_messages(rt: HostRuntime) -> Result<(), Fail> {
+    let one_slot = Config {
+        slots: 1,
+        ..Config::default()
+    };
+    let mut core = Core::new(rt.alloc(), one_slot)?;
+    answer_in_turn(&rt, rt.alloc(), &mut core)?;
+    Ok(())
+}
+
+/// Why a bridge doesn't start with a configuration.
+fn start_fault(alloc: Global, config: Config) -> Option<StartFault> {
+    Core::new(alloc, config).err()
+}
+
+#[test]
+fn refuses_bad_configurations(rt: HostRuntime) {
+    let standard = Config::default();
+    for config in [
+        Config {
+            slots: 0,
+            ..standard
+        },
+        Config {
+            slots: 129,
+            ..standard
+        },
+        Config {
+            base_port: 30001,
+            ..standard
+        },
+        Config {
+            base_port: 65530,
+            slots: 4,
+            ..standard
+        },
+        Config {
+            control_port: 30000,
+            ..standard
+        },
+        Config {
+            first_termination: 0,
+            ..standard
+        },
+        Config {
+            first_context: 4294967294,
+            ..standard
+        },
+    ] {
+        assert_eq!(rt;
+            start_fault(rt.alloc(), config),
+            Some(StartFault::BadConfig)
+        );
+    }
+    let last = Config {
+        base_port: 65530,
+        slots: 3,
+        ..standard
+    };
+    assert_eq!(rt; start_fault(rt.alloc(), last), None);
+}
+
+/// What a run of a script wrote, and how it ended.
+fn played(alloc: Global, script: &[u8]) -> (Vec<u8>, Option<RunFault>) {
+    let mut reader = Cursor::new(script);
+    let mut written = Vec::new(alloc);
+    let outcome = run(alloc, Config::default(), &mut reader, &mut written);
+    (written, outcome.err())
+}
+
+#[test]
+fn names_the_first_bad_line(rt: HostRuntime) {
+    for (script, line) in [
+        (b"tick\ntock\n".as_slice(), 2),
+        (b"tick\r", 1),
+        (b"Tick\n", 1),
+        (b"tick \n", 1),
+        (b"say 127.0.0.1:2945\n", 1),
+        (b"say 127.0.0.1 x\n", 1),
+        (b"say 127.0.0.1:2945 \\t\n", 1),
+        (b"say 127.0.0.1:2945 \\\n", 1),
+        (b"control 127.0.0.1:2945 4d4\n", 1),
+        (b"\n\n\nrtp 30000 127.0.0.1:40000 8\n", 4),
+        (b"rtp 30000 127.0.0.1 80\n", 1),
+        (b"rtp 127.0.0.1:40000 80\n", 1),
+    ] {
+        let (written, fault) = played(rt.alloc(), script);
+        assert_eq!(rt; fault, Some(RunFault::Script(line)));
+        assert!(rt; written.is_empty());
+    }
+}
+
+#[test]
+fn limits_a_line_and_its_datagram(rt: HostRuntime) -> Result<(), Fail> {
+    let alloc = rt.alloc();
+    let mut comment = Vec::new(alloc);
+    comment.resize(140000, b'#')?;
+    assert_eq!(rt; played(alloc, comment.as_slice()).1, None);
+    comment.push(b'\r')?;
+    comment.push(b'\n')?;
+    assert_eq!(rt; played(alloc, comment.as_slice()).1, None);
+    comment.truncate(140000);
+    comment.push(b'#')?;
+    assert_eq!(rt;
+        played(alloc, comment.as_slice()).1,
+        Some(RunFault::Script(1))
+    );
+    let mut control = Vec::from_slice(alloc, b"control 127.0.0.1:2945 ")?;
+    control.resize(23 + 2 * 65535, b'0')?;
+    assert_eq!(rt; played(alloc, control.as_slice()).1, None);
+    control.extend_from_slice(b"00")?;
+    assert_eq!(rt;
+        played(alloc, control.as_slice()).1,
+        Some(RunFault::Script(1))
+    );
+    Ok(())
+}
+
+/// Appends a line with the digits of 160 equal bytes at its end.
+fn push_line(line: &mut Vec<u8>, front: &[u8], digits: &[u8]) -> Result<(), Fail> {
+    line.extend_from_slice(front)?;
+    for _ in 0..160 {
+        line.extend_from_slice(digits)?;
+    }
+    line.push(b'\n')?;
+    Ok(())
+}
+
+const CALLERS: &[u8] = b"say 127.0.0.1:2945 !/1 [127.0.0.1]:2945 T=1{C=${\
+    A=${M{O{MO=SR},L{v=0\\nc=IN IP4 $\\nm=audio $ RTP/AVP 0\\n},R{v=0\\nc=IN IP4 127.0.0.1\\nm=audio 40000 RTP/AVP 0\\n}}},\
+    A=${M{O{MO=SR},L{v=0\\nc=IN IP4 $\\nm=audio $ RTP/AVP 0\\n},R{v=0\\nc=IN IP4 127.0.0.1\\nm=audio 40002 RTP/AVP 0\\n}}},\
+    A=${M{O{MO=SR},L{v=0\\nc=IN IP4 $\\nm=audio $ RTP/AVP 8\\n},R{v=0\\nc=IN IP4 127.0.0.1\\nm=audio 40004 RTP/AVP 8\\n}}}}}\n";
+
+/// What a run of a script counted.
+fn counted(alloc: Global, script: &[u8]) -> Result<Counts, Fail> {
+    let mut reader = Cursor::new(script);
+    let mut written = Vec::new(alloc);
+    run(alloc, Config::default(), &mut reader, &mut written).map_err(|_| "a script".into())
+}
+
+#[test]
+fn counts_events(rt: HostRuntime) -> Result<(), Fail> {
+    let alloc = rt.alloc();
+    let mut script = Vec::from_slice(alloc, CALLERS)?;
+    let front = b"rtp 30000 127.0.0.1:5004 800000010000000000000063";
+    push_line(&mut script, front, b"80")?;
+    push_line(&mut script, front, b"80")?;
+    push_line(
+        &mut script,
+        b"rtp 30000 127.0.0.2:5004 800000010000000000000063",
+        b"80",
+    )?;
+    script.extend_from_slice(
+        b"rtp 30006 127.0.0.1:5004 80\nrtp 30000 127.0.0.1:5004 80\ntick\ntick\n\n# end\n",
+    )?;
+    let counts = counted(alloc, script.as_slice())?;
+    assert_eq!(rt; counts.lines, 10);
+    assert_eq!(rt; counts.control, 1);
+    assert_eq!(rt; counts.media, 5);
+    assert_eq!(rt; counts.ticks, 2);
+    assert_eq!(rt; counts.sent, 7);
+    assert_eq!(rt; counts.failed, 0);
+    assert_eq!(rt; counts.placed, [1, 0, 0, 1, 0]);
+    assert_eq!(rt; counts.dropped, [1, 1, 0, 1, 0, 0]);
+    Ok(())
+}
+
+/// A reader that fails at its k-th call.
+#[derive(Drop)]
+struct FailingReader<'a> {
+    inner: Cursor<&'a [u8]>,
+    calls: usize,
+}
+
+impl Read for FailingReader<'_> {
+    fn read(&mut self, buf: &mut [u8]) -> io::Result<usize> {
+        if self.calls == 0 {
+            return Err(Error::from(ErrorKind::Other));
+        }
+        self.calls -= 1;
+        self.inner.read(buf)
+    }
+}
+
+/// A writer that takes 50 bytes a call, and fails at its k-th call.
+#[derive(Drop)]
+struct FailingWriter {
+    written: Vec<u8>,
+    calls: usize,
+}
+
+impl Write for FailingWriter {
+    fn write(&mut self, buf: &[u8]) -> io::Result<usize> {
+        if self.calls == 0 {
+            return Err(Error::from(ErrorKind::Other));
+        }
+        self.calls -= 1;
+        let (taken, _) = buf.split_at(buf.len().min(50));
+        self.written.extend_from_slice(taken)?;
+        Ok(taken.len())
+    }
+
+    fn flush(&mut self) -> io::Result<()> {
+        Ok(())
+    }
+}
+
+#[test]
+fn tells_a_failed_read_or_write(rt: HostRuntime) -> Result<(), Fail> {
+    let alloc = rt.alloc();
+    for calls in 0..2usize {
+        let mut reader = FailingReader {
+            inner: Cursor::new(LINE),
+            calls,
+        };
+        let mut written = Vec::new(alloc);
+        let outcome = run(alloc, Config::default(), &mut reader, &mut written);
+        assert_eq!(rt; outcome.err(), Some(RunFault::Read));
+        assert_eq!(rt; written.is_empty(), calls == 0);
+    }
+    for calls in 0..2usize {
+        let mut reader = Cursor::new(LINE);
+        let mut writer = FailingWriter {
+            written: Vec::new(alloc),
+            calls,
+        };
+        let outcome = run(alloc, Config::default(), &mut reader, &mut writer);
+        assert_eq!(rt; outcome.err(), Some(RunFault::Write));
+        assert!(rt; REPLY_LINE.starts_with(writer.written.as_slice()));
+    }
+    Ok(())
+}

@@ -5,7 +5,7 @@ use Rattle.mg_engine.specs.Config.{IsValidConfig}
 use Rattle.mg_core.specs.declared.counts.Counts.{Counts}
 use Rattle.mg_core.specs.declared.fault.RunFault.{RunFault}
 use Rattle.mg_core.specs.declared.fault.RunFault.TheVariants as faults
-use Rattle.mg_serve.specs.Serve.{Served}
+use Rattle.mg_serve.specs.Serve.{ServedSession}
 use Rattle.mg_bridge.specs.declared.status.Status.{Status}
 use Rattle.mg_bridge.specs.declared.status.Status.TheVariants.{Usage, NoMemory, NoPort}
 use Rattle.mg_bridge.specs.Status.{status_of}
@@ -30,7 +30,7 @@ pub record ServesOnPorts (config : Config) (input rest : Option (List ℕ))
   pub is : status ≡ status_of outcome
   pub sound : IsValidConfig config
   pub begun : outcome ≢ Err faults.BadConfig
-  pub served : Served config input rest None None outcome
+  pub served : ServedSession config input rest None None outcome
 
 -- a gateway was served, or nothing was read and printed
 abbrev pub Serves : {R W : Type 0} → (R → Option (List ℕ)) → Config → R → R → W → W → Status

@@ -6,16 +6,14 @@ use Rattle.mg_commands.specs.declared.command_parameters.CommandParameters.{Comm
 use Rattle.mg_commands.specs.declared.part.Part.{Part}
 use Rattle.mg_commands.specs.CommandParameters.{mode_in, depth_in, local_in, remote_in, is_audit, is_media_audit, is_statistics_audit, parameters_of}
 use Rattle.mg_commands.specs.Part.{parts_of}
-use Rattle.mg_commands.specs.Search.{or_else, first_of}
+use Rattle.std.specs.Option.{option_or}
+use Rattle.mg_commands.specs.Search.{first_of}
+use Rattle.mg_commands.proofs.LevelLaws.{option_or-assoc}
 use Rattle.mg_commands.specs.aids.Parameters.{nothing_asked, with_part, with_parts}
 
-or_else_none : {A : Type 0} (o : Option A) → o ≡ or_else o None
-or_else_none (Some x) = refl
-or_else_none None = refl
-
-or_else_assoc : {A : Type 0} (a b c : Option A) → or_else (or_else a b) c ≡ or_else a (or_else b c)
-or_else_assoc (Some x) b c = refl
-or_else_assoc None b c = refl
+option_or-none : {A : Type 0} (o : Option A) → o ≡ option_or o None
+option_or-none (Some x) = refl
+option_or-none None = refl
 
 or_false : (a : Bool) → a ≡ (a || false)
 or_false true = refl
@@ -30,10 +28,10 @@ abbrev after_others : List ℕ → CommandParameters → List Part → CommandPa
 after_others source a xs =
     record {
       settings = record {
-        mode = or_else a.settings.mode (first_of mode_in xs);
-        depth = or_else a.settings.depth (first_of (depth_in source) xs);
-        local = or_else a.settings.local (first_of (local_in source) xs);
-        remote = or_else a.settings.remote (first_of (remote_in source) xs);
+        mode = option_or a.settings.mode (first_of mode_in xs);
+        depth = option_or a.settings.depth (first_of (depth_in source) xs);
+        local = option_or a.settings.local (first_of (local_in source) xs);
+        remote = option_or a.settings.remote (first_of (remote_in source) xs);
       };
       has_audit = a.has_audit || list_any is_audit xs;
       audits_media = a.audits_media || list_any is_media_audit xs;
@@ -43,10 +41,10 @@ after_others source a xs =
 all_after : (source : List ℕ) (a : CommandParameters) (xs : List Part) → with_parts source a xs ≡ after_others source a xs
 unfolding with_parts first_of
 all_after source a [] =
-    rw (sym (or_else_none a.settings.mode), sym (or_else_none a.settings.depth), sym (or_else_none a.settings.local), sym (or_else_none a.settings.remote), sym (or_false a.has_audit), sym (or_false a.audits_media), sym (or_false a.audits_statistics)) refl
+    rw (sym (option_or-none a.settings.mode), sym (option_or-none a.settings.depth), sym (option_or-none a.settings.local), sym (option_or-none a.settings.remote), sym (or_false a.has_audit), sym (or_false a.audits_media), sym (or_false a.audits_statistics)) refl
 all_after source a (x ∷ xs) =
     all_after source (with_part source a x) xs
-    ∙ rw (or_else_assoc a.settings.mode (mode_in x) (first_of mode_in xs), or_else_assoc a.settings.depth (depth_in source x) (first_of (depth_in source) xs), or_else_assoc a.settings.local (local_in source x) (first_of (local_in source) xs), or_else_assoc a.settings.remote (remote_in source x) (first_of (remote_in source) xs), or_assoc a.has_audit (is_audit x) (list_any is_audit xs), or_assoc a.audits_media (is_media_audit x) (list_any is_media_audit xs), or_assoc a.audits_statistics (is_statistics_audit x) (list_any is_statistics_audit xs)) refl
+    ∙ rw (option_or-assoc a.settings.mode (mode_in x) (first_of mode_in xs), option_or-assoc a.settings.depth (depth_in source x) (first_of (depth_in source) xs), option_or-assoc a.settings.local (local_in source x) (first_of (local_in source) xs), option_or-assoc a.settings.remote (remote_in source x) (first_of (remote_in source) xs), or_assoc a.has_audit (is_audit x) (list_any is_audit xs), or_assoc a.audits_media (is_media_audit x) (list_any is_media_audit xs), or_assoc a.audits_statistics (is_statistics_audit x) (list_any is_statistics_audit xs)) refl
 
 pub parts_ask : (source : List ℕ) (xs : List Descriptor) → with_parts source nothing_asked (parts_of xs) ≡ parameters_of source xs
 parts_ask source xs = all_after source nothing_asked (parts_of xs)

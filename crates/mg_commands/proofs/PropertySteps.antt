@@ -10,18 +10,19 @@ use Rattle.mg_text.specs.declared.context_property.ContextProperty.{ContextPrope
 use Rattle.mg_text.specs.declared.context_property.ContextProperty.TheVariants as properties
 use Rattle.mg_text.specs.declared.context_property.Triple.{Triple}
 use Rattle.mg_commands.specs.ContextProperties.{is_topology, refused_if, context_property_fault, triples_in, triples_or_none}
-use Rattle.mg_commands.specs.Search.{or_else, first_of, first_after}
+use Rattle.std.specs.Option.{option_or}
+use Rattle.mg_commands.specs.Search.{first_of, first_after}
 
 -- ## A search by an index
 
 module _ {X A : Type 0} (f : X → Option A) (xs : List X) (i : ℕ) where
   pub not_here : (d : X) (w : Option A) → i < length xs → f (get_or xs i d) ≡ None → first_of f (drop i xs) ≡ w → first_of f (drop (i + 1) xs) ≡ w
   unfolding first_of
-  not_here d w lt none h = sym (ap (first_of f) (drop_more xs i d lt) ∙ ap (λ (o : Option A). or_else o (first_of f (drop (i + 1) xs))) none) ∙ h
+  not_here d w lt none h = sym (ap (first_of f) (drop_more xs i d lt) ∙ ap (λ (o : Option A). option_or o (first_of f (drop (i + 1) xs))) none) ∙ h
 
   pub found_here : (d : X) (w : Option A) (y : A) → i < length xs → f (get_or xs i d) ≡ Some y → first_of f (drop i xs) ≡ w → Some y ≡ w
   unfolding first_of
-  found_here d w y lt some h = sym (ap (first_of f) (drop_more xs i d lt) ∙ ap (λ (o : Option A). or_else o (first_of f (drop (i + 1) xs))) some) ∙ h
+  found_here d w y lt some h = sym (ap (first_of f) (drop_more xs i d lt) ∙ ap (λ (o : Option A). option_or o (first_of f (drop (i + 1) xs))) some) ∙ h
 
   pub nowhere : (w : Option A) → length xs ≤ i → first_of f (drop i xs) ≡ w → None ≡ w
   unfolding first_of
@@ -29,11 +30,11 @@ module _ {X A : Type 0} (f : X → Option A) (xs : List X) (i : ℕ) where
 
 -- ## Few triples
 
-first_none : {A : Type 0} (a b : Option A) → or_else a b ≡ None → a ≡ None
+first_none : {A : Type 0} (a b : Option A) → option_or a b ≡ None → a ≡ None
 first_none (Some x) b h = h
 first_none None b h = refl
 
-second_none : {A : Type 0} (a b : Option A) → or_else a b ≡ None → b ≡ None
+second_none : {A : Type 0} (a b : Option A) → option_or a b ≡ None → b ≡ None
 second_none (Some x) b h = absurd (cc h)
 second_none None b h = h
 

@@ -11,7 +11,7 @@ use Rattle.mg_words.specs.declared.error_number.ErrorNumber.{ErrorNumber}
 use Rattle.mg_reply.specs.declared.item.Item.{Item}
 use Rattle.mg_reply.specs.declared.item.Item.TheVariants as replies
 use Rattle.mg_reply.specs.declared.outcome.Outcome.TheVariants.{Failed, Done}
-use Rattle.mg_reply.specs.Reply.{Answered, started, after_put, after_all}
+use Rattle.mg_reply.specs.Reply.{Answered, new_reply, after_put, after_all}
 use Rattle.mg_rooms.specs.declared.target.Target.{Target}
 use Rattle.mg_engine.specs.Gateway.{Gateway}
 use Rattle.mg_engine.specs.Stands.{EngineState, StandsFor, IsOutcome}
@@ -27,8 +27,7 @@ use Rattle.mg_commands.specs.declared.served.Served.{Served}
 use Rattle.mg_commands.specs.ContextProperties.{action_fault, context_outcome}
 use Rattle.mg_commands.specs.Name.{name_of, written_as, written_name}
 use Rattle.mg_commands.specs.Outcome.{Trial, outcome, check_command, all_names, names_for}
-use Rattle.mg_commands.specs.Search.{or_else}
-use Rattle.mg_commands.specs.Transaction.{ActionState, TransactionState, after_outcome, with_name, and_then, with_names, with_trial, with_command, unless_optional, go_on, with_commands, action_start, id_of, target_of, ended, after_properties, after_commands, action_unless, with_action, with_actions, replied}
+use Rattle.mg_commands.specs.Transaction.{ActionState, TransactionState, after_outcome, with_name, and_then, with_names, with_trial, with_command, unless_optional, go_on, with_commands, action_start, id_of, target_of, end_of_action, after_properties, after_commands, action_unless, with_action, with_actions, replied}
 use Rattle.mg_commands.specs.aids.Runs.{ActionKept, action_kept, IsAction, with_all, TransactionKept, transaction_kept, IsTransaction, Tells}
 use Rattle.mg_commands.proofs.PutLaws.{put_next, put_more}
 
@@ -59,15 +58,15 @@ name_told source c name = written_as (text_of source c.term) name
 with_outcome : (source : List ℕ) (c : Command) (parameters : CommandParameters) (name : Name) (run : ActionState) (target : Target) → run.target ≡ target → with_name source c parameters name run ≡ after_outcome c.word (name_told source c name) run (outcome c.word run.gateway target name parameters)
 with_outcome source c parameters name run target h = ap (λ (t : Target). after_outcome c.word (name_told source c name) run (outcome c.word run.gateway t name parameters)) h
 
-made_first : (a b made : Option ℕ) (told : Option ℕ) → a ≡ b → told ≡ option_or b made → or_else a made ≡ told
-made_first a (Some n) made told h e = ap (λ (o : Option ℕ). or_else o made) h ∙ sym e
-made_first a None made told h e = ap (λ (o : Option ℕ). or_else o made) h ∙ sym e
+made_first : (a b made : Option ℕ) (told : Option ℕ) → a ≡ b → told ≡ option_or b made → option_or a made ≡ told
+made_first a (Some n) made told h e = ap (λ (o : Option ℕ). option_or o made) h ∙ sym e
+made_first a None made told h e = ap (λ (o : Option ℕ). option_or o made) h ∙ sym e
 
 pub name_done : (source : List ℕ) (c : Command) (parameters : CommandParameters) (name : Name) (old new : EngineState) (progress : Progress) (before told : Answered) (s : Served) (made : Option ℕ) → ((w : Gateway) → StandsFor old w → IsOutcome new (Ok s) (outcome c.word w progress.target name parameters)) → made ≡ option_or progress.made s.made → told ≡ after_put before (item_done c s)
     → (base : Answered) → Leads (IsAction base) (action_kept old progress before) (action_kept new (record { target = s.target; made = made }) told) (λ run next. with_name source c parameters name run ≡ (next, true))
 name_done source c parameters name old new progress before told s made came is put base run h =
     let (w, did, stands) = came run.gateway h.gateway in (
-      record { gateway = w; target = s.target; made = or_else run.made s.made; items = run.items ++ item_done c s ∷ [] },
+      record { gateway = w; target = s.target; made = option_or run.made s.made; items = run.items ++ item_done c s ∷ [] },
       with_outcome source c parameters name run progress.target h.target ∙ ap (after_outcome c.word (name_told source c name) run) did,
       record { gateway = stands; target = refl; made = made_first run.made progress.made s.made made h.made is; reply = put ∙ put_next base before run.items (item_done c s) h.reply },
     )
@@ -247,7 +246,7 @@ action_refused source a kept before fault told e why first last base s h = (
 )
 
 -- the end of an action, by what was told of its context
-close : (base before told closed : Answered) (new : EngineState) (run : ActionState) (w : Gateway) (items : List Item) → StandsFor new w → before ≡ after_all base run.items → told ≡ after_all before items → closed ≡ after_put told (replies.Action (id_of run.target)) → IsTransaction base (transaction_kept new closed) (ended run w items)
+close : (base before told closed : Answered) (new : EngineState) (run : ActionState) (w : Gateway) (items : List Item) → StandsFor new w → before ≡ after_all base run.items → told ≡ after_all before items → closed ≡ after_put told (replies.Action (id_of run.target)) → IsTransaction base (transaction_kept new closed) (end_of_action run w items)
 close base before told closed new run w items stands h put last = record {
   gateway = stands;
   reply = last ∙ put_next base told (run.items ++ items) (replies.Action (id_of run.target)) (put_more base before told run.items items h put);
@@ -256,13 +255,13 @@ close base before told closed new run w items stands h put last = record {
 module _ (base before told closed : Answered) (new : EngineState) (run : ActionState) (is_done : Bool) (h : before ≡ after_all base run.items) (last : closed ≡ after_put told (replies.Action (id_of run.target))) where
   properties_ended : (r : Result (Gateway × List Item) ErrorNumber) → Tells new before told is_done run.gateway r → (next : TransactionState) × (after_properties run r ≡ (next, is_done)) × IsTransaction base (transaction_kept new closed) next
   properties_ended (Ok p) t = (
-    ended run p.0 p.1,
-    ap (λ (b : Bool). (ended run p.0 p.1, b)) (sym t.0),
+    end_of_action run p.0 p.1,
+    ap (λ (b : Bool). (end_of_action run p.0 p.1, b)) (sym t.0),
     close base before told closed new run p.0 p.1 t.2 h t.1 last,
   )
   properties_ended (Err e) t = (
-    ended run run.gateway (replies.Fault e ∷ []),
-    ap (λ (b : Bool). (ended run run.gateway (replies.Fault e ∷ []), b)) (sym t.0),
+    end_of_action run run.gateway (replies.Fault e ∷ []),
+    ap (λ (b : Bool). (end_of_action run run.gateway (replies.Fault e ∷ []), b)) (sym t.0),
     close base before told closed new run run.gateway (replies.Fault e ∷ []) t.2 h t.1 last,
   )
 
@@ -281,8 +280,8 @@ module _ (source : List ℕ) (a : Action) (old middle : EngineState) (before sai
       → (base : Answered) → Leads (IsTransaction base) (transaction_kept old before) (transaction_kept new closed) (λ s next. with_action source a s ≡ (next, is_done))
   action_stopped new told closed is_done failed done kept said_so last base s h =
       let (run, did, stands) = ran base (action_start a s) (as_started base s h) in (
-        ended run run.gateway [],
-        goes_on s run did ∙ ap (λ (b : Bool). after_commands source a.properties (run, b)) failed ∙ ap (λ (b : Bool). (ended run run.gateway [], b)) (sym (done ∙ failed)),
+        end_of_action run run.gateway [],
+        goes_on s run did ∙ ap (λ (b : Bool). after_commands source a.properties (run, b)) failed ∙ ap (λ (b : Bool). (end_of_action run run.gateway [], b)) (sym (done ∙ failed)),
         close base said told closed new run run.gateway [] (rw kept stands.gateway) stands.reply said_so (rw stands.target last),
       )
 
@@ -332,11 +331,11 @@ module _ (source : List ℕ) (xs : List Action) (base : Answered) (entered kept 
 -- ## A request
 
 abbrev Answers : List ℕ → Request → Answered → Gateway → Gateway → Type 0
-Answers source request told w next = ((replied source request w).gateway ≡ next) × (told ≡ after_all (started request.number) (replied source request w).items)
+Answers source request told w next = ((replied source request w).gateway ≡ next) × (told ≡ after_all (new_reply request.number) (replied source request w).items)
 
-pub request_ran : (source : List ℕ) (request : Request) (old new : EngineState) (before told : Answered) → before ≡ started request.number
+pub request_ran : (source : List ℕ) (request : Request) (old new : EngineState) (before told : Answered) → before ≡ new_reply request.number
     → ((base : Answered) → Leads (IsTransaction base) (transaction_kept old before) (transaction_kept new told) (λ s next. with_actions source request.actions s ≡ next))
     → Leads StandsFor old new (Answers source request told)
 request_ran source request old new before told e ran w h =
-    let (next, did, stands) = ran (started request.number) (record { gateway = w; items = [] }) (record { gateway = h; reply = e }) in
-    (next.gateway, (ap (λ (s : TransactionState). s.gateway) did, stands.reply ∙ ap (λ (s : TransactionState). after_all (started request.number) s.items) (sym did)), stands.gateway)
+    let (next, did, stands) = ran (new_reply request.number) (record { gateway = w; items = [] }) (record { gateway = h; reply = e }) in
+    (next.gateway, (ap (λ (s : TransactionState). s.gateway) did, stands.reply ∙ ap (λ (s : TransactionState). after_all (new_reply request.number) s.items) (sym did)), stands.gateway)

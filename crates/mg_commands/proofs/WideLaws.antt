@@ -47,7 +47,7 @@ use Rattle.mg_commands.specs.ContextProperties.{is_context_audit, action_fault, 
 use Rattle.mg_commands.specs.Outcome.{CommandOutcome, Trial, check_new_name, number_in, in_same_world, outcome, trial_of, reply_parts, served_at, made_at}
 use Rattle.mg_commands.specs.ReplyDescriptors.{descriptors_after, descriptors_before}
 use Rattle.mg_commands.specs.Theorems.{ItemsAreWide, ItemsAreWhole}
-use Rattle.mg_commands.specs.Transaction.{ActionState, TransactionState, after_outcome, with_name, with_names, with_trial, with_command, unless_optional, go_on, with_commands, action_start, ended, after_properties, after_commands, refusal, action_unless, with_action, rest_of, with_actions, replied}
+use Rattle.mg_commands.specs.Transaction.{ActionState, TransactionState, after_outcome, with_name, with_names, with_trial, with_command, unless_optional, go_on, with_commands, action_start, end_of_action, after_properties, after_commands, refusal, action_unless, with_action, go_on_after_action, with_actions, replied}
 
 -- ## Texts
 
@@ -222,7 +222,7 @@ pair_item_wide false false a b = triple_wide a b associations.Isolate
 
 pairs_of_wide : (w : Gateway) (a : ℕ) (bs : List ℕ) → AreWide (map (audit_pair w a) bs)
 pairs_of_wide w a [] = refl
-pairs_of_wide w a (b ∷ bs) = both_true (is_wide (audit_pair w a b)) (list_all is_wide (map (audit_pair w a) bs)) (pair_item_wide (hears w b a) (hears w a b) a b) (pairs_of_wide w a bs)
+pairs_of_wide w a (b ∷ bs) = both_true (is_wide (audit_pair w a b)) (list_all is_wide (map (audit_pair w a) bs)) (pair_item_wide (hears w a b) (hears w b a) a b) (pairs_of_wide w a bs)
 
 pairs_wide : (w : Gateway) (members : List ℕ) → AreWide (audit_pairs w members)
 unfolding audit_pairs
@@ -247,7 +247,7 @@ context_wide source made (x ∷ ps) w target = by_bind TellsWide (apply_triples 
 
 -- ## Actions
 
-ended_wide : (run : ActionState) (w : Gateway) (items : List Item) → AreWide run.items → AreWide items → AreWide (ended run w items).items
+ended_wide : (run : ActionState) (w : Gateway) (items : List Item) → AreWide run.items → AreWide items → AreWide (end_of_action run w items).items
 ended_wide run w items h k = wide_last (run.items ++ items) _ (wide_more run.items items h k) (action_wide _)
 
 after_properties_wide : (run : ActionState) (r : Result (Gateway × List Item) ErrorNumber) → TellsWide r → AreWide run.items → AreWide (after_properties run r).0.items
@@ -269,7 +269,7 @@ with_action_wide : (source : List ℕ) (a : Action) (s : TransactionState) → A
 unfolding with_action
 with_action_wide source a s wide = unless_wide (action_fault a) source a s wide
 
-rest_of_holds : (P : TransactionState → Type 0) (rest : TransactionState → TransactionState) (x : TransactionState × Bool) → P x.0 → ((s : TransactionState) → P s → P (rest s)) → P (rest_of rest x)
+rest_of_holds : (P : TransactionState → Type 0) (rest : TransactionState → TransactionState) (x : TransactionState × Bool) → P x.0 → ((s : TransactionState) → P s → P (rest s)) → P (go_on_after_action rest x)
 rest_of_holds P rest (s, true) h k = k s h
 rest_of_holds P rest (s, false) h k = h
 

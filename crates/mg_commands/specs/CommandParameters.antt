@@ -29,21 +29,21 @@ mode_in (Control n (controls.Mode mode)) = Some mode
 mode_in _ = None
 
 -- the depth in frames of 20 ms that holds so many milliseconds
-abbrev pub depth_of : ℕ → ℕ
-depth_of jitter = (jitter + 19) / 20
+abbrev pub frames_for : ℕ → ℕ
+frames_for jitter = (jitter + 19) / 20
 
 abbrev pub depth_in : List ℕ → Part → Option ℕ
 depth_in source (Control n (controls.Property name value)) =
-    if is_jitter source name then option_map depth_of (jitter_of source value) else None
+    if is_jitter source name then option_map frames_for (jitter_of source value) else None
 depth_in source _ = None
 
 -- the alternatives of a content, or that it has none that can be read
-abbrev pub offer_of : Result (List (Option Offer)) SdpFault → MediaSetting
-offer_of (Ok alternatives) = settings.Offer alternatives
-offer_of (Err fault) = settings.Unreadable
+abbrev pub offer_setting : Result (List (Option Offer)) SdpFault → MediaSetting
+offer_setting (Ok alternatives) = settings.Offer alternatives
+offer_setting (Err fault) = settings.Unreadable
 
 abbrev pub setting_of : List ℕ → Span → MediaSetting
-setting_of source text = offer_of (sessions_of (text_of source text))
+setting_of source text = offer_setting (sessions_of (text_of source text))
 
 abbrev pub local_in : List ℕ → Part → Option MediaSetting
 local_in source (Local n text) = Some (setting_of source text)

@@ -109,7 +109,7 @@ triples_or_none None = []
 abbrev pub triples_of : List ℕ → Option ℕ → List ContextProperty → List TopologyTriple
 triples_of source made ps = map (triple_of source made) (triples_or_none (first_of triples_in ps))
 
--- how two members hear each other: whether b hears a, and whether a hears b
+-- how two members hear each other: whether a is heard by b, and whether b is heard by a
 abbrev pub pair_item : Bool → Bool → ℕ → ℕ → Item
 pair_item true true a b = replies.Triple (rtp_name a) (rtp_name b) Bothway
 pair_item true false a b = replies.Triple (rtp_name a) (rtp_name b) Oneway
@@ -117,7 +117,7 @@ pair_item false true a b = replies.Triple (rtp_name b) (rtp_name a) Oneway
 pair_item false false a b = replies.Triple (rtp_name a) (rtp_name b) Isolate
 
 abbrev pub audit_pair : Gateway → ℕ → ℕ → Item
-audit_pair w a b = pair_item (hears w b a) (hears w a b) a b
+audit_pair w a b = pair_item (hears w a b) (hears w b a) a b
 
 -- each pair of members, in the order of their entry
 unfoldable pub audit_pairs : Gateway → List ℕ → List Item

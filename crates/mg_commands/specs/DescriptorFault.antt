@@ -19,14 +19,14 @@ use Rattle.mg_commands.specs.declared.part.Part.TheVariants as parts
 use Rattle.mg_commands.specs.Part.{parts_of}
 use Rattle.mg_commands.specs.Search.{first_after}
 
-abbrev pub same_word : OtherWord → OtherWord → Bool
-same_word others.Signals others.Signals = true
-same_word others.Events others.Events = true
-same_word others.Modem others.Modem = true
-same_word others.Mux others.Mux = true
-same_word others.DigitMap others.DigitMap = true
-same_word others.EventBuffer others.EventBuffer = true
-same_word _ _ = false
+abbrev pub same_other_word : OtherWord → OtherWord → Bool
+same_other_word others.Signals others.Signals = true
+same_other_word others.Events others.Events = true
+same_other_word others.Modem others.Modem = true
+same_other_word others.Mux others.Mux = true
+same_other_word others.DigitMap others.DigitMap = true
+same_other_word others.EventBuffer others.EventBuffer = true
+same_other_word _ _ = false
 
 -- the one property that is served, in letters of any case
 unfoldable pub is_jitter : List ℕ → Span → Bool
@@ -42,16 +42,16 @@ same_control source (controls.Property a v) (controls.Property b w) =
 same_control source _ _ = false
 
 -- whether a word stands twice: within a stream alone, and a Stream may
-abbrev pub is_same : List ℕ → Part → Part → Bool
-is_same source parts.Media parts.Media = true
-is_same source parts.Audit parts.Audit = true
-is_same source (parts.Other a x) (parts.Other b y) = same_word a b
-is_same source (parts.TerminationState x) (parts.TerminationState y) = true
-is_same source (parts.Local n a) (parts.Local k b) = n == k
-is_same source (parts.Remote n a) (parts.Remote k b) = n == k
-is_same source (parts.LocalControl n) (parts.LocalControl k) = n == k
-is_same source (parts.Control n a) (parts.Control k b) = n == k && same_control source a b
-is_same source _ _ = false
+abbrev pub is_same_part : List ℕ → Part → Part → Bool
+is_same_part source parts.Media parts.Media = true
+is_same_part source parts.Audit parts.Audit = true
+is_same_part source (parts.Other a x) (parts.Other b y) = same_other_word a b
+is_same_part source (parts.TerminationState x) (parts.TerminationState y) = true
+is_same_part source (parts.Local n a) (parts.Local k b) = n == k
+is_same_part source (parts.Remote n a) (parts.Remote k b) = n == k
+is_same_part source (parts.LocalControl n) (parts.LocalControl k) = n == k
+is_same_part source (parts.Control n a) (parts.Control k b) = n == k && same_control source a b
+is_same_part source _ _ = false
 
 -- a descriptor that isn't served may stand alone or with empty braces
 abbrev pub is_unserved : Part → Bool
@@ -65,7 +65,7 @@ fault_of stood x =
     else (if is_unserved x then Some DescriptorNotServed else None)
 
 abbrev pub part_fault : List ℕ → List Part → Part → Option ErrorNumber
-part_fault source before x = fault_of (list_any (is_same source x) before) x
+part_fault source before x = fault_of (list_any (is_same_part source x) before) x
 
 abbrev pub descriptors_fault : List ℕ → List Descriptor → Option ErrorNumber
 descriptors_fault source xs = first_after (part_fault source) [] (parts_of xs)

@@ -96,13 +96,13 @@ members_in w targets.New = []
 members_in w (targets.Number c) = members_at w.rooms c
 
 -- at least one has to match
-abbrev pub if_some : List Name → Result (List Name) ErrorNumber
-if_some [] = Err errors.WildcardMatchedNone
-if_some (x ∷ xs) = Ok (x ∷ xs)
+abbrev pub unless_empty : List Name → Result (List Name) ErrorNumber
+unless_empty [] = Err errors.WildcardMatchedNone
+unless_empty (x ∷ xs) = Ok (x ∷ xs)
 
 abbrev pub all_names : Gateway → Target → CommandWord → Result (List Name) ErrorNumber
 all_names w target word =
-    if takes_all word then if_some (map names.Number (members_in w target))
+    if takes_all word then unless_empty (map names.Number (members_in w target))
     else Err errors.IdentifierNotAllowed
 
 -- The names that a command is tried on, one after another: its own, or with * those of the members

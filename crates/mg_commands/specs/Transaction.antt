@@ -20,7 +20,7 @@ use Rattle.mg_text.specs.declared.request.Request.{Request}
 use Rattle.mg_commands.specs.declared.command_parameters.CommandParameters.{CommandParameters}
 use Rattle.mg_commands.specs.declared.name.Name.{Name}
 use Rattle.mg_commands.specs.Name.{written_as, written_name}
-use Rattle.mg_commands.specs.Search.{or_else}
+use Rattle.std.specs.Option.{option_or}
 use Rattle.mg_commands.specs.ContextProperties.{context_outcome, action_fault}
 use Rattle.mg_commands.specs.Outcome.{CommandOutcome, Trial, outcome, trial_of}
 
@@ -40,7 +40,7 @@ after_outcome word name run (Ok p) = (
   record {
     gateway = p.0;
     target = p.1.target;
-    made = or_else run.made p.1.made;
+    made = option_or run.made p.1.made;
     items = run.items ++ replies.Command word p.1.term (Done p.1.parts) ∷ [];
   },
   true,
@@ -117,21 +117,21 @@ action_start a s =
     record { gateway = s.gateway; target = target_of a.context; made = None; items = s.items }
 
 -- the end of an action: what is told of its context, and the context's number
-abbrev pub ended : ActionState → Gateway → List Item → TransactionState
-ended run w items =
+abbrev pub end_of_action : ActionState → Gateway → List Item → TransactionState
+end_of_action run w items =
     record { gateway = w; items = run.items ++ items ++ replies.Action (id_of run.target) ∷ [] }
 
 -- an action after what came of its properties, and whether they were done
 abbrev pub after_properties : ActionState → Result (Gateway × List Item) ErrorNumber
     → TransactionState × Bool
-after_properties run (Ok p) = (ended run p.0 p.1, true)
-after_properties run (Err e) = (ended run run.gateway (replies.Fault e ∷ []), false)
+after_properties run (Ok p) = (end_of_action run p.0 p.1, true)
+after_properties run (Err e) = (end_of_action run run.gateway (replies.Fault e ∷ []), false)
 
 -- An action after its commands, and whether it was done whole. Properties come after them, unless
 -- one failed.
 abbrev pub after_commands : List ℕ → List ContextProperty → ActionState × Bool
     → TransactionState × Bool
-after_commands source ps (run, false) = (ended run run.gateway [], false)
+after_commands source ps (run, false) = (end_of_action run run.gateway [], false)
 after_commands source ps (run, true) =
     after_properties run (context_outcome source run.made ps run.gateway run.target)
 
@@ -155,14 +155,15 @@ unfoldable pub with_action : List ℕ → Action → TransactionState → Transa
 with_action source a s = action_unless (action_fault a) source a s
 
 -- what comes of the rest, unless an action was not done whole
-abbrev pub rest_of : (TransactionState → TransactionState) → TransactionState × Bool
+abbrev pub go_on_after_action : (TransactionState → TransactionState) → TransactionState × Bool
     → TransactionState
-rest_of rest (s, true) = rest s
-rest_of rest (s, false) = s
+go_on_after_action rest (s, true) = rest s
+go_on_after_action rest (s, false) = s
 
 unfoldable pub with_actions : List ℕ → List Action → TransactionState → TransactionState
 with_actions source [] s = s
-with_actions source (a ∷ actions) s = rest_of (with_actions source actions) (with_action source a s)
+with_actions source (a ∷ actions) s =
+    go_on_after_action (with_actions source actions) (with_action source a s)
 
 -- the gateway after a request, and the items of the reply to it
 abbrev pub replied : List ℕ → Request → Gateway → TransactionState

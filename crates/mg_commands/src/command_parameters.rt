@@ -1,7 +1,7 @@
 ghost use Rattle.std.specs.Prelude.{◌≡◌};
-ghost use Rattle.mg_commands.specs.Search.{or_else};
+ghost use Rattle.std.specs.Option.{option_or};
 ghost use Rattle.mg_commands.specs.aids.Parameters.{nothing_asked, with_part};
-ghost use Rattle.mg_commands.specs.CommandParameters.{mode_in, depth_of, depth_in, setting_of, local_in, remote_in, parameters_of};
+ghost use Rattle.mg_commands.specs.CommandParameters.{mode_in, frames_for, depth_in, setting_of, local_in, remote_in, parameters_of};
 
 use crate::descriptor_fault::is_jitter;
 use crate::descriptor_parts::DescriptorParts;
@@ -26,8 +26,8 @@ pub struct CommandParameters {
 }
 
 /// The depth of a play list, in frames of 20 ms, that holds so many milliseconds.
-fn depth_of(jitter: u16) -> u16
-    ensures value { result ≡ depth_of jitter }
+fn frames_for(jitter: u16) -> u16
+    ensures value { result ≡ frames_for jitter }
 {
     let frames = (u32::from(jitter) + 19) / 20;
     frames as u16
@@ -57,7 +57,7 @@ fn depth_in(source: &[u8], part: Part) -> Option<u16>
 {
     match part {
         Part::Control(_, ControlPart::Property(name, value)) if is_jitter(source, name) => {
-            jitter_of(source, value).map(depth_of)
+            jitter_of(source, value).map(frames_for)
         }
         _ => None,
     }
@@ -83,7 +83,7 @@ fn remote_in(source: &[u8], part: Part) -> Option<MediaSetting>
 
 /// Keeps what was found, where nothing was found before.
 fn keep_first<T: Drop>(kept: &mut Option<T>, found: Option<T>)
-    ensures value { kept.new ≡ or_else kept.old found }
+    ensures value { kept.new ≡ option_or kept.old found }
 {
     if kept.is_none() && found.is_some() {
         *kept = found;

@@ -1,6 +1,6 @@
 ghost use Rattle.std.specs.Prelude.{◌≡◌, ℕ, List, [], ◌&&◌, ◌||◌, ◌==◌};
 ghost use Rattle.std.specs.List.{list_any};
-ghost use Rattle.mg_commands.specs.DescriptorFault.{same_word, is_jitter, same_control, is_same, is_unserved, fault_of, descriptors_fault};
+ghost use Rattle.mg_commands.specs.DescriptorFault.{same_other_word, is_jitter, same_control, is_same_part, is_unserved, fault_of, descriptors_fault};
 ghost use Rattle.mg_commands.specs.Search.{first_after};
 ghost use Rattle.mg_commands.specs.aids.Levels.{is_single, control_level, is_same_word, stands_in, stream_level, is_state, media_level, stream_of, greatest_stream, is_same_descriptor, descriptor_level};
 
@@ -17,8 +17,8 @@ pub fn is_jitter(source: &[u8], name: Span) -> bool
     name.text(source).eq_ignore_ascii_case(b"nt/jit")
 }
 
-fn same_word(a: OtherWord, b: OtherWord) -> bool
-    ensures value { result ≡ same_word a b }
+fn same_other_word(a: OtherWord, b: OtherWord) -> bool
+    ensures value { result ≡ same_other_word a b }
 {
     matches!(
         (a, b),
@@ -46,12 +46,12 @@ fn same_control(source: &[u8], a: &ControlPart, b: &ControlPart) -> bool
 }
 
 /// Whether two parts are the same word of the same stream, of which one may stand.
-fn is_same(source: &[u8], a: Part, b: Part) -> bool
-    ensures value { result ≡ is_same source.now a b }
+fn is_same_part(source: &[u8], a: Part, b: Part) -> bool
+    ensures value { result ≡ is_same_part source.now a b }
 {
     match (a, b) {
         (Part::Media, Part::Media) | (Part::Audit, Part::Audit) => true,
-        (Part::Other(a, _), Part::Other(b, _)) => same_word(a, b),
+        (Part::Other(a, _), Part::Other(b, _)) => same_other_word(a, b),
         (Part::TerminationState(_), Part::TerminationState(_)) => true,
         (Part::Local(n, _), Part::Local(k, _)) | (Part::Remote(n, _), Part::Remote(k, _)) => n == k,
         (Part::LocalControl(n), Part::LocalControl(k)) => n == k,
@@ -111,7 +111,7 @@ fn is_same_word(source: &[u8], part: &Part, stream: u32, other: &StreamPart) -> 
     ensures value { result ≡ is_same_word source.now part.now stream other.now }
 {
     let (word, _) = open_stream_part(stream, other);
-    is_same(source, *part, word)
+    is_same_part(source, *part, word)
 }
 
 /// Whether a part stands among the parts of a stream.
@@ -251,9 +251,7 @@ fn media_fault(source: &[u8], parts: &[MediaPart]) -> Option<ErrorNumber>
 fn stood_in_command(source: &[u8], word: Part, before: &[Descriptor]) -> bool
     ensures value { result ≡ list_any (is_same_descriptor source.now word) before.now }
 {
-    before
-        .iter()
-        .any(|other| is_same(source, word, open_descriptor(other).0))
+    before.iter().any(|other| is_same_part(source, word, open_descriptor(other).0))
 }
 
 /// The first fault of a descriptor.

@@ -1,7 +1,7 @@
 ghost use Rattle.std.specs.Prelude.{◌≡◌, ◌⊎◌, ◌<◌, length, map, true, None};
 ghost use Rattle.std.specs.List.{list_all};
 ghost use Rattle.mg_words.specs.Leads.{Leads};
-ghost use Rattle.mg_reply.specs.Reply.{Answered, IsWhole, started, after_put, after_all};
+ghost use Rattle.mg_reply.specs.Reply.{Answered, IsWhole, new_reply, after_put, after_all};
 ghost use Rattle.mg_engine.specs.Stands.{StandsFor};
 ghost use Rattle.mg_scan.specs.Span.{text_of};
 ghost use Rattle.mg_text.specs.Proper.{command_is_proper, action_is_proper, request_is_proper};
@@ -242,7 +242,7 @@ fn try_actions(engine: &mut Engine, source: &[u8], actions: &[Action], reply: &m
 pub fn transaction(engine: &mut Engine, source: &[u8], request: &Request, reply: &mut Reply)
     requires proper { request_is_proper source.now request.now ≡ true }
     ensures ran { Leads StandsFor engine.old engine.new (λ w next. ((replied source.now request.now w).gateway ≡ next)
-        × (reply.new ≡ after_all (started request.now.number) (replied source.now request.now w).items)) }
+        × (reply.new ≡ after_all (new_reply request.now.number) (replied source.now request.now w).items)) }
     ensures whole { IsWhole reply.new }
 {
     reply.start(request.number);

@@ -20,7 +20,7 @@ use Rattle.mg_engine.specs.Stands as engine_stands
 use Rattle.mg_core.specs.declared.state.CoreState.{CoreState}
 use Rattle.mg_core.specs.World.{World, StandsFor}
 use Rattle.mg_core.specs.aids.Steps.{Puts, put_text}
-use Rattle.mg_reply.specs.Reply.{Answered, started, is_action, is_refusal, last_is_action, with_item, after_put, after_all}
+use Rattle.mg_reply.specs.Reply.{Answered, new_reply, is_action, is_refusal, last_is_action, with_item, after_put, after_all}
 use Rattle.mg_reply.specs.Reply.{marked as marked_long}
 use Rattle.mg_text.specs.declared.body.Range.{Range}
 use Rattle.mg_text.specs.declared.request.Request.{Request}
@@ -32,7 +32,7 @@ use Rattle.mg_words.specs.Leads.{Leads}
 use Rattle.mg_words.specs.Limits.{reply_limit}
 use Rattle.mg_reply.specs.declared.item.Item.{Item}
 use Rattle.mg_reply.specs.Theorems.{TextAlone, AllThere, is_wide, is_too_long}
-use Rattle.mg_core.specs.Answer.{with_front, has_requests, head_of, if_asked, item_replied, mark_after, replied_to, request_replied, run_and_kept, sent_text, to_message, unless_kept, without_ranges}
+use Rattle.mg_core.specs.Answer.{with_front, has_requests, answer_head, if_asked, item_replied, mark_after, replied_to, request_replied, run_and_kept, sent_text, to_message, unless_kept, without_ranges}
 
 -- the error in the place of a reply is short
 pub refusal_short : (n : ℕ) → n < 2 ^ 32 → length (reply_text n (Fault ReplyTooLong ∷ [])) ≤ 16000
@@ -91,15 +91,15 @@ sent_is false n r xs number long text there =
     ∙ sym (ap (sent_by n xs) text)
 
 put_is_sent : TextAlone → AllThere → (n : ℕ) (xs : List Item) → list_all is_wide xs ≡ true
-    → (is_refusal xs || last_is_action false xs) ≡ true → put_text (after_all (started n) xs) ≡ sent_text n xs
+    → (is_refusal xs || last_is_action false xs) ≡ true → put_text (after_all (new_reply n) xs) ≡ sent_text n xs
 put_is_sent alone there n xs wide whole =
-    sent_is (ltb reply_limit (length (reply_text n xs))) n (after_all (started n) xs) xs (number_kept n (started n) xs refl)
+    sent_is (ltb reply_limit (length (reply_text n xs))) n (after_all (new_reply n) xs) xs (number_kept n (new_reply n) xs refl)
     (alone n xs wide whole) refl (there n xs)
 
 -- a request that was run, and whose reply was written and kept
 pub request_run : TextAlone → AllThere → ItemsAreWide → ItemsAreWhole → (source sender : List ℕ) (request : Request) (old new : CoreState) (reply : Answered) (before text : List ℕ)
     → new.counts ≡ old.counts → request_is_proper source request ≡ true
-    → Leads engine_stands.StandsFor old.engine new.engine (λ w next. ((replied source request w).gateway ≡ next) × (reply ≡ after_all (started request.number) (replied source request w).items))
+    → Leads engine_stands.StandsFor old.engine new.engine (λ w next. ((replied source request w).gateway ≡ next) × (reply ≡ after_all (new_reply request.number) (replied source request w).items))
     → new.kept ≡ with_reply (record { sender = sender; number = request.number; text = put_text reply }) old.kept
     → text ≡ before ++ put_text reply → Puts old new before text (λ w. run_and_kept sender request.number w (replied source request w.gateway))
 request_run alone there wide whole source sender request old new reply before text same proper ran keeps is w h =
@@ -180,13 +180,13 @@ answering answer w = (answer, w)
 
 pub silent_message : (source : List ℕ) (m : Message) (w next : World) (out : List ℕ) → has_requests (items_of m.body) ≡ false → replied_to source (text_of source m.sender) [] (items_of m.body) w ≡ writing out next → to_message source m w ≡ answering None next
 silent_message source m w next out h came =
-    ap (λ (b : Bool). if_asked b (head_of w) (replied_to source (text_of source m.sender) [] (items_of m.body) w)) h
-    ∙ ap (λ (p : List ℕ × World). if_asked false (head_of w) p) came
+    ap (λ (b : Bool). if_asked b (answer_head w) (replied_to source (text_of source m.sender) [] (items_of m.body) w)) h
+    ∙ ap (λ (p : List ℕ × World). if_asked false (answer_head w) p) came
 
-pub asked_message : (source : List ℕ) (m : Message) (w next : World) (head out text : List ℕ) → has_requests (items_of m.body) ≡ true → replied_to source (text_of source m.sender) [] (items_of m.body) w ≡ writing out next → head ≡ head_of w → text ≡ head ++ out → to_message source m w ≡ answering (Some text) next
+pub asked_message : (source : List ℕ) (m : Message) (w next : World) (head out text : List ℕ) → has_requests (items_of m.body) ≡ true → replied_to source (text_of source m.sender) [] (items_of m.body) w ≡ writing out next → head ≡ answer_head w → text ≡ head ++ out → to_message source m w ≡ answering (Some text) next
 asked_message source m w next head out text h came front is =
-    ap (λ (b : Bool). if_asked b (head_of w) (replied_to source (text_of source m.sender) [] (items_of m.body) w)) h
-    ∙ ap (λ (p : List ℕ × World). if_asked true (head_of w) p) came
+    ap (λ (b : Bool). if_asked b (answer_head w) (replied_to source (text_of source m.sender) [] (items_of m.body) w)) h
+    ∙ ap (λ (p : List ℕ × World). if_asked true (answer_head w) p) came
     ∙ ap (λ (l : List ℕ). answering (Some (l ++ out)) next) (sym front)
     ∙ ap (λ (l : List ℕ). answering (Some l) next) (sym is)
 

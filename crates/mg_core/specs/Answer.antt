@@ -105,8 +105,8 @@ replied_to source sender mark (x ∷ xs) w =
 -- ## A datagram
 
 -- what an answer begins with
-abbrev pub head_of : World → List ℕ
-head_of w = head_text w.gateway.config.address w.gateway.config.control_port
+abbrev pub answer_head : World → List ℕ
+answer_head w = head_text w.gateway.config.address w.gateway.config.control_port
 
 -- an answer with what was written for requests; where there is none, silence
 abbrev pub if_asked : Bool → List ℕ → List ℕ × World → Option (List ℕ) × World
@@ -116,12 +116,12 @@ if_asked false head p = (None, p.1)
 -- The answer to a message in the world w, if there is one, and the world after it.
 abbrev pub to_message : List ℕ → Message → World → Option (List ℕ) × World
 to_message source m w =
-    if_asked (has_requests (items_of m.body)) (head_of w)
+    if_asked (has_requests (items_of m.body)) (answer_head w)
     (replied_to source (text_of source m.sender) [] (items_of m.body) w)
 
 -- a datagram that is refused as a whole leaves the world as it was
 abbrev pub refused : ErrorNumber → World → Option (List ℕ) × World
-refused number w = (Some (head_of w ++ error_text number), w)
+refused number w = (Some (answer_head w ++ error_text number), w)
 
 abbrev pub answered : List ℕ → MessageReading → World → Option (List ℕ) × World
 answered source (Read m) w = to_message source m w

@@ -74,8 +74,8 @@ abbrev pub an_event : Event → Option (Option Event)
 an_event e = Some (Some e)
 
 -- three parts with one space between each two: a media port, a peer, and hexadecimal digits
-unfoldable pub media_of : List ℕ → Option (Option Event)
-media_of parts = do
+unfoldable pub rtp_of : List ℕ → Option (Option Event)
+rtp_of parts = do
   first ← cut 32 parts
   port ← port_of first.0
   second ← cut 32 first.1
@@ -94,7 +94,7 @@ control_of key rest = do
   an_event (Control source bytes)
 
 abbrev pub datagram_by : List ℕ → List ℕ → Option (Option Event)
-datagram_by key rest = if bytes_eq key (codes "rtp") then media_of rest else control_of key rest
+datagram_by key rest = if bytes_eq key (codes "rtp") then rtp_of rest else control_of key rest
 
 -- a key word, a space, and what the key word asks for
 unfoldable pub datagram_of : List ℕ → Option (Option Event)

@@ -45,12 +45,12 @@ start_of config = record { gateway = engine.start_of config; replies = []; tally
 
 -- ## Counting
 
-abbrev pub place_of : Placed → ℕ
-place_of placed.Started = 0
-place_of placed.Placed = 1
-place_of placed.Pushed = 2
-place_of placed.Again = 3
-place_of placed.Late = 4
+abbrev pub placed_counter : Placed → ℕ
+placed_counter placed.Started = 0
+placed_counter placed.Placed = 1
+placed_counter placed.Pushed = 2
+placed_counter placed.Again = 3
+placed_counter placed.Late = 4
 
 abbrev pub cause_of : DropCause → ℕ
 cause_of causes.NoTermination = 0
@@ -65,7 +65,7 @@ one_more_at k counts = slice_set counts k (slice_index counts k + 1)
 
 abbrev pub with_taken : Taken → Tally → Tally
 with_taken (takens.Placed p) t =
-    record t { media = t.media + 1; placed = one_more_at (place_of p) t.placed }
+    record t { media = t.media + 1; placed = one_more_at (placed_counter p) t.placed }
 with_taken (takens.Dropped cause) t =
     record t { media = t.media + 1; dropped = one_more_at (cause_of cause) t.dropped }
 

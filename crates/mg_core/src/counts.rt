@@ -1,5 +1,5 @@
 ghost use Rattle.std.specs.Prelude.{◌≡◌, ◌<◌};
-ghost use Rattle.mg_core.specs.World.{place_of, cause_of};
+ghost use Rattle.mg_core.specs.World.{placed_counter, cause_of};
 
 use mg_engine::{DropCause, Taken};
 use mg_playout::Placed;
@@ -67,7 +67,7 @@ impl Counts {
         self.media = self.media.saturating_add(1);
         match taken {
             Taken::Placed(placed) => {
-                let place = place_of(placed);
+                let place = placed_counter(placed);
                 self.placed[place] = self.placed[place].saturating_add(1);
             }
             Taken::Dropped(cause) => {
@@ -87,8 +87,8 @@ impl Counts {
 }
 
 /// The place of a play list's answer among the counts.
-fn place_of(placed: Placed) -> usize
-    ensures value { result ≡ place_of placed }
+fn placed_counter(placed: Placed) -> usize
+    ensures value { result ≡ placed_counter placed }
     ensures below { result < 5 }
 {
     match placed {

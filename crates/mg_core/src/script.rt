@@ -1,6 +1,6 @@
 ghost use Rattle.std.specs.Prelude.{◌≡◌, false};
 ghost use Rattle.mg_core.specs.aids.Reads.{Reads};
-ghost use Rattle.mg_core.specs.Script.{is_plain, escaped_byte, unescaped, ok_of, spelling_of, bytes_of, datagram, media_of, control_of, datagram_of, is_comment, event_of};
+ghost use Rattle.mg_core.specs.Script.{is_plain, escaped_byte, unescaped, ok_of, spelling_of, bytes_of, datagram, rtp_of, control_of, datagram_of, is_comment, event_of};
 ghost use Rattle.hex.specs.Hex.{decode_of};
 
 use crate::event::Event;
@@ -139,9 +139,9 @@ fn bytes_of(alloc: Global, key: &[u8], spelled: &[u8]) -> Result<Vec<u8>, ParseF
 }
 
 /// An RTP datagram: a port, a peer and hexadecimal digits, with one space between each two.
-#[tactic(auto, unfolding(crate::specs::Script::media_of))]
-fn media_of(alloc: Global, parts: &[u8]) -> Result<Option<Event>, ParseFault>
-    ensures { Reads (λ event. event) result (media_of parts.now) }
+#[tactic(auto, unfolding(crate::specs::Script::rtp_of))]
+fn rtp_of(alloc: Global, parts: &[u8]) -> Result<Option<Event>, ParseFault>
+    ensures { Reads (λ event. event) result (rtp_of parts.now) }
 {
     let Some((port, rest)) = cut(b' ', parts) else {
         return Err(ParseFault::Bad);
@@ -189,7 +189,7 @@ fn datagram_of(alloc: Global, line: &[u8]) -> Result<Option<Event>, ParseFault>
         return Err(ParseFault::Bad);
     };
     if key == b"rtp".as_slice() {
-        return media_of(alloc, rest);
+        return rtp_of(alloc, rest);
     }
     control_of(alloc, key, rest)
 }

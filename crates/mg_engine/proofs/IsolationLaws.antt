@@ -19,7 +19,7 @@ use Rattle.mg_sums.proofs.SumLemmas.{sum_of-same}
 use Rattle.mg_engine.specs.declared.datagram.Datagram.{Datagram}
 use Rattle.mg_engine.specs.Gateway.{Gateway, TerminationMedia, ContextEdit, Enter, Leave, Apply, media_of, frame_of, frame_in, mode_of, context_of}
 use Rattle.mg_engine.specs.Flow.{flow, leads, speaks_of, lets_hear}
-use Rattle.mg_engine.specs.Mix.{sample_of, part_of_mix, heard, mix, mixed, is_loopback}
+use Rattle.mg_engine.specs.Mix.{played_sample, part_of_mix, heard, mix, mixed, is_loopback}
 use Rattle.mg_engine.specs.Tick.{packet, packet_to, header_of, sent_to}
 use Rattle.mg_engine.specs.Isolation.{NobodyHearsHimself, leaves_isolated, IsolatedAreNotHeard, replayed, with_frame, UnheardChangesNoPacket, PayloadsAreMixes}
 
@@ -121,7 +121,7 @@ module _ (t : ℕ) (frame : List ℤ) where
   frame_stays : (w : Gateway) (n : ℕ) → eqb n t ≡ false → frame_of (with_frame w t frame) n ≡ frame_of w n
   frame_stays w n apart = ap frame_in (media_stays n w.media) ∙ frame_found n apart w.media
 
-  sample_stays : (w : Gateway) (n i : ℕ) → eqb n t ≡ false → sample_of (with_frame w t frame) n i ≡ sample_of w n i
+  sample_stays : (w : Gateway) (n i : ℕ) → eqb n t ≡ false → played_sample (with_frame w t frame) n i ≡ played_sample w n i
   sample_stays w n i apart = ap (λ (f : List ℤ). slice_index_or f i (pos 0)) (frame_stays w n apart)
 
   -- whoever flows to one to whom t doesn't isn't t
@@ -133,7 +133,7 @@ module _ (t : ℕ) (frame : List ℤ) where
 
   part_stays : (w : Gateway) (listener i k : ℕ) → flow w t listener ≡ false → part_of_mix (with_frame w t frame) listener i k ≡ part_of_mix w listener i k
   part_stays w listener i k none = cases (flow w k listener) refl where
-    cases : (b : Bool) → flow w k listener ≡ b → (if b then sample_of (with_frame w t frame) k i else pos 0) ≡ (if b then sample_of w k i else pos 0)
+    cases : (b : Bool) → flow w k listener ≡ b → (if b then played_sample (with_frame w t frame) k i else pos 0) ≡ (if b then played_sample w k i else pos 0)
     cases true e = sample_stays w k i (not_it w listener k none e)
     cases false e = refl
 
@@ -143,7 +143,7 @@ module _ (t : ℕ) (frame : List ℤ) where
     apart true h = h
     apart false h = refl
 
-    cases : (b : Bool) → is_loopback (mode_of w n) ≡ b → (if b then sample_of (with_frame w t frame) n i else nearest_sample (heard (with_frame w t frame) n i)) ≡ (if b then sample_of w n i else nearest_sample (heard w n i))
+    cases : (b : Bool) → is_loopback (mode_of w n) ≡ b → (if b then played_sample (with_frame w t frame) n i else nearest_sample (heard (with_frame w t frame) n i)) ≡ (if b then played_sample w n i else nearest_sample (heard w n i))
     cases true e = sample_stays w n i (apart (eqb n t) (ap (λ (x : Bool). eqb n t && x) (sym e) ∙ other))
     cases false e = ap nearest_sample (sum_of-same (part_of_mix (with_frame w t frame) n i) (part_of_mix w n i) _ (λ k. part_stays w n i k none))
 

@@ -62,12 +62,12 @@ module _ (p : Place) (mask : ℕ) (test : Place → Bool) (kept : (seat : ℕ) �
 
 -- ## What a listener hears
 
-pub flows_apart : (table : List flow.Room) (p q : Place) → eqb q.room p.room ≡ false → flow.flows table p q ≡ false
-flows_apart table p q e = no_hearing table p q (hears_apart table p q (let no : eqb p.room q.room ≡ false = grind (arith, nat_tests) in no))
+pub flows_apart : (table : List flow.Room) (p q : Place) → eqb p.room q.room ≡ false → flow.flows table p q ≡ false
+flows_apart table p q e = no_hearing table p q (hears_apart table p q e)
 
-module _ (k : EngineState) (l : Record) (p : Place) (mask : ℕ) (on : place_of k.rooms l ≡ Some p) (kept : (seat : ℕ) → has_seat mask seat ≡ flow.flows k.flows p (beside p seat)) where
+module _ (k : EngineState) (l : Record) (p : Place) (mask : ℕ) (on : place_of k.rooms l ≡ Some p) (kept : (seat : ℕ) → has_seat mask seat ≡ flow.flows k.flows (beside p seat) p) where
   flows_by : (o : Option Place) → flows_between k.flows o (Some p) ≡ is_seated_in p.room mask o
-  flows_by (Some q) = sym (seated_is p mask (λ x. flow.flows k.flows p x) kept (λ x e. flows_apart k.flows p x e) q)
+  flows_by (Some q) = sym (seated_is p mask (λ x. flow.flows k.flows x p) kept (λ x e. flows_apart k.flows x p e) q)
   flows_by None = refl
 
   -- it is what those on the open seats say

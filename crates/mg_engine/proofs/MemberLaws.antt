@@ -8,7 +8,7 @@ use Rattle.mg_rooms.specs.declared.record.Record.{Record}
 use Rattle.mg_rooms.specs.declared.limits.Limits.{Limits}
 use Rattle.mg_rooms.specs.Registry.{Registry, start_of, record_at, context_at}
 use Rattle.mg_flow.specs.declared.place.Place.{Place}
-use Rattle.mg_flow.specs.Place.{is_same, are_together}
+use Rattle.mg_flow.specs.Place.{is_same_place, are_together}
 use Rattle.mg_flow.specs.Table as flow
 use Rattle.mg_flow.specs.Table.{Room, holds, talks, listens, hears, SetsPlace}
 use Rattle.mg_engine.specs.Gateway.{ContextEdit, Enter}
@@ -19,10 +19,10 @@ use Rattle.mg_engine.specs.aids.Seating.{AreSeated}
 use Rattle.mg_engine.specs.aids.Members.{Enters, Leaves, TakesMode, SaysOf, HasMembers}
 use Rattle.mg_engine.proofs.PlaceLaws.{HaveContexts, OneSeat, OneRoom, at, one_record, one_place, one_member, in_one_room, both, apart_places}
 
-same_is : (p : Place) → is_same p p ≡ true
+same_is : (p : Place) → is_same_place p p ≡ true
 same_is p = rw (eq-eqb p.room p.room refl, eq-eqb p.seat p.seat refl) refl
 
-is_place : (p q : Place) → is_same p q ≡ true → p ≡ q
+is_place : (p q : Place) → is_same_place p q ≡ true → p ≡ q
 is_place p q h =
     let (room, seat) = both (eqb p.room q.room) (eqb p.seat q.seat) h in
     ap (λ (x : ℕ). let y : Place = record { room = x; seat = p.seat } in y) (eqb-true p.room q.room room)
@@ -32,10 +32,10 @@ pub neither : true ≡ false → ⊥
 neither h = cc h
 
 -- two members of one context are on different seats
-pub seats_differ : (w : Registry) (talker listener : ℕ) (t l : Record) (a b : Place) → OneRoom w → OneSeat w → ShareContext w talker listener t l a b → eqb b.seat a.seat ≡ false
-seats_differ w talker listener t l a b rooms seats s = by_case (eqb b.seat a.seat) refl where
-  by_case : (x : Bool) → eqb b.seat a.seat ≡ x → x ≡ false
-  by_case true e = absurd (s.apart (sym (one_member w listener talker l t b a rooms seats s.second s.first (in_one_room w l t b a s.second.place s.first.place (sym s.same)) (eqb-true b.seat a.seat e))))
+pub seats_differ : (w : Registry) (talker listener : ℕ) (t l : Record) (a b : Place) → OneRoom w → OneSeat w → ShareContext w talker listener t l a b → eqb a.seat b.seat ≡ false
+seats_differ w talker listener t l a b rooms seats s = by_case (eqb a.seat b.seat) refl where
+  by_case : (x : Bool) → eqb a.seat b.seat ≡ x → x ≡ false
+  by_case true e = absurd (s.apart (one_member w talker listener t l a b rooms seats s.first s.second (in_one_room w t l a b s.first.place s.second.place s.same) (eqb-true a.seat b.seat e)))
   by_case false e = refl
 
 -- ## Others than one
@@ -90,10 +90,10 @@ pub record HasOthers (w : Registry) (n : ℕ) (table : List Room) : Type 0 where
 
 -- who hears whom among the members other than n
 abbrev pub HearsOthers : Registry → ℕ → List Room → List ContextEdit → Type 0
-HearsOthers w n table es = (talker listener : ℕ) (t l : Record) (p q : Place) → talker ≢ n → listener ≢ n → ShareContext w talker listener t l p q → hears table q p ≡ lets_hear es talker listener
+HearsOthers w n table es = (talker listener : ℕ) (t l : Record) (p q : Place) → talker ≢ n → listener ≢ n → ShareContext w talker listener t l p q → hears table p q ≡ lets_hear es talker listener
 
 abbrev pub Hears : Registry → List Room → List ContextEdit → Type 0
-Hears w table es = (talker listener : ℕ) (t l : Record) (p q : Place) → ShareContext w talker listener t l p q → hears table q p ≡ lets_hear es talker listener
+Hears w table es = (talker listener : ℕ) (t l : Record) (p q : Place) → ShareContext w talker listener t l p q → hears table p q ≡ lets_hear es talker listener
 
 pub carry : (old new : Registry) (n : ℕ) (table : List Room) → SameOthers old new n → HasOthers old n table → HasOthers new n table
 carry old new n table same h = record {
@@ -136,14 +136,14 @@ hears_all w n table es none h talker listener t l p q s =
 -- ## One place of a table
 
 module _ (old new : List Room) (p : Place) (held does_talk does_listen : Bool) (set : SetsPlace old new p held does_talk does_listen) where
-  elsewhere : (q : Place) (r : Record) → is_same q p ≡ false → SaysOf old r q → SaysOf new r q
+  elsewhere : (q : Place) (r : Record) → is_same_place q p ≡ false → SaysOf old r q → SaysOf new r q
   elsewhere q r apart says = record {
     held = set.held q ∙ ap (λ (b : Bool). cond b held (holds old q)) apart ∙ says.held;
     talks = set.talkers q ∙ ap (λ (b : Bool). cond b does_talk (talks old q)) apart ∙ says.talks;
     listens = set.listeners q ∙ ap (λ (b : Bool). cond b does_listen (listens old q)) apart ∙ says.listens;
   }
 
-  held_elsewhere : (q : Place) → is_same q p ≡ false → IsTrue (holds new q) → IsTrue (holds old q)
+  held_elsewhere : (q : Place) → is_same_place q p ≡ false → IsTrue (holds new q) → IsTrue (holds old q)
   held_elsewhere q apart h = sym (set.held q ∙ ap (λ (b : Bool). cond b held (holds old q)) apart) ∙ h
 
   held_here : holds new p ≡ held
@@ -158,23 +158,23 @@ module _ (old new : List Room) (p : Place) (held does_talk does_listen : Bool) (
 -- ## One leaves
 
 module _ (w : Registry) (n : ℕ) (r : Record) (p : Place) (old new : List Room) (rooms : OneRoom w) (seats : OneSeat w) (on : IsOnPlace w n r p) (left : Leaves old new p) where
-  left_nobody : HasMembers w old → (q : Place) → IsTrue (holds new q) → (b : Bool) → is_same q p ≡ b → (m : ℕ) × (x : Record) × (m ≢ n) × IsOnPlace w m x q
+  left_nobody : HasMembers w old → (q : Place) → IsTrue (holds new q) → (b : Bool) → is_same_place q p ≡ b → (m : ℕ) × (x : Record) × (m ≢ n) × IsOnPlace w m x q
   left_nobody h q held true e = absurd (neither (sym held ∙ ap (holds new) (is_place q p e) ∙ held_here old new p false false false left.place))
   left_nobody h q held false e =
       let (m, x, there) = h.nobody q (held_elsewhere old new p false false false left.place q e held) in
-      (m, x, (λ same. neither (sym (same_is p) ∙ ap (λ (z : Place). is_same z p) (sym (one_place w m n x r q p there on same)) ∙ e)), there)
+      (m, x, (λ same. neither (sym (same_is p) ∙ ap (λ (z : Place). is_same_place z p) (sym (one_place w m n x r q p there on same)) ∙ e)), there)
 
   pub has_left : HasMembers w old → HasOthers w n new
   has_left h = record {
     each = λ m x q apart there. elsewhere old new p false false false left.place q x (apart_places w m n x r q p rooms seats there on apart) (h.each m x q there);
-    nobody = λ q held. left_nobody h q held (is_same q p) refl;
+    nobody = λ q held. left_nobody h q held (is_same_place q p) refl;
   }
 
   pub hears_left : (es : List ContextEdit) → Hears w old es → HearsOthers w n new es
   hears_left es h talker listener t l a b one two s =
-      left.hears b a
-      ∙ ap (λ (x : Bool). cond (x || is_same a p) false (hears old b a)) (apart_places w listener n l r b p rooms seats s.second on two)
-      ∙ ap (λ (x : Bool). cond x false (hears old b a)) (apart_places w talker n t r a p rooms seats s.first on one)
+      left.hears a b
+      ∙ ap (λ (x : Bool). cond (x || is_same_place b p) false (hears old a b)) (apart_places w talker n t r a p rooms seats s.first on one)
+      ∙ ap (λ (x : Bool). cond x false (hears old a b)) (apart_places w listener n l r b p rooms seats s.second on two)
       ∙ h talker listener t l a b s
 
 -- ## One enters
@@ -200,7 +200,7 @@ module _ (w : Registry) (n : ℕ) (r : Record) (p : Place) (old new : List Room)
       let apart = unequal m n e in
       elsewhere old new p true _ _ came.place q x (apart_places w m n x r q p rooms seats there on apart) (h.each m x q apart there)
 
-  entered_nobody : (q : Place) → IsTrue (holds new q) → (b : Bool) → is_same q p ≡ b → (m : ℕ) × (x : Record) × IsOnPlace w m x q
+  entered_nobody : (q : Place) → IsTrue (holds new q) → (b : Bool) → is_same_place q p ≡ b → (m : ℕ) × (x : Record) × IsOnPlace w m x q
   entered_nobody q held true e = (n, r, subst (λ (z : Place). IsOnPlace w n r z) (sym (is_place q p e)) on)
   entered_nobody q held false e =
       let (m, x, apart, there) = h.nobody q (held_elsewhere old new p true _ _ came.place q e held) in
@@ -209,21 +209,21 @@ module _ (w : Registry) (n : ℕ) (r : Record) (p : Place) (old new : List Room)
   pub has_entered : HasMembers w new
   has_entered = record {
     each = λ m x q there. entered_says m x q there (eqb m n) refl;
-    nobody = λ q held. entered_nobody q held (is_same q p) refl;
+    nobody = λ q held. entered_nobody q held (is_same_place q p) refl;
   }
 
-  together : (talker listener : ℕ) (t l : Record) (a b : Place) → ShareContext w talker listener t l a b → are_together (holds new) b a ≡ true
+  together : (talker listener : ℕ) (t l : Record) (a b : Place) → ShareContext w talker listener t l a b → are_together (holds new) a b ≡ true
   together talker listener t l a b s =
-      let room = in_one_room w l t b a s.second.place s.first.place (sym s.same) in
-      rw ((has_entered.each listener l b s.second).held, (has_entered.each talker t a s.first).held, eq-eqb b.room a.room room, seats_differ w talker listener t l a b rooms seats s) refl
+      let room = in_one_room w t l a b s.first.place s.second.place s.same in
+      rw ((has_entered.each talker t a s.first).held, (has_entered.each listener l b s.second).held, eq-eqb a.room b.room room, seats_differ w talker listener t l a b rooms seats s) refl
 
   -- whether the place of one is the newcomer's
-  is_newcomer : (m : ℕ) (x : Record) (q : Place) → IsOnPlace w m x q → (b : Bool) → eqb m n ≡ b → is_same q p ≡ b
+  is_newcomer : (m : ℕ) (x : Record) (q : Place) → IsOnPlace w m x q → (b : Bool) → eqb m n ≡ b → is_same_place q p ≡ b
   is_newcomer m x q there true e = rw (one_place w m n x r q p there on (eqb-true m n e)) (same_is p)
   is_newcomer m x q there false e = apart_places w m n x r q p rooms seats there on (unequal m n e)
 
   pair : (es : List ContextEdit) → HearsOthers w n old es → (talker listener : ℕ) (t l : Record) (a b : Place) → ShareContext w talker listener t l a b
-      → (x y : Bool) → eqb talker n ≡ x → eqb listener n ≡ y → cond (y || x) (are_together (holds new) b a) (hears old b a) ≡ cond (x || y) true (lets_hear es talker listener)
+      → (x y : Bool) → eqb talker n ≡ x → eqb listener n ≡ y → cond (x || y) (are_together (holds new) a b) (hears old a b) ≡ cond (x || y) true (lets_hear es talker listener)
   pair es k talker listener t l a b s true true e f = together talker listener t l a b s
   pair es k talker listener t l a b s true false e f = together talker listener t l a b s
   pair es k talker listener t l a b s false true e f = together talker listener t l a b s
@@ -231,9 +231,9 @@ module _ (w : Registry) (n : ℕ) (r : Record) (p : Place) (old new : List Room)
 
   pub hears_entered : (es : List ContextEdit) → HearsOthers w n old es → Hears w new (Enter n ∷ es)
   hears_entered es k talker listener t l a b s =
-      came.hears b a
-      ∙ ap (λ (x : Bool). cond (x || is_same a p) (are_together (holds new) b a) (hears old b a)) (is_newcomer listener l b s.second (eqb listener n) refl)
-      ∙ ap (λ (x : Bool). cond (eqb listener n || x) (are_together (holds new) b a) (hears old b a)) (is_newcomer talker t a s.first (eqb talker n) refl)
+      came.hears a b
+      ∙ ap (λ (x : Bool). cond (x || is_same_place b p) (are_together (holds new) a b) (hears old a b)) (is_newcomer talker t a s.first (eqb talker n) refl)
+      ∙ ap (λ (x : Bool). cond (eqb talker n || x) (are_together (holds new) a b) (hears old a b)) (is_newcomer listener l b s.second (eqb listener n) refl)
       ∙ pair es k talker listener t l a b s (eqb talker n) (eqb listener n) refl refl
 
 -- ## One has another mode
@@ -252,17 +252,17 @@ module _ (old new : Registry) (n : ℕ) (was r : Record) (p : Place) (before aft
       let apart = unequal m n e in
       elsewhere before after p true _ _ taken.place q x (apart_places new m n x r q p rooms seats is on apart) (h.each m x q ((same m x q apart).1 is))
 
-  mode_nobody : HasMembers old before → (q : Place) → IsTrue (holds after q) → (b : Bool) → is_same q p ≡ b → (m : ℕ) × (x : Record) × IsOnPlace new m x q
+  mode_nobody : HasMembers old before → (q : Place) → IsTrue (holds after q) → (b : Bool) → is_same_place q p ≡ b → (m : ℕ) × (x : Record) × IsOnPlace new m x q
   mode_nobody h q held true e = (n, r, subst (λ (z : Place). IsOnPlace new n r z) (sym (is_place q p e)) on)
   mode_nobody h q held false e =
       let (m, x, is) = h.nobody q (held_elsewhere before after p true _ _ taken.place q e held) in
-      let apart : m ≢ n = λ (e2 : m ≡ n). neither (sym (same_is p) ∙ ap (λ (z : Place). is_same z p) (sym (one_place old m n x was q p is there e2)) ∙ e) in
+      let apart : m ≢ n = λ (e2 : m ≡ n). neither (sym (same_is p) ∙ ap (λ (z : Place). is_same_place z p) (sym (one_place old m n x was q p is there e2)) ∙ e) in
       (m, x, (same m x q apart).0 is)
 
   pub has_mode : HasMembers old before → HasMembers new after
   has_mode h = record {
     each = λ m x q is. mode_says h m x q is (eqb m n) refl;
-    nobody = λ q held. mode_nobody h q held (is_same q p) refl;
+    nobody = λ q held. mode_nobody h q held (is_same_place q p) refl;
   }
 
   stayed_by : (m : ℕ) (x : Record) (q : Place) → IsOnPlace new m x q → (b : Bool) → eqb m n ≡ b → (y : Record) × IsOnPlace old m y q × (y.context ≡ x.context)
@@ -281,7 +281,7 @@ module _ (old new : Registry) (n : ℕ) (was r : Record) (p : Place) (before aft
   hears_mode es h talker listener t l a b s =
       let (x, first, from) = all_stay talker t a s.first in
       let (y, second, to) = all_stay listener l b s.second in
-      taken.hears b a ∙ h talker listener x y a b (record {
+      taken.hears a b ∙ h talker listener x y a b (record {
         first = first;
         second = second;
         same = from ∙ s.same ∙ sym to;

@@ -4,7 +4,6 @@ use Rattle.std.specs.Prelude.{IsTrue, All, AllPairs}
 use Rattle.std.specs.List.{count_by, range_with_len}
 use Rattle.std.proofs.lemmas.Int.{ints}
 use Rattle.std.proofs.lemmas.Bool.{eqb-true, eq-eqb}
-use Rattle.std.proofs.lemmas.Bool.Decides.{nat_tests}
 use Rattle.std.proofs.lemmas.List.{get_or-map, length-map}
 use Rattle.std.proofs.lemmas.List.Elements.{All-cons, All-map, filter_passes, All-weaker}
 use Rattle.std.proofs.lemmas.List.FromFn.{length-range_with_len, get_or-range_with_len}
@@ -114,7 +113,7 @@ module _ (k : EngineState) (seating : List ℕ) (l : Record) (p : Place) (y : Co
     (by_number : ByNumber k.rooms) (there : HaveContexts k.rooms) (one_room : OneRoom k.rooms) (one_seat : OneSeat k.rooms) (within : SeatWithin k.rooms) (spots : Spots k.rooms) (long : length k.sums.rooms ≡ termination_limit)
     (slots : (a b : ℕ) (r s : Record) → record_at k.rooms a ≡ Some r → record_at k.rooms b ≡ Some s → r.slot ≡ s.slot → a ≡ b)
     (context : context_at k.rooms l.context ≡ Some y) (is : seated l.seat y ≡ p) (on : IsOnPlace k.rooms l.number l p) (listens : mode.listens l.mode ≡ true)
-    (kept : (seat : ℕ) → has_seat mask seat ≡ flow.is_silenced k.flows p (beside p seat)) (holds : (seat : ℕ) → IsTrue (has_seat mask seat) → IsTrue (flow.holds k.flows (beside p seat))) where
+    (kept : (seat : ℕ) → has_seat mask seat ≡ flow.is_silenced k.flows (beside p seat) p) (holds : (seat : ℕ) → IsTrue (has_seat mask seat) → IsTrue (flow.holds k.flows (beside p seat))) where
   abbrev row_on : ℕ → ℕ
   row_on seat = slot_at seating (record { room = p.room; seat = seat })
 
@@ -128,7 +127,7 @@ module _ (k : EngineState) (seating : List ℕ) (l : Record) (p : Place) (y : Co
   held seat h = members.nobody (beside p seat) (holds seat h)
 
   silenced_is : (o : Option Place) → is_seated_in p.room mask o ≡ is_silenced_between k.flows o (Some p)
-  silenced_is (Some q) = seated_is p mask (λ x. flow.is_silenced k.flows p x) kept (λ x e. silenced_apart k.flows p x (let no : eqb p.room x.room ≡ false = grind (arith, nat_tests) in no)) q
+  silenced_is (Some q) = seated_is p mask (λ x. flow.is_silenced k.flows x p) kept (λ x e. silenced_apart k.flows x p e) q
   silenced_is None = refl
 
   -- ## Which rows are left out
@@ -169,7 +168,7 @@ module _ (k : EngineState) (seating : List ℕ) (l : Record) (p : Place) (y : Co
       let (n, r, at) = held seat h in
       let equal = slots l.number n l r on.found at.found (same ∙ seats n r (beside p seat) at) in
       let here : p ≡ beside p seat = one_place k.rooms l.number n l r p (beside p seat) on at equal in
-      let false_too = ap (λ (q : Place). flow.is_silenced k.flows p q) (sym here) ∙ not_itself k.flows p in
+      let false_too = ap (λ (q : Place). flow.is_silenced k.flows q p) (sym here) ∙ not_itself k.flows p in
       let never : true ≡ false = sym h ∙ kept seat ∙ false_too in
       cc never
 
@@ -211,7 +210,7 @@ module _ (k : EngineState) (seating : List ℕ) (l : Record) (p : Place) (y : Co
     silenced_part t = cond (sits_among k.rooms p.room mask t) (sample_of t) (pos 0)
 
     split_at : (t : Record) (q : Place) → IsOnPlace k.rooms t.number t q → (b : Bool) → eqb t.number l.number ≡ b → (c : Bool) → eqb q.room p.room ≡ c
-        → Splits (sample_of t) (mode.talks t.mode && eqb q.room p.room) (b && mode.talks l.mode) (flow.is_silenced k.flows p q) (flow.flows k.flows p q)
+        → Splits (sample_of t) (mode.talks t.mode && eqb q.room p.room) (b && mode.talks l.mode) (flow.is_silenced k.flows q p) (flow.flows k.flows q p)
     split_at t q at true e c f =
         let equal = eqb-true t.number l.number e in
         let r : t ≡ l = one_record k.rooms t.number l.number t l at.found on.found equal in
@@ -219,16 +218,15 @@ module _ (k : EngineState) (seating : List ℕ) (l : Record) (p : Place) (y : Co
         splits (sample_of t) _ (mode.talks l.mode && true) _ (true && mode.talks l.mode) _ false _ false
         (ap (λ (x : Record). mode.talks x.mode && eqb q.room p.room) r ∙ ap (λ (b : Bool). mode.talks l.mode && b) (ap (λ (x : Place). eqb x.room p.room) here ∙ eq-eqb p.room p.room refl))
         refl
-        (ap (λ (x : Place). flow.is_silenced k.flows p x) here ∙ not_itself k.flows p)
-        (ap (λ (x : Place). flow.flows k.flows p x) here ∙ no_hearing k.flows p p (nobody_hears_itself k.flows p))
+        (ap (λ (x : Place). flow.is_silenced k.flows x p) here ∙ not_itself k.flows p)
+        (ap (λ (x : Place). flow.flows k.flows x p) here ∙ no_hearing k.flows p p (nobody_hears_itself k.flows p))
         (own_splits (sample_of t) (mode.talks l.mode))
     split_at t q at false e false f =
-        let no : eqb p.room q.room ≡ false = grind (arith, nat_tests) in
         splits (sample_of t) _ false _ false _ false _ false
         (ap (λ (b : Bool). mode.talks t.mode && b) f ∙ and_false (mode.talks t.mode))
         refl
-        (silenced_apart k.flows p q no)
-        (flows_apart k.flows p q f)
+        (silenced_apart k.flows q p f)
+        (flows_apart k.flows q p f)
         (none_splits (sample_of t))
     split_at t q at false e true f =
         let same = eqb-true q.room p.room f in
@@ -237,22 +235,21 @@ module _ (k : EngineState) (seating : List ℕ) (l : Record) (p : Place) (y : Co
         let seat = seats_differ k.rooms t.number l.number t l q p one_room one_seat share in
         let from = members.each t.number t q at in
         let to = members.each l.number l p on in
-        let room = eq-eqb p.room q.room (sym same) in
-        let quiet : flow.is_silenced k.flows p q ≡ (mode.talks t.mode && not (flow.hears k.flows p q)) = rw (from.talks, from.held, to.held, room, seat) refl in
-        let loud : flow.flows k.flows p q ≡ (mode.talks t.mode && flow.hears k.flows p q) = rw (from.talks, to.listens, listens) refl in
-        splits (sample_of t) _ (mode.talks t.mode && true) _ false _ (mode.talks t.mode && not (flow.hears k.flows p q)) _ (mode.talks t.mode && flow.hears k.flows p q)
+        let quiet : flow.is_silenced k.flows q p ≡ (mode.talks t.mode && not (flow.hears k.flows q p)) = rw (from.talks, from.held, to.held, f, seat) refl in
+        let loud : flow.flows k.flows q p ≡ (mode.talks t.mode && flow.hears k.flows q p) = rw (from.talks, to.listens, listens) refl in
+        splits (sample_of t) _ (mode.talks t.mode && true) _ false _ (mode.talks t.mode && not (flow.hears k.flows q p)) _ (mode.talks t.mode && flow.hears k.flows q p)
         (ap (λ (b : Bool). mode.talks t.mode && b) f)
         refl
         quiet
         loud
-        (other_splits (sample_of t) (mode.talks t.mode) (flow.hears k.flows p q))
+        (other_splits (sample_of t) (mode.talks t.mode) (flow.hears k.flows q p))
 
     split : (t : Record) → record_at k.rooms t.number ≡ Some t → total_part t ≡ (own_part t +ℤ silenced_part t) +ℤ part_now k l i t
     split t found =
         let (q, at) = on_place k.rooms t.number t there found in
         let z = sample_of t in
-        let heard : flows_between k.flows (place_of k.rooms t) (place_of k.rooms l) ≡ flow.flows k.flows p q = ap (λ (o : Option Place). flows_between k.flows o (place_of k.rooms l)) at.place ∙ ap (λ (o : Option Place). flows_between k.flows (Some q) o) on.place in
-        splits z _ (mode.talks t.mode && eqb q.room p.room) _ (eqb t.number l.number && mode.talks l.mode) _ (flow.is_silenced k.flows p q) _ (flow.flows k.flows p q)
+        let heard : flows_between k.flows (place_of k.rooms t) (place_of k.rooms l) ≡ flow.flows k.flows q p = ap (λ (o : Option Place). flows_between k.flows o (place_of k.rooms l)) at.place ∙ ap (λ (o : Option Place). flows_between k.flows (Some q) o) on.place in
+        splits z _ (mode.talks t.mode && eqb q.room p.room) _ (eqb t.number l.number && mode.talks l.mode) _ (flow.is_silenced k.flows q p) _ (flow.flows k.flows q p)
         (joined_is k.sums.rooms t q p.room (joined.each t.number t q at))
         refl
         (ap (λ (o : Option Place). is_seated_in p.room mask o) at.place ∙ silenced_is (Some q))

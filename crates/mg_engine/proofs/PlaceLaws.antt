@@ -9,7 +9,7 @@ use Rattle.mg_rooms.specs.declared.record.Record.{Record}
 use Rattle.mg_rooms.specs.Consistent.{IsTermination, IsContext}
 use Rattle.mg_rooms.specs.Registry.{Registry, record_at, context_at}
 use Rattle.mg_flow.specs.declared.place.Place.{Place}
-use Rattle.mg_flow.specs.Place.{IsWithinLimits, is_same}
+use Rattle.mg_flow.specs.Place.{IsWithinLimits, is_same_place}
 use Rattle.mg_flow.specs.Table.{Room, room_at, holds, talks, listens, hears, flows}
 use Rattle.mg_topology.specs.Topology as topology
 use Rattle.mg_engine.specs.Place.{place_of, IsOnPlace}
@@ -44,8 +44,8 @@ seated seat x = record { room = x.room; seat = seat }
 abbrev pub place : Place → Option Place
 place p = Some p
 
-pub hears_apart : (t : List Room) (l k : Place) → eqb l.room k.room ≡ false → hears t l k ≡ false
-hears_apart t l k e = ap (λ (b : Bool). b && topology.hears (room_at t l.room).topology l.seat k.seat) e
+pub hears_apart : (table : List Room) (t l : Place) → eqb t.room l.room ≡ false → hears table t l ≡ false
+hears_apart table t l e = ap (λ (b : Bool). b && topology.hears (room_at table t.room).topology t.seat l.seat) e
 
 and_false : (a b : Bool) → (a && (b && false)) ≡ false
 and_false true true = refl
@@ -53,8 +53,8 @@ and_false true false = refl
 and_false false b = refl
 
 -- who isn't heard has no speech that flows
-pub no_hearing : (t : List Room) (l k : Place) → hears t l k ≡ false → flows t l k ≡ false
-no_hearing t l k e = rw e (and_false (talks t k) (listens t l))
+pub no_hearing : (table : List Room) (t l : Place) → hears table t l ≡ false → flows table t l ≡ false
+no_hearing table t l e = rw e (and_false (talks table t) (listens table l))
 
 no_place : (o : Option Context) (r : Record) → is_some o ≡ true → option_map (seated r.seat) o ≡ None → ⊥
 no_place (Some x) r h none = cc none
@@ -120,15 +120,15 @@ both true true h = (refl, refl)
 both true false h = absurd (cc h)
 both false b h = absurd (cc h)
 
-same_case : (w : Registry) (m n : ℕ) (a b : Record) (p q : Place) → OneRoom w → OneSeat w → IsOnPlace w m a p → IsOnPlace w n b q → m ≢ n → (x : Bool) → is_same p q ≡ x → x ≡ false
+same_case : (w : Registry) (m n : ℕ) (a b : Record) (p q : Place) → OneRoom w → OneSeat w → IsOnPlace w m a p → IsOnPlace w n b q → m ≢ n → (x : Bool) → is_same_place p q ≡ x → x ≡ false
 same_case w m n a b p q rooms seats first second apart true e =
     let (room, seat) = both (eqb p.room q.room) (eqb p.seat q.seat) e in
     absurd (apart (one_member w m n a b p q rooms seats first second (eqb-true p.room q.room room) (eqb-true p.seat q.seat seat)))
 same_case w m n a b p q rooms seats first second apart false e = refl
 
 -- different members are on different places
-pub apart_places : (w : Registry) (m n : ℕ) (a b : Record) (p q : Place) → OneRoom w → OneSeat w → IsOnPlace w m a p → IsOnPlace w n b q → m ≢ n → is_same p q ≡ false
-apart_places w m n a b p q rooms seats first second apart = same_case w m n a b p q rooms seats first second apart (is_same p q) refl
+pub apart_places : (w : Registry) (m n : ℕ) (a b : Record) (p q : Place) → OneRoom w → OneSeat w → IsOnPlace w m a p → IsOnPlace w n b q → m ≢ n → is_same_place p q ≡ false
+apart_places w m n a b p q rooms seats first second apart = same_case w m n a b p q rooms seats first second apart (is_same_place p q) refl
 
 -- one member is on one place
 pub one_place : (w : Registry) (m n : ℕ) (a b : Record) (p q : Place) → IsOnPlace w m a p → IsOnPlace w n b q → m ≡ n → p ≡ q

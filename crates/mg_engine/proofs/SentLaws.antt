@@ -18,7 +18,7 @@ use Rattle.mg_sums.proofs.SumLemmas.{sum_of-map}
 use Rattle.mg_engine.specs.declared.config.Config.{Config}
 use Rattle.mg_engine.specs.declared.datagram.Datagram.{Datagram}
 use Rattle.mg_engine.specs.Gateway.{Gateway, TerminationMedia, media_of, frame_in}
-use Rattle.mg_engine.specs.Mix.{sample_of, part_of_mix, heard, mix, mixed, is_loopback}
+use Rattle.mg_engine.specs.Mix.{played_sample, part_of_mix, heard, mix, mixed, is_loopback}
 use Rattle.mg_engine.specs.Media as media
 use Rattle.mg_engine.specs.Tick.{type_of, header_of, packet, packet_to, packet_of, packets, sent_to}
 use Rattle.mg_engine.specs.aids.Members.{HasMembers}
@@ -42,14 +42,14 @@ gathered-cong f g (x ∷ xs) d h =
 
 -- ## Mixes
 
-pub sample_is : (k : EngineState) (w : Gateway) (r : Record) (i : ℕ) → StandsFor k w → record_at k.rooms r.number ≡ Some r → sample_of w r.number i ≡ sample_at k.sums.frames r.slot i
+pub sample_is : (k : EngineState) (w : Gateway) (r : Record) (i : ℕ) → StandsFor k w → record_at k.rooms r.number ≡ Some r → played_sample w r.number i ≡ sample_at k.sums.frames r.slot i
 sample_is k w r i h found =
     let (s, there, is) = has_media k w r.number r h found in
     ap (λ (o : Option TerminationMedia). get_or (frame_in o) i (pos 0)) there ∙ ap (λ (xs : List ℤ). get_or xs i (pos 0)) (sym is.frame)
 
 part_is : (k : EngineState) (w : Gateway) (l t : Record) (i : ℕ) → AreApart k.rooms → HasMembers k.rooms k.flows → StandsFor k w → record_at k.rooms l.number ≡ Some l → record_at k.rooms t.number ≡ Some t → part_of_mix w l.number i t.number ≡ part_now k l i t
 part_is k w l t i sound members h listens talks =
-    ap (λ (b : Bool). cond b (sample_of w t.number i) (pos 0)) (flow_is k w sound.0 members h sound.1 t.number l.number t l talks listens)
+    ap (λ (b : Bool). cond b (played_sample w t.number i) (pos 0)) (flow_is k w sound.0 members h sound.1 t.number l.number t l talks listens)
     ∙ ap (λ (z : ℤ). cond (flows_now k t l) z (pos 0)) (sample_is k w t i h talks)
 
 heard_is : (k : EngineState) (w : Gateway) (l : Record) (i : ℕ) → AreApart k.rooms → HasMembers k.rooms k.flows → ByNumber k.rooms → StandsFor k w → record_at k.rooms l.number ≡ Some l → heard w l.number i ≡ heard_now k l i
@@ -60,7 +60,7 @@ heard_is k w l i sound members by_number h found =
 
 mix_is : (k : EngineState) (w : Gateway) (l : Record) (i : ℕ) → AreApart k.rooms → HasMembers k.rooms k.flows → ByNumber k.rooms → StandsFor k w → record_at k.rooms l.number ≡ Some l → mix w l.number i ≡ mix_now k l i
 mix_is k w l i sound members by_number h found =
-    ap (λ (m : Mode). cond (is_loopback m) (sample_of w l.number i) (nearest_sample (heard w l.number i))) (mode_found k w l.number l h found)
+    ap (λ (m : Mode). cond (is_loopback m) (played_sample w l.number i) (nearest_sample (heard w l.number i))) (mode_found k w l.number l h found)
     ∙ ap (λ (z : ℤ). cond (is_loopback l.mode) z (nearest_sample (heard w l.number i))) (sample_is k w l i h found)
     ∙ ap (λ (z : ℤ). cond (is_loopback l.mode) (sample_at k.sums.frames l.slot i) (nearest_sample z)) (heard_is k w l i sound members by_number h found)
 

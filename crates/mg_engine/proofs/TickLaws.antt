@@ -16,7 +16,7 @@ use Rattle.mg_engine.specs.Gateway.{Gateway, TerminationMedia, media_of}
 use Rattle.mg_engine.specs.Steps.{transmitted}
 use Rattle.mg_sums.specs.Samples.{frame_or_silence}
 use Rattle.mg_engine.specs.Media as media
-use Rattle.mg_engine.specs.Tick.{played, all_played, sent, is_sender, sends_at, all_ended}
+use Rattle.mg_engine.specs.Tick.{played, all_played, sent, has_destination, sends_at, all_ended}
 use Rattle.mg_engine.specs.aids.Playing.{AreOld, IsPlayed}
 use Rattle.mg_engine.specs.aids.Sending.{slot_sends, with_mixes, IsEnded}
 use Rattle.mg_engine.specs.Stands.{EngineState, StandsFor, IsMediaOf, media_at}
@@ -90,7 +90,7 @@ sent_at w s = sent (sends_at w s.number) s
 
 -- whether a termination sends, by its slot and by its number
 same_sender : (w : rooms.Registry) (n : ℕ) (r : Record) → record_at w n ≡ Some r → holder_of w r.slot ≡ Some r → slot_sends w r.slot ≡ sends_at w n
-same_sender w n r by_number by_slot = ap is_sender (by_slot ∙ sym by_number)
+same_sender w n r by_number by_slot = ap has_destination (by_slot ∙ sym by_number)
 
 -- what is kept of each termination's media after the packets of a tick
 abbrev pub AreEnded : rooms.Registry → List media.SlotMedia → List media.SlotMedia → Type 0

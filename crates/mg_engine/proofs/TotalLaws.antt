@@ -18,7 +18,7 @@ use Rattle.mg_flow.specs.declared.place.Place.{Place}
 use Rattle.mg_sums.specs.Sums.{total_of}
 use Rattle.mg_sums.specs.Samples.{sum_of}
 use Rattle.mg_engine.specs.Gateway.{Gateway}
-use Rattle.mg_engine.specs.Mix.{sample_of, part_of_total, total, total_at}
+use Rattle.mg_engine.specs.Mix.{played_sample, part_of_total, total, total_at}
 use Rattle.mg_engine.specs.Place.{IsOnPlace}
 use Rattle.mg_engine.specs.Stands.{EngineState, StandsFor}
 use Rattle.mg_engine.specs.aids.Joined.{AreJoined}
@@ -133,7 +133,7 @@ module _ (k : EngineState) (w : Gateway) (c i : ℕ) (x : Context) (sound : IsCo
       ap (λ (b : Bool). cond b z (pos 0)) (joined_is k.sums.rooms t q x.room (joined.each t.number t q on) ∙ ap (λ (b : Bool). talks t.mode && b) (same_room t q on (eqb t.context c) refl))
       ∙ talking_part (talks t.mode) (eqb t.context c) z
       ∙ ap (λ (y : ℤ). cond (eqb t.context c) (cond (talks t.mode) y (pos 0)) (pos 0)) (sym (sample_is k w t i h found))
-      ∙ ap (λ (m : Mode). cond (eqb t.context c) (cond (talks m) (sample_of w t.number i) (pos 0)) (pos 0)) (sym (mode_found k w t.number t h found))
+      ∙ ap (λ (m : Mode). cond (eqb t.context c) (cond (talks m) (played_sample w t.number i) (pos 0)) (pos 0)) (sym (mode_found k w t.number t h found))
 
   pub total_is : total_of k.sums x.room i ≡ total w c i
   total_is =

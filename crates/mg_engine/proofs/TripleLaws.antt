@@ -213,12 +213,6 @@ has_still w old new keeps h = record {
   nobody = λ p held. h.nobody p (sym (keeps.held p) ∙ held);
 }
 
-or_comm : (a b : Bool) → (a || b) ≡ (b || a)
-or_comm true true = refl
-or_comm true false = refl
-or_comm false true = refl
-or_comm false false = refl
-
 module _ (w : Registry) (c : ℕ) (members : List ℕ) (talker listener : ℕ) (t l : Record) (p q : Place) (s : ShareContext w talker listener t l p q) where
   from_seat : t.context ≡ c → IsSeated w c talker p.seat
   from_seat here = (t, p, s.first, here, refl)
@@ -228,7 +222,7 @@ module _ (w : Registry) (c : ℕ) (members : List ℕ) (talker listener : ℕ) (
 
   -- one triple, of two in its context: whether it speaks of them, and what it says
   one_word : (x : TopologyTriple) (y : Triple) (es : List ContextEdit) (b : Bool) → t.context ≡ c → l.context ≡ c → IsMatched w c members x y → b ≡ lets_hear es talker listener
-      → cond (seats.speaks_of y q.seat p.seat) (seats.word_of y q.seat p.seat) b ≡ lets_hear (Apply (matched members x.first) (matched members x.second) x.association ∷ es) talker listener
+      → cond (seats.speaks_of y p.seat q.seat) (seats.word_of y p.seat q.seat) b ≡ lets_hear (Apply (matched members x.first) (matched members x.second) x.association ∷ es) talker listener
   one_word x y es b here there m e =
       rw (
         m.first.same talker p.seat (from_seat here),
@@ -237,11 +231,10 @@ module _ (w : Registry) (c : ℕ) (members : List ℕ) (talker listener : ℕ) (
         m.second.same talker p.seat (from_seat here),
         m.association,
         e,
-        or_comm (has (matched members x.first) listener && has (matched members x.second) talker) (has (matched members x.first) talker && has (matched members x.second) listener),
       ) refl
 
   pub all_words : (xs : List TopologyTriple) (ys : List Triple) (es : List ContextEdit) (b : Bool) → t.context ≡ c → l.context ≡ c → AreMatched w c members xs ys → b ≡ lets_hear es talker listener
-      → hears_after ys q.seat p.seat b ≡ lets_hear (with_triples members xs es) talker listener
+      → hears_after ys p.seat q.seat b ≡ lets_hear (with_triples members xs es) talker listener
   all_words [] [] es b here there m e = e
   all_words [] (y ∷ ys) es b here there m e = absurd m
   all_words (x ∷ xs) [] es b here there m e = absurd m
@@ -273,23 +266,23 @@ other_words w c members talker listener t found elsewhere (x ∷ xs) (y ∷ ys) 
     (nowhere (has (matched members x.first) talker) (has (matched members x.second) listener) (has (matched members x.first) listener) (has (matched members x.second) talker) first second)
 
 module _ (w : Registry) (c room : ℕ) (old new : List Room) (xs : List TopologyTriple) (ys : List Triple) (es : List ContextEdit) (one_room : OneRoom w) (one_seat : OneSeat w) (is : IsRoomOf w c room) (m : AreMatched w c (members_at w c) xs ys) (members : HasMembers w old)
-    (others : KeepsOthers old new room) (after : (l t : Place) → l.room ≡ room → IsTrue (are_together (holds old) l t) → hears new l t ≡ hears_after ys l.seat t.seat (hears old l t)) where
-  in_context : Hears w old es → (talker listener : ℕ) (t l : Record) (p q : Place) → ShareContext w talker listener t l p q → t.context ≡ c → hears new q p ≡ lets_hear (with_triples (members_at w c) xs es) talker listener
+    (others : KeepsOthers old new room) (after : (t l : Place) → t.room ≡ room → IsTrue (are_together (holds old) t l) → hears new t l ≡ hears_after ys t.seat l.seat (hears old t l)) where
+  in_context : Hears w old es → (talker listener : ℕ) (t l : Record) (p q : Place) → ShareContext w talker listener t l p q → t.context ≡ c → hears new p q ≡ lets_hear (with_triples (members_at w c) xs es) talker listener
   in_context h talker listener t l p q s here =
       let there = sym s.same ∙ here in
-      let same_room = in_one_room w l t q p s.second.place s.first.place (sym s.same) in
-      let together : are_together (holds old) q p ≡ true = rw ((members.each listener l q s.second).held, (members.each talker t p s.first).held, eq-eqb q.room p.room same_room, seats_differ w talker listener t l p q one_room one_seat s) refl in
-      after q p (room_is w c room l q is s.second.place there) together
-      ∙ all_words w c (members_at w c) talker listener t l p q s xs ys es (hears old q p) here there m (h talker listener t l p q s)
+      let same_room = in_one_room w t l p q s.first.place s.second.place s.same in
+      let together : are_together (holds old) p q ≡ true = rw ((members.each talker t p s.first).held, (members.each listener l q s.second).held, eq-eqb p.room q.room same_room, seats_differ w talker listener t l p q one_room one_seat s) refl in
+      after p q (room_is w c room t p is s.first.place here) together
+      ∙ all_words w c (members_at w c) talker listener t l p q s xs ys es (hears old p q) here there m (h talker listener t l p q s)
 
-  elsewhere : Hears w old es → (talker listener : ℕ) (t l : Record) (p q : Place) → ShareContext w talker listener t l p q → (t.context ≡ c → ⊥) → hears new q p ≡ lets_hear (with_triples (members_at w c) xs es) talker listener
+  elsewhere : Hears w old es → (talker listener : ℕ) (t l : Record) (p q : Place) → ShareContext w talker listener t l p q → (t.context ≡ c → ⊥) → hears new p q ≡ lets_hear (with_triples (members_at w c) xs es) talker listener
   elsewhere h talker listener t l p q s away =
-      let apart : q.room ≡ room → ⊥ = λ e. away (s.same ∙ context_is w c room l q one_room is s.second.place e) in
-      ap (λ (r : _). (q.room == p.room) && topology.hears r.topology q.seat p.seat) (others q.room apart)
+      let apart : p.room ≡ room → ⊥ = λ e. away (context_is w c room t p one_room is s.first.place e) in
+      ap (λ (r : _). (p.room == q.room) && topology.hears r.topology p.seat q.seat) (others p.room apart)
       ∙ h talker listener t l p q s
       ∙ sym (other_words w c (members_at w c) talker listener t s.first.found away xs ys es m)
 
-  triples_case : Hears w old es → (talker listener : ℕ) (t l : Record) (p q : Place) → ShareContext w talker listener t l p q → (b : Bool) → eqb t.context c ≡ b → hears new q p ≡ lets_hear (with_triples (members_at w c) xs es) talker listener
+  triples_case : Hears w old es → (talker listener : ℕ) (t l : Record) (p q : Place) → ShareContext w talker listener t l p q → (b : Bool) → eqb t.context c ≡ b → hears new p q ≡ lets_hear (with_triples (members_at w c) xs es) talker listener
   triples_case h talker listener t l p q s true e = in_context h talker listener t l p q s (eqb-true t.context c e)
   triples_case h talker listener t l p q s false e = elsewhere h talker listener t l p q s (unequal t.context c e)
 

@@ -32,9 +32,9 @@ decoded law p =
     if not (p.0.payload_type == type_of law) then Err causes.PayloadType
     else (if not (length p.1 == 160) then Err causes.Length else Ok (p.0, map (sample_of law) p.1))
 
-abbrev pub frame_in : Law → Reading → Arrived
-frame_in law (Ok p) = decoded law p
-frame_in law (Err fault) = Err (causes.Rtp fault)
+abbrev pub frame_by_law : Law → Reading → Arrived
+frame_by_law law (Ok p) = decoded law p
+frame_by_law law (Err fault) = Err (causes.Rtp fault)
 
 -- a termination that has a Remote takes packets from its address alone
 abbrev pub is_stray : Option Chosen → List ℕ → Bool
@@ -53,7 +53,7 @@ law_for r source = if is_stray r.remote source then Err causes.Stray else law_in
 abbrev pub arrived : Record → List ℕ → Reading → Arrived
 arrived r source reading = do
   law ← law_for r source
-  frame_in law reading
+  frame_by_law law reading
 
 -- a frame is placed in the play list of a stream
 abbrev pub placed : Header → List ℤ → TerminationMedia → TerminationMedia

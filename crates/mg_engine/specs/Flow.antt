@@ -42,7 +42,7 @@ share_context w a b =
 -- whether the listener hears the talker, whatever their modes: they share a context, and the last
 -- word lets it
 abbrev pub hears : Gateway → ℕ → ℕ → Bool
-hears w listener talker = share_context w talker listener && lets_hear w.edits talker listener
+hears w talker listener = share_context w talker listener && lets_hear w.edits talker listener
 
 -- whether the talker is silenced for the listener: they share a context, it talks, and the last
 -- word keeps it from the listener

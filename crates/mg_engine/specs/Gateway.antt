@@ -75,12 +75,12 @@ stats_of w n = option_map (λ s. s.stats) (media_of w n)
 
 -- ## The same of any number: one that names no termination is Inactive, in context 0, and silent
 
-abbrev pub mode_in : Option Record → Mode
-mode_in None = Inactive
-mode_in (Some r) = r.mode
+abbrev pub mode_or_inactive : Option Record → Mode
+mode_or_inactive None = Inactive
+mode_or_inactive (Some r) = r.mode
 
 abbrev pub mode_of : Gateway → ℕ → Mode
-mode_of w n = mode_in (rooms.record_at w.rooms n)
+mode_of w n = mode_or_inactive (rooms.record_at w.rooms n)
 
 abbrev pub context_in : Option Record → ℕ
 context_in None = 0

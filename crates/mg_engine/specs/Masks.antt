@@ -18,7 +18,7 @@ pub record TellsFlows (w : Gateway) (rooms : List table.Room) : Type 0 where
       → (n : ℕ) × (r : Record) × IsOnPlace w.rooms n r p
   pub flows : (talker listener : ℕ) (t l : Record) (p q : Place)
       → ShareContext w.rooms talker listener t l p q
-      → table.flows rooms q p ≡ flow w talker listener
+      → table.flows rooms p q ≡ flow w talker listener
   pub silenced : (talker listener : ℕ) (t l : Record) (p q : Place)
       → ShareContext w.rooms talker listener t l p q
-      → table.is_silenced rooms q p ≡ is_silenced w talker listener
+      → table.is_silenced rooms p q ≡ is_silenced w talker listener

@@ -12,12 +12,12 @@ use Rattle.mg_engine.specs.Gateway.{Gateway, frame_of, mode_of, numbers_of}
 use Rattle.mg_engine.specs.Flow.{flow}
 
 -- sample i of the frame that this tick plays
-abbrev pub sample_of : Gateway → ℕ → ℕ → ℤ
-sample_of w n i = slice_index_or (frame_of w n) i (pos 0)
+abbrev pub played_sample : Gateway → ℕ → ℕ → ℤ
+played_sample w n i = slice_index_or (frame_of w n) i (pos 0)
 
 -- what a member adds to the total of its context: its sample, if it talks
 abbrev pub part_of_total : Gateway → ℕ → ℕ → ℤ
-part_of_total w i n = if talks (mode_of w n) then sample_of w n i else pos 0
+part_of_total w i n = if talks (mode_of w n) then played_sample w n i else pos 0
 
 -- the plain sum of sample i of the members of a context that talk
 abbrev pub total : Gateway → ℕ → ℕ → ℤ
@@ -29,7 +29,7 @@ total_at w c i = if is_some (context_at w.rooms c) && nat_lt i 160 then Some (to
 
 -- what a termination adds to the mix of a listener: its sample, if its speech goes there
 abbrev pub part_of_mix : Gateway → ℕ → ℕ → ℕ → ℤ
-part_of_mix w listener i talker = if flow w talker listener then sample_of w talker i else pos 0
+part_of_mix w listener i talker = if flow w talker listener then played_sample w talker i else pos 0
 
 -- the plain sum of sample i of all whose speech goes to a listener
 abbrev pub heard : Gateway → ℕ → ℕ → ℤ
@@ -42,7 +42,7 @@ is_loopback _ = false
 -- what a termination is sent as sample i: itself in a loopback, else all whose speech goes to it,
 -- limited once
 abbrev pub mix : Gateway → ℕ → ℕ → ℤ
-mix w n i = if is_loopback (mode_of w n) then sample_of w n i else nearest_sample (heard w n i)
+mix w n i = if is_loopback (mode_of w n) then played_sample w n i else nearest_sample (heard w n i)
 
 abbrev pub mixed : Gateway → ℕ → List ℤ
 mixed w n = map (mix w n) (range_with_len 0 160)

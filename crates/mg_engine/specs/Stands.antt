@@ -62,7 +62,7 @@ pub record StandsFor (kept : EngineState) (w : Gateway) : Type 0 where
       → IsMediaOf kept.config (media_at kept.media r.slot) (sums.frame_of kept.sums r.slot) s
   pub hears : (talker listener : ℕ) (t l : Record) (p q : Place)
       → ShareContext kept.rooms talker listener t l p q
-      → flow.hears kept.flows q p ≡ lets_hear w.edits talker listener
+      → flow.hears kept.flows p q ≡ lets_hear w.edits talker listener
 
 -- what a call returned is the outcome, and where it was done the engine stands for the world after
 -- it

@@ -83,12 +83,12 @@ packets w = filter_map (packet_of w) w.rooms.terminations
 
 -- ## The end of a tick
 
-abbrev pub is_sender : Option Record → Bool
-is_sender None = false
-is_sender (Some r) = is_some (sent_to r)
+abbrev pub has_destination : Option Record → Bool
+has_destination None = false
+has_destination (Some r) = is_some (sent_to r)
 
 abbrev pub sends_at : rooms.Registry → ℕ → Bool
-sends_at w n = is_sender (rooms.record_at w n)
+sends_at w n = has_destination (rooms.record_at w n)
 
 abbrev pub sent : Bool → TerminationMedia → TerminationMedia
 sent true s = record s { stats = transmitted s.stats; packets = s.packets + 1; sent_last = true }

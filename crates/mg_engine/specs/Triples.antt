@@ -21,8 +21,8 @@ abbrev pub triple_limit : ℕ
 triple_limit = 1200
 
 -- a triple that refuses the edit that it stands in
-abbrev pub refused : TopologyTriple
-refused = record { first = Barred; second = Barred; association = Isolate }
+abbrev pub barred_triple : TopologyTriple
+barred_triple = record { first = Barred; second = Barred; association = Isolate }
 
 -- the members of a context that a term matches
 abbrev pub matched : List ℕ → TripleTerm → List ℕ

@@ -4,7 +4,7 @@ ghost use Rattle.std.specs.Prelude.{◌≡◌, ℕ, ℤ, List, Result, Ok, Err};
 ghost use Rattle.mg_rtp.specs.declared.header.Header.{Header};
 ghost use Rattle.mg_rtp.specs.declared.rtp_fault.RtpFault.{RtpFault};
 ghost use Rattle.mg_rtp.specs.Reading.{reading_of};
-ghost use Rattle.mg_engine.specs.Arrival.{is_stray, law_for, decoded, frame_in};
+ghost use Rattle.mg_engine.specs.Arrival.{is_stray, law_for, decoded, frame_by_law};
 
 use crate::peer::Peer;
 use crate::sending::payload_type;
@@ -55,11 +55,11 @@ fn frame_of(law: Law, header: Header, payload: &[u8]) -> Result<(Header, Frame),
 }
 
 /// The frame of a packet that is of a law.
-pub fn frame_in(
+pub fn frame_by_law(
     law: Law,
     packet: Result<Packet<'_>, RtpFault>,
 ) -> Result<(Header, Frame), DropCause>
-    ensures value { result ≡ frame_in law (reading_of packet.entry) }
+    ensures value { result ≡ frame_by_law law (reading_of packet.entry) }
 {
     match packet {
         Ok(packet) => frame_of(law, packet.header, packet.payload),

@@ -31,7 +31,7 @@ ghost use Rattle.mg_engine.specs.Gateway.{Gateway, start_of, stats_of};
 ghost use Rattle.mg_sums.specs.Samples.{silence};
 ghost use Rattle.mg_engine.specs.Stands.{StandsFor, IsOutcome, media_at};
 
-use crate::arrival::{frame_in, law_for};
+use crate::arrival::{frame_by_law, law_for};
 use crate::config::Config;
 use crate::datagram::{Outbox, address_last, lend, push_payload};
 use crate::done::Done;
@@ -391,7 +391,7 @@ impl Engine {
             Ok(law) => law,
             Err(cause) => return Taken::Dropped(cause),
         };
-        match frame_in(law, packet) {
+        match frame_by_law(law, packet) {
             Ok(arrived) => {
                 let frame = arrived.1;
                 let slot = usize::from(termination.slot);
@@ -433,9 +433,9 @@ impl Engine {
     }
 
     /// Whether a listener hears a talker, whatever their modes: both are different members of one context, and the last
-    /// word on the two lets it.
+    /// word on the two lets it. The listener comes first, as in the sentence.
     pub fn hears(&self, listener: u32, talker: u32) -> bool
-        ensures value { (w : Gateway) → StandsFor self.now w → result ≡ hears w listener talker }
+        ensures value { (w : Gateway) → StandsFor self.now w → result ≡ hears w talker listener }
     {
         gateways_are_sound(&self.rooms);
         nothing_is_held_twice();

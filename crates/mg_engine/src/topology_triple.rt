@@ -19,9 +19,9 @@ pub struct TopologyTriple {
 /// One that refuses the edit that it stands in.
 impl Default for TopologyTriple {
     ghost use Rattle.std.specs.Prelude.{◌≡◌};
-    ghost use Rattle.mg_engine.specs.Triples.{refused};
+    ghost use Rattle.mg_engine.specs.Triples.{barred_triple};
 
-    ghost is_default = { λ triple. triple ≡ refused };
+    ghost is_default = { λ triple. triple ≡ barred_triple };
 
     fn default() -> Self {
         TopologyTriple {

@@ -7,7 +7,7 @@ use Rattle.mg_topology.specs.declared.triple.Triple.{Triple}
 use Rattle.mg_topology.specs.Triple.{speaks_of, word_of}
 use Rattle.mg_topology.specs.Edits as topology
 use Rattle.mg_flow.specs.declared.place.Place.{Place}
-use Rattle.mg_flow.specs.Place.{is_same, are_together}
+use Rattle.mg_flow.specs.Place.{is_same_place, are_together}
 use Rattle.mg_flow.specs.Edits.{Edit, Enter, Leave, SetMode, Apply, apply_all, edits_in, is_held, lets_hear, hears_in}
 use Rattle.mg_flow.specs.Table.{Room, holds, hears, hears_after, StandsFor, StandsForSome}
 use Rattle.mg_flow.proofs.TableLemmas.{own_triples, hears-stands}
@@ -25,11 +25,11 @@ are_together-stands table es a b h = rw (holds-stands table es a h, holds-stands
 
 -- ---- a member enters
 
-is_held-entered : (es : List Edit) (place p : Place) (t l : Bool) → is_held (Enter place t l ∷ es) p ≡ cond (is_same p place) true (is_held es p)
+is_held-entered : (es : List Edit) (place p : Place) (t l : Bool) → is_held (Enter place t l ∷ es) p ≡ cond (is_same_place p place) true (is_held es p)
 is_held-entered es place p t l = grind (arith, nat_tests)
 
 lets_hear-entered : (es : List Edit) (place a b : Place) (t l : Bool) → (a.room == b.room) ≡ true
-    → lets_hear (Enter place t l ∷ es) a b ≡ cond (is_same a place || is_same b place) true (lets_hear es a b)
+    → lets_hear (Enter place t l ∷ es) a b ≡ cond (is_same_place a place || is_same_place b place) true (lets_hear es a b)
 lets_hear-entered es place a b t l same = grind (arith, nat_tests)
 
 -- the answers of a pair, from those of its places: a, b whether a place is the one, x, y whether it was held
@@ -40,15 +40,15 @@ pair-entered a b x y r d w w' e = grind arith
 
 hears_in-entered : (es : List Edit) (place a b : Place) (t l : Bool)
     → hears_in (Enter place t l ∷ es) a b
-    ≡ cond (is_same a place || is_same b place) (are_together (is_held (Enter place t l ∷ es)) a b) (hears_in es a b)
+    ≡ cond (is_same_place a place || is_same_place b place) (are_together (is_held (Enter place t l ∷ es)) a b) (hears_in es a b)
 hears_in-entered es place a b t l =
     rw (is_held-entered es place a t l, is_held-entered es place b t l)
-    (pair-entered (is_same a place) (is_same b place) (is_held es a) (is_held es b) (a.room == b.room) (a.seat == b.seat) (lets_hear es a b) _
+    (pair-entered (is_same_place a place) (is_same_place b place) (is_held es a) (is_held es b) (a.room == b.room) (a.seat == b.seat) (lets_hear es a b) _
     (lets_hear-entered es place a b t l))
 
 pub enter_hears : (old new : List Room) (place : Place) (t l : Bool) → StandsForSome old
     → ((es : List Edit) → StandsFor old es → StandsFor new (Enter place t l ∷ es)) → (a b : Place)
-    → hears new a b ≡ cond (is_same a place || is_same b place) (are_together (holds new) a b) (hears old a b)
+    → hears new a b ≡ cond (is_same_place a place || is_same_place b place) (are_together (holds new) a b) (hears old a b)
 enter_hears old new place t l some edits a b =
     from_edits old _ _ some
     (λ es h. rw (hears-stands new (Enter place t l ∷ es) a b (edits es h), are_together-stands new (Enter place t l ∷ es) a b (edits es h), hears-stands old es a b h)
@@ -56,7 +56,7 @@ enter_hears old new place t l some edits a b =
 
 -- ---- a member leaves
 
-is_held-left : (es : List Edit) (place p : Place) → is_held (Leave place ∷ es) p ≡ cond (is_same p place) false (is_held es p)
+is_held-left : (es : List Edit) (place p : Place) → is_held (Leave place ∷ es) p ≡ cond (is_same_place p place) false (is_held es p)
 is_held-left es place p = grind (arith, nat_tests)
 
 lets_hear-left : (es : List Edit) (place a b : Place) → lets_hear (Leave place ∷ es) a b ≡ lets_hear es a b
@@ -66,14 +66,14 @@ pair-left : (a b x y z w : Bool) → ((cond a false x && (cond b false y && z)) 
 pair-left a b x y z w = grind arith
 
 hears_in-left : (es : List Edit) (place a b : Place)
-    → hears_in (Leave place ∷ es) a b ≡ cond (is_same a place || is_same b place) false (hears_in es a b)
+    → hears_in (Leave place ∷ es) a b ≡ cond (is_same_place a place || is_same_place b place) false (hears_in es a b)
 hears_in-left es place a b =
     rw (is_held-left es place a, is_held-left es place b, lets_hear-left es place a b)
-    (pair-left (is_same a place) (is_same b place) (is_held es a) (is_held es b) ((a.room == b.room) && not (a.seat == b.seat)) (lets_hear es a b))
+    (pair-left (is_same_place a place) (is_same_place b place) (is_held es a) (is_held es b) ((a.room == b.room) && not (a.seat == b.seat)) (lets_hear es a b))
 
 pub leave_hears : (old new : List Room) (place : Place) → StandsForSome old
     → ((es : List Edit) → StandsFor old es → StandsFor new (Leave place ∷ es)) → (a b : Place)
-    → hears new a b ≡ cond (is_same a place || is_same b place) false (hears old a b)
+    → hears new a b ≡ cond (is_same_place a place || is_same_place b place) false (hears old a b)
 leave_hears old new place some edits a b =
     from_edits old _ _ some
     (λ es h. rw (hears-stands new (Leave place ∷ es) a b (edits es h), hears-stands old es a b h) (hears_in-left es place a b))
@@ -89,16 +89,16 @@ mode_hears old new place t l some edits a b =
 
 -- ---- triples in order
 
-allows-triple : (x : Triple) (o : Option Triple) (l t : ℕ) (b : Bool) → topology.allows (cond b (Some x) o) l t ≡ cond b (word_of x l t) (topology.allows o l t)
-allows-triple x o l t true = refl
-allows-triple x o l t false = refl
+allows-triple : (x : Triple) (o : Option Triple) (t l : ℕ) (b : Bool) → topology.allows (cond b (Some x) o) t l ≡ cond b (word_of x t l) (topology.allows o t l)
+allows-triple x o t l true = refl
+allows-triple x o t l false = refl
 
-words-triples : (triples : List Triple) (es : List topology.Edit) (l t : ℕ)
-    → topology.lets_hear (topology.apply_all triples es) l t ≡ hears_after triples l t (topology.lets_hear es l t)
-words-triples [] es l t = refl
-words-triples (x ∷ xs) es l t =
-    words-triples xs (topology.Apply x ∷ es) l t
-    ∙ ap (hears_after xs l t) (allows-triple x (topology.last_word es l t) l t (speaks_of x l t))
+words-triples : (triples : List Triple) (es : List topology.Edit) (t l : ℕ)
+    → topology.lets_hear (topology.apply_all triples es) t l ≡ hears_after triples t l (topology.lets_hear es t l)
+words-triples [] es t l = refl
+words-triples (x ∷ xs) es t l =
+    words-triples xs (topology.Apply x ∷ es) t l
+    ∙ ap (hears_after xs t l) (allows-triple x (topology.last_word es t l) t l (speaks_of x t l))
 
 is_held-triple : (b : Bool) (x : Triple) (es : List topology.Edit) (s : ℕ) → topology.is_held (cond b (topology.Apply x ∷ es) es) s ≡ topology.is_held es s
 is_held-triple true x es s = refl

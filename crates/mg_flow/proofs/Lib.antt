@@ -1,4 +1,5 @@
 -- Lemmas that several proofs share.
 pub mod HearsLemmas
 pub mod MasksLemmas
+pub mod SeatLemmas
 pub mod TableLemmas

@@ -5,11 +5,11 @@ use Rattle.mg_topology.specs.Mask.{has_seat}
 
 -- the masks below the index tell what they are to tell, and the one at the index is written
 pub written : (masks : List ℕ) (i mask : ℕ) (tells : ℕ → ℕ → Bool) → i < length masks
-    → ((k s : ℕ) → k < i → has_seat (slice_index masks k) s ≡ tells k s)
-    → ((s : ℕ) → has_seat mask s ≡ tells i s)
-    → (k s : ℕ) → k < i + 1 → has_seat (slice_index (slice_set masks i mask) k) s ≡ tells k s
-written masks i mask tells within below own k s h =
+    → ((s k : ℕ) → k < i → has_seat (slice_index masks k) s ≡ tells s k)
+    → ((s : ℕ) → has_seat mask s ≡ tells s i)
+    → (s k : ℕ) → k < i + 1 → has_seat (slice_index (slice_set masks i mask) k) s ≡ tells s k
+written masks i mask tells within below own s k h =
     elim (cases_eq k i) [
       | inl e ↦ rw (e, get_or-set_same masks i mask 0 within) (own s)
-      | inr ne ↦ rw (get_or-set_other masks i k mask 0 ne) (below k s (omega (arith, h, ne)))
+      | inr ne ↦ rw (get_or-set_other masks i k mask 0 ne) (below s k (omega (arith, h, ne)))
     ]

@@ -7,15 +7,16 @@ use Rattle.std.proofs.lemmas.Bool.{cases_eq, cases_lt, ne_eqb, eq-eqb, and_left,
 use Rattle.std.proofs.lemmas.Bool.Decides.{nat_tests}
 use Rattle.mg_topology.specs.declared.overlap.Overlap.{Overlap}
 use Rattle.mg_topology.specs.declared.triple.Triple.{Triple}
-use Rattle.mg_topology.specs.Mask.{seat_limit, has_seat, IsEmpty}
+use Rattle.mg_topology.specs.Mask.{seat_limit, has_seat}
 use Rattle.mg_topology.specs.Edits as topology
 use Rattle.mg_topology.specs.Topology as kept
 use Rattle.mg_flow.specs.declared.place.Place.{Place}
-use Rattle.mg_flow.specs.Place.{is_same, beside, are_together}
+use Rattle.mg_flow.specs.Place.{is_same_place, beside, are_together}
 use Rattle.mg_flow.specs.Edits.{Edit, Enter, Leave, SetMode, Apply, apply_all, edits_in, is_held, talks_in, listens_in, lets_hear, hears_in, flows_in, is_silenced_in}
 use Rattle.mg_flow.specs.aids.Room.{flows_to, is_kept_from, IsVacant, SetsSeat}
 use Rattle.mg_flow.specs.aids.Table.{IsTable}
 use Rattle.mg_flow.specs.Table.{Room, vacant, room_at, talks, listens, holds, hears, flows, is_silenced, StandsFor}
+use Rattle.mg_flow.proofs.SeatLemmas.{has_seat-empty}
 
 -- ---- a table in which one room was written
 
@@ -43,13 +44,13 @@ found : {table : List Room} {place : Place} {i s : ℕ} {room : Room} → IsRead
 found {table} read = found_at read ∙ ap (room_at table) read.number
 
 -- a place that is held is in a room of the table
-pub held_within : (table : List Room) (place : Place) (i : ℕ) → IsEmpty 0 → i ≡ place.room → holds table place ≡ true → i < length table
-held_within table place i none number held =
+pub held_within : (table : List Room) (place : Place) (i : ℕ) → i ≡ place.room → holds table place ≡ true → i < length table
+held_within table place i number held =
     elim (cases_lt i (length table)) [
       | inl below ↦ below
       | inr above ↦
           (let at_end : room_at table place.room ≡ vacant = ap (room_at table) (sym number) ∙ get_or-eq_default table vacant above in
-          let no_seat = and_right (nat_lt place.seat seat_limit) (has_seat 0 place.seat) (none place.seat) in
+          let no_seat = and_right (nat_lt place.seat seat_limit) (has_seat 0 place.seat) (has_seat-empty place.seat) in
           let free : holds table place ≡ false = ap (λ (r : Room). kept.holds r.topology place.seat) at_end ∙ no_seat in
           absurd (both_ways _ free held))
     ]
@@ -57,7 +58,7 @@ held_within table place i none number held =
 -- one seat of one room is set, in the mask that f reads
 seat_set : (f : Room → ℕ) {table : List Room} {place : Place} {i s : ℕ} {old : Room} (new : Room) (b : Bool) → IsRead table place i s old
     → ((k : ℕ) → has_seat (f new) k ≡ cond (k == s) b (has_seat (f old) k)) → (p : Place)
-    → has_seat (f (room_at (slice_set table i new) p.room)) p.seat ≡ cond (is_same p place) b (has_seat (f (room_at table p.room)) p.seat)
+    → has_seat (f (room_at (slice_set table i new) p.room)) p.seat ≡ cond (is_same_place p place) b (has_seat (f (room_at table p.room)) p.seat)
 seat_set f {table} {place} {i} {s} {old} new b read seats p =
     elim (cases_eq p.room i) [
       | inl e ↦
@@ -68,28 +69,28 @@ seat_set f {table} {place} {i} {s} {old} new b read seats p =
 
 -- ---- a new table
 
-vacant_room : IsEmpty 0 → IsVacant vacant
-vacant_room none = record {
+vacant_room : IsVacant vacant
+vacant_room = record {
   topology = record {
-    seats = λ s. and_right (nat_lt s seat_limit) (has_seat 0 s) (none s);
-    pairs = λ l t. and_left _ _ (and_right (nat_lt l seat_limit) (has_seat 0 l) (none l));
+    seats = λ s. and_right (nat_lt s seat_limit) (has_seat 0 s) (has_seat-empty s);
+    pairs = λ t l. and_left _ _ (and_right (nat_lt t seat_limit) (has_seat 0 t) (has_seat-empty t));
   };
-  talks = none;
-  listens = none;
+  talks = has_seat-empty;
+  listens = has_seat-empty;
 }
 
-vacant_at : (table : List Room) → IsEmpty 0 → All IsVacant table → (k : ℕ) → IsVacant (room_at table k)
-vacant_at table none each k =
+vacant_at : (table : List Room) → All IsVacant table → (k : ℕ) → IsVacant (room_at table k)
+vacant_at table each k =
     elim (cases_lt k (length table)) [
       | inl below ↦ each k vacant below
-      | inr above ↦ rw (get_or-eq_default table vacant above) (vacant_room none)
+      | inr above ↦ rw (get_or-eq_default table vacant above) vacant_room
     ]
 
-pub new_stands : (table : List Room) → IsEmpty 0 → All IsVacant table → StandsFor table []
-new_stands table none each = record {
-  topologies = λ k. (vacant_at table none each k).topology;
-  talkers = λ p. (vacant_at table none each p.room).talks p.seat;
-  listeners = λ p. (vacant_at table none each p.room).listens p.seat;
+pub new_stands : (table : List Room) → All IsVacant table → StandsFor table []
+new_stands table each = record {
+  topologies = λ k. (vacant_at table each k).topology;
+  talkers = λ p. (vacant_at table each p.room).talks p.seat;
+  listeners = λ p. (vacant_at table each p.room).listens p.seat;
 }
 
 -- ---- the edits, one by one
@@ -120,8 +121,8 @@ enter_stands {table} {place} {i} {s} {old} {new} {t} {l} read edits set es h =
     edited table i new es (Enter place t l ∷ es) read.within
     (λ x. rw (eq-eqb place.room i (sym read.number), ← read.seat) (edits (edits_in i es) (rw (found_at read) x)))
     (λ k ne. rw (ne_eqb place.room k (λ e. ne (sym e ∙ sym read.number))) refl)
-    (λ p. seat_set (λ (x : Room). x.talks) new t read set.talkers p ∙ ap (cond (is_same p place) t) (h.talkers p))
-    (λ p. seat_set (λ (x : Room). x.listens) new l read set.listeners p ∙ ap (cond (is_same p place) l) (h.listeners p))
+    (λ p. seat_set (λ (x : Room). x.talks) new t read set.talkers p ∙ ap (cond (is_same_place p place) t) (h.talkers p))
+    (λ p. seat_set (λ (x : Room). x.listens) new l read set.listeners p ∙ ap (cond (is_same_place p place) l) (h.listeners p))
     h
 
 pub leave_stands : {table : List Room} {place : Place} {i s : ℕ} {old new : Room} → IsRead table place i s old
@@ -132,8 +133,8 @@ leave_stands {table} {place} {i} {s} {old} {new} read edits set es h =
     edited table i new es (Leave place ∷ es) read.within
     (λ x. rw (eq-eqb place.room i (sym read.number), ← read.seat) (edits (edits_in i es) (rw (found_at read) x)))
     (λ k ne. rw (ne_eqb place.room k (λ e. ne (sym e ∙ sym read.number))) refl)
-    (λ p. seat_set (λ (x : Room). x.talks) new false read set.talkers p ∙ ap (cond (is_same p place) false) (h.talkers p))
-    (λ p. seat_set (λ (x : Room). x.listens) new false read set.listeners p ∙ ap (cond (is_same p place) false) (h.listeners p))
+    (λ p. seat_set (λ (x : Room). x.talks) new false read set.talkers p ∙ ap (cond (is_same_place p place) false) (h.talkers p))
+    (λ p. seat_set (λ (x : Room). x.listens) new false read set.listeners p ∙ ap (cond (is_same_place p place) false) (h.listeners p))
     h
 
 pub mode_stands : {table : List Room} {place : Place} {i s : ℕ} {old new : Room} {t l : Bool} → IsRead table place i s old
@@ -143,8 +144,8 @@ mode_stands {table} {place} {i} {s} {old} {new} {t} {l} read same set es h =
     edited table i new es (SetMode place t l ∷ es) read.within
     (λ x. rw (same, found_at read) x)
     (λ k ne. refl)
-    (λ p. seat_set (λ (x : Room). x.talks) new t read set.talkers p ∙ ap (cond (is_same p place) t) (h.talkers p))
-    (λ p. seat_set (λ (x : Room). x.listens) new l read set.listeners p ∙ ap (cond (is_same p place) l) (h.listeners p))
+    (λ p. seat_set (λ (x : Room). x.talks) new t read set.talkers p ∙ ap (cond (is_same_place p place) t) (h.talkers p))
+    (λ p. seat_set (λ (x : Room). x.listens) new l read set.listeners p ∙ ap (cond (is_same_place p place) l) (h.listeners p))
     h
 
 -- ---- triples in order
@@ -224,30 +225,30 @@ IsTable-tried (Err e) table i old new edit within is ok err h = IsTable-edited t
 
 -- ---- what a table tells
 
-pub hears-stands : (table : List Room) (es : List Edit) (l t : Place) → StandsFor table es
-    → hears table l t ≡ hears_in es l t
-hears-stands table es l t h = grind (arith, nat_tests, (h.topologies l.room).pairs l.seat t.seat)
+pub hears-stands : (table : List Room) (es : List Edit) (t l : Place) → StandsFor table es
+    → hears table t l ≡ hears_in es t l
+hears-stands table es t l h = grind (arith, nat_tests, (h.topologies t.room).pairs t.seat l.seat)
 
-pub flows-stands : (table : List Room) (es : List Edit) (l t : Place) → StandsFor table es
-    → flows table l t ≡ flows_in es l t
-flows-stands table es l t h = rw (h.talkers t, h.listeners l, hears-stands table es l t h) refl
+pub flows-stands : (table : List Room) (es : List Edit) (t l : Place) → StandsFor table es
+    → flows table t l ≡ flows_in es t l
+flows-stands table es t l h = rw (h.talkers t, h.listeners l, hears-stands table es t l h) refl
 
 not_both : (x w : Bool) → (x && not (x && w)) ≡ (x && not w)
 not_both true w = refl
 not_both false w = refl
 
-pub is_silenced-stands : (table : List Room) (es : List Edit) (l t : Place) → StandsFor table es
-    → is_silenced table l t ≡ is_silenced_in es l t
-is_silenced-stands table es l t h =
-    rw (h.talkers t, hears-stands table es l t h, (h.topologies l.room).seats l.seat, (h.topologies t.room).seats t.seat)
-    (ap (λ x. talks_in es t && x) (not_both (are_together (is_held es) l t) (lets_hear es l t)))
+pub is_silenced-stands : (table : List Room) (es : List Edit) (t l : Place) → StandsFor table es
+    → is_silenced table t l ≡ is_silenced_in es t l
+is_silenced-stands table es t l h =
+    rw (h.talkers t, hears-stands table es t l h, (h.topologies t.room).seats t.seat, (h.topologies l.room).seats l.seat)
+    (ap (λ x. talks_in es t && x) (not_both (are_together (is_held es) t l) (lets_hear es t l)))
 
 -- what the masks of a room that is read tell of a place, as the table tells it
 
 pub flows-read : {table : List Room} {place : Place} {i s : ℕ} {room : Room} → IsRead table place i s room
-    → (seat : ℕ) → flows_to room.topology room.talks room.listens s seat ≡ flows table place (beside place seat)
+    → (seat : ℕ) → flows_to room.topology room.talks room.listens seat s ≡ flows table (beside place seat) place
 flows-read {table} {place} read seat = rw (found read, read.seat, eq-eqb place.room place.room refl) refl
 
 pub is_silenced-read : {table : List Room} {place : Place} {i s : ℕ} {room : Room} → IsRead table place i s room
-    → (seat : ℕ) → is_kept_from room.topology room.talks s seat ≡ is_silenced table place (beside place seat)
+    → (seat : ℕ) → is_kept_from room.topology room.talks seat s ≡ is_silenced table (beside place seat) place
 is_silenced-read {table} {place} read seat = rw (found read, read.seat, eq-eqb place.room place.room refl) (grind arith)

@@ -4,7 +4,7 @@ use Rattle.std.specs.Prelude.{ℕ, Bool, false, not, ◌&&◌, ◌==◌, if◌th
 use Rattle.mg_topology.specs.declared.triple.Triple.{Triple}
 use Rattle.mg_topology.specs.Edits as topology
 use Rattle.mg_flow.specs.declared.place.Place.{Place}
-use Rattle.mg_flow.specs.Place.{is_same, are_together}
+use Rattle.mg_flow.specs.Place.{is_same_place, are_together}
 
 -- A member enters, one leaves, or the mode of one changes, which says whether it talks and whether
 -- it listens; or a triple is applied in a room.
@@ -42,41 +42,41 @@ is_held es place = topology.is_held (edits_in place.room es) place.seat
 abbrev pub talks_in : List Edit → Place → Bool
 talks_in [] place = false
 talks_in (Enter p talks listens ∷ es) place =
-    if is_same place p then talks else talks_in es place
-talks_in (Leave p ∷ es) place = if is_same place p then false else talks_in es place
+    if is_same_place place p then talks else talks_in es place
+talks_in (Leave p ∷ es) place = if is_same_place place p then false else talks_in es place
 talks_in (SetMode p talks listens ∷ es) place =
-    if is_same place p then talks else talks_in es place
+    if is_same_place place p then talks else talks_in es place
 talks_in (Apply room triple ∷ es) place = talks_in es place
 
 -- whether it listens, by what was last said of it
 abbrev pub listens_in : List Edit → Place → Bool
 listens_in [] place = false
 listens_in (Enter p talks listens ∷ es) place =
-    if is_same place p then listens else listens_in es place
-listens_in (Leave p ∷ es) place = if is_same place p then false else listens_in es place
+    if is_same_place place p then listens else listens_in es place
+listens_in (Leave p ∷ es) place = if is_same_place place p then false else listens_in es place
 listens_in (SetMode p talks listens ∷ es) place =
-    if is_same place p then listens else listens_in es place
+    if is_same_place place p then listens else listens_in es place
 listens_in (Apply room triple ∷ es) place = listens_in es place
 
 -- whether the last word on two places of one room lets the listener hear the talker
 abbrev pub lets_hear : List Edit → Place → Place → Bool
-lets_hear es listener talker =
-    topology.lets_hear (edits_in listener.room es) listener.seat talker.seat
+lets_hear es talker listener =
+    topology.lets_hear (edits_in talker.room es) talker.seat listener.seat
 
 -- whether the listener hears the talker: they are different members of one room, and the last word
 -- lets it
 abbrev pub hears_in : List Edit → Place → Place → Bool
-hears_in es listener talker =
-    are_together (is_held es) listener talker && lets_hear es listener talker
+hears_in es talker listener =
+    are_together (is_held es) talker listener && lets_hear es talker listener
 
 -- whether the talker's speech goes to the listener: the one talks, the other listens and hears it
 abbrev pub flows_in : List Edit → Place → Place → Bool
-flows_in es listener talker =
-    talks_in es talker && (listens_in es listener && hears_in es listener talker)
+flows_in es talker listener =
+    talks_in es talker && (listens_in es listener && hears_in es talker listener)
 
 -- whether the talker is silenced for the listener: it is another member of the room, it talks, and
 -- the last word keeps it from the listener
 abbrev pub is_silenced_in : List Edit → Place → Place → Bool
-is_silenced_in es listener talker =
+is_silenced_in es talker listener =
     talks_in es talker
-    && (are_together (is_held es) listener talker && not (lets_hear es listener talker))
+    && (are_together (is_held es) talker listener && not (lets_hear es talker listener))

@@ -10,8 +10,8 @@ pub record IsWithinLimits (place : Place) : Type 0 where
   pub seat : place.seat < seat_limit
 
 -- whether they are one place
-abbrev pub is_same : Place → Place → Bool
-is_same a b = (a.room == b.room) && (a.seat == b.seat)
+abbrev pub is_same_place : Place → Place → Bool
+is_same_place a b = (a.room == b.room) && (a.seat == b.seat)
 
 -- the place of a seat in the same room
 abbrev pub beside : Place → ℕ → Place

@@ -6,7 +6,7 @@ use Rattle.mg_topology.specs.Mask.{has_seat}
 use Rattle.mg_topology.specs.Topology as topology
 use Rattle.mg_topology.specs.Triple.{speaks_of, word_of}
 use Rattle.mg_flow.specs.declared.place.Place.{Place}
-use Rattle.mg_flow.specs.Place.{is_same, are_together}
+use Rattle.mg_flow.specs.Place.{is_same_place, are_together}
 use Rattle.mg_flow.specs.Edits.{Edit, edits_in, talks_in, listens_in}
 
 -- what is kept of a room: its topology, and the seats of those who talk and of those who listen
@@ -37,20 +37,20 @@ listens table place = has_seat (room_at table place.room).listens place.seat
 
 -- whether the listener hears the talker, which is in the same room
 abbrev pub hears : List Room → Place → Place → Bool
-hears table listener talker =
-    (listener.room == talker.room)
-    && topology.hears (room_at table listener.room).topology listener.seat talker.seat
+hears table talker listener =
+    (talker.room == listener.room)
+    && topology.hears (room_at table talker.room).topology talker.seat listener.seat
 
 -- whether the talker's speech goes to the listener
 abbrev pub flows : List Room → Place → Place → Bool
-flows table listener talker =
-    talks table talker && (listens table listener && hears table listener talker)
+flows table talker listener =
+    talks table talker && (listens table listener && hears table talker listener)
 
 -- whether the talker is silenced for the listener
 abbrev pub is_silenced : List Room → Place → Place → Bool
-is_silenced table listener talker =
+is_silenced table talker listener =
     talks table talker
-    && (are_together (holds table) listener talker && not (hears table listener talker))
+    && (are_together (holds table) talker listener && not (hears table talker listener))
 
 -- what is kept agrees with the edits, for each room and for each place
 pub record StandsFor (table : List Room) (es : List Edit) : Type 0 where
@@ -72,11 +72,11 @@ KeepsOthers old new room = (other : ℕ) → other ≢ room → room_at new othe
 pub record SetsPlace (old new : List Room) (place : Place)
     (is_held does_talk does_listen : Bool) : Type 0 where
   pub held : (p : Place) →
-      holds new p ≡ (if is_same p place then is_held else holds old p)
+      holds new p ≡ (if is_same_place p place then is_held else holds old p)
   pub talkers : (p : Place) →
-      talks new p ≡ (if is_same p place then does_talk else talks old p)
+      talks new p ≡ (if is_same_place p place then does_talk else talks old p)
   pub listeners : (p : Place) →
-      listens new p ≡ (if is_same p place then does_listen else listens old p)
+      listens new p ≡ (if is_same_place p place then does_listen else listens old p)
 
 -- each place is held, and each member talks and listens, as before
 pub record KeepsPlaces (old new : List Room) : Type 0 where
@@ -86,7 +86,7 @@ pub record KeepsPlaces (old new : List Room) : Type 0 where
 
 -- whether the listener hears the talker after triples, in order, by whether it did before
 abbrev pub hears_after : List Triple → ℕ → ℕ → Bool → Bool
-hears_after [] listener talker did = did
-hears_after (x ∷ xs) listener talker did =
-    hears_after xs listener talker
-    (if speaks_of x listener talker then word_of x listener talker else did)
+hears_after [] talker listener did = did
+hears_after (x ∷ xs) talker listener did =
+    hears_after xs talker listener
+    (if speaks_of x talker listener then word_of x talker listener else did)

@@ -1,12 +1,13 @@
+#![tactic(auto, using(crate::proofs::SeatLemmas::seat_rules))]
+
 ghost use Rattle.std.specs.Prelude.{◌≡◌, ℕ, ◌<◌, ◌||◌, if◌then◌else◌, ◌∷◌, [], List, true, false, ◌↔◌, Any, IsTrue, IsFalse, IsErr, IfOk, OnOk, OnErr};
 ghost use Rattle.mg_words.specs.Limits.{context_limit};
 ghost use Rattle.mg_topology.specs.Mask.{has_seat};
 ghost use Rattle.mg_topology.specs.Triple.{Overlaps};
-ghost use Rattle.mg_flow.specs.Place.{IsWithinLimits, is_same, beside, are_together};
+ghost use Rattle.mg_flow.specs.Place.{IsWithinLimits, is_same_place, beside, are_together};
 
 use crate::place::Place;
 use crate::room::Room;
-use mg_topology::laws::masks_are_sets;
 use mg_topology::mask::{self, Mask};
 use mg_topology::{Overlap, Triple};
 use mg_words::CONTEXTS;
@@ -50,7 +51,6 @@ impl FlowTable {
     pub fn new(alloc: Global) -> Result<Self, AllocError>
         ensures edits { IfOk result (λ table. StandsFor table []) }
     {
-        masks_are_sets();
         let mut rooms = Vec::with_capacity(alloc, CONTEXTS)?;
         for _ in 0..CONTEXTS {
             rooms.push(Room::new())?;
@@ -63,7 +63,6 @@ impl FlowTable {
         ensures kept { result ≡ holds self.now place }
         ensures edits { (es : List Edit) → StandsFor self.now es → result ≡ is_held es place }
     {
-        masks_are_sets();
         match self.rooms.get(usize::from(place.room)) {
             Some(room) => room.holds(usize::from(place.seat)),
             None => false,
@@ -77,7 +76,6 @@ impl FlowTable {
         ensures edits { (es : List Edit) → StandsFor self.now es → (seat : ℕ) →
             has_seat result seat ≡ is_held es (record { room = room; seat = seat }) }
     {
-        masks_are_sets();
         match self.rooms.get(usize::from(room)) {
             Some(room) => room.held(),
             None => mask::EMPTY,
@@ -85,18 +83,17 @@ impl FlowTable {
     }
 
     /// Whether the listener hears the talker: both places are held, in one room, and differ, and
-    /// the last word on the two lets it.
+    /// the last word on the two lets it. The listener comes first, as in the sentence.
     pub fn hears(&self, listener: Place, talker: Place) -> bool
-        ensures kept { result ≡ hears self.now listener talker }
+        ensures kept { result ≡ hears self.now talker listener }
         ensures edits { (es : List Edit) → StandsFor self.now es →
-            result ≡ hears_in es listener talker }
+            result ≡ hears_in es talker listener }
     {
-        masks_are_sets();
-        if listener.room != talker.room {
+        if talker.room != listener.room {
             return false;
         }
-        match self.rooms.get(usize::from(listener.room)) {
-            Some(room) => room.hears(usize::from(listener.seat), usize::from(talker.seat)),
+        match self.rooms.get(usize::from(talker.room)) {
+            Some(room) => room.hears(usize::from(talker.seat), usize::from(listener.seat)),
             None => false,
         }
     }
@@ -105,13 +102,12 @@ impl FlowTable {
     pub fn open(&self, place: Place) -> &Mask
         requires { IsTrue (holds self.now place) }
         ensures kept { (seat : ℕ) →
-            has_seat result.now seat ≡ flows self.now place (beside place seat) }
+            has_seat result.now seat ≡ flows self.now (beside place seat) place }
         ensures edits { (es : List Edit) → StandsFor self.now es → (seat : ℕ) →
-            has_seat result.now seat ≡ flows_in es place (beside place seat) }
+            has_seat result.now seat ≡ flows_in es (beside place seat) place }
         ensures held { (seat : ℕ) → IsTrue (has_seat result.now seat) →
             IsTrue (holds self.now (beside place seat)) }
     {
-        masks_are_sets();
         let room = &self.rooms[usize::from(place.room)];
         room.open(usize::from(place.seat))
     }
@@ -121,13 +117,12 @@ impl FlowTable {
     pub fn silenced(&self, place: Place) -> &Mask
         requires { IsTrue (holds self.now place) }
         ensures kept { (seat : ℕ) →
-            has_seat result.now seat ≡ is_silenced self.now place (beside place seat) }
+            has_seat result.now seat ≡ is_silenced self.now (beside place seat) place }
         ensures edits { (es : List Edit) → StandsFor self.now es → (seat : ℕ) →
-            has_seat result.now seat ≡ is_silenced_in es place (beside place seat) }
+            has_seat result.now seat ≡ is_silenced_in es (beside place seat) place }
         ensures held { (seat : ℕ) → IsTrue (has_seat result.now seat) →
             IsTrue (holds self.now (beside place seat)) }
     {
-        masks_are_sets();
         let room = &self.rooms[usize::from(place.room)];
         room.silenced(usize::from(place.seat))
     }
@@ -139,10 +134,10 @@ impl FlowTable {
         ensures edits { (es : List Edit) → StandsFor self.old es →
             StandsFor self.new (Enter place talks listens ∷ es) }
         ensures place { SetsPlace self.old self.new place true talks listens }
-        ensures hears { (l t : Place) → hears self.new l t ≡
-            (if is_same l place || is_same t place
-            then are_together (holds self.new) l t
-            else hears self.old l t) }
+        ensures hears { (t l : Place) → hears self.new t l ≡
+            (if is_same_place t place || is_same_place l place
+            then are_together (holds self.new) t l
+            else hears self.old t l) }
         ensures others { KeepsOthers self.old self.new place.room }
     {
         let room = &mut self.rooms[usize::from(place.room)];
@@ -155,11 +150,10 @@ impl FlowTable {
         ensures edits { (es : List Edit) → StandsFor self.old es →
             StandsFor self.new (Leave place ∷ es) }
         ensures place { SetsPlace self.old self.new place false false false }
-        ensures hears { (l t : Place) → hears self.new l t ≡
-            (if is_same l place || is_same t place then false else hears self.old l t) }
+        ensures hears { (t l : Place) → hears self.new t l ≡
+            (if is_same_place t place || is_same_place l place then false else hears self.old t l) }
         ensures others { KeepsOthers self.old self.new place.room }
     {
-        masks_are_sets();
         let room = &mut self.rooms[usize::from(place.room)];
         room.leave(usize::from(place.seat));
     }
@@ -170,10 +164,9 @@ impl FlowTable {
         ensures edits { (es : List Edit) → StandsFor self.old es →
             StandsFor self.new (SetMode place talks listens ∷ es) }
         ensures place { SetsPlace self.old self.new place true talks listens }
-        ensures hears { (l t : Place) → hears self.new l t ≡ hears self.old l t }
+        ensures hears { (t l : Place) → hears self.new t l ≡ hears self.old t l }
         ensures others { KeepsOthers self.old self.new place.room }
     {
-        masks_are_sets();
         let room = &mut self.rooms[usize::from(place.room)];
         room.set_mode(usize::from(place.seat), talks, listens);
     }
@@ -186,9 +179,9 @@ impl FlowTable {
         ensures ok { OnOk result ((es : List Edit) → StandsFor self.old es →
             StandsFor self.new (apply_all room triples.now es)) }
         ensures places { KeepsPlaces self.old self.new }
-        ensures hears { OnOk result ((l t : Place) → l.room ≡ room →
-            IsTrue (are_together (holds self.old) l t) →
-            hears self.new l t ≡ hears_after triples.now l.seat t.seat (hears self.old l t)) }
+        ensures hears { OnOk result ((t l : Place) → t.room ≡ room →
+            IsTrue (are_together (holds self.old) t l) →
+            hears self.new t l ≡ hears_after triples.now t.seat l.seat (hears self.old t l)) }
         ensures others { KeepsOthers self.old self.new room }
         ensures err { OnErr result (self.new ≡ self.old) }
     {

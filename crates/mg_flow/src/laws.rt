@@ -7,7 +7,7 @@ ghost use Rattle.std.specs.Prelude.{◌≡◌, ℕ, ◌∷◌, ◌==◌, ◌&&�
 ghost use Rattle.mg_topology.specs.declared.triple.Triple.{Triple};
 ghost use Rattle.mg_topology.specs.Triple.{speaks_of, word_of};
 ghost use Rattle.mg_flow.specs.declared.place.Place.{Place};
-ghost use Rattle.mg_flow.specs.Place.{is_same, are_together};
+ghost use Rattle.mg_flow.specs.Place.{is_same_place, are_together};
 ghost use Rattle.mg_flow.specs.Edits.{Edit, Enter, Leave, SetMode, Apply, is_held, talks_in, listens_in, lets_hear, flows_in, is_silenced_in};
 ghost use Rattle.mg_flow.specs.Table.{StandsForSome};
 
@@ -24,9 +24,9 @@ pub fn each_table_stands_for_edits(table: &FlowTable)
 pub fn edits_change_who_is_held()
     ensures enter { (es : List Edit) (place p : Place) (talks listens : Bool) →
         is_held (Enter place talks listens ∷ es) p ≡
-        (if is_same p place then true else is_held es p) }
+        (if is_same_place p place then true else is_held es p) }
     ensures leave { (es : List Edit) (place p : Place) →
-        is_held (Leave place ∷ es) p ≡ (if is_same p place then false else is_held es p) }
+        is_held (Leave place ∷ es) p ≡ (if is_same_place p place then false else is_held es p) }
     ensures mode { (es : List Edit) (place p : Place) (talks listens : Bool) →
         is_held (SetMode place talks listens ∷ es) p ≡ is_held es p }
     ensures apply { (es : List Edit) (room : ℕ) (triple : Triple) (p : Place) →
@@ -38,7 +38,7 @@ pub fn edits_change_who_is_held()
 pub fn edits_change_last_words()
     ensures enter { (es : List Edit) (place a b : Place) (talks listens : Bool) → a.room ≡ b.room →
         lets_hear (Enter place talks listens ∷ es) a b ≡
-        (if is_same a place || is_same b place then true else lets_hear es a b) }
+        (if is_same_place a place || is_same_place b place then true else lets_hear es a b) }
     ensures leave { (es : List Edit) (place a b : Place) →
         lets_hear (Leave place ∷ es) a b ≡ lets_hear es a b }
     ensures mode { (es : List Edit) (place a b : Place) (talks listens : Bool) →
@@ -52,16 +52,16 @@ pub fn edits_change_last_words()
 
 /// For one who listens, each other talker of its room is either open or silenced.
 pub fn talkers_are_open_or_silenced()
-    ensures one { (es : List Edit) (listener talker : Place) → IsTrue (listens_in es listener) →
-        (flows_in es listener talker || is_silenced_in es listener talker) ≡
-        (talks_in es talker && are_together (is_held es) listener talker) }
-    ensures never_both { (es : List Edit) (listener talker : Place) →
-        IsFalse (flows_in es listener talker && is_silenced_in es listener talker) }
+    ensures one { (es : List Edit) (talker listener : Place) → IsTrue (listens_in es listener) →
+        (flows_in es talker listener || is_silenced_in es talker listener) ≡
+        (talks_in es talker && are_together (is_held es) talker listener) }
+    ensures never_both { (es : List Edit) (talker listener : Place) →
+        IsFalse (flows_in es talker listener && is_silenced_in es talker listener) }
 {}
 
 /// Nobody is silenced for a newcomer, nor it for anybody, whatever was said before of its place.
 pub fn newcomer_is_in_no_silence()
     ensures { (es : List Edit) (newcomer other : Place) (talks listens : Bool) →
-        IsFalse (is_silenced_in (Enter newcomer talks listens ∷ es) newcomer other)
-        × IsFalse (is_silenced_in (Enter newcomer talks listens ∷ es) other newcomer) }
+        IsFalse (is_silenced_in (Enter newcomer talks listens ∷ es) other newcomer)
+        × IsFalse (is_silenced_in (Enter newcomer talks listens ∷ es) newcomer other) }
 {}

@@ -1,9 +1,10 @@
+#![tactic(auto, using(crate::proofs::SeatLemmas::seat_rules))]
+
 ghost use Rattle.std.specs.Prelude.{◌≡◌, ℕ, ◌<◌};
 ghost use Rattle.mg_topology.specs.Mask.{has_seat};
 ghost use Rattle.mg_flow.specs.aids.Room.{flows_to, is_kept_from};
 
 use mg_topology::Topology;
-use mg_topology::laws::masks_are_sets;
 use mg_topology::mask::{self, MEMBERS, Mask};
 
 /// For each listener of a room, by its seat, two sets of talkers.
@@ -39,9 +40,8 @@ impl Masks {
 fn open_row(topology: &Topology, talks: Mask, listens: Mask, listener: usize) -> Mask
     requires { listener < MEMBERS }
     ensures { (talker : ℕ) →
-        has_seat result talker ≡ flows_to topology.now talks listens listener talker }
+        has_seat result talker ≡ flows_to topology.now talks listens talker listener }
 {
-    masks_are_sets();
     if mask::has_seat(listens, listener) {
         mask::intersection(topology.talkers(listener), talks)
     } else {
@@ -53,9 +53,8 @@ fn open_row(topology: &Topology, talks: Mask, listens: Mask, listener: usize) ->
 fn silenced_row(topology: &Topology, talks: Mask, listener: usize) -> Mask
     requires { listener < MEMBERS }
     ensures { (talker : ℕ) →
-        has_seat result talker ≡ is_kept_from topology.now talks listener talker }
+        has_seat result talker ≡ is_kept_from topology.now talks talker listener }
 {
-    masks_are_sets();
     if topology.holds(listener) {
         let talking = mask::intersection(topology.held(), talks);
         let others = mask::without_seat(talking, listener);

@@ -6,7 +6,6 @@ ghost use Rattle.mg_topology.specs.Topology.{holds, hears, StandsFor};
 ghost use Rattle.mg_flow.specs.aids.Room.{flows_to, is_kept_from};
 
 use crate::masks::Masks;
-use mg_topology::laws::masks_are_sets;
 use mg_topology::mask::{self, Mask};
 use mg_topology::{Overlap, Topology, Triple};
 use std::marker::Model;
@@ -38,10 +37,10 @@ impl Room {
     ghost use Rattle.mg_flow.specs.aids.Room.{IsVacant, SetsSeat};
 
     /// A room that nobody has entered.
+    #[tactic(auto, using(crate::proofs::SeatLemmas::seat_rules))]
     pub(crate) fn new() -> Self
         ensures { IsVacant result }
     {
-        masks_are_sets();
         let topology = Topology::new();
         let masks = Masks::of(&topology, mask::EMPTY, mask::EMPTY);
         Room {
@@ -64,8 +63,8 @@ impl Room {
         self.topology.held()
     }
 
-    pub(crate) fn hears(&self, listener: usize, talker: usize) -> bool
-        ensures { result ≡ hears self.now.topology listener talker }
+    pub(crate) fn hears(&self, talker: usize, listener: usize) -> bool
+        ensures { result ≡ hears self.now.topology talker listener }
     {
         self.topology.hears(listener, talker)
     }
@@ -74,7 +73,7 @@ impl Room {
     pub(crate) fn open(&self, listener: usize) -> &Mask
         requires { listener < seat_limit }
         ensures { (talker : ℕ) → has_seat result.now talker ≡
-            flows_to self.now.topology self.now.talks self.now.listens listener talker }
+            flows_to self.now.topology self.now.talks self.now.listens talker listener }
     {
         &self.masks.open[listener]
     }
@@ -83,7 +82,7 @@ impl Room {
     pub(crate) fn silenced(&self, listener: usize) -> &Mask
         requires { listener < seat_limit }
         ensures { (talker : ℕ) → has_seat result.now talker ≡
-            is_kept_from self.now.topology self.now.talks listener talker }
+            is_kept_from self.now.topology self.now.talks talker listener }
     {
         &self.masks.silenced[listener]
     }

@@ -1,4 +1,5 @@
--- Options that take one number, as the parser of a command line knows them, and what they were given.
+-- Options that take one number, as the parser of a command line knows them, and what they were
+-- given.
 use Rattle.std.specs.Prelude.{ℕ, ◌&&◌, nat_lt, if◌then◌else◌, List, Option, Some, None}
 use Rattle.std.specs.Prelude.{option_and_then, pos}
 use Rattle.std.specs.Str.Parse.{digits_value, without_leading_plus}

@@ -23,15 +23,15 @@ seen readings waits written =
 -- that is wanted, or before that tick where the clock failed (or told 2^64 - 1 times, after which
 -- no run goes on). Where the output was closed, a front of those lines was written. A run that
 -- left out no tick is silent, unless the clock failed.
-abbrev pub Ends : ℕ → Pace → (readings waits : ℕ) → (failed silent : Type 0) → Option (List ℕ)
+abbrev pub RunEnds : ℕ → Pace → (readings waits : ℕ) → (failed silent : Type 0) → Option (List ℕ)
     → Option (List ℕ) → Result (Unit {0}) PaceFault → Type 0
-Ends wanted p readings waits failed silent old new (Ok done) =
+RunEnds wanted p readings waits failed silent old new (Ok done) =
     (readings ≡ waits + 1) × (p.left ≡ 0 → silent) × (wanted * p.polls ≤ p.steps)
     × Appends old new (text_by wanted p)
-Ends wanted p readings waits failed silent old new (Err faults.Clock) =
+RunEnds wanted p readings waits failed silent old new (Err faults.Clock) =
     (readings ≡ waits) × (failed ⊎ (readings ≡ 18446744073709551615))
     × (p.steps ≤ wanted * p.polls) × Appends old new (text p.polls p.steps)
-Ends wanted p readings waits failed silent old new (Err faults.Closed) =
+RunEnds wanted p readings waits failed silent old new (Err faults.Closed) =
     (readings ≡ waits + 1) × (p.left ≡ 0 → silent) × WritesFront (text_by wanted p) old new
 
 -- A run: the clock told some readings, some waits were made, and these waits and what was written
@@ -45,5 +45,5 @@ pub record Paced (options : Options) (failed silent : Type 0) (old new : Seen)
   pub tells : Appends old.readings new.readings readings
   pub waited : Appends old.waits new.waits waits
   pub paces : Paces (start options.polls) readings waits pace
-  pub ends : Ends options.ticks pace (length readings) (length waits) failed silent old.written
+  pub ends : RunEnds options.ticks pace (length readings) (length waits) failed silent old.written
       new.written result

@@ -14,7 +14,7 @@ use Rattle.mg_reply.specs.declared.entry_kind.EntryKind.TheVariants.{Triples, Co
 use Rattle.mg_reply.specs.Listed.{listed, grouped}
 use Rattle.mg_reply.specs.Entries.{item_text, texts_of, topology_entry, entries_of}
 use Rattle.mg_reply.specs.Written.{action_text, actions_text, items_text, reply_text}
-use Rattle.mg_reply.specs.Reply.{Answered, started, is_action, last_is_action, is_refusal, marked, with_item, after_put, after_all, places_of}
+use Rattle.mg_reply.specs.Reply.{Answered, new_reply, is_action, last_is_action, is_refusal, marked, with_item, after_put, after_all, places_of}
 use Rattle.mg_reply.specs.Theorems.{is_wide, TextAlone, AllThere}
 
 -- the bytes of parts, each with a comma
@@ -217,16 +217,16 @@ pub text_alone : TextAlone
 text_alone n xs w whole =
     elim (leb_tells (places_of false xs) 1600) [
       | inl t ↦
-          let k = fits (started n) xs refl t.1 in
-          rw (k.0, k.1, number-stays (started n) xs) refl
+          let k = fits (new_reply n) xs refl t.1 in
+          rw (k.0, k.1, number-stays (new_reply n) xs) refl
       | inr t ↦
           let long = long-text n xs w whole t.1 in
-          rw (over (started n) xs t.1) (sym (lt-ltb 16000 (length (reply_text n xs)) long))
+          rw (over (new_reply n) xs t.1) (sym (lt-ltb 16000 (length (reply_text n xs)) long))
     ]
 
 pub all_there : AllThere
 all_there n xs h =
     elim (leb_tells (places_of false xs) 1600) [
-      | inl t ↦ (fits (started n) xs refl t.1).1
-      | inr t ↦ let k = over (started n) xs t.1 in absurd cc
+      | inl t ↦ (fits (new_reply n) xs refl t.1).1
+      | inr t ↦ let k = over (new_reply n) xs t.1 in absurd cc
     ]

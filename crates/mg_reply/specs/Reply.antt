@@ -13,8 +13,8 @@ pub record Answered : Type 0 where
   pub has_pending : Bool
   pub is_long : Bool
 
-abbrev pub started : ℕ → Answered
-started n = record { number = n; items = []; room = 1600; has_pending = false; is_long = false }
+abbrev pub new_reply : ℕ → Answered
+new_reply n = record { number = n; items = []; room = 1600; has_pending = false; is_long = false }
 
 abbrev pub is_action : Item → Bool
 is_action (Triple a b association) = false

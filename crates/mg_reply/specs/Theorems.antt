@@ -7,7 +7,7 @@ use Rattle.mg_reply.specs.declared.item.Item.TheVariants.{Triple, Command, Fault
 use Rattle.mg_words.specs.Term.{is_term}
 use Rattle.mg_words.specs.Limits.{reply_limit}
 use Rattle.mg_reply.specs.Entries.{item_text}
-use Rattle.mg_reply.specs.Reply.{Answered, started, is_refusal, last_is_action, after_all}
+use Rattle.mg_reply.specs.Reply.{Answered, new_reply, is_refusal, last_is_action, after_all}
 use Rattle.mg_reply.specs.Written.{action_text, reply_text}
 
 -- whether the names in an item are names of terminations, as they are in each that is made
@@ -42,9 +42,9 @@ abbrev pub TextAlone : Type 0
 TextAlone =
     (n : ℕ) (xs : List Item) → list_all is_wide xs ≡ true
     → (is_refusal xs || last_is_action false xs) ≡ true
-    → is_too_long (after_all (started n) xs) ≡ nat_lt reply_limit (length (reply_text n xs))
+    → is_too_long (after_all (new_reply n) xs) ≡ nat_lt reply_limit (length (reply_text n xs))
 
 abbrev pub AllThere : Type 0
 AllThere =
-    (n : ℕ) (xs : List Item) → (after_all (started n) xs).is_long ≡ false
-    → (after_all (started n) xs).items ≡ xs
+    (n : ℕ) (xs : List Item) → (after_all (new_reply n) xs).is_long ≡ false
+    → (after_all (new_reply n) xs).items ≡ xs

@@ -1,5 +1,5 @@
 ghost use Rattle.std.specs.Prelude.{◌≡◌, [], true, false, IfOk};
-ghost use Rattle.mg_reply.specs.Reply.{after_put, started, is_action, is_whole, IsWhole};
+ghost use Rattle.mg_reply.specs.Reply.{after_put, new_reply, is_action, is_whole, IsWhole};
 
 use crate::entry_kind::EntryKind;
 use crate::item::Item;
@@ -34,7 +34,7 @@ impl Model for Reply {
 impl Reply {
     /// An empty reply to transaction 0. This takes all the memory.
     pub fn new(alloc: Global) -> Result<Self, AllocError>
-        ensures value { IfOk result (λ reply. reply ≡ started 0) }
+        ensures value { IfOk result (λ reply. reply ≡ new_reply 0) }
     {
         Ok(Reply {
             number: 0,
@@ -47,7 +47,7 @@ impl Reply {
 
     /// Empties the reply, and begins that to a transaction.
     pub fn start(&mut self, number: u32)
-        ensures value { self.new ≡ started number }
+        ensures value { self.new ≡ new_reply number }
     {
         self.number = number;
         self.items.clear();

@@ -7,7 +7,8 @@ use Rattle.std.specs.Option.{option_map}
 use Rattle.mg_scan.specs.declared.kind.TokenKind.{TokenKind}
 use Rattle.mg_scan.specs.declared.kind.TokenKind.TheVariants.{Word, Open, Close, Comma, Equals, Quoted, Octets}
 use Rattle.mg_words.specs.WordByte.{is_word_byte}
-use Rattle.mg_scan.specs.Tokens.{is_line_end, is_blank, is_quote_end, after_white, Taken, taken, closed_at, token_at, content_len, has_null, octets_closed, token_after, first_token, spelled}
+use Rattle.mg_words.specs.LineEnd.{is_line_end}
+use Rattle.mg_scan.specs.Tokens.{is_blank, is_quote_end, after_white, TokenAndRest, token_and_rest, closed_at, token_at, content_len, has_null, octets_closed, token_after, first_token, spelled}
 use Rattle.mg_scan.specs.White.{IsWhite, nothing, blank, semicolon, comment, line_end}
 
 pub chosen : {A : Type 0} (b : Bool) (x y z : A) → cond b x y ≡ z → ((b ≡ true) × (x ≡ z)) ⊎ ((b ≡ false) × (y ≡ z))
@@ -52,17 +53,17 @@ white_front false (b ∷ bs) =
     (λ e. semicolon_front b bs _ e (white_front true bs))
     (λ _. ([], nothing false, refl))))
 
-abbrev read_as : TokenKind → List ℕ → List ℕ → Taken
+abbrev read_as : TokenKind → List ℕ → List ℕ → TokenAndRest
 read_as kind text rest = record { piece = record { kind = kind; text = text }; rest = rest }
 
--- a token that was taken has its bytes in front
-abbrev Joins : List ℕ → Taken → Type 0
+-- a token that was token_and_rest has its bytes in front
+abbrev Joins : List ℕ → TokenAndRest → Type 0
 Joins bs x = bs ≡ spelled x.piece.kind x.piece.text ++ x.rest
 
-done : (bs : List ℕ) (k : TokenKind) (text rest : List ℕ) (x : Taken) → bs ≡ spelled k text ++ rest → taken k text rest ≡ Some (Ok x) → Joins bs x
+done : (bs : List ℕ) (k : TokenKind) (text rest : List ℕ) (x : TokenAndRest) → bs ≡ spelled k text ++ rest → token_and_rest k text rest ≡ Some (Ok x) → Joins bs x
 done bs k text rest x h e = let same : read_as k text rest ≡ x = cc in subst (Joins bs) same h
 
-closed_joins : (text bs : List ℕ) (x : Taken) → closed_at text bs ≡ Some (Ok x) → Joins (34 ∷ (text ++ bs)) x
+closed_joins : (text bs : List ℕ) (x : TokenAndRest) → closed_at text bs ≡ Some (Ok x) → Joins (34 ∷ (text ++ bs)) x
 closed_joins text [] x e = absurd cc
 closed_joins text (b ∷ bs) x e =
     elim (chosen (eqb b 34) _ _ _ e) [
@@ -70,7 +71,7 @@ closed_joins text (b ∷ bs) x e =
       | inr other ↦ absurd (cc other.1)
     ]
 
-pub token_joins : (bs : List ℕ) (x : Taken) → token_at bs ≡ Some (Ok x) → Joins bs x
+pub token_joins : (bs : List ℕ) (x : TokenAndRest) → token_at bs ≡ Some (Ok x) → Joins bs x
 unfolding token_at
 token_joins [] x e = absurd cc
 token_joins (b ∷ bs) x e =
@@ -122,7 +123,7 @@ brace_after escaped (b ∷ bs) n e =
           one_after b bs n k.0 k.2 (brace_after (eqb b 92) bs k.0 k.1)
     ]
 
-octets_join : (bs : List ℕ) (o : Option ℕ) (x : Taken) → content_len false bs ≡ o → octets_closed bs o ≡ Some (Ok x) → Joins (123 ∷ bs) x
+octets_join : (bs : List ℕ) (o : Option ℕ) (x : TokenAndRest) → content_len false bs ≡ o → octets_closed bs o ≡ Some (Ok x) → Joins (123 ∷ bs) x
 octets_join bs None x is e =
     elim (chosen (has_null bs) _ _ _ e) [ inl bad ↦ absurd (cc bad.1) | inr bad ↦ absurd (cc bad.1) ]
 octets_join bs (Some n) x is e =
@@ -133,7 +134,7 @@ octets_join bs (Some n) x is e =
           done _ Octets (take n bs) (drop (n + 1) bs) x (ap (λ (l : List ℕ). 123 ∷ l) (parts ∙ sym (append_assoc (take n bs) (125 ∷ []) (drop (n + 1) bs)))) good.1
     ]
 
-after_joins : (named : Bool) (bs : List ℕ) (x : Taken) → token_after named bs ≡ Some (Ok x) → Joins bs x
+after_joins : (named : Bool) (bs : List ℕ) (x : TokenAndRest) → token_after named bs ≡ Some (Ok x) → Joins bs x
 unfolding token_after
 after_joins named [] x e = absurd cc
 after_joins named (b ∷ bs) x e =
@@ -143,7 +144,7 @@ after_joins named (b ∷ bs) x e =
     ]
 
 -- The bytes are white space, the first token, and what stands after it.
-pub first_joins : (named : Bool) (bytes : List ℕ) (x : Taken) → first_token named bytes ≡ Some (Ok x) → (white : List ℕ) × IsWhite false white × (bytes ≡ white ++ (spelled x.piece.kind x.piece.text ++ x.rest))
+pub first_joins : (named : Bool) (bytes : List ℕ) (x : TokenAndRest) → first_token named bytes ≡ Some (Ok x) → (white : List ℕ) × IsWhite false white × (bytes ≡ white ++ (spelled x.piece.kind x.piece.text ++ x.rest))
 first_joins named bytes x e =
     let front = white_front false bytes in
     (front.0, front.1, front.2 ∙ ap (λ (l : List ℕ). front.0 ++ l) (after_joins named (after_white false bytes) x e))

@@ -7,7 +7,7 @@ use Rattle.std.specs.List.{position_or_len}
 use Rattle.memchr.specs.Find.{IsFirstByte, is_byte3}
 use Rattle.mg_scan.specs.declared.kind.TokenKind.TheVariants.{Quoted}
 use Rattle.mg_scan.specs.declared.fault.ScanFault.TheVariants.{OpenQuote}
-use Rattle.mg_scan.specs.Tokens.{is_quote_end, quoted_at, taken}
+use Rattle.mg_scan.specs.Tokens.{is_quote_end, quoted_at, token_and_rest}
 use Rattle.mg_scan.specs.aids.Places.{Places}
 
 place : (tail : List ℕ) (n : ℕ) → IsFirstByte (is_byte3 34 13 10) tail (Some n) → (position_or_len is_quote_end tail ≡ n) × (n < length tail)
@@ -37,5 +37,5 @@ quote_closes bytes tail n nonempty t h is =
       end = omega arith;
       some = omega arith;
       next = omega arith;
-      is = rw (p.0, drop_more tail n 0 p.1, eq-eqb _ 34 is, one, ← t) (ap (λ (r : List ℕ). taken Quoted (take n tail) r) (ap (drop (n + 1)) t ∙ drop-drop (n + 1) 1 bytes ∙ ap (λ (i : ℕ). drop i bytes) two));
+      is = rw (p.0, drop_more tail n 0 p.1, eq-eqb _ 34 is, one, ← t) (ap (λ (r : List ℕ). token_and_rest Quoted (take n tail) r) (ap (drop (n + 1)) t ∙ drop-drop (n + 1) 1 bytes ∙ ap (λ (i : ℕ). drop i bytes) two));
     }

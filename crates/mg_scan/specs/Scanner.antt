@@ -4,7 +4,7 @@ use Rattle.std.specs.Prelude.{None, Result, Ok, Err}
 use Rattle.mg_scan.specs.declared.token.Token.{Token}
 use Rattle.mg_scan.specs.declared.fault.ScanFault.{ScanFault}
 use Rattle.mg_scan.specs.Span.{text_of}
-use Rattle.mg_scan.specs.Tokens.{first_token, taken, closing, names_octets}
+use Rattle.mg_scan.specs.Tokens.{first_token, token_and_rest, closing_len, names_octets}
 
 -- a place in a source, and whether the token before it names a session description
 pub record Scanning : Type 0 where
@@ -21,12 +21,12 @@ rest_of s = drop s.at s.source
 pub record IsNext (old : Scanning) (token : Token) (new : Scanning) : Type 0 where
   pub start : old.at ≤ token.span.start
   pub span : token.span.start ≤ token.span.end
-  pub end : token.span.end + closing token.kind ≡ new.at
+  pub end : token.span.end + closing_len token.kind ≡ new.at
   pub progress : old.at < new.at
   pub within : new.at ≤ length old.source
   pub named : new.named ≡ names_octets token.kind (text_of old.source token.span)
   pub is : first_token old.named (rest_of old)
-      ≡ taken token.kind (text_of old.source token.span) (rest_of new)
+      ≡ token_and_rest token.kind (text_of old.source token.span) (rest_of new)
 
 -- One step: a token, a fault, or the end. After a fault and at the end there is nothing left.
 abbrev pub IsStep : Scanning → Option (Result Token ScanFault) → Scanning → Type 0

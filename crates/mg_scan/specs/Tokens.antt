@@ -5,16 +5,13 @@ use Rattle.std.specs.Prelude.{take, drop, Option, Some, None, Result, Ok, Err, c
 use Rattle.std.specs.List.{prefix_len, position_or_len, list_any}
 use Rattle.std.specs.Option.{option_map}
 use Rattle.std.specs.Str.{str_eq_ignore_ascii_case}
+use Rattle.mg_words.specs.LineEnd.{is_line_end}
 use Rattle.mg_words.specs.WordByte.{is_word_byte}
 use Rattle.mg_scan.specs.declared.kind.TokenKind.{TokenKind}
 use Rattle.mg_scan.specs.declared.kind.TokenKind.TheVariants.{Word, Open, Close, Comma, Equals}
 use Rattle.mg_scan.specs.declared.kind.TokenKind.TheVariants.{Quoted, Octets}
 use Rattle.mg_scan.specs.declared.fault.ScanFault.{ScanFault}
 use Rattle.mg_scan.specs.declared.fault.ScanFault.TheVariants.{BadByte, OpenQuote, OpenOctets}
-
--- carriage return or line feed
-abbrev pub is_line_end : ℕ → Bool
-is_line_end b = b == 13 || b == 10
 
 -- space, tab or line end
 abbrev pub is_blank : ℕ → Bool
@@ -40,33 +37,33 @@ pub record Piece : Type 0 where
   pub text : List ℕ
 
 -- a token and the bytes after it
-pub record Taken : Type 0 where
+pub record TokenAndRest : Type 0 where
   pub piece : Piece
   pub rest : List ℕ
 
-abbrev pub taken : TokenKind → List ℕ → List ℕ → Option (Result Taken ScanFault)
-taken kind text rest =
+abbrev pub token_and_rest : TokenKind → List ℕ → List ℕ → Option (Result TokenAndRest ScanFault)
+token_and_rest kind text rest =
     Some (Ok (record { piece = record { kind = kind; text = text }; rest = rest }))
 
 -- the end of a quoted text and what follows it
-abbrev pub closed_at : List ℕ → List ℕ → Option (Result Taken ScanFault)
+abbrev pub closed_at : List ℕ → List ℕ → Option (Result TokenAndRest ScanFault)
 closed_at text [] = Some (Err OpenQuote)
-closed_at text (b ∷ bs) = if b == 34 then taken Quoted text bs else Some (Err OpenQuote)
+closed_at text (b ∷ bs) = if b == 34 then token_and_rest Quoted text bs else Some (Err OpenQuote)
 
 -- the text after an opening quote
-abbrev pub quoted_at : List ℕ → Option (Result Taken ScanFault)
+abbrev pub quoted_at : List ℕ → Option (Result TokenAndRest ScanFault)
 quoted_at bs = let n = position_or_len is_quote_end bs in closed_at (take n bs) (drop n bs)
 
 -- the token that begins with the first byte
-unfoldable pub token_at : List ℕ → Option (Result Taken ScanFault)
+unfoldable pub token_at : List ℕ → Option (Result TokenAndRest ScanFault)
 token_at [] = None
 token_at (b ∷ bs) =
-    if is_word_byte b then (let n = prefix_len is_word_byte (b ∷ bs) in taken Word
+    if is_word_byte b then (let n = prefix_len is_word_byte (b ∷ bs) in token_and_rest Word
     (take n (b ∷ bs)) (drop n (b ∷ bs)))
-    else (if b == 123 then taken Open (b ∷ []) bs
-    else (if b == 125 then taken Close (b ∷ []) bs
-    else (if b == 44 then taken Comma (b ∷ []) bs
-    else (if b == 61 then taken Equals (b ∷ []) bs
+    else (if b == 123 then token_and_rest Open (b ∷ []) bs
+    else (if b == 125 then token_and_rest Close (b ∷ []) bs
+    else (if b == 44 then token_and_rest Comma (b ∷ []) bs
+    else (if b == 61 then token_and_rest Equals (b ∷ []) bs
     else (if b == 34 then quoted_at bs
     else Some (Err BadByte))))))
 
@@ -82,17 +79,18 @@ abbrev pub has_null : List ℕ → Bool
 has_null bs = list_any (λ b. b == 0) bs
 
 -- a session description of so many bytes, if it is closed
-abbrev pub octets_closed : List ℕ → Option ℕ → Option (Result Taken ScanFault)
+abbrev pub octets_closed : List ℕ → Option ℕ → Option (Result TokenAndRest ScanFault)
 octets_closed bs None = if has_null bs then Some (Err BadByte) else Some (Err OpenOctets)
 octets_closed bs (Some n) =
-    if has_null (take n bs) then Some (Err BadByte) else taken Octets (take n bs) (drop (n + 1) bs)
+    if has_null (take n bs) then Some (Err BadByte)
+    else token_and_rest Octets (take n bs) (drop (n + 1) bs)
 
 -- the session description after an opening brace
-abbrev pub octets_at : List ℕ → Option (Result Taken ScanFault)
+abbrev pub octets_at : List ℕ → Option (Result TokenAndRest ScanFault)
 octets_at bs = octets_closed bs (content_len false bs)
 
 -- the token that begins with the first byte, where the token before may name a session description
-unfoldable pub token_after : Bool → List ℕ → Option (Result Taken ScanFault)
+unfoldable pub token_after : Bool → List ℕ → Option (Result TokenAndRest ScanFault)
 token_after named [] = None
 token_after named (b ∷ bs) = if named && b == 123 then octets_at bs else token_at (b ∷ bs)
 
@@ -104,7 +102,7 @@ names_octets Word text =
 names_octets _ text = false
 
 -- the first token after white space
-abbrev pub first_token : Bool → List ℕ → Option (Result Taken ScanFault)
+abbrev pub first_token : Bool → List ℕ → Option (Result TokenAndRest ScanFault)
 first_token named bytes = token_after named (after_white false bytes)
 
 -- a token as it stands in its source
@@ -114,7 +112,7 @@ spelled Octets text = 123 ∷ (text ++ 125 ∷ [])
 spelled _ text = text
 
 -- how many bytes close a token after its text
-abbrev pub closing : TokenKind → ℕ
-closing Quoted = 1
-closing Octets = 1
-closing _ = 0
+abbrev pub closing_len : TokenKind → ℕ
+closing_len Quoted = 1
+closing_len Octets = 1
+closing_len _ = 0

@@ -1,6 +1,7 @@
 -- White space between tokens (RFC 3525, Annex B.2: LWSP, with its comments).
 use Rattle.std.specs.Prelude.{◌≡◌, ℕ, Bool, true, false, List, [], ◌∷◌}
-use Rattle.mg_scan.specs.Tokens.{is_blank, is_line_end}
+use Rattle.mg_words.specs.LineEnd.{is_line_end}
+use Rattle.mg_scan.specs.Tokens.{is_blank}
 
 -- Blanks and comments, one after another. A comment goes from a semicolon to the end of its line,
 -- or of the text. White space may begin inside a comment.

@@ -1,7 +1,8 @@
 ghost use Rattle.std.specs.Prelude.{◌≡◌, ◌≤◌, false, length, drop};
 ghost use Rattle.std.specs.List.{prefix_len, position_or_len};
 ghost use Rattle.mg_words.specs.WordByte.{is_word_byte};
-ghost use Rattle.mg_scan.specs.Tokens.{is_line_end, is_blank, after_white};
+ghost use Rattle.mg_words.specs.LineEnd.{is_line_end};
+ghost use Rattle.mg_scan.specs.Tokens.{is_blank, after_white};
 
 use mg_words::is_word_byte;
 

@@ -1,5 +1,5 @@
 ghost use Rattle.std.specs.Prelude.{◌≡◌, ◌++◌, ℕ, Bool, List, Some, Ok, false};
-ghost use Rattle.mg_scan.specs.Tokens.{Taken, first_token, spelled};
+ghost use Rattle.mg_scan.specs.Tokens.{TokenAndRest, first_token, spelled};
 ghost use Rattle.mg_scan.specs.White.{IsWhite};
 ghost use Rattle.mg_scan.specs.Scanner.{IsStep};
 
@@ -77,6 +77,6 @@ impl<'a> Scanner<'a> {
 /// How the parts of a text join: where a first token is found, the bytes are white space, that token as it
 /// is spelled, and the bytes after it.
 pub fn parts_join()
-    ensures { (named : Bool) (bytes : List ℕ) (x : Taken) → first_token named bytes ≡ Some (Ok x) →
+    ensures { (named : Bool) (bytes : List ℕ) (x : TokenAndRest) → first_token named bytes ≡ Some (Ok x) →
         (white : List ℕ) × IsWhite false white × (bytes ≡ white ++ (spelled x.piece.kind x.piece.text ++ x.rest)) }
 {}

@@ -10,11 +10,11 @@ use Rattle.mg_sdp.specs.declared.media.Media.{Media}
 use Rattle.mg_sdp.specs.declared.part.Part.{Part}
 use Rattle.mg_sdp.specs.declared.part.Part.TheVariants.{Missing, Faulty}
 use Rattle.mg_sdp.specs.declared.alternative.Alternative.{Alternative}
-use Rattle.mg_sdp.specs.Lines.{parts_of, value_by, value_of, values_of}
+use Rattle.mg_sdp.specs.Lines.{letter_and_value, value_by, line_value, values_of}
 use Rattle.mg_sdp.specs.Fields.{fields_of}
 use Rattle.mg_sdp.specs.Media.{media_in}
 use Rattle.mg_sdp.specs.Connection.{connection_in}
-use Rattle.mg_sdp.specs.Offer.{is_served_version, is_served_attribute, media_of, address_by, offer_with, offer_of}
+use Rattle.mg_sdp.specs.Offer.{is_served_version, is_served_attribute, only_media, address_by, offer_with, offer_of}
 use Rattle.mg_sdp.specs.aids.Reader.{part_of, no_lines, with_line, media_with_line, offer_at, offer_from, offer_by}
 
 abbrev media_part : List (List ℕ) → Part Media
@@ -47,16 +47,16 @@ offer_given : (holds : Bool) (o : Option Media) (address : Option (List ℕ)) �
 offer_given holds None address = refl
 offer_given holds (Some media) address = refl
 
-offer_medias : (holds : Bool) (medias : List (List ℕ)) (address : Option (List ℕ)) → offer_at holds (media_part medias) address ≡ (media_of medias >>= (λ media. cond holds (Some (offer_with media address)) None))
+offer_medias : (holds : Bool) (medias : List (List ℕ)) (address : Option (List ℕ)) → offer_at holds (media_part medias) address ≡ (only_media medias >>= (λ media. cond holds (Some (offer_with media address)) None))
 offer_medias holds [] address = refl
 offer_medias holds (value ∷ []) address = offer_given holds (media_in (fields_of value)) address
 offer_medias holds (value ∷ another ∷ values) address = refl
 
-offer_connected : (holds : Bool) (medias : List (List ℕ)) (o : Option (Option (List ℕ))) → offer_from holds (media_part medias) (part_of o) ≡ (o >>= (λ address. media_of medias >>= (λ media. cond holds (Some (offer_with media address)) None)))
+offer_connected : (holds : Bool) (medias : List (List ℕ)) (o : Option (Option (List ℕ))) → offer_from holds (media_part medias) (part_of o) ≡ (o >>= (λ address. only_media medias >>= (λ media. cond holds (Some (offer_with media address)) None)))
 offer_connected holds medias None = refl
 offer_connected holds medias (Some address) = offer_medias holds medias address
 
-offer_last : (holds : Bool) (medias : List (List ℕ)) (last : Option (List ℕ)) → offer_from holds (media_part medias) (connection_part last) ≡ (address_by last >>= (λ address. media_of medias >>= (λ media. cond holds (Some (offer_with media address)) None)))
+offer_last : (holds : Bool) (medias : List (List ℕ)) (last : Option (List ℕ)) → offer_from holds (media_part medias) (connection_part last) ≡ (address_by last >>= (λ address. only_media medias >>= (λ media. cond holds (Some (offer_with media address)) None)))
 offer_last holds medias None = offer_medias holds medias None
 offer_last holds medias (Some value) = offer_connected holds medias (connection_in (fields_of value))
 
@@ -126,8 +126,8 @@ cases_step versions attributes medias connections letter value false false true 
 cases_step versions attributes medias connections letter value false false false true e f g h = rw (eqb-true letter 99 h) (step_connection versions attributes medias connections value)
 cases_step versions attributes medias connections letter value false false false false e f g h = step_other versions attributes medias connections letter value e f g h
 
-pub state_of-push : (lines : List (List ℕ)) (line : List ℕ) (letter : ℕ) (value : List ℕ) → parts_of line ≡ Some (letter, value) → with_line (state_of lines) letter value ≡ state_of (lines ++ line ∷ [])
+pub state_of-push : (lines : List (List ℕ)) (line : List ℕ) (letter : ℕ) (value : List ℕ) → letter_and_value line ≡ Some (letter, value) → with_line (state_of lines) letter value ≡ state_of (lines ++ line ∷ [])
 unfolding state_of
 state_of-push lines line letter value e =
-    rw (filter_map-append (value_of 118) lines (line ∷ []), filter_map-append (value_of 97) lines (line ∷ []), filter_map-append (value_of 109) lines (line ∷ []), filter_map-append (value_of 99) lines (line ∷ []), e)
+    rw (filter_map-append (line_value 118) lines (line ∷ []), filter_map-append (line_value 97) lines (line ∷ []), filter_map-append (line_value 109) lines (line ∷ []), filter_map-append (line_value 99) lines (line ∷ []), e)
     (cases_step (values_of 118 lines) (values_of 97 lines) (values_of 109 lines) (values_of 99 lines) letter value (eqb letter 118) (eqb letter 97) (eqb letter 109) (eqb letter 99) refl refl refl refl)

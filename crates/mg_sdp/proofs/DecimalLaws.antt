@@ -7,7 +7,7 @@ use Rattle.std.proofs.lemmas.Bool.{leb-true, le-leb, ne_eqb, and_parts, and_from
 use Rattle.std.specs.List.{list_all}
 use Rattle.std.specs.Char.{is_ascii_digit}
 use Rattle.std.specs.Str.{all_ascii_digits}
-use Rattle.mg_words.specs.Numbers.{value_of, decimal_of, port_of, part_of}
+use Rattle.mg_words.specs.Numbers.{value_of_digits, decimal_of, port_of, address_part_of}
 use Rattle.mg_sdp.proofs.WrittenLaws.{byte_short, port_short}
 
 -- the digits of a number, the last of them apart
@@ -17,7 +17,7 @@ pub record IsWritten (n : ℕ) (ds : List ℕ) : Type 0 where
   pub parts : ds ≡ front ++ last ∷ []
   pub digits : all_ascii_digits ds ≡ true
   pub digit : is_ascii_digit last ≡ true
-  pub value : value_of ds ≡ n
+  pub value : value_of_digits ds ≡ n
 
 digit_at : (k : ℕ) → k < 10 → is_ascii_digit (48 + k) ≡ true
 digit_at k h = and_from (leb 48 (48 + k)) (leb (48 + k) 57) (le-leb 48 (48 + k) (omega arith)) (le-leb (48 + k) 57 (omega arith))
@@ -38,7 +38,7 @@ written_one n h = record {
   value = omega arith;
 }
 
-value_push : (ds : List ℕ) (d : ℕ) → value_of (ds ++ d ∷ []) ≡ value_of ds * 10 + (d - 48)
+value_push : (ds : List ℕ) (d : ℕ) → value_of_digits (ds ++ d ∷ []) ≡ value_of_digits ds * 10 + (d - 48)
 value_push ds d = rw (map-append (λ (c : ℕ). c - 48) ds (d ∷ [])) (number_push 10 (map (λ c. c - 48) ds) (d - 48))
 
 written_more : (n : ℕ) (ds : List ℕ) → 10 ≤ n → IsWritten (n / 10) ds → IsWritten n (ds ++ ((48 + n % 10) ∷ []))
@@ -67,7 +67,7 @@ decimal_of-decimal most limit n h short small =
 pub port_of-decimal : (n : ℕ) → n < 2 ^ 16 → port_of (decimal n) ≡ Some n
 port_of-decimal n h = decimal_of-decimal 5 65535 n (omega arith) (port_short n h) (omega arith)
 
-pub part_of-decimal : (n : ℕ) → n < 256 → part_of (decimal n) ≡ Some n
+pub part_of-decimal : (n : ℕ) → n < 256 → address_part_of (decimal n) ≡ Some n
 part_of-decimal n h = decimal_of-decimal 3 255 n (omega arith) (byte_short n h) (omega arith)
 
 digit_passes : (p : ℕ → Bool) → ((c : ℕ) → 48 ≤ c → c ≤ 57 → p c ≡ true) → (c : ℕ) → is_ascii_digit c ≡ true → p c ≡ true

@@ -7,10 +7,10 @@ use Rattle.std.proofs.lemmas.Bool.{and_parts}
 use Rattle.std.specs.Prelude.{IsTrue}
 use Rattle.std.specs.List.{list_all, flat_map, AllByRecursion}
 use Rattle.mg_sdp.specs.Alternatives.{is_version, IsAlternative, BeginsWithVersion, AreAlternatives}
-use Rattle.mg_sdp.specs.Sessions.{closing, alternatives_after}
+use Rattle.mg_sdp.specs.Sessions.{one_alternative, alternatives_after}
 
 -- the alternatives after the first lines of one are alternatives
-joined_closing : (current : List (List ℕ)) → flat_map (λ ls. ls) (closing current) ≡ current
+joined_closing : (current : List (List ℕ)) → flat_map (λ ls. ls) (one_alternative current) ≡ current
 joined_closing [] = refl
 joined_closing (line ∷ lines) = append-nil (line ∷ lines)
 
@@ -18,7 +18,7 @@ joined_step : (current : List (List ℕ)) (line : List ℕ) (lines : List (List 
     → ((current' : List (List ℕ)) → flat_map (λ ls. ls) (alternatives_after current' lines) ≡ current' ++ lines)
     → flat_map (λ ls. ls) (alternatives_after current (line ∷ lines)) ≡ current ++ line ∷ lines
 joined_step current line lines true e others =
-    rw (e, flat_map-append (λ (ls : List (List ℕ)). ls) (closing current) (alternatives_after (line ∷ []) lines), joined_closing current, others (line ∷ [])) refl
+    rw (e, flat_map-append (λ (ls : List (List ℕ)). ls) (one_alternative current) (alternatives_after (line ∷ []) lines), joined_closing current, others (line ∷ [])) refl
 joined_step current line lines false e others = rw e (others (current ++ line ∷ []) ∙ append_assoc current (line ∷ []) lines)
 
 joined : (lines current : List (List ℕ)) → flat_map (λ ls. ls) (alternatives_after current lines) ≡ current ++ lines
@@ -37,7 +37,7 @@ each_push : (current : List (List ℕ)) (line : List ℕ) → is_version line �
 each_push [] line e h = refl
 each_push (first ∷ lines) line e h = rw (list_all-append goes_on lines (line ∷ []), h, e) refl
 
-each_closing : (current : List (List ℕ)) (others : List (List (List ℕ))) → IsBegun current → AllByRecursion IsAlternative others → AllByRecursion IsAlternative (closing current ++ others)
+each_closing : (current : List (List ℕ)) (others : List (List (List ℕ))) → IsBegun current → AllByRecursion IsAlternative others → AllByRecursion IsAlternative (one_alternative current ++ others)
 each_closing [] others h rest = rest
 each_closing (line ∷ lines) others h rest = (h, rest)
 
@@ -48,7 +48,7 @@ each_step current line lines true e h others = rw e (each_closing current (alter
 each_step current line lines false e h others = rw e (others (current ++ line ∷ []) (each_push current line e h))
 
 each : (lines current : List (List ℕ)) → IsBegun current → AllByRecursion IsAlternative (alternatives_after current lines)
-each [] current h = rw (← append-nil (closing current)) (each_closing current [] h tt)
+each [] current h = rw (← append-nil (one_alternative current)) (each_closing current [] h tt)
 each (line ∷ lines) current h = each_step current line lines (is_version line) refl h (each lines)
 
 -- all begin with their v= line where the first does
@@ -66,7 +66,7 @@ later_rest : (alternatives : List (List (List ℕ))) → AllByRecursion BeginsWi
 later_rest [] h = tt
 later_rest (first ∷ others) h = h.1
 
-later_closing : (current : List (List ℕ)) (others : List (List (List ℕ))) → AllByRecursion BeginsWithVersion others → AllByRecursion BeginsWithVersion (drop 1 (closing current ++ others))
+later_closing : (current : List (List ℕ)) (others : List (List (List ℕ))) → AllByRecursion BeginsWithVersion others → AllByRecursion BeginsWithVersion (drop 1 (one_alternative current ++ others))
 later_closing [] others h = later_rest others h
 later_closing (line ∷ lines) others h = h
 
@@ -77,7 +77,7 @@ later_step current line lines true e others = rw e (later_closing current (alter
 later_step current line lines false e others = rw e (others (current ++ line ∷ []))
 
 later : (lines current : List (List ℕ)) → AllByRecursion BeginsWithVersion (drop 1 (alternatives_after current lines))
-later [] current = rw (← append-nil (closing current)) (later_closing current [] tt)
+later [] current = rw (← append-nil (one_alternative current)) (later_closing current [] tt)
 later (line ∷ lines) current = later_step current line lines (is_version line) refl (later lines)
 
 pub are_alternatives : (lines : List (List ℕ)) → AreAlternatives lines (alternatives_after [] lines)

@@ -11,7 +11,8 @@ use Rattle.mg_words.specs.Address.{address_of}
 use Rattle.mg_g711.specs.declared.law.Law.{Law}
 use Rattle.mg_g711.specs.declared.law.Law.TheVariants.{Mu, A}
 use Rattle.mg_sdp.specs.declared.media.Media.{Media}
-use Rattle.mg_sdp.specs.Lines.{is_line_end, is_blank, is_filled, trimmed, lines_of, parts_of}
+use Rattle.mg_words.specs.LineEnd.{is_line_end}
+use Rattle.mg_sdp.specs.Lines.{is_space_or_tab, is_filled, trimmed, content_lines, letter_and_value}
 use Rattle.mg_sdp.specs.Fields.{fields_of}
 use Rattle.mg_sdp.specs.Media.{media_in, law_of}
 use Rattle.mg_sdp.specs.Connection.{connection_in}
@@ -38,26 +39,26 @@ split_whole p (x ∷ xs) h =
 abbrev goes_on : ℕ → Bool
 goes_on b = not (is_line_end b)
 
-line_then : (line rest : List ℕ) → list_all goes_on line ≡ true → trimmed line ≡ line → is_filled line ≡ true → lines_of (line ++ 13 ∷ 10 ∷ rest) ≡ line ∷ lines_of rest
-unfolding lines_of
+line_then : (line rest : List ℕ) → list_all goes_on line ≡ true → trimmed line ≡ line → is_filled line ≡ true → content_lines (line ++ 13 ∷ 10 ∷ rest) ≡ line ∷ content_lines rest
+unfolding content_lines
 line_then line rest h t f = rw (split_seam is_line_end line 13 (10 ∷ rest) h refl, t, f) refl
 
-trimmed_whole : (x : ℕ) (front : List ℕ) (z : ℕ) → is_blank x ≡ false → is_blank z ≡ false → trimmed (x ∷ (front ++ z ∷ [])) ≡ x ∷ (front ++ z ∷ [])
+trimmed_whole : (x : ℕ) (front : List ℕ) (z : ℕ) → is_space_or_tab x ≡ false → is_space_or_tab z ≡ false → trimmed (x ∷ (front ++ z ∷ [])) ≡ x ∷ (front ++ z ∷ [])
 trimmed_whole x front z e f =
     let none : length (x ∷ (front ++ z ∷ [])) - 0 ≡ length (x ∷ (front ++ z ∷ [])) = omega arith in
     rw e (rw (reverse-append (x ∷ front) (z ∷ []), f, none) (take-length (x ∷ (front ++ z ∷ []))))
 
 -- a field and a space, before others, and the last field
 abbrev is_ink : ℕ → Bool
-is_ink b = not (is_blank b)
+is_ink b = not (is_space_or_tab b)
 
 field_then : (field rest : List ℕ) → list_all is_ink field ≡ true → is_filled field ≡ true → fields_of (field ++ 32 ∷ rest) ≡ field ∷ fields_of rest
 unfolding fields_of
-field_then field rest h f = rw (split_seam is_blank field 32 rest h refl, f) refl
+field_then field rest h f = rw (split_seam is_space_or_tab field 32 rest h refl, f) refl
 
 field_last : (field : List ℕ) → list_all is_ink field ≡ true → is_filled field ≡ true → fields_of field ≡ field ∷ []
 unfolding fields_of
-field_last field h f = rw (split_whole is_blank field h, f) refl
+field_last field h f = rw (split_whole is_space_or_tab field h, f) refl
 
 all_append : (p : ℕ → Bool) (xs ys : List ℕ) → list_all p xs ≡ true → list_all p ys ≡ true → list_all p (xs ++ ys) ≡ true
 all_append p [] ys h k = k
@@ -185,7 +186,7 @@ media_line port law = codes "m=audio " ++ (decimal port ++ (codes " RTP/AVP " ++
 abbrev time_line : List ℕ
 time_line = codes "a=ptime:20"
 
-digit_no_blank : (c : ℕ) → is_ascii_digit c ≡ true → is_blank c ≡ false
+digit_no_blank : (c : ℕ) → is_ascii_digit c ≡ true → is_space_or_tab c ≡ false
 digit_no_blank c h =
     let two = and_parts (leb 48 c) (leb c 57) h in
     let low = leb-true 48 c two.0 in
@@ -204,7 +205,7 @@ connection_trimmed a b c d h =
 media_ends : (port : List ℕ) (last : ℕ) → codes "m=audio " ++ (port ++ (codes " RTP/AVP " ++ last ∷ [])) ≡ 109 ∷ ((codes "=audio " ++ (port ++ codes " RTP/AVP ")) ++ last ∷ [])
 media_ends port last = simp append_assoc
 
-media_trimmed_at : (port : List ℕ) (last : ℕ) → is_blank last ≡ false → trimmed (codes "m=audio " ++ (port ++ (codes " RTP/AVP " ++ last ∷ []))) ≡ codes "m=audio " ++ (port ++ (codes " RTP/AVP " ++ last ∷ []))
+media_trimmed_at : (port : List ℕ) (last : ℕ) → is_space_or_tab last ≡ false → trimmed (codes "m=audio " ++ (port ++ (codes " RTP/AVP " ++ last ∷ []))) ≡ codes "m=audio " ++ (port ++ (codes " RTP/AVP " ++ last ∷ []))
 media_trimmed_at port last h =
     let P : List ℕ → Type 0 = λ t. trimmed t ≡ t in
     subst P (sym (media_ends port last)) (trimmed_whole 109 (codes "=audio " ++ (port ++ codes " RTP/AVP ")) last refl h)
@@ -222,26 +223,26 @@ abbrev with_ends : List ℕ → List ℕ → List ℕ
 with_ends connection media = version_line ++ 13 ∷ 10 ∷ (connection ++ 13 ∷ 10 ∷ (media ++ 13 ∷ 10 ∷ (time_line ++ 13 ∷ 10 ∷ [])))
 
 text_lines : (a b c d port : ℕ) (law : Law) → a < 256 → b < 256 → c < 256 → d < 256 → port < 2 ^ 16
-    → lines_of (with_ends (connection_line a b c d) (media_line port law)) ≡ version_line ∷ connection_line a b c d ∷ media_line port law ∷ time_line ∷ []
+    → content_lines (with_ends (connection_line a b c d) (media_line port law)) ≡ version_line ∷ connection_line a b c d ∷ media_line port law ∷ time_line ∷ []
 text_lines a b c d port law ha hb hc hd hp =
     let connection = connection_line a b c d in
     let media = media_line port law in
     let ends : List ℕ = time_line ++ 13 ∷ 10 ∷ [] in
-    let fourth : lines_of ends ≡ time_line ∷ [] = line_then time_line [] refl refl refl ∙ ap (λ (others : List (List ℕ)). time_line ∷ others) lines_none in
+    let fourth : content_lines ends ≡ time_line ∷ [] = line_then time_line [] refl refl refl ∙ ap (λ (others : List (List ℕ)). time_line ∷ others) lines_none in
     let media_plain = all_append goes_on (decimal port) (codes " RTP/AVP " ++ law_text law) (decimal_passes goes_on digit_goes_on port (omega arith)) (protocol_goes_on law) in
-    let third : lines_of (media ++ 13 ∷ 10 ∷ ends) ≡ media ∷ time_line ∷ [] = line_then media ends media_plain (media_trimmed port law) refl ∙ ap (λ (others : List (List ℕ)). media ∷ others) fourth in
-    let second : lines_of (connection ++ 13 ∷ 10 ∷ (media ++ 13 ∷ 10 ∷ ends)) ≡ connection ∷ media ∷ time_line ∷ [] =
+    let third : content_lines (media ++ 13 ∷ 10 ∷ ends) ≡ media ∷ time_line ∷ [] = line_then media ends media_plain (media_trimmed port law) refl ∙ ap (λ (others : List (List ℕ)). media ∷ others) fourth in
+    let second : content_lines (connection ++ 13 ∷ 10 ∷ (media ++ 13 ∷ 10 ∷ ends)) ≡ connection ∷ media ∷ time_line ∷ [] =
     line_then connection (media ++ 13 ∷ 10 ∷ ends) (dotted_passes goes_on digit_goes_on refl a b c d ha hb hc hd) (connection_trimmed a b c d hd) refl ∙ ap (λ (others : List (List ℕ)). connection ∷ others) third in
     line_then version_line (connection ++ 13 ∷ 10 ∷ (media ++ 13 ∷ 10 ∷ ends)) refl refl refl ∙ ap (λ (others : List (List ℕ)). version_line ∷ others) second
 
 lines_offer : (a b c d port : ℕ) (law : Law) → a < 256 → b < 256 → c < 256 → d < 256 → port < 2 ^ 16
     → offer_of (version_line ∷ connection_line a b c d ∷ media_line port law ∷ time_line ∷ []) ≡ Some (record { address = Some (a ∷ b ∷ c ∷ d ∷ []); port = Some port; law = Some law })
-unfolding offer_of parts_of
+unfolding offer_of letter_and_value
 lines_offer a b c d port law ha hb hc hd hp = rw (connection_read a b c d ha hb hc hd, media_read port law hp) refl
 
 lines_read : (a b c d port : ℕ) (law : Law) → a < 256 → b < 256 → c < 256 → d < 256 → port < 2 ^ 16
     → sessions_of (with_ends (connection_line a b c d) (media_line port law)) ≡ Ok (Some (record { address = Some (a ∷ b ∷ c ∷ d ∷ []); port = Some port; law = Some law }) ∷ [])
-unfolding sessions_of parts_of
+unfolding sessions_of letter_and_value
 lines_read a b c d port law ha hb hc hd hp = rw (text_lines a b c d port law ha hb hc hd hp, lines_offer a b c d port law ha hb hc hd hp) refl
 
 text_joined : (a b c d port : ℕ) (law : Law) → session_text (record { address = a ∷ b ∷ c ∷ d ∷ []; port = port; law = law }) ≡ with_ends (connection_line a b c d) (media_line port law)

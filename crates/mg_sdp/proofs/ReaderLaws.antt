@@ -8,10 +8,10 @@ use Rattle.mg_sdp.specs.declared.offer.Offer.{Offer}
 use Rattle.mg_sdp.specs.declared.fault.SdpFault.{SdpFault}
 use Rattle.mg_sdp.specs.declared.fault.SdpFault.TheVariants.{Line, TooMany}
 use Rattle.mg_sdp.specs.declared.alternative.Alternative.{Alternative}
-use Rattle.mg_sdp.specs.Lines.{parts_of, is_line, lines_of}
+use Rattle.mg_sdp.specs.Lines.{letter_and_value, is_line, content_lines}
 use Rattle.mg_sdp.specs.Offer.{offer_of}
 use Rattle.mg_sdp.specs.Alternatives.{is_version, IsReading}
-use Rattle.mg_sdp.specs.Sessions.{closing, alternatives_after, sessions_of}
+use Rattle.mg_sdp.specs.Sessions.{one_alternative, alternatives_after, sessions_of}
 use Rattle.mg_sdp.specs.aids.Progress.{Progress}
 use Rattle.mg_sdp.specs.aids.Reader.{with_line, start, ended, continued, line_read, closed, finished}
 use Rattle.mg_sdp.proofs.GroupLaws.{are_alternatives}
@@ -59,7 +59,7 @@ end_one : (done : List (List (List ℕ))) (lines : List (List ℕ)) (small over 
 end_one done lines true over f g = end_within done lines over (omega (arith, ltb-true _ _ f, length-take 8 (map offer_of done), length-map done offer_of)) g
 end_one done lines false over f g = end_after done lines (omega (arith, ltb-false _ _ f, length-take 8 (map offer_of done), length-map done offer_of))
 
-pub ended-progress_of : (done : List (List (List ℕ))) (current : List (List ℕ)) → ended (progress_of done current) ≡ progress_of (done ++ closing current) []
+pub ended-progress_of : (done : List (List (List ℕ))) (current : List (List ℕ)) → ended (progress_of done current) ≡ progress_of (done ++ one_alternative current) []
 ended-progress_of done [] = rw (append-nil done) refl
 ended-progress_of done (line ∷ lines) = rw (offer_by-state_of (line ∷ lines)) (end_one done (line ∷ lines) (ltb (length (take 8 (map offer_of done))) 8) (ltb 8 (length done)) refl refl)
 
@@ -67,13 +67,13 @@ ended-progress_of done (line ∷ lines) = rw (offer_by-state_of (line ∷ lines)
 abbrev begun : List (List (List ℕ)) → Alternative → Progress
 begun done alternative = record { offers = take 8 (map offer_of done); current = Some alternative; over = ltb 8 (length done) }
 
-continue_step : (done : List (List (List ℕ))) (current : List (List ℕ)) (line : List ℕ) (letter : ℕ) (value : List ℕ) → parts_of line ≡ Some (letter, value) → continued (progress_of done current) letter value ≡ progress_of done (current ++ line ∷ [])
+continue_step : (done : List (List (List ℕ))) (current : List (List ℕ)) (line : List ℕ) (letter : ℕ) (value : List ℕ) → letter_and_value line ≡ Some (letter, value) → continued (progress_of done current) letter value ≡ progress_of done (current ++ line ∷ [])
 continue_step done [] line letter value e = ap (begun done) (ap (λ (a : Alternative). with_line a letter value) (sym state_of-nil) ∙ state_of-push [] line letter value e)
 continue_step done (first ∷ lines) line letter value e = ap (begun done) (state_of-push (first ∷ lines) line letter value e)
 
-line_step : (done : List (List (List ℕ))) (current : List (List ℕ)) (line : List ℕ) (letter : ℕ) (value : List ℕ) (version : Bool) → parts_of line ≡ Some (letter, value) → eqb letter 118 ≡ version
-    → continued (cond version (ended (progress_of done current)) (progress_of done current)) letter value ≡ cond version (progress_of (done ++ closing current) (line ∷ [])) (progress_of done (current ++ line ∷ []))
-line_step done current line letter value true e f = ap (λ (p : Progress). continued p letter value) (ended-progress_of done current) ∙ continue_step (done ++ closing current) [] line letter value e
+line_step : (done : List (List (List ℕ))) (current : List (List ℕ)) (line : List ℕ) (letter : ℕ) (value : List ℕ) (version : Bool) → letter_and_value line ≡ Some (letter, value) → eqb letter 118 ≡ version
+    → continued (cond version (ended (progress_of done current)) (progress_of done current)) letter value ≡ cond version (progress_of (done ++ one_alternative current) (line ∷ [])) (progress_of done (current ++ line ∷ []))
+line_step done current line letter value true e f = ap (λ (p : Progress). continued p letter value) (ended-progress_of done current) ∙ continue_step (done ++ one_alternative current) [] line letter value e
 line_step done current line letter value false e f = continue_step done current line letter value e
 
 -- what reading gives from here on
@@ -92,27 +92,27 @@ closed_at done false e =
     let all : take 8 (map offer_of done) ≡ map offer_of done = take_all 8 (map offer_of done) (omega (arith, ltb-false _ _ e)) in
     rw (e, all) refl
 
-finished-progress_of : (done : List (List (List ℕ))) (current : List (List ℕ)) → finished (progress_of done current) ≡ given true (done ++ closing current)
+finished-progress_of : (done : List (List (List ℕ))) (current : List (List ℕ)) → finished (progress_of done current) ≡ given true (done ++ one_alternative current)
 unfolding finished
-finished-progress_of done current = ap closed (ended-progress_of done current) ∙ closed_at (done ++ closing current) (ltb 8 (length (done ++ closing current))) refl
+finished-progress_of done current = ap closed (ended-progress_of done current) ∙ closed_at (done ++ one_alternative current) (ltb 8 (length (done ++ one_alternative current))) refl
 
 some_if : (b : Bool) (value : List ℕ) → is_some (cond b (Some value) None) ≡ b
 some_if true value = refl
 some_if false value = refl
 
-line_read-progress_of : (done : List (List (List ℕ))) (current : List (List ℕ)) (line : List ℕ) (letter : ℕ) (value : List ℕ) → parts_of line ≡ Some (letter, value)
-    → line_read (progress_of done current) line ≡ cond (is_version line) (progress_of (done ++ closing current) (line ∷ [])) (progress_of done (current ++ line ∷ []))
+line_read-progress_of : (done : List (List (List ℕ))) (current : List (List ℕ)) (line : List ℕ) (letter : ℕ) (value : List ℕ) → letter_and_value line ≡ Some (letter, value)
+    → line_read (progress_of done current) line ≡ cond (is_version line) (progress_of (done ++ one_alternative current) (line ∷ [])) (progress_of done (current ++ line ∷ []))
 unfolding line_read
 line_read-progress_of done current line letter value e = rw (e, some_if (eqb letter 118) value) (line_step done current line letter value (eqb letter 118) e refl)
 
 -- reading the lines after those that were read
 read_step : (done : List (List (List ℕ))) (current : List (List ℕ)) (line : List ℕ) (lines : List (List ℕ)) (version : Bool) → is_version line ≡ version
     → ((done' : List (List (List ℕ))) (current' : List (List ℕ)) → read_on (progress_of done' current') lines ≡ given (list_all is_line lines) (done' ++ alternatives_after current' lines))
-    → read_on (cond (is_version line) (progress_of (done ++ closing current) (line ∷ [])) (progress_of done (current ++ line ∷ []))) lines ≡ given (list_all is_line lines) (done ++ alternatives_after current (line ∷ lines))
-read_step done current line lines true e others = rw e (others (done ++ closing current) (line ∷ []) ∙ ap (given (list_all is_line lines)) (append_assoc done (closing current) (alternatives_after (line ∷ []) lines)))
+    → read_on (cond (is_version line) (progress_of (done ++ one_alternative current) (line ∷ [])) (progress_of done (current ++ line ∷ []))) lines ≡ given (list_all is_line lines) (done ++ alternatives_after current (line ∷ lines))
+read_step done current line lines true e others = rw e (others (done ++ one_alternative current) (line ∷ []) ∙ ap (given (list_all is_line lines)) (append_assoc done (one_alternative current) (alternatives_after (line ∷ []) lines)))
 read_step done current line lines false e others = rw e (others done (current ++ line ∷ []))
 
-read_line : (done : List (List (List ℕ))) (current : List (List ℕ)) (line : List ℕ) (lines : List (List ℕ)) (o : Option (ℕ × List ℕ)) → parts_of line ≡ o
+read_line : (done : List (List (List ℕ))) (current : List (List ℕ)) (line : List ℕ) (lines : List (List ℕ)) (o : Option (ℕ × List ℕ)) → letter_and_value line ≡ o
     → ((done' : List (List (List ℕ))) (current' : List (List ℕ)) → read_on (progress_of done' current') lines ≡ given (list_all is_line lines) (done' ++ alternatives_after current' lines))
     → read_on (progress_of done current) (line ∷ lines) ≡ given (list_all is_line (line ∷ lines)) (done ++ alternatives_after current (line ∷ lines))
 read_line done current line lines None e others = let fault : is_line line ≡ false = rw e refl in rw fault refl
@@ -122,16 +122,16 @@ read_line done current line lines (Some parts) e others =
 
 pub read_on-progress_of : (lines : List (List ℕ)) (done : List (List (List ℕ))) (current : List (List ℕ)) → read_on (progress_of done current) lines ≡ given (list_all is_line lines) (done ++ alternatives_after current lines)
 read_on-progress_of [] done current = finished-progress_of done current
-read_on-progress_of (line ∷ lines) done current = read_line done current line lines (parts_of line) refl (λ done' current'. read_on-progress_of lines done' current')
+read_on-progress_of (line ∷ lines) done current = read_line done current line lines (letter_and_value line) refl (λ done' current'. read_on-progress_of lines done' current')
 
 -- a content is read as its lines are, one after another
-pub content_read : (content : List ℕ) → read_on start (lines_of content) ≡ sessions_of content
+pub content_read : (content : List ℕ) → read_on start (content_lines content) ≡ sessions_of content
 unfolding sessions_of
-content_read content = read_on-progress_of (lines_of content) [] []
+content_read content = read_on-progress_of (content_lines content) [] []
 
 pub sessions_read : (content : List ℕ) (result : Result (List (Option Offer)) SdpFault) → result ≡ sessions_of content → IsReading content result
 unfolding sessions_of
-sessions_read content result e = (alternatives_after [] (lines_of content), are_alternatives (lines_of content), e)
+sessions_read content result e = (alternatives_after [] (content_lines content), are_alternatives (content_lines content), e)
 
 pub line_fault : (p : Progress) (line : List ℕ) (lines : List (List ℕ)) → is_line line ≡ false → read_on p (line ∷ lines) ≡ Err Line
 line_fault p line lines e = rw e refl
@@ -145,8 +145,8 @@ line_told : (lined over : Bool) (offers : List (Option Offer)) → (cond (not li
 line_told true over offers = (λ e. absurd (over_told over offers e), λ e. cc)
 line_told false over offers = (λ e. refl, λ e. refl)
 
-pub sessions_fault : (content : List ℕ) (result : Result (List (Option Offer)) SdpFault) → result ≡ sessions_of content → (result ≡ Err Line) ↔ (list_all is_line (lines_of content) ≡ false)
+pub sessions_fault : (content : List ℕ) (result : Result (List (Option Offer)) SdpFault) → result ≡ sessions_of content → (result ≡ Err Line) ↔ (list_all is_line (content_lines content) ≡ false)
 unfolding sessions_of
 sessions_fault content result e =
-    let alternatives = alternatives_after [] (lines_of content) in
-    rw e (line_told (list_all is_line (lines_of content)) (ltb 8 (length alternatives)) (map offer_of alternatives))
+    let alternatives = alternatives_after [] (content_lines content) in
+    rw e (line_told (list_all is_line (content_lines content)) (ltb 8 (length alternatives)) (map offer_of alternatives))

@@ -8,12 +8,12 @@ use Rattle.mg_words.specs.Limits.{alternative_limit}
 use Rattle.mg_sdp.specs.declared.fault.SdpFault.{SdpFault}
 use Rattle.mg_sdp.specs.declared.fault.SdpFault.TheVariants.{Line, TooMany}
 use Rattle.mg_sdp.specs.declared.offer.Offer.{Offer}
-use Rattle.mg_sdp.specs.Lines.{lines_of, is_line, value_of}
+use Rattle.mg_sdp.specs.Lines.{content_lines, is_line, line_value}
 use Rattle.mg_sdp.specs.Offer.{offer_of}
 
 -- a v= line
 abbrev pub is_version : List ℕ → Bool
-is_version line = is_some (value_of (byte "v") line)
+is_version line = is_some (line_value (byte "v") line)
 
 -- an alternative is a line, and after it lines that are no v= lines
 abbrev pub IsAlternative : List (List ℕ) → Type 0
@@ -42,5 +42,5 @@ reading_of lines alternatives =
 -- a result of reading a content
 abbrev pub IsReading : List ℕ → Result (List (Option Offer)) SdpFault → Type 0
 IsReading content result =
-    (alternatives : List (List (List ℕ))) × AreAlternatives (lines_of content) alternatives
-    × (result ≡ reading_of (lines_of content) alternatives)
+    (alternatives : List (List (List ℕ))) × AreAlternatives (content_lines content) alternatives
+    × (result ≡ reading_of (content_lines content) alternatives)

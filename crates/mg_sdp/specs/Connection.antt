@@ -2,10 +2,10 @@
 use Rattle.std.specs.Prelude.{ℕ, ◌&&◌, List, [], ◌∷◌, Option, None, codes, if◌then◌else◌}
 use Rattle.std.specs.Str.{str_eq_ignore_ascii_case}
 use Rattle.mg_words.specs.Address.{address_of}
-use Rattle.mg_sdp.specs.Media.{asked}
+use Rattle.mg_sdp.specs.Media.{asked_in_field}
 
 abbrev pub address_asked : List ℕ → Option (Option (List ℕ))
-address_asked field = asked address_of field
+address_asked field = asked_in_field address_of field
 
 -- connection = "IN" "IP4" address, letters' case ignored
 unfoldable pub connection_in : List (List ℕ) → Option (Option (List ℕ))

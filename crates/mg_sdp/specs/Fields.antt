@@ -2,8 +2,8 @@
 -- two).
 use Rattle.std.specs.Prelude.{ℕ, List, filter}
 use Rattle.std.specs.List.{slice_split}
-use Rattle.mg_sdp.specs.Lines.{is_blank, is_filled}
+use Rattle.mg_sdp.specs.Lines.{is_space_or_tab, is_filled}
 
 -- what stands between spaces and tabs
 unfoldable pub fields_of : List ℕ → List (List ℕ)
-fields_of value = filter is_filled (slice_split is_blank value)
+fields_of value = filter is_filled (slice_split is_space_or_tab value)

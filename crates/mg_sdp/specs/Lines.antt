@@ -5,14 +5,11 @@ use Rattle.std.specs.Prelude.{map, filter, take, drop, Option, Some, None, is_so
 use Rattle.std.specs.List.{prefix_len, suffix_len, slice_split, filter_map}
 use Rattle.std.specs.Char.{is_ascii_alphabetic}
 use Rattle.std.specs.Str.{byte}
-
--- CR or LF
-abbrev pub is_line_end : ℕ → Bool
-is_line_end b = b == byte "\r" || b == byte "\n"
+use Rattle.mg_words.specs.LineEnd.{is_line_end}
 
 -- a space or a tab
-abbrev pub is_blank : ℕ → Bool
-is_blank b = b == byte " " || b == byte "\t"
+abbrev pub is_space_or_tab : ℕ → Bool
+is_space_or_tab b = b == byte " " || b == byte "\t"
 
 -- a text that isn't empty
 abbrev pub is_filled : List ℕ → Bool
@@ -21,33 +18,33 @@ is_filled (b ∷ text) = true
 
 -- a text without the blanks at its end, and without those at both ends
 abbrev pub trimmed_end : List ℕ → List ℕ
-trimmed_end text = take (length text - suffix_len is_blank text) text
+trimmed_end text = take (length text - suffix_len is_space_or_tab text) text
 
 abbrev pub trimmed : List ℕ → List ℕ
-trimmed text = trimmed_end (drop (prefix_len is_blank text) text)
+trimmed text = trimmed_end (drop (prefix_len is_space_or_tab text) text)
 
 -- the lines of a content
-unfoldable pub lines_of : List ℕ → List (List ℕ)
-lines_of content = filter is_filled (map trimmed (slice_split is_line_end content))
+unfoldable pub content_lines : List ℕ → List (List ℕ)
+content_lines content = filter is_filled (map trimmed (slice_split is_line_end content))
 
 -- a line is a letter, =, and its value
-unfoldable pub parts_of : List ℕ → Option (ℕ × List ℕ)
-parts_of [] = None
-parts_of (letter ∷ []) = None
-parts_of (letter ∷ equals ∷ value) =
+unfoldable pub letter_and_value : List ℕ → Option (ℕ × List ℕ)
+letter_and_value [] = None
+letter_and_value (letter ∷ []) = None
+letter_and_value (letter ∷ equals ∷ value) =
     if is_ascii_alphabetic letter && equals == byte "=" then Some (letter, value) else None
 
 abbrev pub is_line : List ℕ → Bool
-is_line line = is_some (parts_of line)
+is_line line = is_some (letter_and_value line)
 
 -- the value of a line, if it has this letter
 abbrev pub value_by : ℕ → Option (ℕ × List ℕ) → Option (List ℕ)
 value_by letter None = None
 value_by letter (Some parts) = if parts.0 == letter then Some parts.1 else None
 
-abbrev pub value_of : ℕ → List ℕ → Option (List ℕ)
-value_of letter line = value_by letter (parts_of line)
+abbrev pub line_value : ℕ → List ℕ → Option (List ℕ)
+line_value letter line = value_by letter (letter_and_value line)
 
 -- the values of the lines of this letter
 abbrev pub values_of : ℕ → List (List ℕ) → List (List ℕ)
-values_of letter lines = filter_map (value_of letter) lines
+values_of letter lines = filter_map (line_value letter) lines

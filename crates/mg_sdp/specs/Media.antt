@@ -12,11 +12,12 @@ use Rattle.mg_g711.specs.declared.law.Law.TheVariants.{Mu, A}
 use Rattle.mg_sdp.specs.declared.media.Media.{Media}
 
 -- the value of a field, or None for $
-abbrev pub asked : {X : Type 0} → (List ℕ → Option X) → List ℕ → Option (Option X)
-asked read field = if bytes_eq field (codes "$") then Some None else option_map Some (read field)
+abbrev pub asked_in_field : {X : Type 0} → (List ℕ → Option X) → List ℕ → Option (Option X)
+asked_in_field read field =
+    if bytes_eq field (codes "$") then Some None else option_map Some (read field)
 
 abbrev pub port_asked : List ℕ → Option (Option ℕ)
-port_asked field = asked port_of field
+port_asked field = asked_in_field port_of field
 
 -- what a format asks for: 0 is mu-law, 8 is A-law
 unfoldable pub law_of : List ℕ → Option (Option Law)
@@ -30,8 +31,8 @@ law_of format =
 abbrev pub first_law : List (List ℕ) → Option (Option Law)
 first_law formats = slice_get (filter_map law_of formats) 0
 
-abbrev pub media_with : Option (Option ℕ) → Option (Option Law) → Option Media
-media_with port law = do
+abbrev pub media_asked : Option (Option ℕ) → Option (Option Law) → Option Media
+media_asked port law = do
   port ← port
   law ← law
   Some (record { port = port; law = law })
@@ -41,5 +42,5 @@ unfoldable pub media_in : List (List ℕ) → Option Media
 media_in (kind ∷ port ∷ protocol ∷ formats) =
     if str_eq_ignore_ascii_case kind (codes "audio")
     && str_eq_ignore_ascii_case protocol (codes "RTP/AVP")
-    then media_with (port_asked port) (first_law formats) else None
+    then media_asked (port_asked port) (first_law formats) else None
 media_in _ = None

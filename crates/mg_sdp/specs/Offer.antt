@@ -22,10 +22,10 @@ is_served_attribute value =
     not (starts_with nat_eq value (codes "ptime:")) || bytes_eq value (codes "ptime:20")
 
 -- what the only media line asks for
-abbrev pub media_of : List (List ℕ) → Option Media
-media_of [] = None
-media_of (value ∷ []) = media_in (fields_of value)
-media_of (value ∷ another ∷ values) = None
+abbrev pub only_media : List (List ℕ) → Option Media
+only_media [] = None
+only_media (value ∷ []) = media_in (fields_of value)
+only_media (value ∷ another ∷ values) = None
 
 -- what the last connection line asks for; where there is none, the address is left to the gateway
 abbrev pub address_by : Option (List ℕ) → Option (Option (List ℕ))
@@ -39,7 +39,7 @@ offer_with media address = record { address = address; port = media.port; law = 
 unfoldable pub offer_of : List (List ℕ) → Option Offer
 offer_of lines = do
   address ← address_by (last_or None (values_of (byte "c") lines))
-  media ← media_of (values_of (byte "m") lines)
+  media ← only_media (values_of (byte "m") lines)
   if list_all is_served_version (values_of (byte "v") lines)
       && list_all is_served_attribute (values_of (byte "a") lines)
       then Some (offer_with media address) else None

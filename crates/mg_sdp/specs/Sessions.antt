@@ -3,20 +3,21 @@
 use Rattle.std.specs.Prelude.{ℕ, List, [], ◌∷◌, ◌++◌, Option, Result, if◌then◌else◌}
 use Rattle.mg_sdp.specs.declared.fault.SdpFault.{SdpFault}
 use Rattle.mg_sdp.specs.declared.offer.Offer.{Offer}
-use Rattle.mg_sdp.specs.Lines.{lines_of}
+use Rattle.mg_sdp.specs.Lines.{content_lines}
 use Rattle.mg_sdp.specs.Alternatives.{is_version, reading_of}
 
 -- the lines of an alternative, as a list of one, or of none where there is no line
-abbrev pub closing : List (List ℕ) → List (List (List ℕ))
-closing [] = []
-closing (line ∷ lines) = (line ∷ lines) ∷ []
+abbrev pub one_alternative : List (List ℕ) → List (List (List ℕ))
+one_alternative [] = []
+one_alternative (line ∷ lines) = (line ∷ lines) ∷ []
 
 -- the alternatives of lines that stand after the first lines of one
 abbrev pub alternatives_after : List (List ℕ) → List (List ℕ) → List (List (List ℕ))
-alternatives_after current [] = closing current
+alternatives_after current [] = one_alternative current
 alternatives_after current (line ∷ lines) =
-    if is_version line then closing current ++ alternatives_after (line ∷ []) lines
+    if is_version line then one_alternative current ++ alternatives_after (line ∷ []) lines
     else alternatives_after (current ++ line ∷ []) lines
 
 unfoldable pub sessions_of : List ℕ → Result (List (Option Offer)) SdpFault
-sessions_of content = reading_of (lines_of content) (alternatives_after [] (lines_of content))
+sessions_of content =
+    reading_of (content_lines content) (alternatives_after [] (content_lines content))

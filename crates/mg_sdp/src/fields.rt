@@ -1,23 +1,23 @@
 ghost use Rattle.std.specs.Prelude.{◌≡◌, ◌≤◌, length};
 ghost use Rattle.std.specs.List.{prefix_len, position_or_len};
-ghost use Rattle.mg_sdp.specs.Lines.{is_blank};
+ghost use Rattle.mg_sdp.specs.Lines.{is_space_or_tab};
 
-use crate::lines::is_blank;
+use crate::lines::is_space_or_tab;
 
 /// How many blanks there are at the front.
 fn blanks_len(text: &[u8]) -> usize
     ensures in_range { result ≤ length text.now }
-    ensures value { result ≡ prefix_len is_blank text.now }
+    ensures value { result ≡ prefix_len is_space_or_tab text.now }
 {
-    text.iter().take_while(|b| is_blank(**b)).count()
+    text.iter().take_while(|b| is_space_or_tab(**b)).count()
 }
 
 /// How many bytes there are before the first blank.
 fn field_len(text: &[u8]) -> usize
     ensures in_range { result ≤ length text.now }
-    ensures value { result ≡ position_or_len is_blank text.now }
+    ensures value { result ≡ position_or_len is_space_or_tab text.now }
 {
-    text.iter().take_while(|b| !is_blank(**b)).count()
+    text.iter().take_while(|b| !is_space_or_tab(**b)).count()
 }
 
 /// The fields of a line's value: its parts between spaces and tabs.

@@ -1,6 +1,7 @@
 ghost use Rattle.std.specs.Prelude.{◌≡◌, ◌≤◌, ◌||◌, MatchOption, Some, None, length};
 ghost use Rattle.std.specs.List.{prefix_len, position_or_len, suffix_len};
-ghost use Rattle.mg_sdp.specs.Lines.{is_line_end, is_blank, parts_of};
+ghost use Rattle.mg_words.specs.LineEnd.{is_line_end};
+ghost use Rattle.mg_sdp.specs.Lines.{is_space_or_tab, letter_and_value};
 
 /// Whether a byte ends a line: CR or LF.
 fn is_line_end(b: u8) -> bool
@@ -10,8 +11,8 @@ fn is_line_end(b: u8) -> bool
 }
 
 /// Whether a byte is a space or a tab.
-pub fn is_blank(b: u8) -> bool
-    ensures value { result ≡ is_blank b }
+pub fn is_space_or_tab(b: u8) -> bool
+    ensures value { result ≡ is_space_or_tab b }
 {
     b == b' ' || b == b'\t'
 }
@@ -19,10 +20,10 @@ pub fn is_blank(b: u8) -> bool
 /// How many bytes of white space and line ends there are at the front.
 fn white_len(text: &[u8]) -> usize
     ensures in_range { result ≤ length text.now }
-    ensures value { result ≡ prefix_len (λ b. is_blank b || is_line_end b) text.now }
+    ensures value { result ≡ prefix_len (λ b. is_space_or_tab b || is_line_end b) text.now }
 {
     text.iter()
-        .take_while(|b| is_blank(**b) || is_line_end(**b))
+        .take_while(|b| is_space_or_tab(**b) || is_line_end(**b))
         .count()
 }
 
@@ -37,9 +38,12 @@ fn line_len(text: &[u8]) -> usize
 /// How many blanks there are at the end.
 fn blanks_at_end(text: &[u8]) -> usize
     ensures in_range { result ≤ length text.now }
-    ensures value { result ≡ suffix_len is_blank text.now }
+    ensures value { result ≡ suffix_len is_space_or_tab text.now }
 {
-    text.iter().rev().take_while(|b| is_blank(**b)).count()
+    text.iter()
+        .rev()
+        .take_while(|b| is_space_or_tab(**b))
+        .count()
 }
 
 /// The lines of a content, without the blanks at their ends; empty ones are passed over.
@@ -49,12 +53,12 @@ pub struct Lines<'a> {
 }
 
 impl<'a> Lines<'a> {
-    ghost use Rattle.mg_sdp.specs.Lines.{lines_of};
+    ghost use Rattle.mg_sdp.specs.Lines.{content_lines};
     ghost use Rattle.mg_sdp.specs.aids.LinesLeft.{lines_left};
 
     /// The lines of this content.
     pub fn new(content: &'a [u8]) -> Self
-        ensures value { lines_left result ≡ lines_of content.now }
+        ensures value { lines_left result ≡ content_lines content.now }
     {
         Lines { rest: content }
     }
@@ -84,10 +88,10 @@ impl<'a> Iterator for Lines<'a> {
 }
 
 /// The letter of a line and what stands after its `=`, or `None` where it is no such line.
-#[tactic(auto, unfolding(crate::specs::Lines::parts_of))]
-pub fn parts_of(line: &[u8]) -> Option<(u8, &[u8])>
-    ensures value { MatchOption result (parts_of line.now ≡ None)
-        (λ parts. parts_of line.now ≡ Some (parts.0, parts.1.now)) }
+#[tactic(auto, unfolding(crate::specs::Lines::letter_and_value))]
+pub fn letter_and_value(line: &[u8]) -> Option<(u8, &[u8])>
+    ensures value { MatchOption result (letter_and_value line.now ≡ None)
+        (λ parts. letter_and_value line.now ≡ Some (parts.0, parts.1.now)) }
 {
     match line {
         [letter, b'=', value @ ..] if letter.is_ascii_alphabetic() => Some((*letter, value)),

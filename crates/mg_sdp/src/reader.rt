@@ -1,13 +1,13 @@
 ghost use Rattle.std.specs.Prelude.{◌≡◌, ◌↔◌, Err, false, OnOk, IfErr, IsOk, IsTrue};
 ghost use Rattle.std.specs.List.{list_all};
-ghost use Rattle.mg_sdp.specs.Lines.{lines_of, is_line};
+ghost use Rattle.mg_sdp.specs.Lines.{content_lines, is_line};
 ghost use Rattle.mg_sdp.specs.aids.Reader.{start, ended, line_read, finished};
 ghost use Rattle.mg_sdp.specs.Alternatives.{IsReading};
 ghost use Rattle.mg_sdp.specs.Sessions.{sessions_of};
 
 use crate::alternative::Alternative;
 use crate::fault::SdpFault;
-use crate::lines::{Lines, parts_of};
+use crate::lines::{Lines, letter_and_value};
 use crate::offer::Offer;
 use crate::sessions::Sessions;
 use arrayvec::ArrayVec;
@@ -63,7 +63,7 @@ impl Reader {
         ensures line { IsOk result ↔ IsTrue (is_line line.now) }
         ensures fault { IfErr result (λ fault. fault ≡ SdpFault.Line) }
     {
-        let (letter, value) = parts_of(line).ok_or(SdpFault::Line)?;
+        let (letter, value) = letter_and_value(line).ok_or(SdpFault::Line)?;
         if letter == b'v' {
             self.end();
         }
@@ -95,7 +95,7 @@ impl Reader {
 pub fn read_sessions(content: &[u8]) -> Result<Sessions, SdpFault>
     ensures alternatives { IsReading content.now result }
     ensures line { (result ≡ Err SdpFault.Line)
-        ↔ (list_all is_line (lines_of content.now) ≡ false) }
+        ↔ (list_all is_line (content_lines content.now) ≡ false) }
     ensures value { result ≡ sessions_of content.now }
 {
     let mut reader = Reader::new();

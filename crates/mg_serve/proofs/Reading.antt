@@ -13,14 +13,14 @@ use Rattle.mg_lines.specs.declared.write_failed.WriteFailed.{WriteFailed}
 use Rattle.mg_serve.specs.declared.command.Command.{Command}
 use Rattle.mg_serve.specs.declared.command.Command.TheVariants.{Poll, Tick, Stats, Quit, Unknown}
 use Rattle.mg_lines.specs.Lines.{without_return, lines_after}
-use Rattle.mg_serve.specs.Lines.{command_of, is_quit, before_quit}
+use Rattle.mg_serve.specs.Lines.{line_command, is_quit, before_quit}
 use Rattle.mg_serve.specs.Session.{Does, Session}
 use Rattle.mg_serve.specs.aids.Driving.{BytesTaken}
 use Rattle.mg_serve.proofs.Taking.{each_both, each_one}
 
 -- ## The first 8 bytes of a line
 
-not_command : (line : List ℕ) → 5 < length line → command_of line ≡ Unknown
+not_command : (line : List ℕ) → 5 < length line → line_command line ≡ Unknown
 not_command line long =
     rw (
       false_from_ne_true (bytes_eq line (codes "poll")) (λ t. absurd (omega (arith, long, ap length ((bytes_eq-Decides line (codes "poll")).0 t)))),
@@ -30,25 +30,25 @@ not_command line long =
     ) refl
 
 -- whether a line has more than 8 bytes
-cut_by : (long : Bool) (line : List ℕ) → ltb 8 (length line) ≡ long → command_of (take 8 line) ≡ command_of line
+cut_by : (long : Bool) (line : List ℕ) → ltb 8 (length line) ≡ long → line_command (take 8 line) ≡ line_command line
 cut_by true line is = not_command (take 8 line) (omega (arith, length-take 8 line, ltb-true 8 (length line) is)) ∙ sym (not_command line (omega (arith, ltb-true 8 (length line) is)))
-cut_by false line is = ap command_of (take_all 8 line (ltb-false 8 (length line) is))
+cut_by false line is = ap line_command (take_all 8 line (ltb-false 8 (length line) is))
 
-pub cut_command : (line : List ℕ) → command_of (take 8 line) ≡ command_of line
+pub cut_command : (line : List ℕ) → line_command (take 8 line) ≡ line_command line
 cut_command line = cut_by (ltb 8 (length line)) line refl
 
 return_long : (t : Bool) (line : List ℕ) → 7 < length line → 5 < length (cond t (take (length line - 1) line) line)
 return_long true line long = omega (arith, long, length-take (length line - 1) line)
 return_long false line long = omega (arith, long)
 
-long_unknown : (line : List ℕ) → 7 < length line → command_of (without_return line) ≡ Unknown
+long_unknown : (line : List ℕ) → 7 < length line → line_command (without_return line) ≡ Unknown
 long_unknown line long = not_command (without_return line) (return_long (eqb (slice_index line (length line - 1)) 13) line long)
 
-cut_return_by : (long : Bool) (line : List ℕ) → ltb 8 (length line) ≡ long → command_of (without_return (take 8 line)) ≡ command_of (without_return line)
+cut_return_by : (long : Bool) (line : List ℕ) → ltb 8 (length line) ≡ long → line_command (without_return (take 8 line)) ≡ line_command (without_return line)
 cut_return_by true line is = long_unknown (take 8 line) (omega (arith, length-take 8 line, ltb-true 8 (length line) is)) ∙ sym (long_unknown line (omega (arith, ltb-true 8 (length line) is)))
-cut_return_by false line is = ap (λ (l : List ℕ). command_of (without_return l)) (take_all 8 line (ltb-false 8 (length line) is))
+cut_return_by false line is = ap (λ (l : List ℕ). line_command (without_return l)) (take_all 8 line (ltb-false 8 (length line) is))
 
-pub cut_return : (line : List ℕ) → command_of (without_return (take 8 line)) ≡ command_of (without_return line)
+pub cut_return : (line : List ℕ) → line_command (without_return (take 8 line)) ≡ line_command (without_return line)
 cut_return line = cut_return_by (ltb 8 (length line)) line refl
 
 cut_push_by : (long : Bool) (line : List ℕ) (b : ℕ) → ltb 8 (length line) ≡ long → take 8 (take 8 line ++ b ∷ []) ≡ take 8 (line ++ b ∷ [])
@@ -70,7 +70,7 @@ line_feed : (ended : Bool) (begun bytes : List ℕ) → lines_after ended begun 
 unfolding lines_after
 line_feed ended begun bytes = refl
 
-pub first_line : (q : Bool) (line : List ℕ) (lines : List (List ℕ)) → is_quit (command_of line) ≡ q → before_quit (line ∷ lines) ≡ cond q [] (line ∷ before_quit lines)
+pub first_line : (q : Bool) (line : List ℕ) (lines : List (List ℕ)) → is_quit (line_command line) ≡ q → before_quit (line ∷ lines) ≡ cond q [] (line ∷ before_quit lines)
 unfolding before_quit
 first_line q line lines is = rw is refl
 
@@ -86,24 +86,24 @@ pub plain_byte : (config : Config) (left : List ℕ) (b : ℕ) (w : World) → b
 plain_byte config left b w ne = ([], left ++ b ∷ [], cut_push left b, λ ended more. ap before_quit (one_byte ended b left more ne), (refl, refl))
 
 -- one that ends a line
-feed_split : (q ended : Bool) (left more : List ℕ) → is_quit (command_of (without_return left)) ≡ q → before_quit (lines_after ended left (10 ∷ more)) ≡ cond q [] (without_return left ∷ before_quit (lines_after ended [] more))
+feed_split : (q ended : Bool) (left more : List ℕ) → is_quit (line_command (without_return left)) ≡ q → before_quit (lines_after ended left (10 ∷ more)) ≡ cond q [] (without_return left ∷ before_quit (lines_after ended [] more))
 feed_split q ended left more is = ap before_quit (line_feed ended left more) ∙ first_line q (without_return left) (lines_after ended [] more) is
 
-pub line_done : (config : Config) (line : List ℕ) (w next : World) (p : List Call) → Does config (command_of line) w p next → Session config (line ∷ []) w p next
-line_done config line w next p h = each_one (λ (l : List ℕ). Does config (command_of l)) line w next p h
+pub line_done : (config : Config) (line : List ℕ) (w next : World) (p : List Call) → Does config (line_command line) w p next → Session config (line ∷ []) w p next
+line_done config line w next p h = each_one (λ (l : List ℕ). Does config (line_command l)) line w next p h
 
-pub feed_byte : (config : Config) (q : Bool) (left : List ℕ) (w next : World) (p : List Call) → is_quit (command_of (without_return left)) ≡ q → Does config (command_of (without_return left)) w p next → BytesTaken config left (10 ∷ []) [] (Ok q) w p next
+pub feed_byte : (config : Config) (q : Bool) (left : List ℕ) (w next : World) (p : List Call) → is_quit (line_command (without_return left)) ≡ q → Does config (line_command (without_return left)) w p next → BytesTaken config left (10 ∷ []) [] (Ok q) w p next
 feed_byte config false left w next p is h = (without_return left ∷ [], [], refl, λ ended more. feed_split false ended left more is, line_done config (without_return left) w next p h)
-feed_byte config true left w next p is h = ([], λ ended more. feed_split true ended left more is, quit_idle config (command_of (without_return left)) w next p is h)
+feed_byte config true left w next p is h = ([], λ ended more. feed_split true ended left more is, quit_idle config (line_command (without_return left)) w next p is h)
 
-pub feed_fault_by : (config : Config) (q : Bool) (left kept : List ℕ) (failed : WriteFailed) (w next : World) (p : List Call) → is_quit (command_of (without_return left)) ≡ q → Does config (command_of (without_return left)) w p next → BytesTaken config left (10 ∷ []) kept (Err failed) w p next
+pub feed_fault_by : (config : Config) (q : Bool) (left kept : List ℕ) (failed : WriteFailed) (w next : World) (p : List Call) → is_quit (line_command (without_return left)) ≡ q → Does config (line_command (without_return left)) w p next → BytesTaken config left (10 ∷ []) kept (Err failed) w p next
 feed_fault_by config false left kept failed w next p is h = (without_return left ∷ [], λ ended more. (before_quit (lines_after ended [] more), feed_split false ended left more is), line_done config (without_return left) w next p h)
-feed_fault_by config true left kept failed w next p is h = ([], λ ended more. ([], feed_split true ended left more is), quit_idle config (command_of (without_return left)) w next p is h)
+feed_fault_by config true left kept failed w next p is h = ([], λ ended more. ([], feed_split true ended left more is), quit_idle config (line_command (without_return left)) w next p is h)
 
 -- ## Bytes, and then more
 
 pub session_both : (config : Config) (xs ys : List (List ℕ)) (w mid next : World) (p q : List Call) → Session config xs w p mid → Session config ys mid q next → Session config (xs ++ ys) w (p ++ q) next
-session_both config xs ys w mid next p q h k = each_both (λ (l : List ℕ). Does config (command_of l)) xs ys w mid next p q h k
+session_both config xs ys w mid next p q h k = each_both (λ (l : List ℕ). Does config (line_command l)) xs ys w mid next p q h k
 
 pub bytes_then : (config : Config) (begun a left b kept : List ℕ) (lines : List (List ℕ)) (r : Result Bool WriteFailed) (w mid next : World) (p q : List Call) → ((ended : Bool) (more : List ℕ) → before_quit (lines_after ended begun (a ++ more)) ≡ lines ++ before_quit (lines_after ended left more)) → Session config lines w p mid → BytesTaken config left b kept r mid q next → BytesTaken config begun (a ++ b) kept r w (p ++ q) next
 bytes_then config begun a left b kept lines (Ok false) w mid next p q split ran h = (

@@ -16,9 +16,9 @@ use Rattle.mg_lines.specs.declared.write_failed.WriteFailed.{WriteFailed}
 use Rattle.mg_lines.specs.Lines.{without_return, lines_after}
 use Rattle.mg_ports.specs.declared.call.Call.{Call}
 use Rattle.mg_serve.specs.declared.command.Command.{Command}
-use Rattle.mg_serve.specs.Lines.{command_of, is_quit, before_quit}
+use Rattle.mg_serve.specs.Lines.{line_command, is_quit, before_quit}
 use Rattle.mg_serve.specs.Session.{Does, Session}
-use Rattle.mg_serve.specs.Serve.{Exits, RanLines, Served}
+use Rattle.mg_serve.specs.Serve.{Exits, RanLines, ServedSession}
 use Rattle.mg_serve.specs.aids.Driving.{BytesTaken, Finished}
 use Rattle.mg_serve.specs.aids.Takes.{Takes}
 use Rattle.mg_serve.proofs.Taking.{told_both, told_none, takes_none, takes_as, takes_then}
@@ -39,20 +39,20 @@ takes_plain : (config : Config) (kept : List ℕ) (b : ℕ) (core : CoreState) (
 takes_plain config kept b core y ne left is =
     takes_none core y (BytesTaken config left (b ∷ []) (take 8 (kept ++ b ∷ [])) (Ok false)) (λ w. subst (λ (k : List ℕ). BytesTaken config left (b ∷ []) (take 8 (k ++ b ∷ [])) (Ok false) w [] w) (sym is) (plain_byte config left b w ne))
 
-same_command : (kept left : List ℕ) → kept ≡ take 8 left → command_of (without_return kept) ≡ command_of (without_return left)
-same_command kept left is = ap (λ (k : List ℕ). command_of (without_return k)) is ∙ cut_return left
+same_command : (kept left : List ℕ) → kept ≡ take 8 left → line_command (without_return kept) ≡ line_command (without_return left)
+same_command kept left is = ap (λ (k : List ℕ). line_command (without_return k)) is ∙ cut_return left
 
-takes_feed : (config : Config) (kept : List ℕ) (q : Bool) (mid core : CoreState) (y z : Option (List Call)) → q ≡ is_quit (command_of (without_return kept)) → Takes mid core y z (Does config (command_of (without_return kept))) → (left : List ℕ) → kept ≡ take 8 left → Takes mid core y z (BytesTaken config left (10 ∷ []) [] (Ok q))
+takes_feed : (config : Config) (kept : List ℕ) (q : Bool) (mid core : CoreState) (y z : Option (List Call)) → q ≡ is_quit (line_command (without_return kept)) → Takes mid core y z (Does config (line_command (without_return kept))) → (left : List ℕ) → kept ≡ take 8 left → Takes mid core y z (BytesTaken config left (10 ∷ []) [] (Ok q))
 takes_feed config kept q mid core y z quit h left is =
     let same = same_command kept left is in
-    takes_as mid core y z (Does config (command_of (without_return kept))) (BytesTaken config left (10 ∷ []) [] (Ok q)) h
+    takes_as mid core y z (Does config (line_command (without_return kept))) (BytesTaken config left (10 ∷ []) [] (Ok q)) h
     (λ w next p k. feed_byte config q left w next p (sym (quit ∙ ap is_quit same)) (subst (λ (d : Command). Does config d w p next) same k))
 
-takes_fault : (config : Config) (kept new : List ℕ) (failed : WriteFailed) (mid core : CoreState) (y z : Option (List Call)) → Takes mid core y z (Does config (command_of (without_return kept))) → (left : List ℕ) → kept ≡ take 8 left → Takes mid core y z (BytesTaken config left (10 ∷ []) new (Err failed))
+takes_fault : (config : Config) (kept new : List ℕ) (failed : WriteFailed) (mid core : CoreState) (y z : Option (List Call)) → Takes mid core y z (Does config (line_command (without_return kept))) → (left : List ℕ) → kept ≡ take 8 left → Takes mid core y z (BytesTaken config left (10 ∷ []) new (Err failed))
 takes_fault config kept new failed mid core y z h left is =
     let same = same_command kept left is in
-    takes_as mid core y z (Does config (command_of (without_return kept))) (BytesTaken config left (10 ∷ []) new (Err failed)) h
-    (λ w next p k. feed_fault_by config (is_quit (command_of (without_return left))) left new failed w next p refl (subst (λ (d : Command). Does config d w p next) same k))
+    takes_as mid core y z (Does config (line_command (without_return kept))) (BytesTaken config left (10 ∷ []) new (Err failed)) h
+    (λ w next p k. feed_fault_by config (is_quit (line_command (without_return left))) left new failed w next p refl (subst (λ (d : Command). Does config d w p next) same k))
 
 pub index_plain : (config : Config) (begun bytes kept new : List ℕ) (i : ℕ) (old mid : CoreState) (x y : Option (List Call)) → i < length bytes → get_or bytes i 0 ≢ 10 → new ≡ take 8 (kept ++ get_or bytes i 0 ∷ []) → Takes old mid x y (BytesTaken config begun (take i bytes) kept (Ok false)) → Takes old mid x y (BytesTaken config begun (take (i + 1) bytes) new (Ok false))
 index_plain config begun bytes kept new i old mid x y lt ne is h =
@@ -61,19 +61,19 @@ index_plain config begun bytes kept new i old mid x y lt ne is h =
     (subst (λ (k : List ℕ). Takes old mid x y (BytesTaken config begun (take i bytes ++ b ∷ []) k (Ok false))) (sym is)
     (more_bytes config begun (take i bytes) (b ∷ []) kept (take 8 (kept ++ b ∷ [])) (Ok false) old mid mid x y y h (takes_plain config kept b mid y ne)))
 
-pub index_feed : (config : Config) (begun bytes kept new : List ℕ) (i : ℕ) (q : Bool) (old mid core : CoreState) (x y z : Option (List Call)) → i < length bytes → get_or bytes i 0 ≡ 10 → Takes old mid x y (BytesTaken config begun (take i bytes) kept (Ok false)) → q ≡ is_quit (command_of (without_return kept)) → new ≡ [] → Takes mid core y z (Does config (command_of (without_return kept))) → Takes old core x z (BytesTaken config begun (take (i + 1) bytes) new (Ok q))
+pub index_feed : (config : Config) (begun bytes kept new : List ℕ) (i : ℕ) (q : Bool) (old mid core : CoreState) (x y z : Option (List Call)) → i < length bytes → get_or bytes i 0 ≡ 10 → Takes old mid x y (BytesTaken config begun (take i bytes) kept (Ok false)) → q ≡ is_quit (line_command (without_return kept)) → new ≡ [] → Takes mid core y z (Does config (line_command (without_return kept))) → Takes old core x z (BytesTaken config begun (take (i + 1) bytes) new (Ok q))
 index_feed config begun bytes kept new i q old mid core x y z lt feed h quit is k =
     subst (λ (l : List ℕ). Takes old core x z (BytesTaken config begun l new (Ok q))) (sym (take_more bytes i 0 lt ∙ ap (λ (b : ℕ). take i bytes ++ b ∷ []) feed))
     (subst (λ (l : List ℕ). Takes old core x z (BytesTaken config begun (take i bytes ++ 10 ∷ []) l (Ok q))) (sym is)
     (more_bytes config begun (take i bytes) (10 ∷ []) kept [] (Ok q) old mid core x y z h (takes_feed config kept q mid core y z quit k)))
 
-pub index_quit : (config : Config) (begun bytes kept new : List ℕ) (i : ℕ) (old mid core : CoreState) (x y z : Option (List Call)) → i < length bytes → get_or bytes i 0 ≡ 10 → Takes old mid x y (BytesTaken config begun (take i bytes) kept (Ok false)) → true ≡ is_quit (command_of (without_return kept)) → new ≡ [] → Takes mid core y z (Does config (command_of (without_return kept))) → Takes old core x z (BytesTaken config begun bytes new (Ok true))
+pub index_quit : (config : Config) (begun bytes kept new : List ℕ) (i : ℕ) (old mid core : CoreState) (x y z : Option (List Call)) → i < length bytes → get_or bytes i 0 ≡ 10 → Takes old mid x y (BytesTaken config begun (take i bytes) kept (Ok false)) → true ≡ is_quit (line_command (without_return kept)) → new ≡ [] → Takes mid core y z (Does config (line_command (without_return kept))) → Takes old core x z (BytesTaken config begun bytes new (Ok true))
 index_quit config begun bytes kept new i old mid core x y z lt feed h quit is k =
     subst (λ (l : List ℕ). Takes old core x z (BytesTaken config begun l new (Ok true))) (take-append-drop (i + 1) bytes)
     (takes_as old core x z (BytesTaken config begun (take (i + 1) bytes) new (Ok true)) (BytesTaken config begun (take (i + 1) bytes ++ drop (i + 1) bytes) new (Ok true))
     (index_feed config begun bytes kept new i true old mid core x y z lt feed h quit is k) (λ w next p. whatever_follows config begun (take (i + 1) bytes) (drop (i + 1) bytes) new w next p))
 
-pub index_fault : (config : Config) (begun bytes kept new : List ℕ) (i : ℕ) (failed : WriteFailed) (old mid core : CoreState) (x y z : Option (List Call)) → i < length bytes → get_or bytes i 0 ≡ 10 → Takes old mid x y (BytesTaken config begun (take i bytes) kept (Ok false)) → Takes mid core y z (Does config (command_of (without_return kept))) → Takes old core x z (BytesTaken config begun bytes new (Err failed))
+pub index_fault : (config : Config) (begun bytes kept new : List ℕ) (i : ℕ) (failed : WriteFailed) (old mid core : CoreState) (x y z : Option (List Call)) → i < length bytes → get_or bytes i 0 ≡ 10 → Takes old mid x y (BytesTaken config begun (take i bytes) kept (Ok false)) → Takes mid core y z (Does config (line_command (without_return kept))) → Takes old core x z (BytesTaken config begun bytes new (Err failed))
 index_fault config begun bytes kept new i failed old mid core x y z lt feed h k =
     subst (λ (l : List ℕ). Takes old core x z (BytesTaken config begun l new (Err failed))) (take-append-drop (i + 1) bytes)
     (takes_as old core x z (BytesTaken config begun (take (i + 1) bytes) new (Err failed)) (BytesTaken config begun (take (i + 1) bytes ++ drop (i + 1) bytes) new (Err failed))
@@ -160,9 +160,9 @@ no_line : before_quit (lines_after true [] []) ≡ []
 unfolding lines_after before_quit
 no_line = refl
 
-last_by : (config : Config) (q : Bool) (line : List ℕ) (w next : World) (p : List Call) → is_quit (command_of line) ≡ q → Does config (command_of line) w p next → Session config (cond q [] (line ∷ [])) w p next
+last_by : (config : Config) (q : Bool) (line : List ℕ) (w next : World) (p : List Call) → is_quit (line_command line) ≡ q → Does config (line_command line) w p next → Session config (cond q [] (line ∷ [])) w p next
 last_by config false line w next p is h = line_done config line w next p h
-last_by config true line w next p is h = quit_idle config (command_of line) w next p is h
+last_by config true line w next p is h = quit_idle config (line_command line) w next p is h
 
 last_done : (config : Config) (kept left : List ℕ) (w next : World) (p : List Call) → kept ≡ take 8 left → Finished config kept w p next → Session config (before_quit (lines_after true left [])) w p next
 last_done config [] [] w next p is h = subst (λ (l : List (List ℕ)). Session config l w p next) (sym no_line) h
@@ -170,8 +170,8 @@ last_done config [] (x ∷ xs) w next p is h = absurd (omega (arith, ap length i
 last_done config (b ∷ bs) [] w next p is h = absurd (omega (arith, ap length is))
 last_done config (b ∷ bs) (x ∷ xs) w next p is h =
     let line = x ∷ xs in
-    let quit = is_quit (command_of line) in
-    let same : command_of (b ∷ bs) ≡ command_of line = ap command_of is ∙ cut_command line in
+    let quit = is_quit (line_command line) in
+    let same : line_command (b ∷ bs) ≡ line_command line = ap line_command is ∙ cut_command line in
     let lines : before_quit (lines_after true line []) ≡ cond quit [] (line ∷ []) =
     ap before_quit (last_line x xs) ∙ first_line quit line [] refl ∙ ap (λ (l : List (List ℕ)). cond quit [] (line ∷ l)) no_more in
     subst (λ (l : List (List ℕ)). Session config l w p next) (sym lines) (last_by config quit line w next p refl (subst (λ (d : Command). Does config d w p next) same h))
@@ -236,13 +236,13 @@ abbrev ended_by : RunFault → Result Counts RunFault
 ended_by fault = Err fault
 
 -- nothing was read and no line was done
-pub serves_nothing : (config : Config) (i : Option (List ℕ)) (x : Option (List Call)) (fault : RunFault) → Exits (ended_by fault) false [] [] [] i → Served config i i x x (ended_by fault)
+pub serves_nothing : (config : Config) (i : Option (List ℕ)) (x : Option (List Call)) (fault : RunFault) → Exits (ended_by fault) false [] [] [] i → ServedSession config i i x x (ended_by fault)
 serves_nothing config i x fault exits =
     record { calls = []; last = start_of config; tells = told_none x; ran = record { text = []; ended = false; lines = []; others = []; consumed = consumes_none i; counted = nothing_left []; session = (refl, refl); exits = exits }; counts = tt }
 
-pub not_started : (config : Config) (i : Option (List ℕ)) (x : Option (List Call)) (start : StartFault) (fault : RunFault) → fault ≡ run_fault_at_start start → Served config i i x x (ended_by fault)
-not_started config i x starts.BadConfig fault is = subst (λ (f : RunFault). Served config i i x x (ended_by f)) (sym is) (serves_nothing config i x faults.BadConfig refl)
-not_started config i x starts.NoMemory fault is = subst (λ (f : RunFault). Served config i i x x (ended_by f)) (sym is) (serves_nothing config i x faults.NoMemory refl)
+pub not_started : (config : Config) (i : Option (List ℕ)) (x : Option (List Call)) (start : StartFault) (fault : RunFault) → fault ≡ run_fault_at_start start → ServedSession config i i x x (ended_by fault)
+not_started config i x starts.BadConfig fault is = subst (λ (f : RunFault). ServedSession config i i x x (ended_by f)) (sym is) (serves_nothing config i x faults.BadConfig refl)
+not_started config i x starts.NoMemory fault is = subst (λ (f : RunFault). ServedSession config i i x x (ended_by f)) (sym is) (serves_nothing config i x faults.NoMemory refl)
 
 ran_ok : (counts : Counts) (config : Config) (i k : Option (List ℕ)) (w next : World) (p : List Call) → RanLines config i k done w p next → RanLines {T = Counts} config i k (Ok counts) w p next
 ran_ok counts config i k w next p h = record { text = h.text; ended = h.ended; lines = h.lines; others = h.others; consumed = h.consumed; counted = h.counted; session = h.session; exits = h.exits }
@@ -254,12 +254,12 @@ ran_err faults.NoMemory config i k w next p h = record { text = h.text; ended = 
 ran_err faults.BadConfig config i k w next p h = record { text = h.text; ended = h.ended; lines = h.lines; others = h.others; consumed = h.consumed; counted = h.counted; session = h.session; exits = h.exits }
 ran_err (faults.Script number) config i k w next p h = absurd h.exits
 
-pub served_ok : (counts : Counts) (config : Config) (i k : Option (List ℕ)) (old core : CoreState) (x z : Option (List Call)) → StandsFor old (start_of config) → Takes old core x z (RanLines config i k done) → ((w : World) → StandsFor core w → record counts { lines = 0; sent = 0; failed = 0 } ≡ counts_of w.tally) → Served config i k x z (Ok counts)
+pub served_ok : (counts : Counts) (config : Config) (i k : Option (List ℕ)) (old core : CoreState) (x z : Option (List Call)) → StandsFor old (start_of config) → Takes old core x z (RanLines config i k done) → ((w : World) → StandsFor core w → record counts { lines = 0; sent = 0; failed = 0 } ≡ counts_of w.tally) → ServedSession config i k x z (Ok counts)
 served_ok counts config i k old core x z stands h counted =
     let (p, next, told, ran, held) = h (start_of config) stands in
     record { calls = p; last = next; tells = told; ran = ran_ok counts config i k (start_of config) next p ran; counts = counted next held }
 
-pub served_err : (fault : RunFault) (config : Config) (i k : Option (List ℕ)) (old core : CoreState) (x z : Option (List Call)) → StandsFor old (start_of config) → Takes old core x z (RanLines config i k (failed_by fault)) → Served config i k x z (ended_by fault)
+pub served_err : (fault : RunFault) (config : Config) (i k : Option (List ℕ)) (old core : CoreState) (x z : Option (List Call)) → StandsFor old (start_of config) → Takes old core x z (RanLines config i k (failed_by fault)) → ServedSession config i k x z (ended_by fault)
 served_err fault config i k old core x z stands h =
     let (p, next, told, ran, held) = h (start_of config) stands in
     record { calls = p; last = next; tells = told; ran = ran_err fault config i k (start_of config) next p ran; counts = tt }

@@ -13,8 +13,8 @@ use Rattle.mg_ports.specs.declared.call.Call.{Call}
 use Rattle.mg_serve.specs.declared.command.Command.{Command}
 use Rattle.mg_serve.specs.declared.command.Command.TheVariants.{Poll, Tick, Stats, Quit, Unknown}
 use Rattle.mg_serve.specs.Laws.{SendsAreARun, is_send}
-use Rattle.mg_serve.specs.Lines.{command_of}
-use Rattle.mg_serve.specs.Session.{Each, Comes, Does, EndsTurn, Happens, Session, Turn, event_at, send_of}
+use Rattle.mg_serve.specs.Lines.{line_command}
+use Rattle.mg_serve.specs.Session.{Each, Comes, Does, EndsTurn, Happens, Session, SlotTurn, event_at, send_of}
 
 run_both : (w mid next : World) (es fs : List Event) (s t : List Sent) → Run w es s mid → Run mid fs t next → Run w (es ++ fs) (s ++ t) next
 run_both w mid next [] fs s t h k = subst (λ (v : World). Run v fs (s ++ t) next) h.1 (subst (λ (l : List Sent). Run mid fs l next) (ap (λ (l : List Sent). l ++ t) (sym h.0)) k)
@@ -51,16 +51,16 @@ ends_run config slot n w p (inl h) = idle_run config w w p h.1 refl
 ends_run config slot n w p (inr (few, inl is)) = ([], [], (refl, refl), ap (filter is_send) is)
 ends_run config slot n w p (inr (few, inr is)) = ([], [], (refl, refl), ap (filter is_send) is)
 
-turn_run : (config : Config) (slot : ℕ) (w next : World) (p : List Call) → Turn config slot w p next → SendsAreARun config w p next
+turn_run : (config : Config) (slot : ℕ) (w next : World) (p : List Call) → SlotTurn config slot w p next → SendsAreARun config w p next
 turn_run config slot w next p h =
     subst (λ (l : List Call). SendsAreARun config w l next) (sym h.calls_are) (is_run_both config w next next h.received h.last (each_run config (Comes config slot) (comes_run config slot) h.datagrams w next h.received h.come) (ends_run config slot (length h.datagrams) next h.last h.ends))
 
 does_run : (config : Config) (command : Command) (w next : World) (p : List Call) → Does config command w p next → SendsAreARun config w p next
-does_run config Poll w next p h = each_run config (Turn config) (turn_run config) (range_with_len 0 (config.slots + 1)) w next p h
+does_run config Poll w next p h = each_run config (SlotTurn config) (turn_run config) (range_with_len 0 (config.slots + 1)) w next p h
 does_run config Tick w next p h = happens_run config events.Tick w next p h
 does_run config Stats w next p h = idle_run config w next p h.0 h.1
 does_run config Quit w next p h = idle_run config w next p h.0 h.1
 does_run config Unknown w next p h = idle_run config w next p h.0 h.1
 
 pub session_run : (config : Config) (lines : List (List ℕ)) (w next : World) (p : List Call) → Session config lines w p next → SendsAreARun config w p next
-session_run config lines w next p h = each_run config (λ (line : List ℕ). Does config (command_of line)) (λ line. does_run config (command_of line)) lines w next p h
+session_run config lines w next p h = each_run config (λ (line : List ℕ). Does config (line_command line)) (λ line. does_run config (line_command line)) lines w next p h

@@ -15,8 +15,8 @@ use Rattle.mg_ports.specs.declared.call.Call.TheVariants.{Receive}
 use Rattle.mg_ports.specs.declared.receipt.Receipt.TheVariants.{Came}
 use Rattle.mg_ports.specs.Calls.{Told}
 use Rattle.mg_serve.specs.declared.command.Command.TheVariants.{Tick}
-use Rattle.mg_serve.specs.Lines.{command_of}
-use Rattle.mg_serve.specs.Session.{Each, Comes, Does, Happens, IsNoEvent, Turn, event_at, send_of}
+use Rattle.mg_serve.specs.Lines.{line_command}
+use Rattle.mg_serve.specs.Session.{Each, Comes, Does, Happens, IsNoEvent, SlotTurn, event_at, send_of}
 use Rattle.mg_serve.specs.aids.Driving.{Finished, Received}
 use Rattle.mg_serve.specs.aids.Takes.{Takes}
 use Rattle.mg_serve.proofs.Taking.{told_none, each_more, takes_after, told_both}
@@ -63,7 +63,7 @@ pub one_more : (config : Config) (slot n : ℕ) (w mid next : World) (p q : List
 one_more config slot n w mid next p q h k =
     (h.0 ++ k.0 ∷ [], length_push h.0 k.0 ∙ ap (λ (m : ℕ). m + 1) h.1, each_more (Comes config slot) h.0 k.0 w mid next p q h.2 k.1)
 
-pub turn_ended : (config : Config) (slot n : ℕ) (w mid next : World) (p q : List Call) → n < 64 → HaveCome config slot n w p mid → Received config slot false mid q next → Turn config slot w (p ++ q) next
+pub turn_ended : (config : Config) (slot n : ℕ) (w mid next : World) (p q : List Call) → n < 64 → HaveCome config slot n w p mid → Received config slot false mid q next → SlotTurn config slot w (p ++ q) next
 turn_ended config slot n w mid next p q few h k = record {
   datagrams = h.0;
   received = p;
@@ -73,7 +73,7 @@ turn_ended config slot n w mid next p q few h k = record {
   ends = inr (omega (arith, few, h.1), k.0);
 }
 
-pub turn_full : (config : Config) (slot : ℕ) (w next : World) (p : List Call) → HaveCome config slot 64 w p next → Turn config slot w p next
+pub turn_full : (config : Config) (slot : ℕ) (w next : World) (p : List Call) → HaveCome config slot 64 w p next → SlotTurn config slot w p next
 turn_full config slot w next p h =
     record { datagrams = h.0; received = p; last = []; calls_are = sym (append-nil p); come = h.2; ends = inl (h.1, refl) }
 
@@ -98,6 +98,6 @@ pub finished_none : (config : Config) (kept : List ℕ) (w : World) → length k
 finished_none config [] w none = (refl, refl)
 finished_none config (b ∷ bs) w none = absurd (omega (arith, none))
 
-pub finished_some : (config : Config) (kept : List ℕ) (w next : World) (p : List Call) → (length kept ≡ 0 → ⊥) → Does config (command_of kept) w p next → Finished config kept w p next
+pub finished_some : (config : Config) (kept : List ℕ) (w next : World) (p : List Call) → (length kept ≡ 0 → ⊥) → Does config (line_command kept) w p next → Finished config kept w p next
 finished_some config [] w next p some h = absurd (some refl)
 finished_some config (b ∷ bs) w next p some h = h

@@ -8,7 +8,7 @@ use Rattle.mg_core.specs.declared.state.CoreState.{CoreState}
 use Rattle.mg_core.specs.World.{World}
 use Rattle.mg_ports.specs.declared.call.Call.{Call}
 use Rattle.mg_ports.specs.Calls.{Told}
-use Rattle.mg_serve.specs.Session.{Each, Turn}
+use Rattle.mg_serve.specs.Session.{Each, SlotTurn}
 use Rattle.mg_serve.specs.aids.Takes.{Takes}
 
 pub told_both : (a b c : Option (List Call)) (x y : List Call) → Told a b x → Told b c y → Told a c (x ++ y)
@@ -66,8 +66,8 @@ takes_after a b x y z calls S T told second join w stands =
     (calls ++ q, next, told_both x y z calls q told more, join w next q s, kept)
 
 -- a slot's turn more
-pub one_turn_more : (a b c : CoreState) (x y z : Option (List Call)) (config : Config) (slot : ℕ) → Takes a b x y (Each (Turn config) (range_with_len 0 slot)) → Takes b c y z (Turn config slot) → Takes a c x z (Each (Turn config) (range_with_len 0 (slot + 1)))
+pub one_turn_more : (a b c : CoreState) (x y z : Option (List Call)) (config : Config) (slot : ℕ) → Takes a b x y (Each (SlotTurn config) (range_with_len 0 slot)) → Takes b c y z (SlotTurn config slot) → Takes a c x z (Each (SlotTurn config) (range_with_len 0 (slot + 1)))
 one_turn_more a b c x y z config slot first second =
-    let turn = Turn config in
+    let turn = SlotTurn config in
     subst (λ (l : List ℕ). Takes a c x z (Each turn l)) (sym (range_more slot))
     (takes_then a b c x y z (Each turn (range_with_len 0 slot)) (turn slot) (Each turn (range_with_len 0 slot ++ slot ∷ [])) first second (each_more turn (range_with_len 0 slot) slot))

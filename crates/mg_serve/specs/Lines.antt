@@ -5,8 +5,8 @@ use Rattle.mg_serve.specs.declared.command.Command.{Command}
 use Rattle.mg_serve.specs.declared.command.Command.TheVariants.{Poll, Tick, Stats, Quit, Unknown}
 
 -- what a line asks for, by its text
-abbrev pub command_of : List ℕ → Command
-command_of line =
+abbrev pub line_command : List ℕ → Command
+line_command line =
     if bytes_eq line (codes "poll") then Poll
     else (if bytes_eq line (codes "tick") then Tick
     else (if bytes_eq line (codes "stats") then Stats
@@ -20,4 +20,4 @@ is_quit _ = false
 unfoldable pub before_quit : List (List ℕ) → List (List ℕ)
 before_quit [] = []
 before_quit (line ∷ lines) =
-    if is_quit (command_of line) then [] else line ∷ before_quit lines
+    if is_quit (line_command line) then [] else line ∷ before_quit lines

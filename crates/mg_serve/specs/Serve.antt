@@ -49,8 +49,8 @@ AreCounted (Ok counts) w = record counts { lines = 0; sent = 0; failed = 0 } ≡
 AreCounted (Err fault) w = Unit {0}
 
 -- A run on a new gateway: the ports told the calls of its session.
-pub record Served (config : Config) (old new : Option (List ℕ)) (before told : Option (List Call))
-    (result : Result Counts RunFault) : Type 0 where
+pub record ServedSession (config : Config) (old new : Option (List ℕ))
+    (before told : Option (List Call)) (result : Result Counts RunFault) : Type 0 where
   pub calls : List Call
   pub last : World
   pub tells : Told before told calls

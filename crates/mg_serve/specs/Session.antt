@@ -13,7 +13,7 @@ use Rattle.mg_ports.specs.declared.call.Call.TheVariants.{Receive, Send}
 use Rattle.mg_ports.specs.declared.receipt.Receipt.TheVariants.{Came, Nothing, Failed}
 use Rattle.mg_serve.specs.declared.command.Command.{Command}
 use Rattle.mg_serve.specs.declared.command.Command.TheVariants.{Poll, Tick, Stats, Quit, Unknown}
-use Rattle.mg_serve.specs.Lines.{command_of}
+use Rattle.mg_serve.specs.Lines.{line_command}
 
 -- For each of these in turn, its calls, from the world that the one before it left.
 abbrev pub Each : {A : Type 0} → (A → World → List Call → World → Type 0) → List A → World
@@ -63,7 +63,7 @@ abbrev pub EndsTurn : ℕ → ℕ → List Call → Type 0
 EndsTurn slot came last = ((came ≡ 64) × (last ≡ [])) ⊎ ((came < 64) × GivesNone slot last)
 
 -- a slot's turn: datagrams one after another, and what ends it
-pub record Turn (config : Config) (slot : ℕ) (w : World) (calls : List Call) (next : World)
+pub record SlotTurn (config : Config) (slot : ℕ) (w : World) (calls : List Call) (next : World)
     : Type 0 where
   pub datagrams : List (Peer × List ℕ)
   pub received : List Call
@@ -78,7 +78,7 @@ pub record Turn (config : Config) (slot : ℕ) (w : World) (calls : List Call) (
 -- tick. Other lines have no call.
 abbrev pub Does : Config → Command → World → List Call → World → Type 0
 Does config Poll w calls next =
-    Each (Turn config) (range_with_len 0 (config.slots + 1)) w calls next
+    Each (SlotTurn config) (range_with_len 0 (config.slots + 1)) w calls next
 Does config Tick w calls next = Happens config events.Tick w calls next
 Does config Stats w calls next = (calls ≡ []) × (next ≡ w)
 Does config Quit w calls next = (calls ≡ []) × (next ≡ w)
@@ -87,4 +87,4 @@ Does config Unknown w calls next = (calls ≡ []) × (next ≡ w)
 -- lines one after another, and their calls
 abbrev pub Session : Config → List (List ℕ) → World → List Call → World → Type 0
 Session config lines w calls next =
-    Each (λ (line : List ℕ). Does config (command_of line)) lines w calls next
+    Each (λ (line : List ℕ). Does config (line_command line)) lines w calls next

@@ -1,5 +1,5 @@
 ghost use Rattle.std.specs.Prelude.{◌≡◌};
-ghost use Rattle.mg_serve.specs.Lines.{command_of};
+ghost use Rattle.mg_serve.specs.Lines.{line_command};
 
 /// What a line asks for.
 #[derive(Clone, Copy, Debug, PartialEq, Eq)]
@@ -17,7 +17,7 @@ pub enum Command {
 impl Command {
     /// What a line asks for, which stands without its line feed.
     pub fn of(line: &[u8]) -> Command
-        ensures value { result ≡ command_of line.now }
+        ensures value { result ≡ line_command line.now }
     {
         match line {
             b"poll" => Command::Poll,

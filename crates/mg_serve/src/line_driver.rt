@@ -2,7 +2,7 @@ ghost use Rattle.std.specs.Prelude.{◌≡◌, ◌≢◌, ◌↔◌, ℕ, List, 
 ghost use Rattle.mg_engine.specs.Config.{IsValidConfig};
 ghost use Rattle.mg_core.specs.World.{StandsFor, start_of};
 ghost use Rattle.mg_lines.specs.Lines.{without_return};
-ghost use Rattle.mg_serve.specs.Lines.{command_of, is_quit};
+ghost use Rattle.mg_serve.specs.Lines.{line_command, is_quit};
 ghost use Rattle.mg_serve.specs.Session.{Does};
 ghost use Rattle.mg_serve.specs.Serve.{RanLines};
 ghost use Rattle.mg_serve.specs.aids.Driving.{BytesTaken, Finished};
@@ -49,9 +49,9 @@ impl LineDriver {
     ) -> Result<bool, WriteFailed>
         requires sound { IsValidConfig config }
         ensures begun { OnOk result (self.new.begun ≡ []) }
-        ensures quit { IfOk result (λ quit. quit ≡ is_quit (command_of (without_return self.old.begun))) }
+        ensures quit { IfOk result (λ quit. quit ≡ is_quit (line_command (without_return self.old.begun))) }
         ensures value { Takes self.old.server.core.state self.new.server.core.state (P.calls ports.old) (P.calls ports.new)
-            (Does config (command_of (without_return self.old.begun))) }
+            (Does config (line_command (without_return self.old.begun))) }
     {
         let command = Command::of(without_return(self.begun.as_slice()));
         let quit = self

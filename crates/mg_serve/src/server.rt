@@ -7,7 +7,7 @@ ghost use Rattle.mg_words.specs.Leads.{Leads};
 ghost use Rattle.mg_ports.specs.declared.call.Call.TheVariants.{Send};
 ghost use Rattle.mg_ports.specs.Calls.{Told};
 ghost use Rattle.mg_serve.specs.Lines.{is_quit};
-ghost use Rattle.mg_serve.specs.Session.{Does, Happens, IsNoEvent, Turn, event_at, send_of};
+ghost use Rattle.mg_serve.specs.Session.{Does, Happens, IsNoEvent, SlotTurn, event_at, send_of};
 ghost use Rattle.mg_serve.specs.aids.Driving.{Received};
 ghost use Rattle.mg_serve.specs.aids.Takes.{Takes};
 
@@ -159,7 +159,7 @@ impl Server {
     )
         requires sound { IsValidConfig config }
         requires last { slot ≤ config.slots }
-        ensures value { Takes self.old.core.state self.new.core.state (P.calls ports.old) (P.calls ports.new) (Turn config slot) }
+        ensures value { Takes self.old.core.state self.new.core.state (P.calls ports.old) (P.calls ports.new) (SlotTurn config slot) }
     {
         for _ in 0..TURN {
             if !self.receive(alloc, config, ports, slot, buffer) {

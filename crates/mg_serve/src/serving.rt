@@ -1,6 +1,6 @@
 ghost use Rattle.std.specs.Prelude.{◌≡◌, ◌↔◌, Err, OnOk};
 ghost use Rattle.mg_engine.specs.Config.{IsValidConfig};
-ghost use Rattle.mg_serve.specs.Serve.{Served};
+ghost use Rattle.mg_serve.specs.Serve.{ServedSession};
 
 use crate::line_driver::LineDriver;
 use crate::output::print_line;
@@ -31,7 +31,7 @@ pub fn serve<P: Ports, R: Read, W: Write>(
     reader: &mut R,
     writer: &mut W,
 ) -> Result<Counts, RunFault>
-    ensures session { Served config (R.remaining reader.old) (R.remaining reader.new) (P.calls ports.old) (P.calls ports.new) result }
+    ensures session { ServedSession config (R.remaining reader.old) (R.remaining reader.new) (P.calls ports.old) (P.calls ports.new) result }
     ensures bad { (result ≡ Err RunFault.BadConfig) ↔ ¬ IsValidConfig config }
     ensures sound { OnOk result (IsValidConfig config) }
 {

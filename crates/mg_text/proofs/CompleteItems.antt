@@ -20,9 +20,9 @@ use Rattle.mg_text.specs.declared.body.MessageItem.TheVariants as items
 use Rattle.mg_text.specs.declared.command_head.CommandHead.{CommandHead}
 use Rattle.mg_text.specs.declared.message.Message.{Message}
 use Rattle.mg_text.specs.Keyword.{keyword_of}
-use Rattle.mg_words.specs.ContextId.{context_of}
+use Rattle.mg_words.specs.ContextId.{context_id_of}
 use Rattle.mg_text.specs.Words.{association_of, context_word_of, range_of, command_for, command_of}
-use Rattle.mg_text.specs.Head.{version_of}
+use Rattle.mg_text.specs.Head.{version_in_head}
 use Rattle.mg_words.specs.ResultSteps.{◌>>=◌}
 use Rattle.mg_text.specs.aids.Reading.{meaning_at}
 use Rattle.mg_text.specs.aids.Commands.{command_at}
@@ -121,11 +121,11 @@ parts_some source (p ∷ q ∷ qs) xs ts rest m = omega (arith, property_shorter
 action_read : (source : List ℕ) (ts : List Token) (x : Action) (rest : List Token) → Stops rest → IsAction source x ts rest → action_at source ts ≡ Ok (x, rest)
 unfolding action_at
 action_read source ts x rest stops m =
-    rw (named_read source keywords.Context ts m.a m.name, mark_read source Equals m.a m.b m.equals, worded_read context_of source x.context m.b m.d m.context, mark_read source Open m.d m.e m.«open», parts_read source (length m.e) x.properties x.commands m.e rest (parts_some source x.properties x.commands m.e rest m.parts) m.parts) refl
+    rw (named_read source keywords.Context ts m.a m.name, mark_read source Equals m.a m.b m.equals, worded_read context_id_of source x.context m.b m.d m.context, mark_read source Open m.d m.e m.«open», parts_read source (length m.e) x.properties x.commands m.e rest (parts_some source x.properties x.commands m.e rest m.parts) m.parts) refl
 
 action_shorter : (source : List ℕ) (ts : List Token) (x : Action) (rest : List Token) → IsAction source x ts rest → length rest ≤ length ts
 action_shorter source ts x rest m =
-    omega (arith, span_shorter Word m.name.word ts m.a m.name.is, mark_shorter Equals m.a m.b m.equals, worded_shorter context_of source x.context m.b m.d m.context, mark_shorter Open m.d m.e m.«open», parts_shorter source x.properties x.commands m.e rest m.parts)
+    omega (arith, span_shorter Word m.name.word ts m.a m.name.is, mark_shorter Equals m.a m.b m.equals, worded_shorter context_id_of source x.context m.b m.d m.context, mark_shorter Open m.d m.e m.«open», parts_shorter source x.properties x.commands m.e rest m.parts)
 
 answer_read : (source : List ℕ) (ts rest : List Token) (m : IsAnswer source ts rest) → answer_at source m.a ≡ Ok (None, rest)
 unfolding answer_at
@@ -199,8 +199,8 @@ unfolding sender_at
 sender_read source s ts rest m = rw (word_read source s ts rest m.is, m.named) refl
 
 -- the head of a message, and the text after it
-pub head_read : (source : List ℕ) (n : ℕ) (ts rest : List Token) → IsWorded version_of source n ts rest → version_at source ts ≡ Ok (n, rest)
-head_read source n ts rest m = worded_read version_of source n ts rest m
+pub head_read : (source : List ℕ) (n : ℕ) (ts rest : List Token) → IsWorded version_in_head source n ts rest → version_at source ts ≡ Ok (n, rest)
+head_read source n ts rest m = worded_read version_in_head source n ts rest m
 
 pub text_read : (source : List ℕ) (m : Message) (ts : List Token) (is : IsText source m ts) → text_at source is.a ≡ Ok m
 unfolding text_at

@@ -16,7 +16,7 @@ use Rattle.mg_text.specs.declared.media.StreamPart.TheVariants as streams
 use Rattle.mg_text.specs.declared.media.MediaPart.{MediaPart}
 use Rattle.mg_text.specs.declared.media.MediaPart.TheVariants as parts
 use Rattle.mg_text.specs.Keyword.{keyword_of}
-use Rattle.mg_text.specs.Words.{mode_of, switch_of}
+use Rattle.mg_text.specs.Words.{mode_word_of, switch_of}
 use Rattle.mg_text.specs.aids.Reading.{after_mark}
 use Rattle.mg_text.specs.aids.Media.{value_at, optional_value_at, switched_at, mode_part_at, package_part_at, control_named, control_at, stream_part_at, numbered_at, media_part_at}
 use Rattle.mg_text.specs.Grammar.{IsWorded, IsHeaded, IsAssigned, IsOptionalAssigned, IsValue, is_control, IsPackagePart, IsControlPart, IsStreamPart, IsMediaPart}
@@ -55,7 +55,7 @@ package_read source w o ts rest m stops = rw (m.slash, optional_value_read sourc
 control_read : (source : List ℕ) (ts : List Token) (x : ControlPart) (rest : List Token) → Stops rest → IsControlPart source x ts rest → control_at source ts ≡ Ok (x, rest)
 unfolding control_at mode_part_at switched_at
 control_read source ts (controls.Mode mode) rest stops m =
-    rw (word_read source m.name.word ts m.a m.name.is, m.name.means, mark_read source Equals m.a m.is.a m.is.equals, worded_read mode_of source mode m.is.a rest m.is.is) refl
+    rw (word_read source m.name.word ts m.a m.name.is, m.name.means, mark_read source Equals m.a m.is.a m.is.equals, worded_read mode_word_of source mode m.is.a rest m.is.is) refl
 control_read source ts (controls.ReservedValue on) rest stops m =
     rw (word_read source m.name.word ts m.a m.name.is, m.name.means, mark_read source Equals m.a m.is.a m.is.equals, worded_read switch_of source on m.is.a rest m.is.is) refl
 control_read source ts (controls.ReservedGroup on) rest stops m =
@@ -67,7 +67,7 @@ assigned_shorter : {X : Type 0} (meaning : List ℕ → Option X) (source : List
 assigned_shorter meaning source keyword x ts rest m = omega (arith, worded_shorter keyword_of source keyword ts m.a m.name, mark_shorter Equals m.a m.is.a m.is.equals, worded_shorter meaning source x m.is.a rest m.is.is)
 
 control_shorter : (source : List ℕ) (ts : List Token) (x : ControlPart) (rest : List Token) → IsControlPart source x ts rest → length rest ≤ length ts
-control_shorter source ts (controls.Mode mode) rest m = assigned_shorter mode_of source keywords.Mode mode ts rest m
+control_shorter source ts (controls.Mode mode) rest m = assigned_shorter mode_word_of source keywords.Mode mode ts rest m
 control_shorter source ts (controls.ReservedValue on) rest m = assigned_shorter switch_of source keywords.ReservedValue on ts rest m
 control_shorter source ts (controls.ReservedGroup on) rest m = assigned_shorter switch_of source keywords.ReservedGroup on ts rest m
 control_shorter source ts (controls.Property w o) rest m = omega (arith, span_shorter Word w ts m.a m.is, optional_value_shorter o m.a rest m.value_is)

@@ -5,7 +5,7 @@ use Rattle.std.proofs.lemmas.Bool.Decides.{leb_tells}
 use Rattle.mg_scan.specs.declared.fault.ScanFault.{ScanFault}
 use Rattle.mg_scan.specs.declared.token.Token.{Token}
 use Rattle.mg_text.specs.declared.message.Message.{Message}
-use Rattle.mg_text.specs.Head.{version_of}
+use Rattle.mg_text.specs.Head.{version_in_head}
 use Rattle.mg_text.specs.aids.Text.{version_at, text_at, is_within}
 use Rattle.mg_text.specs.Message.{AreTokens, IsTree, IsMessage, AsksTooMuch, IsTooMany, HasOtherVersion, requests_in, commands_in, items_of}
 use Rattle.mg_text.specs.MessageReading.{MessageReading, Read, TooMany, OtherVersion, NoMessage, IsNoMessage, IsReading}
@@ -113,7 +113,7 @@ module _ (source : List ℕ) (ts : List Token) (f : Option ScanFault) (short : l
       rest = rest;
       fault = f;
       are = are;
-      head = worded_found version_of source ts (n, rest) head;
+      head = worded_found version_in_head source ts (n, rest) head;
       other = λ e. true≢false (sym (ap (λ (x : ℕ). eqb x 1) e) ∙ other);
     },
   )
@@ -151,7 +151,7 @@ module _ (source : List ℕ) (ts : List Token) (f : Option ScanFault) (short : l
         short = short;
         tokens = ts;
         are = subst (λ (g : Option ScanFault). AreTokens source ts g) clean are;
-        is = text_found source ts rest m (worded_found version_of source ts (1, rest) head) is;
+        is = text_found source ts rest m (worded_found version_in_head source ts (1, rest) head) is;
       } in
       served m (is_within 4 64 (items_of m.body)) refl tree
   after_head rest (Err place) clean head is = (

@@ -9,7 +9,7 @@ use Rattle.mg_text.specs.declared.fault.ReadFault.{ReadFault}
 use Rattle.mg_text.specs.declared.fault.ReadFault.TheVariants.{NoMemory, Syntax, Version, TooMany}
 use Rattle.mg_text.specs.declared.body.MessageItem.{MessageItem}
 use Rattle.mg_text.specs.declared.message.Message.{Message}
-use Rattle.mg_text.specs.Head.{version_of}
+use Rattle.mg_text.specs.Head.{version_in_head}
 use Rattle.mg_text.specs.aids.Reading.{Agrees}
 use Rattle.mg_text.specs.aids.Text.{version_at, text_at, is_within, answer_of, fault_within, UnlessNoMemory, AgreesText, AgreesAfter, AgreesVersioned}
 use Rattle.mg_text.specs.Grammar.{IsText, IsWorded}
@@ -45,7 +45,7 @@ found_text : (source : List ℕ) (ts : List Token) (f : Option ScanFault) (m : M
 found_text source ts f m n rest false short are head is g = absurd cc
 found_text source ts (Some f) m n rest true short are head is g = absurd (cc g.1)
 found_text source ts None m n rest true short are head is g =
-    let one = subst (λ (k : ℕ). IsWorded version_of source k ts rest) (eqb-true n 1 is) (worded_found version_of source ts (n, rest) head) in
+    let one = subst (λ (k : ℕ). IsWorded version_in_head source k ts rest) (eqb-true n 1 is) (worded_found version_in_head source ts (n, rest) head) in
     record { short = short; tokens = ts; are = are; is = text_found source ts rest m one g }
 
 found_after : (source : List ℕ) (ts : List Token) (f : Option ScanFault) (m : Message) (v : Result (ℕ × List Token) ℕ) → IsShort source → AreTokens source ts f → version_at source ts ≡ v → AgreesAfter (Ok m) v (is_some f) (text_at source) → IsTree source m
@@ -95,7 +95,7 @@ version_only_text : (source : List ℕ) (ts : List Token) (f : Option ScanFault)
 version_only_text source ts f n k rest false faulty short are head is g =
     let same : k ≡ n = cc g in
     let other : k ≢ 1 = λ e. true≢false (sym (ap (λ (x : ℕ). eqb x 1) e) ∙ is) in
-    record { short = short; tokens = ts; rest = rest; fault = f; are = are; head = subst (λ (x : ℕ). IsWorded version_of source x ts rest) same (worded_found version_of source ts (k, rest) head); other = subst (λ (x : ℕ). x ≢ 1) same other }
+    record { short = short; tokens = ts; rest = rest; fault = f; are = are; head = subst (λ (x : ℕ). IsWorded version_in_head source x ts rest) same (worded_found version_in_head source ts (k, rest) head); other = subst (λ (x : ℕ). x ≢ 1) same other }
 version_only_text source ts f n k rest true true short are head is g = absurd (cc g.1)
 version_only_text source ts f n k rest true false short are head is g = absurd g
 

@@ -5,7 +5,7 @@ use Rattle.mg_scan.specs.declared.span.Span.{Span}
 use Rattle.mg_scan.specs.declared.kind.TokenKind.{TokenKind}
 use Rattle.mg_scan.specs.declared.fault.ScanFault.{ScanFault}
 use Rattle.mg_scan.specs.Scanner.{Scanning, rest_of}
-use Rattle.mg_scan.specs.Tokens.{first_token, taken, Taken, closing, names_octets}
+use Rattle.mg_scan.specs.Tokens.{first_token, token_and_rest, TokenAndRest, closing_len, names_octets}
 use Rattle.mg_scan.specs.Scanner.{IsNext}
 use Rattle.mg_scan.specs.Span.{text_of}
 use Rattle.mg_text.specs.Message.{Reaches, ending, AreTokens, start_of}
@@ -15,13 +15,13 @@ pub Reaches-push : (ts : List Token) (old mid new : Scanning) (t : Token) → Re
 Reaches-push [] old mid new t way same gives = (new, same ∙ ap (λ (s : Scanning). s.source) (sym way), subst (λ (s : Scanning). IsNext s t new) (sym way) gives, refl)
 Reaches-push (x ∷ ts) old mid new t way same gives = (way.0, way.1, way.2, Reaches-push ts way.0 mid new t way.3 same gives)
 
-abbrev read_as : TokenKind → List ℕ → List ℕ → Taken
+abbrev read_as : TokenKind → List ℕ → List ℕ → TokenAndRest
 read_as kind text rest = record { piece = record { kind = kind; text = text }; rest = rest }
 
-taken_is : (k l : TokenKind) (x y r s : List ℕ) → taken k x r ≡ taken l y s → read_as k x r ≡ read_as l y s
+taken_is : (k l : TokenKind) (x y r s : List ℕ) → token_and_rest k x r ≡ token_and_rest l y s → read_as k x r ≡ read_as l y s
 taken_is k l x y r s e = cc
 
-never : (f : Option ScanFault) (k : TokenKind) (x r : List ℕ) → ending f ≡ taken k x r → ⊥
+never : (f : Option ScanFault) (k : TokenKind) (x r : List ℕ) → ending f ≡ token_and_rest k x r → ⊥
 never None k x r e = cc
 never (Some f) k x r e = cc
 
@@ -35,11 +35,11 @@ length_rest s source e = length-drop s.at s.source ∙ ap (λ (l : List ℕ). le
 IsNext-same : (old a b : Scanning) (t u : Token) → a.source ≡ old.source → b.source ≡ old.source → IsNext old t a → IsNext old u b → (t ≡ u) × (a ≡ b)
 IsNext-same old a b t u ea eb g h =
     let e = taken_is _ _ _ _ _ _ (sym g.is ∙ h.is) in
-    let kind : t.kind ≡ u.kind = ap (λ (x : Taken). x.piece.kind) e in
-    let text = ap (λ (x : Taken). length x.piece.text) e in
-    let rest = ap (λ (x : Taken). length x.rest) e in
+    let kind : t.kind ≡ u.kind = ap (λ (x : TokenAndRest). x.piece.kind) e in
+    let text = ap (λ (x : TokenAndRest). length x.piece.text) e in
+    let rest = ap (λ (x : TokenAndRest). length x.rest) e in
     let at : a.at ≡ b.at = omega (arith, g.within, h.within, rest, length_rest a old.source ea, length_rest b old.source eb) in
-    let end : t.span.end ≡ u.span.end = omega (arith, g.end, h.end, ap closing kind, at) in
+    let end : t.span.end ≡ u.span.end = omega (arith, g.end, h.end, ap closing_len kind, at) in
     let start : t.span.start ≡ u.span.start = omega (arith, g.end, h.end, g.within, h.within, g.span, h.span, text, end, length_text old.source t.span g.span (omega (arith, g.end, g.within)), length_text old.source u.span h.span (omega (arith, h.end, h.within))) in
     let token : t ≡ u = λ i. record { kind = kind i; span = record { start = start i; end = end i } } in
     let named : a.named ≡ b.named = g.named ∙ ap (λ (x : Token). names_octets x.kind (text_of old.source x.span)) token ∙ sym h.named in

@@ -18,9 +18,9 @@ use Rattle.mg_text.specs.declared.body.Body.{Body}
 use Rattle.mg_text.specs.declared.body.MessageItem.{MessageItem}
 use Rattle.mg_text.specs.declared.message.Message.{Message}
 use Rattle.mg_text.specs.Keyword.{keyword_of}
-use Rattle.mg_words.specs.ContextId.{context_of}
+use Rattle.mg_words.specs.ContextId.{context_id_of}
 use Rattle.mg_text.specs.Words.{association_of, context_word_of, range_of}
-use Rattle.mg_text.specs.Head.{version_of}
+use Rattle.mg_text.specs.Head.{version_in_head}
 use Rattle.mg_text.specs.Sender.{is_sender}
 use Rattle.mg_words.specs.ResultSteps.{◌>>=◌}
 use Rattle.mg_text.specs.aids.Reading.{mark_at, after_mark, word_at, named_at, meaning_at, keyword_at, number_at, context_at, term_at, group_at, items_at, braced_at, place_of}
@@ -129,7 +129,7 @@ action_found source ts x e =
       e = f.0;
       name = named_found source keywords.Context ts a.0 a.1;
       equals = mark_found source Equals a.0 b.0 b.1;
-      context = worded_found context_of source b.0 d.0 d.1;
+      context = worded_found context_id_of source b.0 d.0 d.1;
       «open» = mark_found source Open d.0.1 f.0 f.1;
       parts = parts_found source (length f.0) f.0 parts.0 parts.1;
     })
@@ -255,7 +255,7 @@ sender_found source ts x e =
     subst (IsSpelled (IsSender source) ts) g.1 (record { named = g.0; is = word_found source ts w.0 w.1 })
 
 -- a text after its head
-pub text_found : (source : List ℕ) (ts a : List Token) (m : Message) → IsWorded version_of source 1 ts a → text_at source a ≡ Ok m → IsText source m ts
+pub text_found : (source : List ℕ) (ts a : List Token) (m : Message) → IsWorded version_in_head source 1 ts a → text_at source a ≡ Ok m → IsText source m ts
 unfolding text_at
 text_found source ts a m head e =
     let s = bind_ok (sender_at source a) _ m e in

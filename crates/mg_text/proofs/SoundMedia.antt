@@ -15,7 +15,7 @@ use Rattle.mg_text.specs.declared.media.StreamPart.{StreamPart}
 use Rattle.mg_text.specs.declared.media.MediaPart.{MediaPart}
 use Rattle.mg_text.specs.declared.media.MediaPart.TheVariants as parts
 use Rattle.mg_text.specs.Keyword.{keyword_of}
-use Rattle.mg_text.specs.Words.{mode_of, switch_of}
+use Rattle.mg_text.specs.Words.{mode_word_of, switch_of}
 use Rattle.mg_words.specs.ResultSteps.{◌>>=◌}
 use Rattle.mg_text.specs.aids.Reading.{mark_at, after_mark, span_at, word_at, meaning_at, keyword_at, number_at, after_group, filled_at, braced_at, place_of}
 use Rattle.mg_text.specs.aids.Media.{value_kinded, value_at, optional_value_at, switched_at, mode_part_at, package_part_at, control_named, control_at, stream_named, stream_part_at, numbered_at, media_named, media_part_at}
@@ -50,8 +50,8 @@ mode_found : (source : List ℕ) (ts a : List Token) (x : ControlPart × List To
 unfolding mode_part_at
 mode_found source ts a x name e =
     let b = bind_ok (mark_at source Equals a) _ x e in
-    let mode = bind_ok (meaning_at mode_of source b.0) _ x b.2 in
-    subst (IsSpelled (IsControlPart source) ts) (ok_is _ x mode.2) (record { a = a; name = name; is = record { a = b.0; equals = mark_found source Equals a b.0 b.1; is = worded_found mode_of source b.0 mode.0 mode.1 } })
+    let mode = bind_ok (meaning_at mode_word_of source b.0) _ x b.2 in
+    subst (IsSpelled (IsControlPart source) ts) (ok_is _ x mode.2) (record { a = a; name = name; is = record { a = b.0; equals = mark_found source Equals a b.0 b.1; is = worded_found mode_word_of source b.0 mode.0 mode.1 } })
 
 value_part_found : (source : List ℕ) (ts a : List Token) (x : ControlPart × List Token) → IsWorded keyword_of source keywords.ReservedValue ts a → switched_at source controls.ReservedValue a ≡ Ok x → IsControlPart source x.0 ts x.1
 unfolding switched_at

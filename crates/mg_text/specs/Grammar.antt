@@ -42,11 +42,12 @@ use Rattle.mg_text.specs.declared.body.MessageItem.{MessageItem}
 use Rattle.mg_text.specs.declared.body.MessageItem.TheVariants as items
 use Rattle.mg_text.specs.declared.message.Message.{Message}
 use Rattle.mg_text.specs.Keyword.{is_named, keyword_of}
-use Rattle.mg_words.specs.ContextId.{context_of}
-use Rattle.mg_text.specs.Words.{association_of, context_word_of, audit_word_of, mode_of, switch_of}
+use Rattle.mg_words.specs.ContextId.{context_id_of}
+use Rattle.mg_text.specs.Words.{association_of, context_word_of, audit_word_of, mode_word_of}
+use Rattle.mg_text.specs.Words.{switch_of}
 use Rattle.mg_text.specs.Words.{range_of, command_of}
 use Rattle.mg_words.specs.Term.{is_term}
-use Rattle.mg_text.specs.Head.{version_of}
+use Rattle.mg_text.specs.Head.{version_in_head}
 use Rattle.mg_text.specs.Sender.{is_sender}
 
 -- one token of a kind
@@ -125,7 +126,7 @@ IsOptionalBraced P [] ts rest = ts ≡ rest
 IsOptionalBraced P (x ∷ xs) ts rest = IsBraced P (x ∷ xs) ts rest
 
 -- "{" "}"
-pub record IsEmpty (ts rest : List Token) : Type 0 where
+pub record IsEmptyBraces (ts rest : List Token) : Type 0 where
   pub a : List Token
   pub «open» : IsMark Open ts a
   pub close : IsMark Close a rest
@@ -133,7 +134,7 @@ pub record IsEmpty (ts rest : List Token) : Type 0 where
 -- "{" [x *("," x)] "}"
 abbrev pub IsAnyBraced : {X : Type 0} → (X → List Token → List Token → Type 0) → List X
     → List Token → List Token → Type 0
-IsAnyBraced P [] ts rest = IsEmpty ts rest
+IsAnyBraced P [] ts rest = IsEmptyBraces ts rest
 IsAnyBraced P (x ∷ xs) ts rest = IsBraced P (x ∷ xs) ts rest
 
 -- a token that is no brace
@@ -166,7 +167,7 @@ pub record IsFilled (ts rest : List Token) : Type 0 where
 -- [group], and whether it has a token in it
 abbrev pub IsContent : Bool → List Token → List Token → Type 0
 IsContent true ts rest = IsFilled ts rest
-IsContent false ts rest = (ts ≡ rest) ⊎ IsEmpty ts rest
+IsContent false ts rest = (ts ≡ rest) ⊎ IsEmptyBraces ts rest
 
 -- [group], whatever it holds
 abbrev pub IsOptionalGroup : List Token → List Token → Type 0
@@ -207,7 +208,7 @@ pub record IsPackagePart (source : List ℕ) (name : Span) (value : Option Prope
 -- | group)]
 abbrev pub IsControlPart : List ℕ → ControlPart → List Token → List Token → Type 0
 IsControlPart source (controls.Mode mode) ts rest =
-    IsHeaded source keywords.Mode (IsAssigned (IsWorded mode_of source)) mode ts rest
+    IsHeaded source keywords.Mode (IsAssigned (IsWorded mode_word_of source)) mode ts rest
 IsControlPart source (controls.ReservedValue on) ts rest =
     IsHeaded source keywords.ReservedValue (IsAssigned (IsWorded switch_of source)) on ts rest
 IsControlPart source (controls.ReservedGroup on) ts rest =
@@ -367,7 +368,7 @@ pub record IsAction (source : List ℕ) (x : Action) (ts rest : List Token) : Ty
   pub e : List Token
   pub name : IsNamed source keywords.Context ts a
   pub equals : IsMark Equals a b
-  pub context : IsWorded context_of source x.context b d
+  pub context : IsWorded context_id_of source x.context b d
   pub «open» : IsMark Open d e
   pub parts : IsParts source x.properties x.commands e rest
 
@@ -453,6 +454,6 @@ pub record IsSender (source : List ℕ) (sender : Span) (ts rest : List Token) :
 pub record IsText (source : List ℕ) (m : Message) (ts : List Token) : Type 0 where
   pub a : List Token
   pub b : List Token
-  pub head : IsWorded version_of source 1 ts a
+  pub head : IsWorded version_in_head source 1 ts a
   pub sender : IsSender source m.sender a b
   pub body : IsBody source m.body b

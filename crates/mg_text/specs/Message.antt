@@ -5,14 +5,14 @@ use Rattle.mg_words.specs.Limits.{message_limit, request_limit, command_limit}
 use Rattle.mg_scan.specs.declared.fault.ScanFault.{ScanFault}
 use Rattle.mg_scan.specs.declared.token.Token.{Token}
 use Rattle.mg_scan.specs.Scanner.{Scanning, IsNext, rest_of}
-use Rattle.mg_scan.specs.Tokens.{Taken, first_token}
+use Rattle.mg_scan.specs.Tokens.{TokenAndRest, first_token}
 use Rattle.mg_text.specs.declared.request.Action.{Action}
 use Rattle.mg_text.specs.declared.body.MessageItem.{MessageItem}
 use Rattle.mg_text.specs.declared.body.MessageItem.TheVariants as items
 use Rattle.mg_text.specs.declared.body.Body.{Body}
 use Rattle.mg_text.specs.declared.body.Body.TheVariants as bodies
 use Rattle.mg_text.specs.declared.message.Message.{Message}
-use Rattle.mg_text.specs.Head.{version_of}
+use Rattle.mg_text.specs.Head.{version_in_head}
 use Rattle.mg_text.specs.Grammar.{IsText, IsWorded}
 
 -- scanning goes from one place to another by these tokens
@@ -22,7 +22,7 @@ Reaches old (t ∷ ts) new =
     (next : Scanning) × (next.source ≡ old.source) × IsNext old t next × Reaches next ts new
 
 -- what stands where the tokens end: nothing, or a fault
-abbrev pub ending : Option ScanFault → Option (Result Taken ScanFault)
+abbrev pub ending : Option ScanFault → Option (Result TokenAndRest ScanFault)
 ending None = None
 ending (Some f) = Some (Err f)
 
@@ -90,5 +90,5 @@ pub record HasOtherVersion (source : List ℕ) (version : ℕ) : Type 0 where
   pub rest : List Token
   pub fault : Option ScanFault
   pub are : AreTokens source tokens fault
-  pub head : IsWorded version_of source version tokens rest
+  pub head : IsWorded version_in_head source version tokens rest
   pub other : version ≢ 1

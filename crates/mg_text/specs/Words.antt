@@ -66,8 +66,8 @@ mode_named keywords.Inactive = Some modes.Inactive
 mode_named keywords.Loopback = Some modes.Loopback
 mode_named _ = None
 
-abbrev pub mode_of : List ℕ → Option Mode
-mode_of text = option_and_then mode_named (keyword_of text)
+abbrev pub mode_word_of : List ℕ → Option Mode
+mode_word_of text = option_and_then mode_named (keyword_of text)
 
 -- ON or OFF
 abbrev pub switch_of : List ℕ → Option Bool

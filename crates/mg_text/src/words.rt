@@ -1,15 +1,15 @@
 ghost use Rattle.std.specs.Prelude.{◌≡◌};
 ghost use Rattle.mg_words.specs.Numbers.{number_of};
-ghost use Rattle.mg_words.specs.ContextId.{context_of};
+ghost use Rattle.mg_words.specs.ContextId.{context_id_of};
 ghost use Rattle.mg_text.specs.Keyword.{keyword_of};
-ghost use Rattle.mg_text.specs.Words.{association_of, context_word_of, audit_word_of, mode_of, switch_of, range_of};
+ghost use Rattle.mg_text.specs.Words.{association_of, context_word_of, audit_word_of, mode_word_of, switch_of, range_of};
 
 use crate::body::Range;
 use crate::context_property::ContextWord;
 use crate::descriptor::AuditWord;
 use crate::from_word::FromWord;
 use crate::keyword::{Keyword, keyword_of, same_word};
-use mg_words::{Association, ContextId, Mode, context_of, cut, number_of};
+use mg_words::{Association, ContextId, Mode, context_id_of, cut, number_of};
 
 impl FromWord for Keyword {
     ghost meaning = { keyword_of };
@@ -28,10 +28,10 @@ impl FromWord for u32 {
 }
 
 impl FromWord for ContextId {
-    ghost meaning = { context_of };
+    ghost meaning = { context_id_of };
 
     fn from_word(text: &[u8]) -> Option<ContextId> {
-        context_of(text)
+        context_id_of(text)
     }
 }
 
@@ -82,7 +82,7 @@ impl FromWord for AuditWord {
 }
 
 impl FromWord for Mode {
-    ghost meaning = { mode_of };
+    ghost meaning = { mode_word_of };
 
     fn from_word(text: &[u8]) -> Option<Mode> {
         match keyword_of(text) {

@@ -25,17 +25,17 @@ row_of_pair x y d b b' p q r e = grind arith
 
 -- to stand for a list of edits is to hold its seats, and to have its words in the rows of held seats
 pub stands_from : (k : TopologyState) (es : List Edit) → ((s : ℕ) → holds k s ≡ is_held es s)
-    → ((l t : ℕ) → is_held es l ≡ true → is_held es t ≡ true → (l == t) ≡ false → has_seat (slice_index k.rows l) t ≡ lets_hear es l t)
+    → ((t l : ℕ) → is_held es t ≡ true → is_held es l ≡ true → (t == l) ≡ false → has_seat (slice_index k.rows l) t ≡ lets_hear es t l)
     → StandsFor k es
 stands_from k es held row = record {
   seats = held;
-  pairs = λ l t. same_pair _ _ _ _ (l == t) _ _ (held l) (held t) (row l t);
+  pairs = λ t l. same_pair _ _ _ _ (t == l) _ _ (held t) (held l) (row t l);
 }
 
-pub row_from : (k : TopologyState) (es : List Edit) (l t : ℕ) → StandsFor k es → is_held es l ≡ true → is_held es t ≡ true → (l == t) ≡ false → has_seat (slice_index k.rows l) t ≡ lets_hear es l t
-row_from k es l t h p q d =
-    row_of_pair (is_held es l) (is_held es t) (l == t) _ _ p q d
-    (sym (same_pair (holds k l) (holds k t) _ _ (l == t) _ (has_seat (slice_index k.rows l) t) (h.seats l) (h.seats t) (λ _ _ _. refl)) ∙ h.pairs l t)
+pub row_from : (k : TopologyState) (es : List Edit) (t l : ℕ) → StandsFor k es → is_held es t ≡ true → is_held es l ≡ true → (t == l) ≡ false → has_seat (slice_index k.rows l) t ≡ lets_hear es t l
+row_from k es t l h p q d =
+    row_of_pair (is_held es t) (is_held es l) (t == l) _ _ p q d
+    (sym (same_pair (holds k t) (holds k l) _ _ (t == l) _ (has_seat (slice_index k.rows l) t) (h.seats t) (h.seats l) (λ _ _ _. refl)) ∙ h.pairs t l)
 
 pub held_below : (k : TopologyState) (es : List Edit) (s : ℕ) → StandsFor k es → is_held es s ≡ true → s < MEMBERS
 held_below k es s h p = grind (arith, nat_tests, h.seats s)
@@ -45,11 +45,11 @@ held_below k es s h p = grind (arith, nat_tests, h.seats s)
 entered_seat : (k k' : TopologyState) (n s : ℕ) (b : Bool) → n < MEMBERS → has_seat k'.held s ≡ cond (s == n) true (has_seat k.held s) → holds k s ≡ b → holds k' s ≡ cond (s == n) true b
 entered_seat k k' n s b p e h = grind (arith, nat_tests)
 
-entered_pair : (k k' : TopologyState) (n : ℕ) (es : List Edit) (l t : ℕ) → (l ≡ n → has_seat (slice_index k'.rows l) t ≡ true)
+entered_pair : (k k' : TopologyState) (n : ℕ) (es : List Edit) (t l : ℕ) → (l ≡ n → has_seat (slice_index k'.rows l) t ≡ true)
     → (l ≢ n → has_seat (slice_index k'.rows l) t ≡ cond (t == n) true (has_seat (slice_index k.rows l) t))
-    → (is_held es l ≡ true → is_held es t ≡ true → has_seat (slice_index k.rows l) t ≡ lets_hear es l t)
-    → is_held (Enter n ∷ es) l ≡ true → is_held (Enter n ∷ es) t ≡ true → has_seat (slice_index k'.rows l) t ≡ lets_hear (Enter n ∷ es) l t
-entered_pair k k' n es l t own row h p q = grind (arith, nat_tests)
+    → (is_held es t ≡ true → is_held es l ≡ true → has_seat (slice_index k.rows l) t ≡ lets_hear es t l)
+    → is_held (Enter n ∷ es) t ≡ true → is_held (Enter n ∷ es) l ≡ true → has_seat (slice_index k'.rows l) t ≡ lets_hear (Enter n ∷ es) t l
+entered_pair k k' n es t l own row h p q = grind (arith, nat_tests)
 
 entered_below : (k : TopologyState) (n : ℕ) (es : List Edit) (s : ℕ) → n < MEMBERS → StandsFor k es → is_held (Enter n ∷ es) s ≡ true → s < MEMBERS
 entered_below k n es s p h q = grind (arith, nat_tests, h.seats s)
@@ -57,15 +57,15 @@ entered_below k n es s p h q = grind (arith, nat_tests, h.seats s)
 pub enter_stands : (k k' : TopologyState) (n : ℕ) (es : List Edit) → n < MEMBERS
     → ((s : ℕ) → has_seat k'.held s ≡ cond (s == n) true (has_seat k.held s))
     → ((t : ℕ) → t < MEMBERS → has_seat (slice_index k'.rows n) t ≡ true)
-    → ((l t : ℕ) → l < MEMBERS → l ≢ n → has_seat (slice_index k'.rows l) t ≡ cond (t == n) true (has_seat (slice_index k.rows l) t))
+    → ((t l : ℕ) → l < MEMBERS → l ≢ n → has_seat (slice_index k'.rows l) t ≡ cond (t == n) true (has_seat (slice_index k.rows l) t))
     → StandsFor k es → StandsFor k' (Enter n ∷ es)
 enter_stands k k' n es inside held own row h =
     stands_from k' (Enter n ∷ es)
     (λ s. entered_seat k k' n s (is_held es s) inside (held s) (h.seats s))
-    (λ l t p q d. entered_pair k k' n es l t
-    (λ e. ap (λ x. has_seat (slice_index k'.rows x) t) e ∙ own t (entered_below k n es t inside h q))
-    (row l t (entered_below k n es l inside h p))
-    (λ x y. row_from k es l t h x y d) p q)
+    (λ t l p q d. entered_pair k k' n es t l
+    (λ e. ap (λ x. has_seat (slice_index k'.rows x) t) e ∙ own t (entered_below k n es t inside h p))
+    (row t l (entered_below k n es l inside h q))
+    (λ x y. row_from k es t l h x y d) p q)
 
 left_seat : (k k' : TopologyState) (n s : ℕ) (b : Bool) → has_seat k'.held s ≡ cond (s == n) false (has_seat k.held s) → holds k s ≡ b → holds k' s ≡ cond (s == n) false b
 left_seat k k' n s b e h = grind (arith, nat_tests)
@@ -79,20 +79,20 @@ pub leave_stands : (k k' : TopologyState) (n : ℕ) (es : List Edit)
 leave_stands k k' n es held rows h =
     stands_from k' (Leave n ∷ es)
     (λ s. left_seat k k' n s (is_held es s) (held s) (h.seats s))
-    (λ l t p q d. ap (λ r. has_seat (slice_index r l) t) rows ∙ row_from k es l t h (still_held n es l p) (still_held n es t q) d)
+    (λ t l p q d. ap (λ r. has_seat (slice_index r l) t) rows ∙ row_from k es t l h (still_held n es t p) (still_held n es l q) d)
 
-applied_word : (triple : Triple) (o : Option Triple) (l t : ℕ) (b : Bool) → cond b (word_of triple l t) (allows o l t) ≡ allows (cond b (Some triple) o) l t
-applied_word triple o l t true = refl
-applied_word triple o l t false = refl
+applied_word : (triple : Triple) (o : Option Triple) (t l : ℕ) (b : Bool) → cond b (word_of triple t l) (allows o t l) ≡ allows (cond b (Some triple) o) t l
+applied_word triple o t l true = refl
+applied_word triple o t l false = refl
 
 pub apply_stands : (k k' : TopologyState) (triple : Triple) (es : List Edit) → k'.held ≡ k.held
-    → ((l t : ℕ) → l < MEMBERS → has_seat (slice_index k'.rows l) t ≡ word_after triple l t (has_seat (slice_index k.rows l) t))
+    → ((t l : ℕ) → l < MEMBERS → has_seat (slice_index k'.rows l) t ≡ word_after triple t l (has_seat (slice_index k.rows l) t))
     → StandsFor k es → StandsFor k' (Apply triple ∷ es)
 apply_stands k k' triple es held row h =
     stands_from k' (Apply triple ∷ es)
     (λ s. ap (λ m. nat_lt s MEMBERS && has_seat m s) held ∙ h.seats s)
-    (λ l t p q d. row l t (held_below k es l h p) ∙ ap (word_after triple l t) (row_from k es l t h p q d)
-    ∙ applied_word triple (last_word es l t) l t (speaks_of triple l t))
+    (λ t l p q d. row t l (held_below k es l h q) ∙ ap (word_after triple t l) (row_from k es t l h p q d)
+    ∙ applied_word triple (last_word es t l) t l (speaks_of triple t l))
 
 -- ---- triples in order
 
@@ -110,6 +110,6 @@ apply_all-more triples i triple es p e =
 -- ---- what a topology tells
 
 -- the row of a held listener, without itself and the seats that nobody holds
-pub row_tells : (k : TopologyState) (l t : ℕ) (b : Bool) → k.held < 2 ^ MEMBERS → holds k l ≡ true
-    → b ≡ cond (t == l) false (has_seat (slice_index k.rows l) t && has_seat k.held t) → b ≡ hears k l t
-row_tells k l t b p q e = grind (arith, nat_tests, has_seat-inside k.held t p)
+pub row_tells : (k : TopologyState) (t l : ℕ) (b : Bool) → k.held < 2 ^ MEMBERS → holds k l ≡ true
+    → b ≡ cond (t == l) false (has_seat (slice_index k.rows l) t && has_seat k.held t) → b ≡ hears k t l
+row_tells k t l b p q e = grind (arith, nat_tests, has_seat-inside k.held t p)

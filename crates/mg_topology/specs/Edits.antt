@@ -27,18 +27,18 @@ last_word (Apply triple ∷ es) a b = if speaks_of triple a b then Some triple e
 
 -- whether a last word lets the listener hear the talker: it does where there is none
 abbrev pub allows : Option Triple → ℕ → ℕ → Bool
-allows None listener talker = true
-allows (Some triple) listener talker = word_of triple listener talker
+allows None talker listener = true
+allows (Some triple) talker listener = word_of triple talker listener
 
 -- whether the last word on the two lets the listener hear the talker
 abbrev pub lets_hear : List Edit → ℕ → ℕ → Bool
-lets_hear es listener talker = allows (last_word es listener talker) listener talker
+lets_hear es talker listener = allows (last_word es talker listener) talker listener
 
 -- whether the listener hears the talker: both are held, they differ, and the last word lets it
 abbrev pub hears_in : List Edit → ℕ → ℕ → Bool
-hears_in es listener talker =
-    is_held es listener
-    && (is_held es talker && (not (listener == talker) && lets_hear es listener talker))
+hears_in es talker listener =
+    is_held es talker
+    && (is_held es listener && (not (talker == listener) && lets_hear es talker listener))
 
 -- the edits, and then the triples in order
 abbrev pub apply_all : List Triple → List Edit → List Edit

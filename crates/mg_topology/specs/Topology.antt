@@ -15,12 +15,12 @@ holds kept seat = nat_lt seat seat_limit && has_seat kept.held seat
 
 -- whether the listener hears the talker: both are held, they differ, and the row has the talker
 abbrev pub hears : TopologyState → ℕ → ℕ → Bool
-hears kept listener talker =
-    holds kept listener
-    && (holds kept talker
-    && (not (listener == talker) && has_seat (slice_index kept.rows listener) talker))
+hears kept talker listener =
+    holds kept talker
+    && (holds kept listener
+    && (not (talker == listener) && has_seat (slice_index kept.rows listener) talker))
 
 -- what is kept agrees with the edits, for each seat and for each pair
 pub record StandsFor (kept : TopologyState) (es : List Edit) : Type 0 where
   pub seats : (seat : ℕ) → holds kept seat ≡ is_held es seat
-  pub pairs : (listener talker : ℕ) → hears kept listener talker ≡ hears_in es listener talker
+  pub pairs : (talker listener : ℕ) → hears kept talker listener ≡ hears_in es talker listener

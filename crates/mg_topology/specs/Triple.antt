@@ -26,7 +26,7 @@ lets Bothway forward = true
 
 -- what a triple says of a pair that it speaks of: whether the listener hears the talker
 abbrev pub word_of : Triple → ℕ → ℕ → Bool
-word_of triple listener talker = lets triple.association (leads triple talker listener)
+word_of triple talker listener = lets triple.association (leads triple talker listener)
 
 -- a Oneway triple has a seat in both of its sets
 abbrev pub Overlaps : Triple → Type 0

@@ -17,10 +17,10 @@ ghost use Rattle.mg_topology.specs.Edits.{Edit, Enter, Leave, Apply, is_held, la
 pub fn newcomer_hears_and_is_heard()
     ensures hears { (es : List Edit) (newcomer member : ℕ) →
         newcomer ≢ member → IsTrue (is_held es member) →
-        IsTrue (hears_in (Enter newcomer ∷ es) newcomer member) }
+        IsTrue (hears_in (Enter newcomer ∷ es) member newcomer) }
     ensures is_heard { (es : List Edit) (newcomer member : ℕ) →
         newcomer ≢ member → IsTrue (is_held es member) →
-        IsTrue (hears_in (Enter newcomer ∷ es) member newcomer) }
+        IsTrue (hears_in (Enter newcomer ∷ es) newcomer member) }
 {}
 
 /// Two hear each other where no triple has spoken of them since both entered.
@@ -43,18 +43,18 @@ pub fn last_triple_wins()
 pub fn associations()
     ensures isolate { (es : List Edit) (triple : Triple) (first second : ℕ) →
         IsTrue (leads triple first second) → triple.association ≡ Isolate →
-        IsFalse (lets_hear (Apply triple ∷ es) second first)
-        × IsFalse (lets_hear (Apply triple ∷ es) first second) }
+        IsFalse (lets_hear (Apply triple ∷ es) first second)
+        × IsFalse (lets_hear (Apply triple ∷ es) second first) }
 
     // A Oneway triple that overlaps is refused.
     ensures oneway { (es : List Edit) (triple : Triple) (first second : ℕ) →
         IsTrue (leads triple first second) → triple.association ≡ Oneway → IsFalse (overlaps triple) →
-        IsTrue (lets_hear (Apply triple ∷ es) second first)
-        × IsFalse (lets_hear (Apply triple ∷ es) first second) }
+        IsTrue (lets_hear (Apply triple ∷ es) first second)
+        × IsFalse (lets_hear (Apply triple ∷ es) second first) }
     ensures bothway { (es : List Edit) (triple : Triple) (first second : ℕ) →
         IsTrue (leads triple first second) → triple.association ≡ Bothway →
-        IsTrue (lets_hear (Apply triple ∷ es) second first)
-        × IsTrue (lets_hear (Apply triple ∷ es) first second) }
+        IsTrue (lets_hear (Apply triple ∷ es) first second)
+        × IsTrue (lets_hear (Apply triple ∷ es) second first) }
 {}
 
 /// No edit changes what is heard between two others.

@@ -113,9 +113,9 @@ impl Topology {
     /// The seats of the members that the listener hears. They are none where its own seat isn't held.
     #[tactic(auto, using(crate::proofs::MaskLemmas::seat_rules))]
     pub fn talkers(&self, listener: usize) -> Mask
-        ensures kept { (talker : ℕ) → has_seat result talker ≡ hears self.now listener talker }
+        ensures kept { (talker : ℕ) → has_seat result talker ≡ hears self.now talker listener }
         ensures edits { (es : List Edit) → StandsFor self.now es → (talker : ℕ) →
-            has_seat result talker ≡ hears_in es listener talker }
+            has_seat result talker ≡ hears_in es talker listener }
     {
         if !self.holds(listener) {
             return mask::EMPTY;
@@ -124,11 +124,11 @@ impl Topology {
     }
 
     /// Whether the listener hears the talker: both seats are held, they differ, and the last word on
-    /// the pair lets it.
+    /// the pair lets it. The listener comes first, as in the sentence.
     pub fn hears(&self, listener: usize, talker: usize) -> bool
-        ensures kept { result ≡ hears self.now listener talker }
+        ensures kept { result ≡ hears self.now talker listener }
         ensures edits { (es : List Edit) → StandsFor self.now es →
-            result ≡ hears_in es listener talker }
+            result ≡ hears_in es talker listener }
     {
         talker < MEMBERS && mask::has_seat(self.talkers(listener), talker)
     }
@@ -154,7 +154,7 @@ fn any_overlaps(triples: &[Triple]) -> bool
 /// Lets each listener hear the seat.
 fn let_all_hear(rows: &mut [Mask; MEMBERS], seat: usize)
     requires { seat < MEMBERS }
-    ensures { (listener talker : ℕ) → listener < MEMBERS →
+    ensures { (talker listener : ℕ) → listener < MEMBERS →
         has_seat (slice_index rows.new listener) talker ≡
         (if talker == seat then true else has_seat (slice_index rows.old listener) talker) }
 {
@@ -165,9 +165,9 @@ fn let_all_hear(rows: &mut [Mask; MEMBERS], seat: usize)
 
 /// Writes into each listener's row what the triple says of it.
 fn apply_to_rows(rows: &mut [Mask; MEMBERS], triple: &Triple)
-    ensures { (listener talker : ℕ) → listener < MEMBERS →
+    ensures { (talker listener : ℕ) → listener < MEMBERS →
         has_seat (slice_index rows.new listener) talker ≡
-        word_after triple.now listener talker (has_seat (slice_index rows.old listener) talker) }
+        word_after triple.now talker listener (has_seat (slice_index rows.old listener) talker) }
 {
     for (listener, row) in rows.iter_mut().enumerate() {
         *row = triple.row_after(*row, listener);

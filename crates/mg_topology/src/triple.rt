@@ -53,7 +53,7 @@ impl Triple {
     pub(crate) fn row_after(&self, row: Mask, listener: usize) -> Mask
         requires { listener < MEMBERS }
         ensures { (talker : ℕ) →
-            has_seat result talker ≡ word_after self.now listener talker (has_seat row talker) }
+            has_seat result talker ≡ word_after self.now talker listener (has_seat row talker) }
     {
         let forward = across(self.second, listener, self.first);
         let backward = across(self.first, listener, self.second);

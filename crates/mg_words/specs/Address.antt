@@ -2,7 +2,7 @@
 use Rattle.std.specs.Prelude.{ℕ, List, [], ◌∷◌, ◌++◌, Option, Some, codes, decimal, slice_index}
 use Rattle.mg_words.specs.OptionSteps.{◌>>=◌}
 use Rattle.mg_words.specs.Cut.{cut}
-use Rattle.mg_words.specs.Numbers.{part_of}
+use Rattle.mg_words.specs.Numbers.{address_part_of}
 
 -- four parts with a dot between each two
 unfoldable pub address_of : List ℕ → Option (List ℕ)
@@ -10,10 +10,10 @@ address_of text = do
   first ← cut 46 text
   second ← cut 46 first.1
   third ← cut 46 second.1
-  a ← part_of first.0
-  b ← part_of second.0
-  c ← part_of third.0
-  d ← part_of third.1
+  a ← address_part_of first.0
+  b ← address_part_of second.0
+  c ← address_part_of third.0
+  d ← address_part_of third.1
   Some (a ∷ b ∷ c ∷ d ∷ [])
 
 -- an address as it is written: four numbers with a dot between each two

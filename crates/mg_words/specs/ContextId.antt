@@ -15,8 +15,8 @@ context_of_number n =
     else Number n))
 
 -- the context that a word names
-unfoldable pub context_of : List ℕ → Option ContextId
-context_of text =
+unfoldable pub context_id_of : List ℕ → Option ContextId
+context_id_of text =
     if bytes_eq text (codes "-") then Some Null
     else (if bytes_eq text (codes "$") then Some Choose
     else (if bytes_eq text (codes "*") then Some All

@@ -6,6 +6,7 @@ pub mod Cut
 pub mod Numbers
 pub mod Address
 pub mod WordByte
+pub mod LineEnd
 pub mod Term
 pub mod ContextId
 pub mod Mode

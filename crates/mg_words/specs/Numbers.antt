@@ -6,8 +6,8 @@ use Rattle.std.specs.Str.{all_ascii_digits}
 use Rattle.std.specs.Int.Digits.{number_from_digits}
 
 -- the value of digits
-abbrev pub value_of : List ℕ → ℕ
-value_of text = number_from_digits 10 (map (λ c. c - 48) text)
+abbrev pub value_of_digits : List ℕ → ℕ
+value_of_digits text = number_from_digits 10 (map (λ c. c - 48) text)
 
 -- at least one digit and at most so many, and nothing else
 abbrev pub are_digits : ℕ → List ℕ → Bool
@@ -16,7 +16,8 @@ are_digits most text = not (length text == 0) && nat_le (length text) most && al
 -- the value of so many digits at the most, if it is at most the limit
 abbrev pub decimal_of : ℕ → ℕ → List ℕ → Option ℕ
 decimal_of most limit text =
-    if are_digits most text && nat_le (value_of text) limit then Some (value_of text) else None
+    if are_digits most text && nat_le (value_of_digits text) limit
+    then Some (value_of_digits text) else None
 
 -- a number of one to ten digits that 32 bits hold
 abbrev pub number_of : List ℕ → Option ℕ
@@ -31,9 +32,9 @@ abbrev pub port_of : List ℕ → Option ℕ
 port_of text = uint16_of text
 
 -- a part of an IPv4 address: one to three digits, a value that 8 bits hold
-abbrev pub part_of : List ℕ → Option ℕ
-part_of text = decimal_of 3 255 text
+abbrev pub address_part_of : List ℕ → Option ℕ
+address_part_of text = decimal_of 3 255 text
 
 -- a version of the protocol: one or two digits
-abbrev pub version_of : List ℕ → Option ℕ
-version_of text = decimal_of 2 99 text
+abbrev pub version_in_digits : List ℕ → Option ℕ
+version_in_digits text = decimal_of 2 99 text

@@ -1,7 +1,7 @@
 ghost use Rattle.std.specs.Prelude.{◌≡◌, ◌+◌, ◌≤◌, ◌++◌, ◌∷◌, [], length, decimal};
 ghost use Rattle.mg_words.specs.Address.{address_of, address_text};
 
-use crate::number::part_of;
+use crate::number::address_part_of;
 use crate::parts::cut;
 use arrayvec::ArrayVec;
 use itoa::Buffer;
@@ -18,10 +18,10 @@ pub fn address_of(text: &[u8]) -> Option<[u8; 4]>
     let (first, rest) = cut(b'.', text)?;
     let (second, rest) = cut(b'.', rest)?;
     let (third, fourth) = cut(b'.', rest)?;
-    let first = part_of(first)?;
-    let second = part_of(second)?;
-    let third = part_of(third)?;
-    let fourth = part_of(fourth)?;
+    let first = address_part_of(first)?;
+    let second = address_part_of(second)?;
+    let third = address_part_of(third)?;
+    let fourth = address_part_of(fourth)?;
     Some([first, second, third, fourth])
 }
 

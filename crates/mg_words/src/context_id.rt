@@ -1,5 +1,5 @@
 ghost use Rattle.std.specs.Prelude.{◌≡◌};
-ghost use Rattle.mg_words.specs.ContextId.{context_of};
+ghost use Rattle.mg_words.specs.ContextId.{context_id_of};
 
 use crate::number::number_of;
 
@@ -18,9 +18,9 @@ pub enum ContextId {
 
 /// The context that a word stands for. The numbers 0, 4294967294 and 4294967295 are other ways to write
 /// `-`, `$` and `*`.
-#[tactic(auto, unfolding(crate::specs::ContextId::context_of))]
-pub fn context_of(text: &[u8]) -> Option<ContextId>
-    ensures value { result ≡ context_of text.now }
+#[tactic(auto, unfolding(crate::specs::ContextId::context_id_of))]
+pub fn context_id_of(text: &[u8]) -> Option<ContextId>
+    ensures value { result ≡ context_id_of text.now }
 {
     match text {
         b"-" => Some(ContextId::Null),

@@ -30,7 +30,7 @@ mod word_byte;
 pub use crate::address::{ADDRESS_LIMIT, address_of, address_text};
 pub use crate::association::Association;
 pub use crate::command_word::CommandWord;
-pub use crate::context_id::{ContextId, context_of};
+pub use crate::context_id::{ContextId, context_id_of};
 pub use crate::error_number::{ERROR_LIMIT, ErrorNumber};
 pub use crate::limits::{
     ALTERNATIVE_LIMIT, COMMAND_LIMIT, CONTEXTS, FIRST_DEPTH, KEPT_REPLIES, LAST_CONTEXT,
@@ -38,7 +38,7 @@ pub use crate::limits::{
     SAMPLES, SENDER_LIMIT, TERM_LIMIT, TERMINATIONS, constants_are_limits,
 };
 pub use crate::mode::{Mode, mode_listens, mode_talks};
-pub use crate::number::{number_of, port_of, uint16_of, version_of};
+pub use crate::number::{number_of, port_of, uint16_of, version_in_digits};
 pub use crate::parts::cut;
 pub use crate::stats::Stats;
 pub use crate::term::{Term, is_term};

@@ -1,5 +1,5 @@
 ghost use Rattle.std.specs.Prelude.{◌≡◌, ◌≤◌, IfSome};
-ghost use Rattle.mg_words.specs.Numbers.{decimal_of, number_of, uint16_of, port_of, part_of, version_of};
+ghost use Rattle.mg_words.specs.Numbers.{decimal_of, number_of, uint16_of, port_of, address_part_of, version_in_digits};
 
 /// The number that so many digits at the most stand for, if it is at most the limit.
 #[tactic(auto, using(crate::proofs::DigitSteps::steps))]
@@ -49,8 +49,8 @@ pub fn port_of(text: &[u8]) -> Option<u16>
 }
 
 /// The part of an address that one to three digits stand for, if it is at most 255.
-pub fn part_of(text: &[u8]) -> Option<u8>
-    ensures value { result ≡ part_of text.now }
+pub fn address_part_of(text: &[u8]) -> Option<u8>
+    ensures value { result ≡ address_part_of text.now }
 {
     match decimal_of(text, 3, 255) {
         Some(part) => Some(part as u8),
@@ -59,8 +59,8 @@ pub fn part_of(text: &[u8]) -> Option<u8>
 }
 
 /// The version that one or two digits stand for.
-pub fn version_of(text: &[u8]) -> Option<u8>
-    ensures value { result ≡ version_of text.now }
+pub fn version_in_digits(text: &[u8]) -> Option<u8>
+    ensures value { result ≡ version_in_digits text.now }
 {
     match decimal_of(text, 2, 99) {
         Some(version) => Some(version as u8),

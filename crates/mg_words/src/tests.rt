@@ -1,6 +1,6 @@
 use crate::{
-    ContextId, ErrorNumber, Mode, Stats, Term, address_of, address_text, context_of, cut,
-    mode_listens, mode_talks, number_of, port_of, version_of,
+    ContextId, ErrorNumber, Mode, Stats, Term, address_of, address_text, context_id_of, cut,
+    mode_listens, mode_talks, number_of, port_of, version_in_digits,
 };
 
 #[test]
@@ -12,8 +12,8 @@ fn reads_numbers(rt: HostRuntime) {
     }
     assert_eq!(rt; port_of(b"65535"), Some(65535));
     assert_eq!(rt; port_of(b"65536"), None);
-    assert_eq!(rt; version_of(b"01"), Some(1));
-    assert_eq!(rt; version_of(b"001"), None);
+    assert_eq!(rt; version_in_digits(b"01"), Some(1));
+    assert_eq!(rt; version_in_digits(b"001"), None);
 }
 
 #[test]
@@ -56,8 +56,8 @@ fn names_terminations_and_contexts(rt: HostRuntime) {
         b"RTP/4294967295".as_slice()
     );
     assert!(rt; Term::new(b"a,b").is_none());
-    assert_eq!(rt; context_of(b"4294967294"), Some(ContextId::Choose));
-    assert_eq!(rt; context_of(b"7"), Some(ContextId::Number(7)));
+    assert_eq!(rt; context_id_of(b"4294967294"), Some(ContextId::Choose));
+    assert_eq!(rt; context_id_of(b"7"), Some(ContextId::Number(7)));
     assert!(rt; mode_talks(Mode::ReceiveOnly) && !mode_listens(Mode::ReceiveOnly));
     assert_eq!(rt; Stats::new().or_, 0);
 }

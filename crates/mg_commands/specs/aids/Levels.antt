@@ -11,8 +11,9 @@ use Rattle.mg_text.specs.declared.media.MediaPart.{MediaPart}
 use Rattle.mg_text.specs.declared.media.MediaPart.TheVariants as media
 use Rattle.mg_commands.specs.declared.part.Part.{Part}
 use Rattle.mg_commands.specs.declared.part.Part.TheVariants as parts
-use Rattle.mg_commands.specs.DescriptorFault.{is_jitter, same_control, is_same, fault_of}
-use Rattle.mg_commands.specs.Search.{or_else, first_after}
+use Rattle.mg_commands.specs.DescriptorFault.{is_jitter, same_control, is_same_part, fault_of}
+use Rattle.std.specs.Option.{option_or}
+use Rattle.mg_commands.specs.Search.{first_after}
 use Rattle.mg_commands.specs.aids.Words.{stream_word, controls_within, descriptor_word}
 use Rattle.mg_commands.specs.aids.Words.{media_within}
 
@@ -28,7 +29,7 @@ control_level source n before x =
     fault_of (list_any (same_control source x) before) (parts.Control n x)
 
 abbrev pub is_same_word : List ℕ → Part → ℕ → StreamPart → Bool
-is_same_word source x n y = is_same source x (stream_word n y)
+is_same_word source x n y = is_same_part source x (stream_word n y)
 
 -- whether a part of the stream n stands in a part of a Media descriptor
 abbrev pub stands_in : List ℕ → Part → ℕ → MediaPart → Bool
@@ -43,7 +44,7 @@ stood_in_media source parts n before x =
 abbrev pub stream_level : List ℕ → List MediaPart → ℕ → List StreamPart → StreamPart
     → Option ErrorNumber
 stream_level source parts n before x =
-    or_else (fault_of (stood_in_media source parts n before (stream_word n x)) (stream_word n x))
+    option_or (fault_of (stood_in_media source parts n before (stream_word n x)) (stream_word n x))
     (first_after (control_level source n) [] (controls_within x))
 
 abbrev pub is_state : MediaPart → Bool
@@ -69,9 +70,9 @@ greatest_stream [] = 0
 greatest_stream (x ∷ xs) = max (stream_of x) (greatest_stream xs)
 
 abbrev pub is_same_descriptor : List ℕ → Part → Descriptor → Bool
-is_same_descriptor source x y = is_same source x (descriptor_word y)
+is_same_descriptor source x y = is_same_part source x (descriptor_word y)
 
 abbrev pub descriptor_level : List ℕ → List Descriptor → Descriptor → Option ErrorNumber
 descriptor_level source before x =
-    or_else (fault_of (list_any (is_same_descriptor source (descriptor_word x)) before)
+    option_or (fault_of (list_any (is_same_descriptor source (descriptor_word x)) before)
     (descriptor_word x)) (first_after (media_level source) [] (media_within x))

@@ -4,7 +4,7 @@ use Rattle.mg_commands.specs.declared.command_parameters.CommandParameters.{Comm
 use Rattle.mg_commands.specs.declared.part.Part.{Part}
 use Rattle.mg_commands.specs.CommandParameters.{mode_in, depth_in, local_in, remote_in}
 use Rattle.mg_commands.specs.CommandParameters.{is_audit, is_media_audit, is_statistics_audit}
-use Rattle.mg_commands.specs.Search.{or_else}
+use Rattle.std.specs.Option.{option_or}
 
 abbrev pub nothing_asked : CommandParameters
 nothing_asked =
@@ -19,10 +19,10 @@ abbrev pub with_part : List ℕ → CommandParameters → Part → CommandParame
 with_part source a x =
     record {
       settings = record {
-        mode = or_else a.settings.mode (mode_in x);
-        depth = or_else a.settings.depth (depth_in source x);
-        local = or_else a.settings.local (local_in source x);
-        remote = or_else a.settings.remote (remote_in source x);
+        mode = option_or a.settings.mode (mode_in x);
+        depth = option_or a.settings.depth (depth_in source x);
+        local = option_or a.settings.local (local_in source x);
+        remote = option_or a.settings.remote (remote_in source x);
       };
       has_audit = a.has_audit || is_audit x;
       audits_media = a.audits_media || is_media_audit x;

@@ -5,26 +5,27 @@ use Rattle.mg_words.specs.Mode as mode
 use Rattle.mg_rooms.specs.declared.record.Record.{Record}
 use Rattle.mg_rooms.specs.Registry.{Registry}
 use Rattle.mg_flow.specs.declared.place.Place.{Place}
-use Rattle.mg_flow.specs.Place.{is_same, are_together}
+use Rattle.mg_flow.specs.Place.{is_same_place, are_together}
 use Rattle.mg_flow.specs.Table.{Room, holds, talks, listens, hears, SetsPlace}
 use Rattle.mg_engine.specs.Place.{IsOnPlace}
 
 -- one enters on a place with a mode, and it and each other member of the room hear each other
 pub record Enters (old new : List Room) (at : Place) (m : Mode) : Type 0 where
   pub place : SetsPlace old new at true (mode.talks m) (mode.listens m)
-  pub hears : (l t : Place) → hears new l t
-      ≡ (if is_same l at || is_same t at then are_together (holds new) l t else hears old l t)
+  pub hears : (t l : Place) → hears new t l
+      ≡ (if is_same_place t at || is_same_place l at then are_together (holds new) t l
+      else hears old t l)
 
 -- the one on a place leaves
 pub record Leaves (old new : List Room) (at : Place) : Type 0 where
   pub place : SetsPlace old new at false false false
-  pub hears : (l t : Place) → hears new l t
-      ≡ (if is_same l at || is_same t at then false else hears old l t)
+  pub hears : (t l : Place) → hears new t l
+      ≡ (if is_same_place t at || is_same_place l at then false else hears old t l)
 
 -- the one on a place has a mode from now on
 pub record TakesMode (old new : List Room) (at : Place) (m : Mode) : Type 0 where
   pub place : SetsPlace old new at true (mode.talks m) (mode.listens m)
-  pub hears : (l t : Place) → hears new l t ≡ hears old l t
+  pub hears : (t l : Place) → hears new t l ≡ hears old t l
 
 -- what a table says of the place of one with this record
 pub record SaysOf (table : List Room) (r : Record) (p : Place) : Type 0 where

@@ -25,7 +25,7 @@ use Rattle.mg_engine.specs.Media as media
 use Rattle.mg_engine.specs.Place.{place_of}
 use Rattle.mg_engine.specs.Mix.{is_loopback}
 use Rattle.mg_engine.specs.Stands.{EngineState, media_at}
-use Rattle.mg_engine.specs.Tick.{type_of, sent_to, is_sender}
+use Rattle.mg_engine.specs.Tick.{type_of, sent_to, has_destination}
 
 -- a sample of the frame in the row of a slot
 abbrev pub sample_at : List (List ℤ) → ℕ → ℕ → ℤ
@@ -33,13 +33,13 @@ sample_at frames slot i = sample_in frames i slot
 
 -- whether the speech of one on a place goes to one on another; nowhere else does any
 abbrev pub flows_between : List flow.Room → Option Place → Option Place → Bool
-flows_between table (Some p) (Some q) = flow.flows table q p
+flows_between table (Some p) (Some q) = flow.flows table p q
 flows_between table (Some p) None = false
 flows_between table None q = false
 
 -- whether one on a place is silenced for one on another
 abbrev pub is_silenced_between : List flow.Room → Option Place → Option Place → Bool
-is_silenced_between table (Some p) (Some q) = flow.is_silenced table q p
+is_silenced_between table (Some p) (Some q) = flow.is_silenced table p q
 is_silenced_between table (Some p) None = false
 is_silenced_between table None q = false
 
@@ -92,7 +92,7 @@ packets_now k = filter_map (λ r. option_map (packet_now k r) (sent_to r)) k.roo
 
 -- whether the termination that holds a slot sends
 abbrev pub slot_sends : rooms.Registry → ℕ → Bool
-slot_sends w slot = is_sender (rooms.holder_of w slot)
+slot_sends w slot = has_destination (rooms.holder_of w slot)
 
 -- the media of a slot are those after a tick in which who holds it has sent a packet if it sends
 abbrev pub IsEnded : rooms.Registry → List media.SlotMedia → List media.SlotMedia → ℕ → Type 0

@@ -23,23 +23,23 @@ pub record SetsSeat (old new : Room) (seat : ℕ)
       has_seat new.listens s ≡ (if s == seat then does_listen else has_seat old.listens s)
 
 -- the talker's speech goes to the listener
-abbrev pub flows_to : TopologyState → (talks listens : ℕ) → (listener talker : ℕ) → Bool
-flows_to topology talks listens listener talker =
-    has_seat talks talker && (has_seat listens listener && hears topology listener talker)
+abbrev pub flows_to : TopologyState → (talks listens : ℕ) → (talker listener : ℕ) → Bool
+flows_to topology talks listens talker listener =
+    has_seat talks talker && (has_seat listens listener && hears topology talker listener)
 
 -- the talker is another member, whom the last word keeps from the listener
-abbrev pub is_kept_from : TopologyState → (talks : ℕ) → (listener talker : ℕ) → Bool
-is_kept_from topology talks listener talker =
+abbrev pub is_kept_from : TopologyState → (talks : ℕ) → (talker listener : ℕ) → Bool
+is_kept_from topology talks talker listener =
     has_seat talks talker
-    && (holds topology listener
     && (holds topology talker
-    && (not (listener == talker) && not (hears topology listener talker))))
+    && (holds topology listener
+    && (not (talker == listener) && not (hears topology talker listener))))
 
 -- the masks tell who flows to each listener and who is kept from it
 pub record AreMasks (room : Room) (open_masks silenced_masks : List ℕ) : Type 0 where
-  pub flows : (listener talker : ℕ) → listener < seat_limit →
+  pub flows : (talker listener : ℕ) → listener < seat_limit →
       has_seat (slice_index open_masks listener) talker
-      ≡ flows_to room.topology room.talks room.listens listener talker
-  pub kept : (listener talker : ℕ) → listener < seat_limit →
+      ≡ flows_to room.topology room.talks room.listens talker listener
+  pub kept : (talker listener : ℕ) → listener < seat_limit →
       has_seat (slice_index silenced_masks listener) talker
-      ≡ is_kept_from room.topology room.talks listener talker
+      ≡ is_kept_from room.topology room.talks talker listener

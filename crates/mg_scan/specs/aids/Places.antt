@@ -4,19 +4,20 @@ use Rattle.std.specs.Prelude.{Ok, Err}
 use Rattle.std.specs.List.{slice_range}
 use Rattle.mg_scan.specs.declared.fault.ScanFault.{ScanFault}
 use Rattle.mg_scan.specs.declared.found.Found.{Found}
-use Rattle.mg_scan.specs.Tokens.{Taken, taken, closing}
+use Rattle.mg_scan.specs.Tokens.{TokenAndRest, token_and_rest, closing_len}
 
 -- what was found, by its places among the bytes
-pub record Places (bytes : List ℕ) (want : Option (Result Taken ScanFault))
+pub record Places (bytes : List ℕ) (want : Option (Result TokenAndRest ScanFault))
     (x : Found) : Type 0 where
   pub start : x.start ≤ x.end
-  pub end : x.end + closing x.kind ≡ x.next
+  pub end : x.end + closing_len x.kind ≡ x.next
   pub some : 0 < x.next
   pub next : x.next ≤ length bytes
-  pub is : want ≡ taken x.kind (slice_range bytes x.start x.end) (drop x.next bytes)
+  pub is : want ≡ token_and_rest x.kind (slice_range bytes x.start x.end) (drop x.next bytes)
 
 -- an answer of the code is the wanted one
-abbrev pub FindsAs : List ℕ → Option (Result Taken ScanFault) → Option (Result Found ScanFault)
+abbrev pub FindsAs : List ℕ → Option (Result TokenAndRest ScanFault)
+    → Option (Result Found ScanFault)
     → Type 0
 FindsAs bytes want None = want ≡ None
 FindsAs bytes want (Some (Err f)) = want ≡ Some (Err f)

@@ -1,7 +1,7 @@
 -- What an iterator over lines has left.
 use Rattle.std.specs.Prelude.{ℕ, List}
 use Rattle.mg_sdp.specs.declared.lines.Lines.{Lines}
-use Rattle.mg_sdp.specs.Lines.{lines_of}
+use Rattle.mg_sdp.specs.Lines.{content_lines}
 
 abbrev pub lines_left : Lines → List (List ℕ)
-lines_left it = lines_of it.rest.now
+lines_left it = content_lines it.rest.now

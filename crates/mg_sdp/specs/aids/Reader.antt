@@ -11,7 +11,7 @@ use Rattle.mg_sdp.specs.declared.offer.Offer.{Offer}
 use Rattle.mg_sdp.specs.declared.fault.SdpFault.{SdpFault}
 use Rattle.mg_sdp.specs.declared.fault.SdpFault.TheVariants.{TooMany}
 use Rattle.mg_sdp.specs.declared.alternative.Alternative.{Alternative}
-use Rattle.mg_sdp.specs.Lines.{parts_of}
+use Rattle.mg_sdp.specs.Lines.{letter_and_value}
 use Rattle.mg_sdp.specs.Fields.{fields_of}
 use Rattle.mg_sdp.specs.Media.{media_in}
 use Rattle.mg_sdp.specs.Connection.{connection_in}
@@ -102,7 +102,7 @@ line_read_at old (Some parts) =
     continued (if parts.0 == byte "v" then ended old else old) parts.0 parts.1
 
 unfoldable pub line_read : Progress → List ℕ → Progress
-line_read old line = line_read_at old (parts_of line)
+line_read old line = line_read_at old (letter_and_value line)
 
 abbrev pub closed : Progress → Result (List (Option Offer)) SdpFault
 closed old = if old.over then Err TooMany else Ok old.offers

@@ -6,7 +6,7 @@ use Rattle.mg_core.specs.World.{World}
 use Rattle.mg_lines.specs.declared.write_failed.WriteFailed.{WriteFailed}
 use Rattle.mg_lines.specs.Lines.{lines_after}
 use Rattle.mg_ports.specs.declared.call.Call.{Call}
-use Rattle.mg_serve.specs.Lines.{command_of, before_quit}
+use Rattle.mg_serve.specs.Lines.{line_command, before_quit}
 use Rattle.mg_serve.specs.Session.{Comes, Does, GivesNone, Session}
 
 -- a receive, and whether a datagram came
@@ -38,4 +38,4 @@ BytesTaken config begun bytes kept (Err failed) w calls next =
 -- the line that was begun is the last, if there is one
 abbrev pub Finished : Config → List ℕ → World → List Call → World → Type 0
 Finished config [] w calls next = (calls ≡ []) × (next ≡ w)
-Finished config (b ∷ bs) w calls next = Does config (command_of (b ∷ bs)) w calls next
+Finished config (b ∷ bs) w calls next = Does config (line_command (b ∷ bs)) w calls next

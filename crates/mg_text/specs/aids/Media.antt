@@ -17,7 +17,7 @@ use Rattle.mg_text.specs.declared.media.StreamPart.TheVariants as streams
 use Rattle.mg_text.specs.declared.media.MediaPart.{MediaPart}
 use Rattle.mg_text.specs.declared.media.MediaPart.TheVariants as parts
 use Rattle.mg_text.specs.Keyword.{keyword_of}
-use Rattle.mg_text.specs.Words.{mode_of, switch_of}
+use Rattle.mg_text.specs.Words.{mode_word_of, switch_of}
 use Rattle.mg_text.specs.Grammar.{has_slash}
 use Rattle.mg_words.specs.ResultSteps.{◌>>=◌}
 use Rattle.mg_text.specs.aids.Reading.{mark_at, after_mark, if_some, span_at, word_at, meaning_at}
@@ -54,7 +54,7 @@ switched_at source part ts = do
 unfoldable pub mode_part_at : List ℕ → List Token → Result (ControlPart × List Token) ℕ
 mode_part_at source ts = do
   ts ← mark_at source Equals ts
-  mode ← meaning_at mode_of source ts
+  mode ← meaning_at mode_word_of source ts
   Ok (controls.Mode mode.0, mode.1)
 
 unfoldable pub package_part_at : List ℕ → Span → List Token → Result (ControlPart × List Token) ℕ

@@ -15,7 +15,7 @@ use Rattle.mg_words.specs.declared.context_id.ContextId.{ContextId}
 use Rattle.mg_text.specs.declared.fault.ReadFault.{ReadFault}
 use Rattle.mg_text.specs.declared.fault.ReadFault.TheVariants.{NoMemory, Syntax, Version, TooMany}
 use Rattle.mg_text.specs.Keyword.{is_named, keyword_of}
-use Rattle.mg_words.specs.ContextId.{context_of}
+use Rattle.mg_words.specs.ContextId.{context_id_of}
 use Rattle.mg_words.specs.Term.{is_term}
 
 -- What a reader returned, seen by view, is what reading gives, unless memory ran out. A reading's
@@ -84,7 +84,7 @@ abbrev pub number_at : List ℕ → List Token → Result (ℕ × List Token) �
 number_at = meaning_at number_of
 
 abbrev pub context_at : List ℕ → List Token → Result (ContextId × List Token) ℕ
-context_at = meaning_at context_of
+context_at = meaning_at context_id_of
 
 -- the name of a termination
 unfoldable pub term_at : List ℕ → List Token → Result (Span × List Token) ℕ

@@ -14,11 +14,11 @@ use Rattle.mg_text.specs.Message.{requests_in, commands_in, items_of}
 use Rattle.mg_words.specs.ResultSteps.{◌>>=◌}
 use Rattle.mg_text.specs.aids.Reading.{Agrees, word_at, meaning_at}
 use Rattle.mg_text.specs.aids.Requests.{body_at}
-use Rattle.mg_text.specs.Head.{version_of}
+use Rattle.mg_text.specs.Head.{version_in_head}
 use Rattle.mg_text.specs.Sender.{is_sender}
 
 abbrev pub version_at : List ℕ → List Token → Result (ℕ × List Token) ℕ
-version_at = meaning_at version_of
+version_at = meaning_at version_in_head
 
 unfoldable pub sender_at : List ℕ → List Token → Result (Span × List Token) ℕ
 sender_at source ts = do

@@ -5,5 +5,5 @@ use Rattle.mg_topology.specs.Triple.{speaks_of, word_of}
 
 -- what holds of a pair after the triple, by what held before
 abbrev pub word_after : Triple → ℕ → ℕ → Bool → Bool
-word_after triple listener talker before =
-    if speaks_of triple listener talker then word_of triple listener talker else before
+word_after triple talker listener before =
+    if speaks_of triple talker listener then word_of triple talker listener else before

@@ -1,7 +1,7 @@
 use Rattle.std.proofs.Common.{◌+◌, ap, ◌∙◌, length, arith, length-drop}
 use Rattle.std.proofs.lemmas.List.{take_rest}
 use Rattle.std.specs.List.{position_or_len}
-use Rattle.mg_scan.specs.Tokens.{is_line_end}
+use Rattle.mg_words.specs.LineEnd.{is_line_end}
 use Rattle.mg_scan.proofs.WhiteSteps.{comment_step}
 use Rattle.mg_scan.proofs.bytes.white_len.Goals as goal
 

@@ -19,6 +19,6 @@ returns-then-from-to c = record {
       c.has_seat.ensures
       ∙ ap (has_seat c.open.result.now) c.from.ensures
       ∙ c.open.ensures.kept from.seat
-      ∙ ap (λ (room : ℕ). let p : Place = record { room = room; seat = from.seat } in table.flows k.flows to p) (sym c.if-from-to.true)
+      ∙ ap (λ (room : ℕ). let p : Place = record { room = room; seat = from.seat } in table.flows k.flows p to) (sym c.if-from-to.true)
       ∙ sym (flow_places k w (λ x y u v. c.nothing_is_held_twice.ensures.room k.rooms x y u v c.gateways_are_sound.ensures.sound) c.self.invariant.members stands c.args.talker c.args.listener c.in-Some-Some.field-0-0-0 c.in-Some-Some.field-0-0-1 from to c.in-Some-Some.ensures.some.0 c.in-Some-Some.ensures'.some.0);
 }

@@ -13,8 +13,8 @@ loop-preserved c = rw c.in_ok-push.ensures.items (record {
 pub invariant_of-result : goal.invariant_of-result
 invariant_of-result c = record {
   rooms = omega (arith, c.loop.invariant.many);
-  edits = ∣ ([], new_stands c.loop.rooms.items c.masks_are_sets.ensures.empty c.loop.invariant.vacant) ∣₁;
+  edits = ∣ ([], new_stands c.loop.rooms.items c.loop.invariant.vacant) ∣₁;
 }
 
 pub returns : goal.returns
-returns c = record { edits = new_stands c.loop.rooms.items c.masks_are_sets.ensures.empty c.loop.invariant.vacant }
+returns c = record { edits = new_stands c.loop.rooms.items c.loop.invariant.vacant }

@@ -12,7 +12,7 @@ returns-clause-edits c =
     record {
       number = c.from.ensures;
       seat = c.from-2.ensures;
-      within = held_within _ _ _ c.masks_are_sets.ensures.empty c.from.ensures held;
+      within = held_within _ _ _ c.from.ensures held;
       is = c.index_mut-room.ensures.value;
     } in
     rw (← c.self.view_is) (leave_stands read c.leave.ensures.edits c.leave.ensures.seat)
@@ -27,7 +27,7 @@ invariant_of-self c =
     record {
       number = c.from.ensures;
       seat = c.from-2.ensures;
-      within = held_within _ _ _ c.masks_are_sets.ensures.empty c.from.ensures held;
+      within = held_within _ _ _ c.from.ensures held;
       is = c.index_mut-room.ensures.value;
     } in
     IsTable-edited _ _ _ (λ es. Leave c.args.place ∷ es) (leave_stands read c.leave.ensures.edits c.leave.ensures.seat) c.self.invariant

@@ -12,7 +12,7 @@ returns-clause-edits c =
     record {
       number = c.from.ensures;
       seat = c.from-2.ensures;
-      within = held_within _ _ _ c.masks_are_sets.ensures.empty c.from.ensures held;
+      within = held_within _ _ _ c.from.ensures held;
       is = c.index_mut-room.ensures.value;
     } in
     rw (← c.self.view_is) (mode_stands read c.set_mode.ensures.topology c.set_mode.ensures.seat)
@@ -28,7 +28,7 @@ invariant_of-self c =
     record {
       number = c.from.ensures;
       seat = c.from-2.ensures;
-      within = held_within _ _ _ c.masks_are_sets.ensures.empty c.from.ensures held;
+      within = held_within _ _ _ c.from.ensures held;
       is = c.index_mut-room.ensures.value;
     } in
     IsTable-edited _ _ _ (λ es. SetMode c.args.place c.args.talks c.args.listens ∷ es) (mode_stands read c.set_mode.ensures.topology c.set_mode.ensures.seat) c.self.invariant

@@ -5,14 +5,14 @@ use Rattle.mg_flow.specs.Table.{holds, flows}
 use Rattle.mg_flow.proofs.TableLemmas.{IsRead, held_within, flows-read, flows-stands}
 use Rattle.mg_flow.proofs.flow_table.FlowTable.open.Goals as goal
 
-told : (c : goal.After-open) → (seat : ℕ) → has_seat c.open.result.now seat ≡ flows c.args.self.now c.args.place (beside c.args.place seat)
+told : (c : goal.After-open) → (seat : ℕ) → has_seat c.open.result.now seat ≡ flows c.args.self.now (beside c.args.place seat) c.args.place
 told c seat =
     let held : holds c.self.inside.rooms.items c.args.place ≡ true = ap (λ x. holds x c.args.place) c.self.view_is ∙ c.requires in
     let read : IsRead c.self.inside.rooms.items c.args.place c.from.result c.from-2.result c.index-room.result.now =
     record {
       number = c.from.ensures;
       seat = c.from-2.ensures;
-      within = held_within _ _ _ c.masks_are_sets.ensures.empty c.from.ensures held;
+      within = held_within _ _ _ c.from.ensures held;
       is = c.index-room.ensures;
     } in
     rw (← c.self.view_is) (c.open.ensures seat ∙ flows-read read seat)
@@ -21,4 +21,4 @@ pub returns-clause-kept : goal.returns-clause-kept
 returns-clause-kept c = told c
 
 pub returns-clause-edits : goal.returns-clause-edits
-returns-clause-edits c = λ es h seat. told c seat ∙ flows-stands c.args.self.now es c.args.place (beside c.args.place seat) h
+returns-clause-edits c = λ es h seat. told c seat ∙ flows-stands c.args.self.now es (beside c.args.place seat) c.args.place h

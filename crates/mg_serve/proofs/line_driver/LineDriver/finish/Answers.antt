@@ -1,5 +1,5 @@
 use Rattle.std.proofs.Common.{◌≡◌, ◌≢◌, length, ap, arith}
-use Rattle.mg_serve.specs.Lines.{command_of}
+use Rattle.mg_serve.specs.Lines.{line_command}
 use Rattle.mg_serve.specs.Session.{Does}
 use Rattle.mg_serve.specs.aids.Driving.{Finished}
 use Rattle.mg_serve.proofs.Taking.{takes_none, takes_as}
@@ -22,7 +22,7 @@ returns g c = record {
       let config = c.args.config in
       let some : length c.args.self.now.begun ≢ 0 = grind (arith, ap length seen) in
       takes_as c.args.self.now.server.core.state c.take_command.new.self.core.state (g.P.Ports.calls c.args.ports.now) (g.P.Ports.calls c.take_command.new.ports)
-      (Does config (command_of c.args.self.now.begun)) (Finished config c.args.self.now.begun)
+      (Does config (line_command c.args.self.now.begun)) (Finished config c.args.self.now.begun)
       (rw seen at (rw c.of-command.ensures.value at c.take_command.ensures.value))
       (λ w next p h. finished_some config c.args.self.now.begun w next p some h);
 }

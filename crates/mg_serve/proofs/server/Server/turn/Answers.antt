@@ -1,5 +1,5 @@
 use Rattle.std.proofs.Common.{◌≡◌, ◌+◌, ℕ, true, false, subst, arith}
-use Rattle.mg_serve.specs.Session.{Turn}
+use Rattle.mg_serve.specs.Session.{SlotTurn}
 use Rattle.mg_serve.specs.aids.Driving.{Received}
 use Rattle.mg_serve.proofs.Taking.{takes_none, takes_then, takes_as}
 use Rattle.mg_serve.proofs.Steps.{HaveCome, none_came, one_more, turn_ended, turn_full}
@@ -14,7 +14,7 @@ returns-then-not-receive g c =
     let config = c.args.config in
     record {
       value = takes_then c.args.self.now.core.state c.loop.self.core.state c.receive.new.self.core.state (g.P.Ports.calls c.args.ports.now) (g.P.Ports.calls c.loop.ports) (g.P.Ports.calls c.receive.new.ports)
-          (HaveCome config c.args.slot c.loop.counter) (Received config c.args.slot false) (Turn config c.args.slot) c.loop.invariant (rw c.if-not-receive.true at c.receive.ensures.value)
+          (HaveCome config c.args.slot c.loop.counter) (Received config c.args.slot false) (SlotTurn config c.args.slot) c.loop.invariant (rw c.if-not-receive.true at c.receive.ensures.value)
           (λ w mid next p q h k. turn_ended config c.args.slot c.loop.counter w mid next p q c.loop-test.true h k);
     }
 
@@ -31,6 +31,6 @@ returns g c =
     let full : c.loop.counter ≡ 64 = omega (arith, c.loop-test.false, c.loop.auto.counter-end) in
     record {
       value = takes_as c.args.self.now.core.state c.loop.self.core.state (g.P.Ports.calls c.args.ports.now) (g.P.Ports.calls c.loop.ports)
-          (HaveCome config c.args.slot c.loop.counter) (Turn config c.args.slot) c.loop.invariant
+          (HaveCome config c.args.slot c.loop.counter) (SlotTurn config c.args.slot) c.loop.invariant
           (λ w next p h. turn_full config c.args.slot w next p (subst (λ (n : ℕ). HaveCome config c.args.slot n w p next) full h));
     }

@@ -162,7 +162,7 @@ audit_is_long w (Err e) = failed e
 
 outcome_long : (word : CommandWord) (w : Gateway) (target : Target) (name : Name) (parameters : CommandParameters) → IsLong word (outcome word w target name parameters)
 unfolding outcome
-outcome_long words.Add w target name parameters = by_bind (IsLong words.Add) (check_new_name w name) _ (λ u. by_bind (IsLong words.Add) (add w target parameters.settings) _ (λ p. made words.Add p.0 (targets.Number p.1.context) p.1.termination (reply_parts (descriptors_after parameters) p.0 p.1.termination)) failed) failed
+outcome_long words.Add w target name parameters = by_bind (IsLong words.Add) (check_new_name w name) _ (λ u. by_bind (IsLong words.Add) (add w target parameters.settings) _ (λ p. made words.Add p.0 (targets.Number p.1.context) p.1.number (reply_parts (descriptors_after parameters) p.0 p.1.number)) failed) failed
 outcome_long words.Modify w target name parameters = by_bind (IsLong words.Modify) (number_in name) _ (λ n. by_bind (IsLong words.Modify) (modify w target n parameters.settings) _ (λ p. named words.Modify p.0 target n (reply_parts (descriptors_after parameters) p.0 n)) failed) failed
 outcome_long words.Move w target name parameters = by_bind (IsLong words.Move) (number_in name) _ (λ n. by_bind (IsLong words.Move) (move_to w target n parameters.settings) _ (λ p. named words.Move p.0 (targets.Number p.1.context) n (reply_parts (descriptors_after parameters) p.0 n)) failed) failed
 outcome_long words.Subtract w target name parameters = by_bind (IsLong words.Subtract) (number_in name) _ (λ n. by_bind (IsLong words.Subtract) (subtract w target n) _ (λ p. named words.Subtract p.0 target n (reply_parts (descriptors_before parameters) w n)) failed) failed

@@ -191,8 +191,8 @@ add_outcome w target name parameters = do
   p ← engine.add w target parameters.settings
   Ok (
     p.0,
-    made_at (targets.Number p.1.context) p.1.termination
-        (reply_parts (descriptors_after parameters) p.0 p.1.termination),
+    made_at (targets.Number p.1.context) p.1.number
+        (reply_parts (descriptors_after parameters) p.0 p.1.number),
   )
 
 abbrev pub modify_outcome : Gateway → Target → Name → CommandParameters → CommandOutcome

@@ -82,7 +82,8 @@ fn answer_audit(engine: &Engine, properties: &[ContextProperty], context: u32, r
     ensures value { (w : Gateway) → StandsFor engine.now w → reply.new ≡ after_all reply.old (audit_items properties.now w context) }
 {
     if has_context_audit(properties) {
-        put_pairs(engine, engine.rooms().members(context), reply);
+        let members = engine.seated(context);
+        put_pairs(engine, members.as_slice(), reply);
     }
 }
 

@@ -50,9 +50,9 @@ fn add_outcome(
 {
     check_new_name(engine, name)?;
     let descriptors = ReplyDescriptors::after(parameters);
-    let done = engine.add(target, &parameters.settings)?;
-    let parts = reply_parts(engine, done.termination, descriptors);
-    Ok(made_at(Target::Number(done.context), done.termination, parts))
+    let added = engine.add(target, &parameters.settings)?;
+    let parts = reply_parts(engine, added.number, descriptors);
+    Ok(made_at(Target::Number(added.context), added.number, parts))
 }
 
 /// A Modify (RFC 3525, section 7.2.2).
@@ -84,9 +84,9 @@ fn move_outcome(
 {
     let number = number_in(name)?;
     let descriptors = ReplyDescriptors::after(parameters);
-    let done = engine.move_to(target, number, &parameters.settings)?;
+    let moved = engine.move_to(target, number, &parameters.settings)?;
     let parts = reply_parts(engine, number, descriptors);
-    Ok(served_at(Target::Number(done.context), number, parts))
+    Ok(served_at(Target::Number(moved.context), number, parts))
 }
 
 /// A Subtract (RFC 3525, section 7.2.3). What it tells is as it was before.

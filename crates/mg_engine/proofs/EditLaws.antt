@@ -6,13 +6,12 @@ use Rattle.std.proofs.lemmas.Bool.{eqb-true, eq-eqb}
 use Rattle.std.proofs.lemmas.Option.{same_Some}
 use Rattle.std.proofs.lemmas.List.{length-map, map-append, get_or-set_same, get_or-set_other, set-set}
 use Rattle.mg_playout.specs.Playout.{PlayList}
-use Rattle.mg_rooms.specs.declared.done.Done.{Done}
 use Rattle.mg_rooms.specs.declared.limits.Limits.{Limits}
 use Rattle.mg_words.specs.declared.limits.TheConstants.{TERMINATIONS}
 use Rattle.mg_rooms.specs.declared.record.Record.{Record}
 use Rattle.mg_rooms.specs.declared.settings.Settings.{Settings}
 use Rattle.mg_rooms.specs.Changes.{change}
-use Rattle.mg_rooms.specs.Consistent.{IsConsistent}
+use Rattle.mg_rooms.specs.Sound.{IsSound}
 use Rattle.mg_rooms.specs.Registry as rooms
 use Rattle.mg_rooms.specs.Registry.{record_at}
 use Rattle.mg_engine.specs.declared.config.Config.{Config}
@@ -33,8 +32,6 @@ use Rattle.mg_engine.proofs.MemberLaws.{Others, Hears, no_record, unequal}
 use Rattle.mg_engine.proofs.JoinedLaws.{Slots}
 use Rattle.mg_engine.proofs.KeyLaws.{none_before_last, found_push, found_push_other, found_changed, found_other, found_replaced, none_left, mapped_kept, keys_left, spots_left}
 use Rattle.mg_engine.proofs.OutcomeLaws.{Adds, Changes, Removes}
-use Rattle.mg_engine.proofs.PlaceLaws.{ByNumber}
-use Rattle.mg_engine.proofs.SendingLaws.{nobody}
 use Rattle.mg_engine.proofs.GatewayLaws.{found_too, found_key, has_media, media_is}
 
 -- ## Media of the termination that an edit is done on
@@ -69,21 +66,22 @@ length_push : {A : Type 0} (xs : List A) (y : A) → length (xs ++ y ∷ []) ≡
 length_push [] y = refl
 length_push (x ∷ xs) y = omega (arith, length_push xs y)
 
-more_terminations : (old new : rooms.Registry) (d : Done) → Adds old new d → length new.terminations ≡ length old.terminations + 1
-more_terminations old new d a = ap length a.terminations ∙ length_push old.terminations a.added
+more_terminations : (old new : rooms.Registry) (d : Record) → Adds old new d → length new.terminations ≡ length old.terminations + 1
+more_terminations old new d a = ap length a.terminations ∙ length_push old.terminations d
 
 pub slots_kept : (config : Config) (old new : rooms.Registry) (pool : Limits) (kept : List media.SlotMedia) (held : List ℕ) (flows : List flow.Room) (seating : List ℕ) (rows : List (Option ℕ)) → IsWhole config old pool kept held flows seating rows → new.limits ≡ old.limits → new.limits.slots ≤ length kept
 slots_kept config old new pool kept held flows seating rows h same = omega (arith, ap (λ (l : Limits). l.slots) (same ∙ h.limits), h.media)
 
-pub room_left : (config : Config) (old new : rooms.Registry) (d : Done) (pool : Limits) (kept : List media.SlotMedia) (held : List ℕ) (flows : List flow.Room) (seating : List ℕ) (rows : List (Option ℕ)) → IsWhole config old pool kept held flows seating rows → Adds old new d → IsConsistent new → length new.terminations ≤ new.limits.slots → length held < TERMINATIONS
-room_left config old new d pool kept held flows seating rows h a sound few =
+pub room_left : (config : Config) (old new : rooms.Registry) (d : Record) (pool : Limits) (kept : List media.SlotMedia) (held : List ℕ) (flows : List flow.Room) (seating : List ℕ) (rows : List (Option ℕ)) → IsWhole config old pool kept held flows seating rows → Adds old new d → IsSound new → length held < TERMINATIONS
+room_left config old new d pool kept held flows seating rows h a sound =
     let some = ap length h.held ∙ length-map old.terminations (λ r. r.slot) in
-    omega (arith, few, more_terminations old new d a, some, sound.limits.0.few_slots)
+    omega (arith, sound.few, more_terminations old new d a, some, sound.consistent.limits.0.few_slots)
 
-pub whole_added : (config : Config) (old new : rooms.Registry) (d : Done) (pool : Limits) (kept after : List media.SlotMedia) (held now : List ℕ) (before flows : List flow.Room) (seating seated : List ℕ) (rows joined : List (Option ℕ)) → IsWhole config old pool kept held before seating rows → (a : Adds old new d)
-    → length after ≡ length kept → now ≡ held ++ a.added.slot ∷ [] → HasMembers new flows → AreSeated new seated → length seated ≡ length seating → AreJoined new joined → IsWhole config new pool after now flows seated joined
-whole_added config old new d pool kept after held now before flows seating seated rows joined h a same pushed members seats long at_rooms =
+pub whole_added : (config : Config) (old new : rooms.Registry) (d : Record) (pool : Limits) (kept after : List media.SlotMedia) (held now : List ℕ) (before flows : List flow.Room) (seating seated : List ℕ) (rows joined : List (Option ℕ)) → IsWhole config old pool kept held before seating rows → (a : Adds old new d) → IsSound new
+    → length after ≡ length kept → now ≡ held ++ d.slot ∷ [] → HasMembers new flows → AreSeated new seated → length seated ≡ length seating → AreJoined new joined → IsWhole config new pool after now flows seated joined
+whole_added config old new d pool kept after held now before flows seating seated rows joined h a sound same pushed members seats long at_rooms =
     record {
+      sound = sound;
       joined = at_rooms;
       members = members;
       seats = seats;
@@ -92,18 +90,10 @@ whole_added config old new d pool kept after held now before flows seating seate
       ports = h.ports;
       media = same ∙ h.media;
       held = pushed
-          ∙ ap (λ (slots : List ℕ). slots ++ a.added.slot ∷ []) h.held
-          ∙ sym (map-append (λ r. r.slot) old.terminations (a.added ∷ []))
+          ∙ ap (λ (slots : List ℕ). slots ++ d.slot ∷ []) h.held
+          ∙ sym (map-append (λ r. r.slot) old.terminations (d ∷ []))
           ∙ ap (map (λ r. r.slot)) (sym a.terminations);
     }
-
--- what was added is found
-pub made_is : (old new : rooms.Registry) (d : Done) (a : Adds old new d) → ByNumber new → record_at new d.termination ≡ Some a.added
-made_is old new d a by_number =
-    let at = ap (λ (rs : List Record). get_or rs (length old.terminations) nobody) a.terminations ∙ last_is old.terminations a.added nobody in
-    let here = by_number (length old.terminations) nobody (omega (arith, more_terminations old new d a)) in
-    let there : record_at new a.added.number ≡ Some a.added = subst (λ (x : Record). record_at new x.number ≡ Some x) at here in
-    ap (record_at new) (sym a.number) ∙ there
 
 -- media that begin and are tuned
 pub begun_tuned : (kept first after : List media.SlotMedia) (slot : ℕ) (begun : media.SlotMedia) (depth : Option ℕ) → slot < length kept → first ≡ set kept slot begun → after ≡ set first slot (media.tuned depth (media_at first slot)) → after ≡ set kept slot (media.tuned depth begun)
@@ -114,10 +104,10 @@ begun_tuned kept first after slot begun depth lt one two =
     ∙ set-set kept slot begun (media.tuned depth begun)
 
 -- no termination had the number before
-pub unknown_before : (old new : rooms.Registry) (d : Done) → Adds old new d → IsConsistent new → record_at old d.termination ≡ None
+pub unknown_before : (old new : rooms.Registry) (d : Record) → Adds old new d → IsSound new → record_at old d.number ≡ None
 unknown_before old new d a sound =
-    let once = subst (λ (rs : List Record). count_by (λ r. eqb r.number d.termination) rs ≤ 1) a.terminations (sound.terminations.one_number d.termination) in
-    none_before_last (λ r. eqb r.number d.termination) old.terminations a.added (eq-eqb a.added.number d.termination a.number) once
+    let once = subst (λ (rs : List Record). count_by (λ r. eqb r.number d.number) rs ≤ 1) a.terminations (sound.consistent.terminations.one_number d.number) in
+    none_before_last (λ r. eqb r.number d.number) old.terminations d (eq-eqb d.number d.number refl) once
 
 pub none_too : (k : EngineState) (w : Gateway) (n : ℕ) → map (λ s. s.number) w.media ≡ map (λ r. r.number) k.rooms.terminations → record_at k.rooms n ≡ None → (o : Option TerminationMedia) → media_of w n ≡ o → o ≡ None
 none_too k w n same none None e = refl
@@ -137,19 +127,19 @@ frames_kept w kept row n x r q slots found there apart =
 pub apart_from : (m n : ℕ) → eqb n m ≡ false → m ≢ n
 apart_from m n e same = unequal n m e (sym same)
 
-abbrev newcomer : Settings → Done → TerminationMedia
-newcomer settings d = tuned settings (new_media d.termination)
+abbrev newcomer : Settings → Record → TerminationMedia
+newcomer settings d = tuned settings (new_media d.number)
 
 abbrev pub with_rooms : EngineState → rooms.Registry → List media.SlotMedia → List flow.Room → sums.SumsState → EngineState
 with_rooms k new after flows kept = record { config = k.config; rooms = new; media = after; flows = flows; sums = kept; shares = k.shares }
 
-added_media : (k : EngineState) (new : rooms.Registry) (after : List media.SlotMedia) (frames : List (List ℤ)) (w : Gateway) (settings : Settings) (d : Done) (r : Record) → Adds k.rooms new d → IsConsistent new → Slots new → Others k.rooms new d.termination → record_at new d.termination ≡ Some r
+added_media : (k : EngineState) (new : rooms.Registry) (after : List media.SlotMedia) (frames : List (List ℤ)) (w : Gateway) (settings : Settings) (d : Record) (r : Record) → Adds k.rooms new d → IsSound new → Slots new → Others k.rooms new d.number → record_at new d.number ≡ Some r
     → r.slot < length k.media → r.slot < length k.sums.frames → after ≡ set k.media r.slot (media.tuned settings.depth (media.begun k.config)) → frames ≡ set k.sums.frames r.slot silence → StandsFor k w
-    → (m : ℕ) (q : Record) (s : TerminationMedia) → record_at new m ≡ Some q → find (λ s. eqb s.number m) (w.media ++ newcomer settings d ∷ []) ≡ Some s → (b : Bool) → eqb d.termination m ≡ b → IsMediaOf k.config (media_at after q.slot) (get_or frames q.slot []) s
+    → (m : ℕ) (q : Record) (s : TerminationMedia) → record_at new m ≡ Some q → find (λ s. eqb s.number m) (w.media ++ newcomer settings d ∷ []) ≡ Some s → (b : Bool) → eqb d.number m ≡ b → IsMediaOf k.config (media_at after q.slot) (get_or frames q.slot []) s
 added_media k new after frames w settings d r a sound slots others made lt in_rows set_to silent h m q s found there true e =
-    let same : d.termination ≡ m = eqb-true d.termination m e in
+    let same : d.number ≡ m = eqb-true d.number m e in
     let is : r ≡ q = same_Some r q (sym made ∙ ap (record_at new) same ∙ found) in
-    let none = none_too k w d.termination h.numbers (unknown_before k.rooms new d a sound) (media_of w d.termination) refl in
+    let none = none_too k w d.number h.numbers (unknown_before k.rooms new d a sound) (media_of w d.number) refl in
     let pushed = found_push (λ s. s.number) m w.media (newcomer settings d) e (ap (media_of w) (sym same) ∙ none) in
     let stream : newcomer settings d ≡ s = same_Some (newcomer settings d) s (sym pushed ∙ there) in
     let kept : media_at after q.slot ≡ media.tuned settings.depth (media.begun k.config) =
@@ -157,28 +147,27 @@ added_media k new after frames w settings d r a sound slots others made lt in_ro
     let row : get_or frames q.slot [] ≡ silence =
     ap (λ (x : Record). get_or frames x.slot []) (sym is) ∙ ap (λ (fs : List (List ℤ)). get_or fs r.slot []) silent ∙ get_or-set_same k.sums.frames r.slot silence [] in_rows in
     media_is k.config (media_at after q.slot) (media.tuned settings.depth (media.begun k.config)) (get_or frames q.slot []) silence s kept row
-    (subst (λ (x : TerminationMedia). IsMediaOf k.config (media.tuned settings.depth (media.begun k.config)) silence x) stream (tuned_is k.config settings (media.begun k.config) silence (new_media d.termination) (begun_is k.config d.termination)))
+    (subst (λ (x : TerminationMedia). IsMediaOf k.config (media.tuned settings.depth (media.begun k.config)) silence x) stream (tuned_is k.config settings (media.begun k.config) silence (new_media d.number) (begun_is k.config d.number)))
 added_media k new after frames w settings d r a sound slots others made lt in_rows set_to silent h m q s found there false e =
-    let apart = apart_from m d.termination e in
+    let apart = apart_from m d.number e in
     let old = sym (others m apart) ∙ found in
     let stream = sym (found_push_other (λ s. s.number) m w.media (newcomer settings d) e) ∙ there in
     let kept : media_at after q.slot ≡ media_at k.media q.slot =
-    ap (λ (ms : List media.SlotMedia). media_at ms q.slot) set_to ∙ others_kept new k.media (media.tuned settings.depth (media.begun k.config)) m d.termination r q slots made found apart in
-    let row = ap (λ (fs : List (List ℤ)). get_or fs q.slot []) silent ∙ frames_kept new k.sums.frames silence m d.termination r q slots made found apart in
+    ap (λ (ms : List media.SlotMedia). media_at ms q.slot) set_to ∙ others_kept new k.media (media.tuned settings.depth (media.begun k.config)) m d.number r q slots made found apart in
+    let row = ap (λ (fs : List (List ℤ)). get_or fs q.slot []) silent ∙ frames_kept new k.sums.frames silence m d.number r q slots made found apart in
     media_is k.config (media_at after q.slot) (media_at k.media q.slot) (get_or frames q.slot []) (get_or k.sums.frames q.slot []) s kept row (h.media m q s old stream)
 
-pub added_stands : (k : EngineState) (new : rooms.Registry) (after : List media.SlotMedia) (flows : List flow.Room) (kept : sums.SumsState) (w : Gateway) (settings : Settings) (d : Done) (r : Record) → Adds k.rooms new d → IsConsistent new → Slots new → Others k.rooms new d.termination → record_at new d.termination ≡ Some r
-    → r.slot < length k.media → r.slot < length k.sums.frames → after ≡ set k.media r.slot (media.tuned settings.depth (media.begun k.config)) → kept.frames ≡ set k.sums.frames r.slot silence → Hears new flows (Enter d.termination ∷ w.edits) → StandsFor k w
+pub added_stands : (k : EngineState) (new : rooms.Registry) (after : List media.SlotMedia) (flows : List flow.Room) (kept : sums.SumsState) (w : Gateway) (settings : Settings) (d : Record) (r : Record) → Adds k.rooms new d → IsSound new → Slots new → Others k.rooms new d.number → record_at new d.number ≡ Some r
+    → r.slot < length k.media → r.slot < length k.sums.frames → after ≡ set k.media r.slot (media.tuned settings.depth (media.begun k.config)) → kept.frames ≡ set k.sums.frames r.slot silence → Hears new flows (Enter d.number ∷ w.edits) → StandsFor k w
     → StandsFor (with_rooms k new after flows kept) (added w settings new d)
 added_stands k new after flows kept w settings d r a sound slots others made lt in_rows set_to silent hears h = record {
   config = h.config;
   rooms = refl;
   numbers = map-append (λ s. s.number) w.media (newcomer settings d ∷ [])
-      ∙ ap (λ (ns : List ℕ). ns ++ d.termination ∷ []) h.numbers
-      ∙ ap (λ (n : ℕ). map (λ r. r.number) k.rooms.terminations ++ n ∷ []) (sym a.number)
-      ∙ sym (map-append (λ r. r.number) k.rooms.terminations (a.added ∷ []))
+      ∙ ap (λ (ns : List ℕ). ns ++ d.number ∷ []) h.numbers
+      ∙ sym (map-append (λ r. r.number) k.rooms.terminations (d ∷ []))
       ∙ ap (map (λ r. r.number)) (sym a.terminations);
-  media = λ m q s found there. added_media k new after kept.frames w settings d r a sound slots others made lt in_rows set_to silent h m q s found there (eqb d.termination m) refl;
+  media = λ m q s found there. added_media k new after kept.frames w settings d r a sound slots others made lt in_rows set_to silent h m q s found there (eqb d.number m) refl;
   hears = hears;
 }
 
@@ -188,25 +177,26 @@ number_of_was : (k : EngineState) (n : ℕ) (r : Record) → record_at k.rooms n
 number_of_was k n r there = found_key (λ x. x.number) n k.rooms.terminations r there
 
 -- the termination has its new record
-pub changed_is : (k : EngineState) (new : rooms.Registry) (n : ℕ) (d : Done) (a : Changes k.rooms new n d) → record_at new n ≡ Some a.changed
+pub changed_is : (k : EngineState) (new : rooms.Registry) (n : ℕ) (d : Record) (a : Changes k.rooms new n d) → record_at new n ≡ Some d
 changed_is k new n d a =
     let number = a.same ∙ number_of_was k n a.was a.there in
-    ap (find (λ x. eqb x.number n)) (a.terminations ∙ ap (λ (m : ℕ). change (λ x. x.number) m (λ _. Some a.changed) k.rooms.terminations) number)
-    ∙ found_replaced (λ x. x.number) a.changed n k.rooms.terminations a.was number a.there
+    ap (find (λ x. eqb x.number n)) (a.terminations ∙ ap (λ (m : ℕ). change (λ x. x.number) m (λ _. Some d) k.rooms.terminations) number)
+    ∙ found_replaced (λ x. x.number) d n k.rooms.terminations a.was number a.there
 
 -- it is done on the termination that was named
-pub changed_at : (k : EngineState) (new : rooms.Registry) (n : ℕ) (d : Done) → Changes k.rooms new n d → d.termination ≡ n
-changed_at k new n d a = sym a.number ∙ a.same ∙ number_of_was k n a.was a.there
+pub changed_at : (k : EngineState) (new : rooms.Registry) (n : ℕ) (d : Record) → Changes k.rooms new n d → d.number ≡ n
+changed_at k new n d a = a.same ∙ number_of_was k n a.was a.there
 
-kept_by : {B : Type 0} (f : Record → B) (k : EngineState) (new : rooms.Registry) (n : ℕ) (d : Done) (a : Changes k.rooms new n d) → f a.changed ≡ f a.was → map f new.terminations ≡ map f k.rooms.terminations
+kept_by : {B : Type 0} (f : Record → B) (k : EngineState) (new : rooms.Registry) (n : ℕ) (d : Record) (a : Changes k.rooms new n d) → f d ≡ f a.was → map f new.terminations ≡ map f k.rooms.terminations
 kept_by f k new n d a same =
     let number = a.same ∙ number_of_was k n a.was a.there in
-    ap (map f) (a.terminations ∙ ap (λ (m : ℕ). change (λ x. x.number) m (λ _. Some a.changed) k.rooms.terminations) number)
-    ∙ mapped_kept (λ x. x.number) f n (λ _. Some a.changed) k.rooms.terminations a.was (ap (λ (b : _). b ∷ []) same) a.there
+    ap (map f) (a.terminations ∙ ap (λ (m : ℕ). change (λ x. x.number) m (λ _. Some d) k.rooms.terminations) number)
+    ∙ mapped_kept (λ x. x.number) f n (λ _. Some d) k.rooms.terminations a.was (ap (λ (b : _). b ∷ []) same) a.there
 
-pub whole_changed : (k : EngineState) (new : rooms.Registry) (n : ℕ) (d : Done) (pool : Limits) (after : List media.SlotMedia) (held : List ℕ) (flows : List flow.Room) (seating seated : List ℕ) (joined : List (Option ℕ)) → IsWhole k.config k.rooms pool k.media held k.flows seating k.sums.rooms → Changes k.rooms new n d → length after ≡ length k.media
+pub whole_changed : (k : EngineState) (new : rooms.Registry) (n : ℕ) (d : Record) (pool : Limits) (after : List media.SlotMedia) (held : List ℕ) (flows : List flow.Room) (seating seated : List ℕ) (joined : List (Option ℕ)) → IsWhole k.config k.rooms pool k.media held k.flows seating k.sums.rooms → Changes k.rooms new n d → IsSound new → length after ≡ length k.media
     → HasMembers new flows → AreSeated new seated → length seated ≡ length seating → AreJoined new joined → IsWhole k.config new pool after held flows seated joined
-whole_changed k new n d pool after held flows seating seated joined h a same members seats long at_rooms = record {
+whole_changed k new n d pool after held flows seating seated joined h a sound same members seats long at_rooms = record {
+  sound = sound;
   joined = at_rooms;
   members = members;
   seats = seats;
@@ -217,32 +207,32 @@ whole_changed k new n d pool after held flows seating seated joined h a same mem
   held = h.held ∙ sym (kept_by (λ r. r.slot) k new n d a a.slot);
 }
 
-tuned_media : (k : EngineState) (new : rooms.Registry) (after : List media.SlotMedia) (frames : List (List ℤ)) (w : Gateway) (settings : Settings) (n : ℕ) (d : Done) (a : Changes k.rooms new n d) → Slots new → Others k.rooms new n
-    → a.changed.slot < length k.media → after ≡ set k.media a.changed.slot (media.tuned settings.depth (media_at k.media a.changed.slot)) → frames ≡ k.sums.frames → StandsFor k w
+tuned_media : (k : EngineState) (new : rooms.Registry) (after : List media.SlotMedia) (frames : List (List ℤ)) (w : Gateway) (settings : Settings) (n : ℕ) (d : Record) (a : Changes k.rooms new n d) → Slots new → Others k.rooms new n
+    → d.slot < length k.media → after ≡ set k.media d.slot (media.tuned settings.depth (media_at k.media d.slot)) → frames ≡ k.sums.frames → StandsFor k w
     → (m : ℕ) (q : Record) (s : TerminationMedia) → record_at new m ≡ Some q → find (λ s. eqb s.number m) (media_with settings n w.media) ≡ Some s → (b : Bool) → eqb n m ≡ b → IsMediaOf k.config (media_at after q.slot) (get_or frames q.slot []) s
 tuned_media k new after frames w settings n d a slots others lt set_to rows h m q s found there true e =
     let same : n ≡ m = eqb-true n m e in
-    let is : a.changed ≡ q = same_Some a.changed q (sym (changed_is k new n d a) ∙ ap (record_at new) same ∙ found) in
+    let is : d ≡ q = same_Some d q (sym (changed_is k new n d a) ∙ ap (record_at new) same ∙ found) in
     let (t, was, stream) = has_media k w n a.was h a.there in
     let changed = ap (λ (x : ℕ). find (λ s. eqb s.number x) (media_with settings n w.media)) same ∙ there in
     let now = sym (found_changed (λ s. s.number) (tuned settings) n w.media (λ x. refl)) ∙ changed in
     let s_is : tuned settings t ≡ s = same_Some (tuned settings t) s (ap (option_map (tuned settings)) (sym was) ∙ now) in
-    let old = media_at k.media a.changed.slot in
+    let old = media_at k.media d.slot in
     let kept : media_at after q.slot ≡ media.tuned settings.depth old =
-    ap (λ (x : Record). media_at after x.slot) (sym is) ∙ ap (λ (ms : List media.SlotMedia). media_at ms a.changed.slot) set_to ∙ get_or-set_same k.media a.changed.slot (media.tuned settings.depth old) idle lt in
+    ap (λ (x : Record). media_at after x.slot) (sym is) ∙ ap (λ (ms : List media.SlotMedia). media_at ms d.slot) set_to ∙ get_or-set_same k.media d.slot (media.tuned settings.depth old) idle lt in
     let begin = subst (λ (slot : ℕ). IsMediaOf k.config (media_at k.media slot) (get_or k.sums.frames slot []) t) (sym a.slot) stream in
-    let row : get_or frames q.slot [] ≡ get_or k.sums.frames a.changed.slot [] = ap (λ (x : Record). get_or frames x.slot []) (sym is) ∙ ap (λ (fs : List (List ℤ)). get_or fs a.changed.slot []) rows in
-    media_is k.config (media_at after q.slot) (media.tuned settings.depth old) (get_or frames q.slot []) (get_or k.sums.frames a.changed.slot []) s kept row
-    (subst (λ (x : TerminationMedia). IsMediaOf k.config (media.tuned settings.depth old) (get_or k.sums.frames a.changed.slot []) x) s_is (tuned_is k.config settings old (get_or k.sums.frames a.changed.slot []) t begin))
+    let row : get_or frames q.slot [] ≡ get_or k.sums.frames d.slot [] = ap (λ (x : Record). get_or frames x.slot []) (sym is) ∙ ap (λ (fs : List (List ℤ)). get_or fs d.slot []) rows in
+    media_is k.config (media_at after q.slot) (media.tuned settings.depth old) (get_or frames q.slot []) (get_or k.sums.frames d.slot []) s kept row
+    (subst (λ (x : TerminationMedia). IsMediaOf k.config (media.tuned settings.depth old) (get_or k.sums.frames d.slot []) x) s_is (tuned_is k.config settings old (get_or k.sums.frames d.slot []) t begin))
 tuned_media k new after frames w settings n d a slots others lt set_to rows h m q s found there false e =
     let apart = apart_from m n e in
     let old = sym (others m apart) ∙ found in
     let stream = sym (found_other (λ s. s.number) (λ s. Some (tuned settings s)) n m w.media (λ x ys same. let no : eqb x.number m ≡ false = ap (λ (i : ℕ). eqb i m) (eqb-true x.number n same) ∙ e in rw no refl)) ∙ there in
     let kept : media_at after q.slot ≡ media_at k.media q.slot =
-    ap (λ (ms : List media.SlotMedia). media_at ms q.slot) set_to ∙ others_kept new k.media (media.tuned settings.depth (media_at k.media a.changed.slot)) m n a.changed q slots (changed_is k new n d a) found apart in
+    ap (λ (ms : List media.SlotMedia). media_at ms q.slot) set_to ∙ others_kept new k.media (media.tuned settings.depth (media_at k.media d.slot)) m n d q slots (changed_is k new n d a) found apart in
     media_is k.config (media_at after q.slot) (media_at k.media q.slot) (get_or frames q.slot []) (get_or k.sums.frames q.slot []) s kept (ap (λ (fs : List (List ℤ)). get_or fs q.slot []) rows) (h.media m q s old stream)
 
-tuned_numbers : (k : EngineState) (new : rooms.Registry) (w : Gateway) (settings : Settings) (n : ℕ) (d : Done) (a : Changes k.rooms new n d) → StandsFor k w → map (λ s. s.number) (media_with settings n w.media) ≡ map (λ r. r.number) new.terminations
+tuned_numbers : (k : EngineState) (new : rooms.Registry) (w : Gateway) (settings : Settings) (n : ℕ) (d : Record) (a : Changes k.rooms new n d) → StandsFor k w → map (λ s. s.number) (media_with settings n w.media) ≡ map (λ r. r.number) new.terminations
 tuned_numbers k new w settings n d a h =
     let (t, was, stream) = has_media k w n a.was h a.there in
     mapped_kept (λ s. s.number) (λ s. s.number) n (λ s. Some (tuned settings s)) w.media t refl was
@@ -250,8 +240,8 @@ tuned_numbers k new w settings n d a h =
     ∙ sym (kept_by (λ r. r.number) k new n d a a.same)
 
 -- the streams after a command on a termination
-pub changed_stands : (k : EngineState) (new : rooms.Registry) (after : List media.SlotMedia) (flows : List flow.Room) (kept : sums.SumsState) (w now : Gateway) (settings : Settings) (n : ℕ) (d : Done) (a : Changes k.rooms new n d) → Slots new → Others k.rooms new n
-    → a.changed.slot < length k.media → after ≡ set k.media a.changed.slot (media.tuned settings.depth (media_at k.media a.changed.slot)) → kept.frames ≡ k.sums.frames → StandsFor k w
+pub changed_stands : (k : EngineState) (new : rooms.Registry) (after : List media.SlotMedia) (flows : List flow.Room) (kept : sums.SumsState) (w now : Gateway) (settings : Settings) (n : ℕ) (d : Record) (a : Changes k.rooms new n d) → Slots new → Others k.rooms new n
+    → d.slot < length k.media → after ≡ set k.media d.slot (media.tuned settings.depth (media_at k.media d.slot)) → kept.frames ≡ k.sums.frames → StandsFor k w
     → now.config ≡ w.config → now.rooms ≡ new → now.media ≡ media_with settings n w.media → Hears new flows now.edits → StandsFor (with_rooms k new after flows kept) now
 changed_stands k new after flows kept w now settings n d a slots others lt set_to rows h config same streams hears = record {
   config = config ∙ h.config;
@@ -263,15 +253,16 @@ changed_stands k new after flows kept w now settings n d a slots others lt set_t
 
 -- ## A Subtract
 
-pub removed_at : (k : EngineState) (new : rooms.Registry) (n : ℕ) (d : Done) → Removes k.rooms new n d → d.termination ≡ n
-removed_at k new n d a = sym a.number ∙ number_of_was k n a.was a.there
+pub removed_at : (k : EngineState) (new : rooms.Registry) (n : ℕ) (d : Record) → Removes k.rooms new n d → d.number ≡ n
+removed_at k new n d a = number_of_was k n d a.there
 
-left_terminations : (k : EngineState) (new : rooms.Registry) (n : ℕ) (d : Done) (a : Removes k.rooms new n d) → new.terminations ≡ change (λ x. x.number) n (λ _. None) k.rooms.terminations
+left_terminations : (k : EngineState) (new : rooms.Registry) (n : ℕ) (d : Record) (a : Removes k.rooms new n d) → new.terminations ≡ change (λ x. x.number) n (λ _. None) k.rooms.terminations
 left_terminations k new n d a = a.terminations ∙ ap (λ (m : ℕ). change (λ x. x.number) m (λ _. None) k.rooms.terminations) (removed_at k new n d a)
 
-pub whole_removed : (k : EngineState) (new : rooms.Registry) (n : ℕ) (d : Done) (pool : Limits) (held now : List ℕ) (flows : List flow.Room) (seating : List ℕ) (joined : List (Option ℕ)) → IsWhole k.config k.rooms pool k.media held k.flows seating k.sums.rooms → (a : Removes k.rooms new n d) → IsConsistent k.rooms → now ≡ filter (λ s. not (eqb s a.was.slot)) held
+pub whole_removed : (k : EngineState) (new : rooms.Registry) (n : ℕ) (d : Record) (pool : Limits) (held now : List ℕ) (flows : List flow.Room) (seating : List ℕ) (joined : List (Option ℕ)) → IsWhole k.config k.rooms pool k.media held k.flows seating k.sums.rooms → (a : Removes k.rooms new n d) → IsSound k.rooms → IsSound new → now ≡ filter (λ s. not (eqb s d.slot)) held
     → HasMembers new flows → AreSeated new seating → AreJoined new joined → IsWhole k.config new pool k.media now flows seating joined
-whole_removed k new n d pool held now flows seating joined h a sound left members seats at_rooms = record {
+whole_removed k new n d pool held now flows seating joined h a sound after left members seats at_rooms = record {
+  sound = after;
   joined = at_rooms;
   members = members;
   seats = seats;
@@ -280,15 +271,15 @@ whole_removed k new n d pool held now flows seating joined h a sound left member
   ports = h.ports;
   media = h.media;
   held = left
-      ∙ ap (filter (λ s. not (eqb s a.was.slot))) h.held
-      ∙ spots_left (λ x. x.number) (λ r. r.slot) a.was.slot n k.rooms.terminations a.was (sound.terminations.one_slot a.was.slot) a.there refl
+      ∙ ap (filter (λ s. not (eqb s d.slot))) h.held
+      ∙ spots_left (λ x. x.number) (λ r. r.slot) d.slot n k.rooms.terminations d (sound.consistent.terminations.one_slot d.slot) a.there refl
       ∙ ap (map (λ r. r.slot)) (sym (left_terminations k new n d a));
 }
 
-left_media : (k : EngineState) (new : rooms.Registry) (w : Gateway) (n : ℕ) (d : Done) → Removes k.rooms new n d → IsConsistent k.rooms → Others k.rooms new n → StandsFor k w
+left_media : (k : EngineState) (new : rooms.Registry) (w : Gateway) (n : ℕ) (d : Record) → Removes k.rooms new n d → IsSound k.rooms → Others k.rooms new n → StandsFor k w
     → (m : ℕ) (q : Record) (s : TerminationMedia) → record_at new m ≡ Some q → find (λ s. eqb s.number m) (media_without n w.media) ≡ Some s → (b : Bool) → eqb n m ≡ b → IsMediaOf k.config (media_at k.media q.slot) (get_or k.sums.frames q.slot []) s
 left_media k new w n d a sound others h m q s found there true e =
-    let gone = ap (find (λ x. eqb x.number n)) (left_terminations k new n d a) ∙ none_left (λ x. x.number) n k.rooms.terminations (sound.terminations.one_number n) in
+    let gone = ap (find (λ x. eqb x.number n)) (left_terminations k new n d a) ∙ none_left (λ x. x.number) n k.rooms.terminations (sound.consistent.terminations.one_number n) in
     absurd (no_record q (sym (ap (record_at new) (eqb-true n m e) ∙ found) ∙ gone))
 left_media k new w n d a sound others h m q s found there false e =
     let apart = apart_from m n e in
@@ -296,10 +287,10 @@ left_media k new w n d a sound others h m q s found there false e =
     h.media m q s (sym (others m apart) ∙ found) stream
 
 -- who was subtracted is there no longer
-pub gone : (k : EngineState) (new : rooms.Registry) (n : ℕ) (d : Done) → Removes k.rooms new n d → IsConsistent k.rooms → record_at new n ≡ None
-gone k new n d a sound = ap (find (λ x. eqb x.number n)) (left_terminations k new n d a) ∙ none_left (λ x. x.number) n k.rooms.terminations (sound.terminations.one_number n)
+pub gone : (k : EngineState) (new : rooms.Registry) (n : ℕ) (d : Record) → Removes k.rooms new n d → IsSound k.rooms → record_at new n ≡ None
+gone k new n d a sound = ap (find (λ x. eqb x.number n)) (left_terminations k new n d a) ∙ none_left (λ x. x.number) n k.rooms.terminations (sound.consistent.terminations.one_number n)
 
-pub removed_stands : (k : EngineState) (new : rooms.Registry) (flows : List flow.Room) (kept : sums.SumsState) (w : Gateway) (n : ℕ) (d : Done) (a : Removes k.rooms new n d) → IsConsistent k.rooms → Others k.rooms new n → Hears new flows w.edits → kept.frames ≡ k.sums.frames → StandsFor k w
+pub removed_stands : (k : EngineState) (new : rooms.Registry) (flows : List flow.Room) (kept : sums.SumsState) (w : Gateway) (n : ℕ) (d : Record) (a : Removes k.rooms new n d) → IsSound k.rooms → Others k.rooms new n → Hears new flows w.edits → kept.frames ≡ k.sums.frames → StandsFor k w
     → StandsFor (with_rooms k new k.media flows kept) (subtracted w new d)
 removed_stands k new flows kept w n d a sound others hears rows h = record {
   config = h.config;

@@ -14,8 +14,8 @@ use Rattle.mg_words.specs.Mode.{talks, listens}
 use Rattle.mg_words.specs.declared.association.Association.TheVariants.{Isolate}
 use Rattle.mg_rooms.specs.declared.record.Record.{Record}
 use Rattle.mg_sums.specs.Samples.{nearest_sample}
-use Rattle.mg_sums.proofs.HeardLemmas.{map_agree}
-use Rattle.mg_sums.proofs.SumLemmas.{sum_of-same}
+use Rattle.mg_engine.proofs.PlainSums.{map_agree}
+use Rattle.mg_engine.proofs.PlainSums.{sum_of-same}
 use Rattle.mg_engine.specs.declared.datagram.Datagram.{Datagram}
 use Rattle.mg_engine.specs.Gateway.{Gateway, TerminationMedia, ContextEdit, Enter, Leave, Apply, media_of, frame_of, frame_in, mode_of, context_of}
 use Rattle.mg_engine.specs.Flow.{flow, leads, speaks_of, lets_hear}

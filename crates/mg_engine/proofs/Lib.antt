@@ -5,6 +5,7 @@ pub mod SeatingLaws
 pub mod TripleLaws
 pub mod WorkLaws
 pub mod JoinedLaws
+pub mod PlainSums
 pub mod RowSums
 pub mod MaskLaws
 pub mod MixLaws

@@ -10,19 +10,19 @@ use Rattle.mg_rooms.specs.declared.record.Record.{Record}
 use Rattle.mg_rooms.specs.declared.context.Context.{Context}
 use Rattle.mg_rooms.specs.Registry as rooms
 use Rattle.mg_rooms.specs.Registry.{record_at, context_at}
-use Rattle.mg_rooms.specs.Consistent.{IsConsistent}
+use Rattle.mg_rooms.specs.Sound.{IsSound}
 use Rattle.mg_flow.specs.declared.place.Place.{Place}
 use Rattle.mg_flow.specs.Place.{beside}
 use Rattle.mg_flow.specs.Table as flow
 use Rattle.mg_sums.specs.Samples.{sum_of, nearest_sample}
-use Rattle.mg_sums.proofs.SumLemmas.{sum_of-same}
+use Rattle.mg_engine.proofs.PlainSums.{sum_of-same}
 use Rattle.mg_engine.specs.Place.{place_of, IsOnPlace}
 use Rattle.mg_engine.specs.aids.Seating.{slot_at, AreSeated}
 use Rattle.mg_engine.specs.aids.Sending.{sample_at, flows_between, heard_now}
 use Rattle.mg_engine.specs.aids.Shares.{is_seated_in, sits_among, heard_on, payload_on}
 use Rattle.mg_g711.specs.declared.law.Law.{Law}
 use Rattle.mg_g711.specs.Law.{byte_of}
-use Rattle.mg_sums.proofs.HeardLemmas.{map_agree}
+use Rattle.mg_engine.proofs.PlainSums.{map_agree}
 use Rattle.mg_engine.specs.Stands.{EngineState}
 use Rattle.mg_engine.proofs.SendingLaws.{nobody}
 use Rattle.mg_engine.proofs.PlaceLaws.{ByNumber, HaveContexts, OneRoom, seated, place, hears_apart, no_hearing}
@@ -88,7 +88,7 @@ SeatWithin w = (n : ℕ) (r : Record) → record_at w n ≡ Some r → r.seat < 
 both_true : (a b : Bool) → a ≡ true → b ≡ true → (a && b) ≡ true
 both_true a b h k = ap (λ (x : Bool). x && b) h ∙ k
 
-module _ (w : rooms.Registry) (seating : List ℕ) (l : Record) (p : Place) (y : Context) (mask : ℕ) (sound : IsConsistent w) (seats : AreSeated w seating) (by_number : ByNumber w) (there : HaveContexts w) (one_room : OneRoom w) (within : SeatWithin w) (context : context_at w l.context ≡ Some y) (is : seated l.seat y ≡ p) (held : (seat : ℕ) → IsTrue (has_seat mask seat) → (n : ℕ) × (r : Record) × IsOnPlace w n r (beside p seat)) (f : ℕ → ℤ) where
+module _ (w : rooms.Registry) (seating : List ℕ) (l : Record) (p : Place) (y : Context) (mask : ℕ) (sound : IsSound w) (seats : AreSeated w seating) (by_number : ByNumber w) (there : HaveContexts w) (one_room : OneRoom w) (within : SeatWithin w) (context : context_at w l.context ≡ Some y) (is : seated l.seat y ≡ p) (held : (seat : ℕ) → IsTrue (has_seat mask seat) → (n : ℕ) × (r : Record) × IsOnPlace w n r (beside p seat)) (f : ℕ → ℤ) where
   abbrev on_seat : ℕ → ℤ
   on_seat seat = f (slot_at seating (record { room = p.room; seat = seat }))
 
@@ -146,5 +146,5 @@ module _ (w : rooms.Registry) (seating : List ℕ) (l : Record) (p : Place) (y :
       ∙ seat_sums w.terminations is_in (λ t. t.seat) seat_limit seat_part seated_part nobody
       (λ j lt. within (get_or w.terminations j nobody).number (get_or w.terminations j nobody) (by_number j nobody lt))
       (λ j lt. part_is (get_or w.terminations j nobody) (eqb (get_or w.terminations j nobody).context l.context) (by_number j nobody lt) refl)
-      (λ seat. sound.terminations.one_seat l.context seat)
+      (λ seat. sound.consistent.terminations.one_seat l.context seat)
       (λ seat none. silent_at seat (has_seat mask seat) refl none)

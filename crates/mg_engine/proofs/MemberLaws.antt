@@ -6,6 +6,7 @@ use Rattle.std.proofs.lemmas.Bool.{eqb-true, eq-eqb}
 use Rattle.mg_rooms.specs.declared.context.Context.{Context}
 use Rattle.mg_rooms.specs.declared.record.Record.{Record}
 use Rattle.mg_rooms.specs.declared.limits.Limits.{Limits}
+use Rattle.mg_rooms.specs.Lasting.{Lasts}
 use Rattle.mg_rooms.specs.Registry.{Registry, start_of, record_at, context_at}
 use Rattle.mg_flow.specs.declared.place.Place.{Place}
 use Rattle.mg_flow.specs.Place.{is_same_place, are_together}
@@ -76,12 +77,14 @@ stayed old new m r p there keeps same on =
 pub same_others : (old new : Registry) (n : ℕ) → HaveContexts old → HaveContexts new → KeepsRooms old new → Others old new n → SameOthers old new n
 same_others old new n before after keeps others m r p apart = (stays old new m r p after keeps (others m apart), stayed old new m r p before keeps (others m apart))
 
--- one with another record, in the same context and on the same seat, is on the same place
-pub stays_at : (old new : Registry) (n : ℕ) (r q : Record) (p : Place) → HaveContexts new → KeepsRooms old new → record_at new n ≡ Some q → q.context ≡ r.context → q.seat ≡ r.seat → IsOnPlace old n r p → IsOnPlace new n q p
-stays_at old new n r q p there keeps now context seat on =
-    let a = at old r p on.place in
-    let (y, is) = some_context (context_at new q.context) (there n q now) in
-    record { found = now; place = placed new q p y is (a.room ∙ sym (keeps q.context a.context y (ap (context_at old) context ∙ a.found) is)) (a.seat ∙ sym seat) }
+-- one with another record, in the same context, was on the same place
+pub stayed_at : (old new : Registry) (n : ℕ) (r q : Record) (p : Place) → HaveContexts old → Lasts old new → record_at old n ≡ Some r → q.context ≡ r.context → IsOnPlace new n q p → IsOnPlace old n r p
+stayed_at old new n r q p there lasts was context on =
+    let a = at new q p on.place in
+    let (x, is) = some_context (context_at old r.context) (there n r was) in
+    let seat = lasts.seat n r q was on.found context in
+    let now = ap (context_at new) (sym context) ∙ a.found in
+    record { found = was; place = placed old r p x is (a.room ∙ lasts.room r.context x a.context is now) (a.seat ∙ seat) }
 
 -- the table has the members other than n, and nobody else
 pub record HasOthers (w : Registry) (n : ℕ) (table : List Room) : Type 0 where

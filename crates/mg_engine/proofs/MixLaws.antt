@@ -14,14 +14,14 @@ use Rattle.mg_words.specs.Limits.{termination_limit}
 use Rattle.mg_topology.specs.Mask.{seat_limit, has_seat, seats_of}
 use Rattle.mg_rooms.specs.declared.context.Context.{Context}
 use Rattle.mg_rooms.specs.declared.record.Record.{Record}
-use Rattle.mg_rooms.specs.Consistent.{IsConsistent}
+use Rattle.mg_rooms.specs.Sound.{IsSound}
 use Rattle.mg_rooms.specs.Registry.{record_at, context_at}
 use Rattle.mg_flow.specs.declared.place.Place.{Place}
 use Rattle.mg_flow.specs.Place.{beside}
 use Rattle.mg_flow.specs.Table as flow
 use Rattle.mg_sums.specs.Sums.{AreOfRoom, sample_in, is_joined, total_of, heard_of, left_out_by, mix_of}
 use Rattle.mg_sums.specs.Samples.{sum_of, nearest_sample}
-use Rattle.mg_sums.proofs.SumLemmas.{sum_of-cons, sum_of-map, sum_of-nil, sum_of-none, sum_of-plus, sum_of-same}
+use Rattle.mg_engine.proofs.PlainSums.{sum_of-cons, sum_of-map, sum_of-nil, sum_of-none, sum_of-plus, sum_of-same}
 use Rattle.mg_engine.specs.Place.{place_of, IsOnPlace}
 use Rattle.mg_engine.specs.Stands.{EngineState, ShareContext}
 use Rattle.mg_engine.specs.aids.Joined.{AreJoined}
@@ -36,7 +36,7 @@ use Rattle.mg_engine.proofs.PlaceLaws.{ByNumber, HaveContexts, OneRoom, OneSeat,
 use Rattle.mg_engine.proofs.RowSums.{Spots, joined_is, total_by_terminations}
 use Rattle.mg_engine.proofs.SeatSums.{one_passes, found_counts}
 use Rattle.mg_engine.proofs.SendingLaws.{nobody}
-use Rattle.mg_sums.proofs.HeardLemmas.{map_agree}
+use Rattle.mg_engine.proofs.PlainSums.{map_agree}
 use Rattle.mg_engine.proofs.SumLaws.{sum-cong}
 
 -- ## One part of a total
@@ -109,7 +109,7 @@ same_number m n e = cc e
 
 -- ## A listener's mix
 
-module _ (k : EngineState) (seating : List ℕ) (l : Record) (p : Place) (y : Context) (mask : ℕ) (sound : IsConsistent k.rooms) (members : HasMembers k.rooms k.flows) (joined : AreJoined k.rooms k.sums.rooms) (seats : AreSeated k.rooms seating)
+module _ (k : EngineState) (seating : List ℕ) (l : Record) (p : Place) (y : Context) (mask : ℕ) (sound : IsSound k.rooms) (members : HasMembers k.rooms k.flows) (joined : AreJoined k.rooms k.sums.rooms) (seats : AreSeated k.rooms seating)
     (by_number : ByNumber k.rooms) (there : HaveContexts k.rooms) (one_room : OneRoom k.rooms) (one_seat : OneSeat k.rooms) (within : SeatWithin k.rooms) (spots : Spots k.rooms) (long : length k.sums.rooms ≡ termination_limit)
     (slots : (a b : ℕ) (r s : Record) → record_at k.rooms a ≡ Some r → record_at k.rooms b ≡ Some s → r.slot ≡ s.slot → a ≡ b)
     (context : context_at k.rooms l.context ≡ Some y) (is : seated l.seat y ≡ p) (on : IsOnPlace k.rooms l.number l p) (listens : mode.listens l.mode ≡ true)
@@ -263,7 +263,7 @@ module _ (k : EngineState) (seating : List ℕ) (l : Record) (p : Place) (y : Co
         let rs = k.rooms.terminations in
         let z = sample_at k.sums.frames l.slot i in
         let least = found_counts (λ (t : Record). eqb t.number l.number) (λ (t : Record). eqb t.number l.number) l rs on.found (eq-eqb l.number l.number refl) in
-        let most = sound.terminations.one_number l.number in
+        let most = sound.consistent.terminations.one_number l.number in
         let once : count_by (λ (t : Record). eqb t.number l.number) rs ≡ 1 = omega (arith, least, most) in
         sum-cong (λ (t : Record). cond (eqb t.number l.number && true) (sample_of t) (pos 0)) (λ (t : Record). cond (eqb t.number l.number) z (pos 0)) rs nobody (λ j lt. own_at (get_or rs j nobody) (by_number j nobody lt) (eqb (get_or rs j nobody).number l.number) refl)
         ∙ one_passes (λ (t : Record). eqb t.number l.number) z rs once where

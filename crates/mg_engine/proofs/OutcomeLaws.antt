@@ -1,7 +1,6 @@
 -- What a command on a termination does to the records of terminations.
-use Rattle.std.proofs.Common.{◌≡◌, ℕ, not, [], ◌∷◌, ◌++◌, Option, Some, None, Result, Ok, Err, refl, sym, ap, ◌∙◌}
+use Rattle.std.proofs.Common.{◌≡◌, ℕ, not, [], ◌∷◌, ◌++◌, Option, Some, None, Result, Ok, Err, refl, sym, ap, subst, ◌∙◌}
 use Rattle.std.specs.Prelude.{ok_or}
-use Rattle.mg_rooms.specs.declared.done.Done.{Done}
 use Rattle.mg_rooms.specs.declared.place.Place.{Place}
 use Rattle.mg_rooms.specs.declared.record.Record.{Record}
 use Rattle.mg_words.specs.declared.error_number.ErrorNumber.{ErrorNumber}
@@ -14,7 +13,7 @@ use Rattle.mg_rooms.specs.declared.limits.Limits.{Limits}
 use Rattle.mg_rooms.specs.Limits.{slot_port}
 use Rattle.mg_rooms.specs.Settings.{local_after, remote_after}
 use Rattle.mg_rooms.specs.Registry.{Registry, record_at}
-use Rattle.mg_rooms.specs.Record.{done, fresh, at_place, with_settings}
+use Rattle.mg_rooms.specs.Record.{fresh, at_place, with_settings}
 use Rattle.mg_rooms.specs.Changes.{change, inserted, replaced, removed, entered, entered_at, left}
 use Rattle.mg_rooms.specs.Outcome.{may_enter, may_have_members, member, named, is_number, new_slot, new_place, add, modify, move_to, subtract}
 
@@ -26,10 +25,10 @@ after_ok P (Err refusal) f y e k = absurd (cc e)
 abbrev some : Record → Option Record
 some r = Some r
 
-abbrev did : Registry × Done → Result (Registry × Done) ErrorNumber
+abbrev did : Registry × Record → Result (Registry × Record) ErrorNumber
 did p = Ok p
 
-ok_is : (p q : Registry × Done) → did p ≡ did q → p ≡ q
+ok_is : (p q : Registry × Record) → did p ≡ did q → p ≡ q
 ok_is p q e = cc
 
 entered_terminations : (w : Registry) (place : Place) (n : ℕ) (made : Option ℕ) → (entered_at w place n made).terminations ≡ w.terminations
@@ -41,42 +40,31 @@ entered_limits w place n (Some room) = refl
 entered_limits w place n None = refl
 
 -- a termination more
-pub record Adds (old new : Registry) (d : Done) : Type 0 where
-  pub added : Record
-  pub terminations : new.terminations ≡ old.terminations ++ added ∷ []
-  pub number : added.number ≡ d.termination
+pub record Adds (old new : Registry) (d : Record) : Type 0 where
+  pub terminations : new.terminations ≡ old.terminations ++ d ∷ []
   pub limits : new.limits ≡ old.limits
 
--- the termination that it was done on has another record, with the slot that it had
-pub record Changes (old new : Registry) (n : ℕ) (d : Done) : Type 0 where
+-- the termination has another record, with the slot that it had
+pub record Changes (old new : Registry) (n : ℕ) (d : Record) : Type 0 where
   pub was : Record
   pub there : record_at old n ≡ Some was
-  pub changed : Record
-  pub slot : changed.slot ≡ was.slot
-  pub same : changed.number ≡ was.number
-  pub terminations : new.terminations ≡ change (λ x. x.number) changed.number (λ _. Some changed) old.terminations
-  pub number : changed.number ≡ d.termination
+  pub slot : d.slot ≡ was.slot
+  pub same : d.number ≡ was.number
+  pub terminations : new.terminations ≡ change (λ x. x.number) d.number (λ _. Some d) old.terminations
   pub limits : new.limits ≡ old.limits
 
 -- it is there no longer
-pub record Removes (old new : Registry) (n : ℕ) (d : Done) : Type 0 where
-  pub was : Record
-  pub there : record_at old n ≡ Some was
-  pub number : was.number ≡ d.termination
-  pub terminations : new.terminations ≡ change (λ x. x.number) d.termination (λ _. None) old.terminations
+pub record Removes (old new : Registry) (n : ℕ) (d : Record) : Type 0 where
+  pub there : record_at old n ≡ Some d
+  pub terminations : new.terminations ≡ change (λ x. x.number) d.number (λ _. None) old.terminations
   pub limits : new.limits ≡ old.limits
 
-adds_by : (w new : Registry) (d : Done) (r : Record) (place : Place) → did (entered (inserted w r) place r.number, done r) ≡ did (new, d) → Adds w new d
+adds_by : (w new : Registry) (d : Record) (r : Record) (place : Place) → did (entered (inserted w r) place r.number, r) ≡ did (new, d) → Adds w new d
 adds_by w new d r place e =
-    let is = ok_is (entered (inserted w r) place r.number, done r) (new, d) e in
-    record {
-      added = r;
-      terminations = ap (λ (p : Registry × Done). p.0.terminations) (sym is) ∙ entered_terminations (inserted w r) place r.number place.made;
-      number = ap (λ (p : Registry × Done). p.1.termination) is;
-      limits = ap (λ (p : Registry × Done). p.0.limits) (sym is) ∙ entered_limits (inserted w r) place r.number place.made;
-    }
+    subst (λ (p : Registry × Record). Adds w p.0 p.1) (ok_is (entered (inserted w r) place r.number, r) (new, d) e)
+    (record { terminations = entered_terminations (inserted w r) place r.number place.made; limits = entered_limits (inserted w r) place r.number place.made })
 
-pub add_adds : (w : Registry) (target : Target) (settings : Settings) (new : Registry) (d : Done) → add w target settings ≡ did (new, d) → Adds w new d
+pub add_adds : (w : Registry) (target : Target) (settings : Settings) (new : Registry) (d : Record) → add w target settings ≡ did (new, d) → Adds w new d
 unfolding add
 add_adds w target settings new d e =
     after_ok (Adds w new d) (may_enter w target) _ (new, d) e (λ _ one.
@@ -117,20 +105,6 @@ settings_keep limits settings old r e =
     after_ok (SameTermination old r) (remote_after settings.remote old.remote) _ r one (λ remote two.
     let is = fine_is _ r two in record { slot = ap (λ (x : Record). x.slot) (sym is); number = ap (λ (x : Record). x.number) (sym is) }))
 
-abbrev changes_by : (w new : Registry) (n : ℕ) (d : Done) (was r : Record) → record_at w n ≡ Some was → SameTermination was r → did (replaced w r, done r) ≡ did (new, d) → Changes w new n d
-changes_by w new n d was r there same e =
-    let is = ok_is (replaced w r, done r) (new, d) e in
-    record {
-      was = was;
-      there = there;
-      changed = r;
-      slot = same.slot;
-      same = same.number;
-      terminations = ap (λ (p : Registry × Done). p.0.terminations) (sym is);
-      number = ap (λ (p : Registry × Done). p.1.termination) is;
-      limits = ap (λ (p : Registry × Done). p.0.limits) (sym is);
-    }
-
 -- settings leave a termination in its context
 settings_stay : (limits : Limits) (settings : Settings) (old r : Record) → with_settings limits settings old ≡ fine r → r.context ≡ old.context
 settings_stay limits settings old r e =
@@ -138,31 +112,34 @@ settings_stay limits settings old r e =
     after_ok (r.context ≡ old.context) (remote_after settings.remote old.remote) _ r one (λ remote two. ap (λ (x : Record). x.context) (sym (fine_is _ r two))))
 
 -- the same, and it stays in its context
-abbrev pub Stays : Registry → Registry → ℕ → Done → Type 0
-Stays w new n d = (a : Changes w new n d) × (a.changed.context ≡ a.was.context)
+abbrev pub Stays : Registry → Registry → ℕ → Record → Type 0
+Stays w new n d = (a : Changes w new n d) × (d.context ≡ a.was.context)
 
-pub modify_changes : (w : Registry) (target : Target) (n : ℕ) (settings : Settings) (new : Registry) (d : Done) → modify w target n settings ≡ did (new, d) → Stays w new n d
+changes_by : (w new : Registry) (n : ℕ) (d : Record) (was r : Record) → record_at w n ≡ Some was → SameTermination was r → r.context ≡ was.context → did (replaced w r, r) ≡ did (new, d) → Stays w new n d
+changes_by w new n d was r there same context e =
+    subst (λ (p : Registry × Record). Stays w p.0 n p.1) (ok_is (replaced w r, r) (new, d) e)
+    (record { was = was; there = there; slot = same.slot; same = same.number; terminations = refl; limits = refl }, context)
+
+pub modify_changes : (w : Registry) (target : Target) (n : ℕ) (settings : Settings) (new : Registry) (d : Record) → modify w target n settings ≡ did (new, d) → Stays w new n d
 unfolding modify
 modify_changes w target n settings new d e =
     after_ok_is (Stays w new n d) (member w target n) _ (new, d) e (λ old found one.
     after_ok_is (Stays w new n d) (with_settings w.limits settings old) _ (new, d) one (λ r set two.
-    (changes_by w new n d old r (member_at w target n old found) (settings_keep w.limits settings old r set) two, settings_stay w.limits settings old r set)))
+    changes_by w new n d old r (member_at w target n old found) (settings_keep w.limits settings old r set) (settings_stay w.limits settings old r set) two))
 
-moves_by : (w new : Registry) (n : ℕ) (d : Done) (was r : Record) (place : Place) (from : ℕ) → record_at w n ≡ Some was → SameTermination was r → did (left (entered (replaced w r) place r.number) from r.number, done r) ≡ did (new, d) → Changes w new n d
+moves_by : (w new : Registry) (n : ℕ) (d : Record) (was r : Record) (place : Place) (from : ℕ) → record_at w n ≡ Some was → SameTermination was r → did (left (entered (replaced w r) place r.number) from r.number, r) ≡ did (new, d) → Changes w new n d
 moves_by w new n d was r place from there same e =
-    let is = ok_is (left (entered (replaced w r) place r.number) from r.number, done r) (new, d) e in
-    record {
+    subst (λ (p : Registry × Record). Changes w p.0 n p.1) (ok_is (left (entered (replaced w r) place r.number) from r.number, r) (new, d) e)
+    (record {
       was = was;
       there = there;
-      changed = r;
       slot = same.slot;
       same = same.number;
-      terminations = ap (λ (p : Registry × Done). p.0.terminations) (sym is) ∙ entered_terminations (replaced w r) place r.number place.made;
-      number = ap (λ (p : Registry × Done). p.1.termination) is;
-      limits = ap (λ (p : Registry × Done). p.0.limits) (sym is) ∙ entered_limits (replaced w r) place r.number place.made;
-    }
+      terminations = entered_terminations (replaced w r) place r.number place.made;
+      limits = entered_limits (replaced w r) place r.number place.made;
+    })
 
-pub move_changes : (w : Registry) (target : Target) (n : ℕ) (settings : Settings) (new : Registry) (d : Done) → move_to w target n settings ≡ did (new, d) → Changes w new n d
+pub move_changes : (w : Registry) (target : Target) (n : ℕ) (settings : Settings) (new : Registry) (d : Record) → move_to w target n settings ≡ did (new, d) → Changes w new n d
 unfolding move_to
 move_changes w target n settings new d e =
     after_ok_is (Changes w new n d) (named w n) _ (new, d) e (λ old found one.
@@ -173,18 +150,12 @@ move_changes w target n settings new d e =
     let same = settings_keep w.limits settings (at_place old place) r set in
     moves_by w new n d old r place old.context (named_at (record_at w n) old found) (record { slot = same.slot; number = same.number }) five)))))
 
-removes_by : (w new : Registry) (n : ℕ) (d : Done) (r : Record) → record_at w n ≡ Some r → did (left (removed w r.number) r.context r.number, done r) ≡ did (new, d) → Removes w new n d
+removes_by : (w new : Registry) (n : ℕ) (d : Record) (r : Record) → record_at w n ≡ Some r → did (left (removed w r.number) r.context r.number, r) ≡ did (new, d) → Removes w new n d
 removes_by w new n d r there e =
-    let is = ok_is (left (removed w r.number) r.context r.number, done r) (new, d) e in
-    record {
-      was = r;
-      there = there;
-      number = ap (λ (p : Registry × Done). p.1.termination) is;
-      terminations = ap (λ (p : Registry × Done). p.0.terminations) (sym is) ∙ ap (λ (n : ℕ). change (λ x. x.number) n (λ _. None) w.terminations) (ap (λ (p : Registry × Done). p.1.termination) is);
-      limits = ap (λ (p : Registry × Done). p.0.limits) (sym is);
-    }
+    subst (λ (p : Registry × Record). Removes w p.0 n p.1) (ok_is (left (removed w r.number) r.context r.number, r) (new, d) e)
+    (record { there = there; terminations = refl; limits = refl })
 
-pub subtract_removes : (w : Registry) (target : Target) (n : ℕ) (new : Registry) (d : Done) → subtract w target n ≡ did (new, d) → Removes w new n d
+pub subtract_removes : (w : Registry) (target : Target) (n : ℕ) (new : Registry) (d : Record) → subtract w target n ≡ did (new, d) → Removes w new n d
 unfolding subtract
 subtract_removes w target n new d e =
     after_ok_is (Removes w new n d) (member w target n) _ (new, d) e (λ r found one.

@@ -6,13 +6,16 @@ use Rattle.std.proofs.lemmas.Bool.{eqb-true}
 use Rattle.std.proofs.lemmas.Option.{same_Some}
 use Rattle.mg_rooms.specs.declared.context.Context.{Context}
 use Rattle.mg_rooms.specs.declared.record.Record.{Record}
+use Rattle.mg_rooms.specs.declared.member.Member.{Member}
 use Rattle.mg_rooms.specs.Consistent.{IsTermination, IsContext}
+use Rattle.mg_rooms.specs.Member.{IsThereAs}
+use Rattle.mg_rooms.specs.Sound.{IsSound}
 use Rattle.mg_rooms.specs.Registry.{Registry, record_at, context_at}
 use Rattle.mg_flow.specs.declared.place.Place.{Place}
 use Rattle.mg_flow.specs.Place.{IsWithinLimits, is_same_place}
 use Rattle.mg_flow.specs.Table.{Room, room_at, holds, talks, listens, hears, flows}
 use Rattle.mg_topology.specs.Topology as topology
-use Rattle.mg_engine.specs.Place.{place_of, IsOnPlace}
+use Rattle.mg_engine.specs.Place.{place_of, member_place, IsOnPlace}
 use Rattle.mg_engine.specs.aids.Members.{HasMembers}
 
 -- ## Laws of the registry, as the calls of mg_rooms hand them out
@@ -89,6 +92,18 @@ within w n r p h termination context =
     let t = (termination n r h.found).1 in
     record { room = omega (arith, x.room, a.room); seat = omega (arith, t.seat, a.seat) }
 
+-- a member is on its place
+pub on_its_place : (w : Registry) (n : ℕ) (m : Member) → IsThereAs w n m → IsOnPlace w n m.record (member_place m)
+on_its_place w n m h = record { found = h.found; place = at_room (context_at w m.record.context) h.room }
+  where
+    at_room : (o : Option Context) → option_map (λ x. x.room) o ≡ Some m.room → option_map (seated m.record.seat) o ≡ Some (member_place m)
+    at_room (Some x) room = ap (λ (k : ℕ). let p : Place = record { room = k; seat = m.record.seat } in Some p) (same_Some x.room m.room room)
+    at_room None room = absurd (cc room)
+
+-- a member's place is within the limits
+pub member_within : (w : Registry) (n : ℕ) (m : Member) → IsSound w → IsThereAs w n m → IsWithinLimits (member_place m)
+member_within w n m sound h = within w n m.record (member_place m) (on_its_place w n m h) sound.termination sound.context
+
 -- ## Two members
 
 -- one termination has one record
@@ -142,8 +157,3 @@ seated_by w n r None is has found = absurd (has_place w n r has found is)
 -- each termination is on a place
 pub on_place : (w : Registry) (n : ℕ) (r : Record) → HaveContexts w → record_at w n ≡ Some r → (p : Place) × IsOnPlace w n r p
 on_place w n r has found = seated_by w n r (place_of w r) refl has found
-
--- the place of a member, if there is one, is held
-pub held_if : (w : Registry) (n : ℕ) (table : List Room) (o : Option Place) → HasMembers w table → IfSome o (λ p. (r : Record) × IsOnPlace w n r p) → IfSome o (λ p. IsTrue (holds table p))
-held_if w n table (Some p) all h = (all.each n h.0 p h.1).held
-held_if w n table None all h = h

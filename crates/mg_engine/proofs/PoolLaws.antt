@@ -9,7 +9,8 @@ use Rattle.std.specs.List.{AllByRecursion}
 use Rattle.mg_rooms.specs.declared.limits.Limits.{Limits}
 use Rattle.mg_rooms.specs.declared.record.Record.{Record}
 use Rattle.mg_rooms.specs.Limits.{slot_port}
-use Rattle.mg_rooms.specs.Consistent.{IsConsistent, IsTermination}
+use Rattle.mg_rooms.specs.Consistent.{IsTermination}
+use Rattle.mg_rooms.specs.Sound.{IsSound}
 use Rattle.mg_rooms.specs.Registry as rooms
 use Rattle.mg_rooms.specs.Registry.{holder_of}
 use Rattle.mg_engine.specs.Arrival.{at_port}
@@ -106,8 +107,8 @@ at_slot_of w port slot h =
     let is = eqb-true (slot_port w.limits slot) port f.passes in
     sym (find-same w.limits (here w.limits port) (λ r. eqb r.slot slot) w.terminations (λ r. same_slot w.limits port slot r is))
 
-pub at_no_slot : (w : rooms.Registry) (port : ℕ) → IsConsistent w → slot_of w.limits port ≡ None → at_port w port ≡ None
+pub at_no_slot : (w : rooms.Registry) (port : ℕ) → IsSound w → slot_of w.limits port ≡ None → at_port w port ≡ None
 unfolding slot_of
 at_no_slot w port sound h =
-    find-nowhere w.limits (here w.limits port) (IsTermination w.limits w.next_termination) w.terminations sound.terminations.each
+    find-nowhere w.limits (here w.limits port) (IsTermination w.limits w.next_termination) w.terminations sound.consistent.terminations.each
     (λ r is. none_of (λ s. eqb (slot_port w.limits s) port) 0 w.limits.slots r.slot h (omega arith) (omega (arith, is.slot)))

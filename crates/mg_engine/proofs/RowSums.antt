@@ -6,12 +6,12 @@ use Rattle.mg_words.specs.declared.mode.Mode.{Mode}
 use Rattle.mg_words.specs.Mode.{talks}
 use Rattle.mg_words.specs.Limits.{termination_limit}
 use Rattle.mg_rooms.specs.declared.record.Record.{Record}
-use Rattle.mg_rooms.specs.Consistent.{IsConsistent}
+use Rattle.mg_rooms.specs.Sound.{IsSound}
 use Rattle.mg_rooms.specs.Registry.{Registry}
 use Rattle.mg_flow.specs.declared.place.Place.{Place}
 use Rattle.mg_sums.specs.Sums.{SumsState, sample_in, is_room, is_joined, joined_rows, total_of}
 use Rattle.mg_sums.specs.Samples.{sum_of}
-use Rattle.mg_sums.proofs.SumLemmas.{sum_of-filter}
+use Rattle.mg_engine.proofs.PlainSums.{sum_of-filter}
 use Rattle.mg_engine.specs.aids.Joined.{AreJoined, room_at, room_for}
 use Rattle.mg_engine.specs.aids.Sending.{sample_at}
 use Rattle.mg_engine.proofs.SendingLaws.{nobody}
@@ -34,7 +34,7 @@ some_room None room h = absurd (cc h)
 abbrev pub Spots : Registry → Type 0
 Spots w = (i : ℕ) (d : Record) → i < length w.terminations → (get_or w.terminations i d).slot < termination_limit
 
-module _ (w : Registry) (kept : SumsState) (room i : ℕ) (sound : IsConsistent w) (joined : AreJoined w kept.rooms) (spots : Spots w) (long : length kept.rooms ≡ termination_limit) where
+module _ (w : Registry) (kept : SumsState) (room i : ℕ) (sound : IsSound w) (joined : AreJoined w kept.rooms) (spots : Spots w) (long : length kept.rooms ≡ termination_limit) where
   abbrev row_part : ℕ → ℤ
   row_part row = cond (is_joined kept.rooms room row) (sample_at kept.frames row i) (pos 0)
 
@@ -62,5 +62,5 @@ module _ (w : Registry) (kept : SumsState) (room i : ℕ) (sound : IsConsistent 
       ∙ seat_sums w.terminations (λ t. true) (λ t. t.slot) termination_limit row_part joined_part nobody
       (λ j lt. spots j nobody lt)
       (λ j lt. refl)
-      (λ row. sound.terminations.one_slot row)
+      (λ row. sound.consistent.terminations.one_slot row)
       (λ row none. silent_row row (is_joined kept.rooms room row) refl none)

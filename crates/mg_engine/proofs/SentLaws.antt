@@ -14,7 +14,7 @@ use Rattle.mg_rooms.specs.Limits.{slot_port}
 use Rattle.mg_rooms.specs.Registry.{record_at}
 use Rattle.mg_rooms.specs.Registry as rooms
 use Rattle.mg_sums.specs.Samples.{sum_of, nearest_sample}
-use Rattle.mg_sums.proofs.SumLemmas.{sum_of-map}
+use Rattle.mg_engine.proofs.PlainSums.{sum_of-map}
 use Rattle.mg_engine.specs.declared.config.Config.{Config}
 use Rattle.mg_engine.specs.declared.datagram.Datagram.{Datagram}
 use Rattle.mg_engine.specs.Gateway.{Gateway, TerminationMedia, media_of, frame_in}
@@ -25,7 +25,7 @@ use Rattle.mg_engine.specs.aids.Members.{HasMembers}
 use Rattle.mg_engine.specs.aids.Sending.{flows_now, sample_at, part_now, heard_now, mix_now, mixed_now, packet_now, packets_now}
 use Rattle.mg_engine.specs.Stands.{EngineState, StandsFor, IsMediaOf, media_at}
 use Rattle.mg_engine.specs.aids.Playing.{AreOld}
-use Rattle.mg_sums.proofs.HeardLemmas.{map_agree}
+use Rattle.mg_engine.proofs.PlainSums.{map_agree}
 use Rattle.mg_engine.proofs.SumLaws.{sum-cong}
 use Rattle.mg_engine.proofs.SendingLaws.{nobody}
 use Rattle.mg_engine.proofs.FlowLaws.{flow_is, mode_found}

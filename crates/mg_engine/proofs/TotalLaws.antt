@@ -11,7 +11,8 @@ use Rattle.mg_rooms.specs.declared.record.Record.{Record}
 use Rattle.mg_words.specs.declared.mode.Mode.{Mode}
 use Rattle.mg_words.specs.Mode.{talks}
 use Rattle.mg_words.specs.Limits.{last_termination, termination_limit}
-use Rattle.mg_rooms.specs.Consistent.{IsConsistent, IsTermination}
+use Rattle.mg_rooms.specs.Consistent.{IsTermination}
+use Rattle.mg_rooms.specs.Sound.{IsSound}
 use Rattle.mg_rooms.specs.Registry as rooms
 use Rattle.mg_rooms.specs.Registry.{record_at, context_at, members_at, IsMember}
 use Rattle.mg_flow.specs.declared.place.Place.{Place}
@@ -71,7 +72,7 @@ abbrev pub Limited : rooms.Registry → Type 0
 Limited w = (n : ℕ) (r : Record) → record_at w n ≡ Some r → (r.number ≡ n) × IsTermination w.limits w.next_termination r
 
 -- a sum over the members of a context is one over the terminations in it
-module _ (w : rooms.Registry) (c : ℕ) (f : ℕ → ℤ) (sound : IsConsistent w) (by_number : ByNumber w) (limited : Limited w) (members : Members w c) (once : (n : ℕ) → count_by (λ m. eqb m n) (members_at w c) ≤ 1) where
+module _ (w : rooms.Registry) (c : ℕ) (f : ℕ → ℤ) (sound : IsSound w) (by_number : ByNumber w) (limited : Limited w) (members : Members w c) (once : (n : ℕ) → count_by (λ m. eqb m n) (members_at w c) ≤ 1) where
   abbrev numbers : ℕ
   numbers = last_termination + 1
 
@@ -82,7 +83,7 @@ module _ (w : rooms.Registry) (c : ℕ) (f : ℕ → ℤ) (sound : IsConsistent 
   context_part t = cond (eqb t.context c) (f t.number) (pos 0)
 
   below : (n : ℕ) (r : Record) → record_at w n ≡ Some r → n < numbers
-  below n r found = let (number, is) = limited n r found in omega (arith, number, is.below, sound.last_termination)
+  below n r found = let (number, is) = limited n r found in omega (arith, number, is.below, sound.consistent.last_termination)
 
   not_counted : (n : ℕ) → count_by (λ m. eqb m n) (members_at w c) ≡ 0 → (b : Bool) → in_context c (record_at w n) ≡ b → cond b (f n) (pos 0) ≡ pos 0
   not_counted n none true e = absurd (omega (arith, none, listed_counts n (members_at w c) ((members n).1 (member_of c (record_at w n) e))))
@@ -95,7 +96,7 @@ module _ (w : rooms.Registry) (c : ℕ) (f : ℕ → ℤ) (sound : IsConsistent 
   by_terminations = seat_sums w.terminations (λ t. true) (λ t. t.number) numbers part context_part nobody
       (λ j lt. below (get_or w.terminations j nobody).number (get_or w.terminations j nobody) (by_number j nobody lt))
       (λ j lt. ap (λ (o : Option Record). cond (in_context c o) (f (get_or w.terminations j nobody).number) (pos 0)) (sym (by_number j nobody lt)))
-      (λ n. sound.terminations.one_number n)
+      (λ n. sound.consistent.terminations.one_number n)
       (λ n none. ap (λ (o : Option Record). cond (in_context c o) (f n) (pos 0)) (none_counted (λ r. eqb r.number n) w.terminations none))
 
   by_members : sum_of part (range_with_len 0 numbers) ≡ sum_of f (members_at w c)
@@ -115,7 +116,7 @@ talking_part true e z = refl
 talking_part false true z = refl
 talking_part false false z = refl
 
-module _ (k : EngineState) (w : Gateway) (c i : ℕ) (x : Context) (sound : IsConsistent k.rooms) (joined : AreJoined k.rooms k.sums.rooms) (by_number : ByNumber k.rooms) (there : HaveContexts k.rooms) (one_room : OneRoom k.rooms) (limited : Limited k.rooms)
+module _ (k : EngineState) (w : Gateway) (c i : ℕ) (x : Context) (sound : IsSound k.rooms) (joined : AreJoined k.rooms k.sums.rooms) (by_number : ByNumber k.rooms) (there : HaveContexts k.rooms) (one_room : OneRoom k.rooms) (limited : Limited k.rooms)
     (members : Members k.rooms c) (once : (n : ℕ) → count_by (λ m. eqb m n) (members_at k.rooms c) ≤ 1) (spots : Spots k.rooms) (long : length k.sums.rooms ≡ termination_limit) (h : StandsFor k w) (context : context_at k.rooms c ≡ Some x) where
   same_room : (t : Record) (q : Place) → IsOnPlace k.rooms t.number t q → (b : Bool) → eqb t.context c ≡ b → eqb q.room x.room ≡ b
   same_room t q on true e =

@@ -1,7 +1,7 @@
 -- What becomes of the world by an edit: its refusal, or the world after it with what it was done
 -- on.
 use Rattle.std.specs.Prelude.{ℕ, List, ◌++◌, [], ◌∷◌, Some, None, Result, Ok, Err}
-use Rattle.mg_rooms.specs.declared.done.Done as done
+use Rattle.mg_rooms.specs.declared.record.Record.{Record}
 use Rattle.mg_rooms.specs.declared.target.Target.{Target}
 use Rattle.mg_rooms.specs.declared.target.Target.TheVariants as targets
 use Rattle.mg_words.specs.declared.error_number.ErrorNumber.{ErrorNumber}
@@ -35,50 +35,50 @@ media_without n list = change (λ s. s.number) n (λ _. None) list
 -- ## Commands on a termination
 
 -- an outcome, once that of the terminations and contexts is known
-abbrev pub done_with : (rooms.Registry → done.Done → Gateway)
-    → Result (rooms.Registry × done.Done) ErrorNumber → Result (Gateway × done.Done) ErrorNumber
+abbrev pub done_with : (rooms.Registry → Record → Gateway)
+    → Result (rooms.Registry × Record) ErrorNumber → Result (Gateway × Record) ErrorNumber
 done_with f (Ok p) = Ok (f p.0 p.1, p.1)
 done_with f (Err e) = Err e
 
-abbrev pub added : Gateway → Settings → rooms.Registry → done.Done → Gateway
-added w settings rooms d = record w {
+abbrev pub added : Gateway → Settings → rooms.Registry → Record → Gateway
+added w settings rooms r = record w {
   rooms = rooms;
-  media = w.media ++ tuned settings (new_media d.termination) ∷ [];
-  edits = Enter d.termination ∷ w.edits;
+  media = w.media ++ tuned settings (new_media r.number) ∷ [];
+  edits = Enter r.number ∷ w.edits;
 }
 
-abbrev pub modified : Gateway → Settings → rooms.Registry → done.Done → Gateway
-modified w settings rooms d = record w {
+abbrev pub modified : Gateway → Settings → rooms.Registry → Record → Gateway
+modified w settings rooms r = record w {
   rooms = rooms;
-  media = media_with settings d.termination w.media;
+  media = media_with settings r.number w.media;
 }
 
-abbrev pub moved : Gateway → Settings → rooms.Registry → done.Done → Gateway
-moved w settings rooms d = record w {
+abbrev pub moved : Gateway → Settings → rooms.Registry → Record → Gateway
+moved w settings rooms r = record w {
   rooms = rooms;
-  media = media_with settings d.termination w.media;
-  edits = Enter d.termination ∷ Leave d.termination ∷ w.edits;
+  media = media_with settings r.number w.media;
+  edits = Enter r.number ∷ Leave r.number ∷ w.edits;
 }
 
-abbrev pub subtracted : Gateway → rooms.Registry → done.Done → Gateway
-subtracted w rooms d = record w {
+abbrev pub subtracted : Gateway → rooms.Registry → Record → Gateway
+subtracted w rooms r = record w {
   rooms = rooms;
-  media = media_without d.termination w.media;
-  edits = Leave d.termination ∷ w.edits;
+  media = media_without r.number w.media;
+  edits = Leave r.number ∷ w.edits;
 }
 
-abbrev pub add : Gateway → Target → Settings → Result (Gateway × done.Done) ErrorNumber
+abbrev pub add : Gateway → Target → Settings → Result (Gateway × Record) ErrorNumber
 add w target settings = done_with (added w settings) (outcomes.add w.rooms target settings)
 
-abbrev pub modify : Gateway → Target → ℕ → Settings → Result (Gateway × done.Done) ErrorNumber
+abbrev pub modify : Gateway → Target → ℕ → Settings → Result (Gateway × Record) ErrorNumber
 modify w target n settings =
     done_with (modified w settings) (outcomes.modify w.rooms target n settings)
 
-abbrev pub move_to : Gateway → Target → ℕ → Settings → Result (Gateway × done.Done) ErrorNumber
+abbrev pub move_to : Gateway → Target → ℕ → Settings → Result (Gateway × Record) ErrorNumber
 move_to w target n settings =
     done_with (moved w settings) (outcomes.move_to w.rooms target n settings)
 
-abbrev pub subtract : Gateway → Target → ℕ → Result (Gateway × done.Done) ErrorNumber
+abbrev pub subtract : Gateway → Target → ℕ → Result (Gateway × Record) ErrorNumber
 subtract w target n = done_with (subtracted w) (outcomes.subtract w.rooms target n)
 
 -- ## Triples

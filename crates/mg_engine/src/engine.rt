@@ -1,14 +1,13 @@
-ghost use Rattle.std.specs.Prelude.{◌≡◌, ◌≢◌, ℕ, List, [], ◌∷◌, ◌<◌, ◌≤◌, ◌+◌, ◌++◌, ◌↔◌, ◌==◌, not, Err, Some, IfOk, IfSome, OnOk, OnErr, MatchResult, Ok, EachIndex, length, map, filter, replicate, slice_set, option_map, option_to_list, slice_index_or, IsTrue, None, ◌*◌, sum_by};
+ghost use Rattle.std.specs.Prelude.{All, ◌≡◌, ◌≢◌, ℕ, List, [], ◌∷◌, ◌<◌, ◌≤◌, ◌+◌, ◌++◌, ◌↔◌, ◌==◌, not, Err, Some, IfOk, IfSome, OnOk, OnErr, MatchResult, Ok, EachIndex, length, map, filter, replicate, slice_set, option_map, option_to_list, slice_index_or, IsTrue, None, ◌*◌, sum_by};
 ghost use Rattle.mg_rooms.specs.declared.record.Record.{Record};
 ghost use Rattle.mg_words.specs.declared.limits.TheConstants.{TERMINATIONS};
 ghost use Rattle.std.specs.List.{range_with_len};
-ghost use Rattle.mg_rooms.specs.Registry.{holder_of, record_at};
+ghost use Rattle.mg_rooms.specs.Registry.{holder_of, record_at, members_at};
 ghost use Rattle.mg_words.specs.Limits.{context_limit, termination_limit};
 ghost use Rattle.mg_sums.specs.Samples.{nearest_sample};
 ghost use Rattle.mg_engine.specs.Outcome.{outcome, add, modify, move_to, subtract, context_there, apply_triples};
 ghost use Rattle.mg_engine.specs.aids.Triples.{IsRoomOf};
-ghost use Rattle.mg_rooms.specs.Consistent.{IsConsistent};
-ghost use Rattle.mg_engine.specs.aids.Joined.{SetsRow};
+ghost use Rattle.mg_rooms.specs.Sound.{IsSound};
 ghost use Rattle.mg_engine.specs.aids.Playing.{AreApart, AreOld, IsPlayed};
 ghost use Rattle.mg_engine.specs.aids.Sending.{heard_now, mixed_now, silenced_now, mix_work_now, sending_work_now, packet_now, packets_now, slot_sends, with_mixes, IsEnded, PlacedAt};
 ghost use Rattle.mg_engine.specs.aids.Shares.{AreShared, IsPut, payload_of};
@@ -16,7 +15,7 @@ ghost use Rattle.mg_engine.specs.Masks.{TellsFlows};
 ghost use Rattle.mg_engine.specs.Totals.{TellsTotals};
 ghost use Rattle.mg_engine.specs.Work.{RisesAtMost, sending_work, tick_work};
 ghost use Rattle.mg_engine.specs.declared.datagram.Datagram.{Datagram};
-ghost use Rattle.mg_engine.specs.Place.{IsOnPlace};
+ghost use Rattle.mg_engine.specs.Place.{IsOnPlace, IsOnSeat};
 ghost use Rattle.mg_engine.specs.Tick.{sends, sent_to, packets, all_played, all_ended, sent_in_tick, after_tick};
 ghost use Rattle.mg_g711.specs.Law.{byte_of};
 ghost use Rattle.mg_words.specs.Mode.{listens};
@@ -39,10 +38,11 @@ use crate::edit::Edit;
 use crate::fault::StartFault;
 use crate::joining::part;
 use crate::media::Media;
-use crate::membership::{enter, member, place, place_of, take_mode, vacate};
+use crate::membership::{enter, member_place, place_of, take_mode, vacate};
 use crate::mixing::{own_row, rows_on};
 use crate::peer::Peer;
 use crate::ports::Ports;
+use crate::seated_member::{SeatedMember, seated_members};
 use crate::seating::Seating;
 use crate::sending::{is_loopback, payload_type, sent_to};
 use crate::share::Share;
@@ -53,11 +53,7 @@ use crate::triples::{TopologyRoom, triples_of};
 use arrayvec::ArrayVec;
 use mg_flow::{FlowTable, Place};
 use mg_g711::{Law, encode_frame};
-use mg_rooms::laws::{
-    each_is_found, gateways_are_sound, members_are_those_in_the_context, nothing_is_held_twice,
-    others_are_left_alone, what_is_found_is_within_limits,
-};
-use mg_rooms::{ErrorNumber, Record, Rooms, Settings, TERMINATIONS, Target};
+use mg_rooms::{ErrorNumber, MEMBERS, Record, Rooms, Settings, TERMINATIONS, Target};
 use mg_rtp::{Packet, RtpFault, read};
 use mg_sdp::Chosen;
 use mg_sums::laws::{first_rows_are_silent, sums_are_valid, total_is_left_out_and_heard};
@@ -163,8 +159,6 @@ impl Engine {
         ensures value { result.now ≡ self.now.flows }
         ensures told { (w : Gateway) → StandsFor self.now w → TellsFlows w result.now }
     {
-        gateways_are_sound(&self.rooms);
-        nothing_is_held_twice();
         &self.flows
     }
 
@@ -173,11 +167,6 @@ impl Engine {
         ensures value { result.now ≡ self.now.sums }
         ensures told { (w : Gateway) → StandsFor self.now w → TellsTotals w result.now }
     {
-        gateways_are_sound(&self.rooms);
-        each_is_found();
-        what_is_found_is_within_limits();
-        nothing_is_held_twice();
-        members_are_those_in_the_context();
         sums_are_valid(&self.sums);
         &self.sums
     }
@@ -190,28 +179,28 @@ impl Engine {
     {
         match edit {
             Edit::Add { target, settings } => {
-                let done = self.add(*target, settings)?;
-                Ok(Done::Termination(done))
+                let made = self.add(*target, settings)?;
+                Ok(Done::Termination(made))
             }
             Edit::Modify {
                 target,
                 number,
                 settings,
             } => {
-                let done = self.modify(*target, *number, settings)?;
-                Ok(Done::Termination(done))
+                let changed = self.modify(*target, *number, settings)?;
+                Ok(Done::Termination(changed))
             }
             Edit::Move {
                 target,
                 number,
                 settings,
             } => {
-                let done = self.move_to(*target, *number, settings)?;
-                Ok(Done::Termination(done))
+                let moved = self.move_to(*target, *number, settings)?;
+                Ok(Done::Termination(moved))
             }
             Edit::Subtract { target, number } => {
-                let done = self.subtract(*target, *number)?;
-                Ok(Done::Termination(done))
+                let gone = self.subtract(*target, *number)?;
+                Ok(Done::Termination(gone))
             }
             Edit::Triples { target, triples } => {
                 let context = self.apply_triples(*target, triples)?;
@@ -221,42 +210,19 @@ impl Engine {
     }
 
     /// Makes a termination in the action's context, and the context too where it is new (RFC 3525, section 7.2.1).
-    pub fn add(
-        &mut self,
-        target: Target,
-        settings: &Settings,
-    ) -> Result<mg_rooms::Done, ErrorNumber>
+    pub fn add(&mut self, target: Target, settings: &Settings) -> Result<Record, ErrorNumber>
         ensures outcome { (w : Gateway) → StandsFor self.old w → IsOutcome self.new result (add w target settings.now) }
         ensures refused { OnErr result (self.new ≡ self.old) }
         ensures work { RisesAtMost 4 self.old.sums.work self.new.sums.work }
     {
-        gateways_are_sound(&self.rooms);
-        let done = self.rooms.add(target, settings)?;
-        gateways_are_sound(&self.rooms);
-        what_is_found_is_within_limits();
-        nothing_is_held_twice();
-        others_are_left_alone();
-        members_are_those_in_the_context();
-        each_is_found();
+        let made = self.rooms.add(target, settings)?;
         sums_are_valid(&self.sums);
-        let number = done.termination;
-        begin(
-            &self.rooms,
-            &mut self.media,
-            &mut self.sums,
-            number,
-            &self.config,
-        );
-        tune(&self.rooms, &mut self.media, number, settings.depth);
-        hold(&self.rooms, &mut self.held, number);
-        enter(
-            &self.rooms,
-            &mut self.flows,
-            &mut self.seating,
-            &mut self.sums,
-            number,
-        );
-        Ok(done)
+        let slot = made.record.slot;
+        begin(&mut self.media, &mut self.sums, slot, &self.config);
+        tune(&mut self.media, slot, settings.depth);
+        self.held.push(slot);
+        enter(&mut self.flows, &mut self.seating, &mut self.sums, made);
+        Ok(made.record)
     }
 
     /// Changes a member of the action's context (RFC 3525, section 7.2.2).
@@ -265,21 +231,15 @@ impl Engine {
         target: Target,
         number: u32,
         settings: &Settings,
-    ) -> Result<mg_rooms::Done, ErrorNumber>
+    ) -> Result<Record, ErrorNumber>
         ensures outcome { (w : Gateway) → StandsFor self.old w → IsOutcome self.new result (modify w target number settings.now) }
         ensures refused { OnErr result (self.new ≡ self.old) }
         ensures work { RisesAtMost 4 self.old.sums.work self.new.sums.work }
     {
-        gateways_are_sound(&self.rooms);
-        let done = self.rooms.modify(target, number, settings)?;
-        gateways_are_sound(&self.rooms);
-        what_is_found_is_within_limits();
-        nothing_is_held_twice();
-        others_are_left_alone();
-        members_are_those_in_the_context();
-        tune(&self.rooms, &mut self.media, number, settings.depth);
-        take_mode(&self.rooms, &mut self.flows, &mut self.sums, number);
-        Ok(done)
+        let changed = self.rooms.modify(target, number, settings)?;
+        tune(&mut self.media, changed.record.slot, settings.depth);
+        take_mode(&mut self.flows, &mut self.sums, changed);
+        Ok(changed.record)
     }
 
     /// Takes a termination into the action's context, out of the one that it is in, which ends where it was the last
@@ -289,51 +249,30 @@ impl Engine {
         target: Target,
         number: u32,
         settings: &Settings,
-    ) -> Result<mg_rooms::Done, ErrorNumber>
+    ) -> Result<Record, ErrorNumber>
         ensures outcome { (w : Gateway) → StandsFor self.old w → IsOutcome self.new result (move_to w target number settings.now) }
         ensures refused { OnErr result (self.new ≡ self.old) }
         ensures work { RisesAtMost 4 self.old.sums.work self.new.sums.work }
     {
-        gateways_are_sound(&self.rooms);
-        let from = place(&self.rooms, number);
-        let done = self.rooms.move_to(target, number, settings)?;
-        gateways_are_sound(&self.rooms);
-        what_is_found_is_within_limits();
-        nothing_is_held_twice();
-        others_are_left_alone();
-        members_are_those_in_the_context();
-        tune(&self.rooms, &mut self.media, number, settings.depth);
-        vacate(&mut self.flows, from);
-        enter(
-            &self.rooms,
-            &mut self.flows,
-            &mut self.seating,
-            &mut self.sums,
-            number,
-        );
-        Ok(done)
+        let moved = self.rooms.move_to(target, number, settings)?;
+        tune(&mut self.media, moved.to.record.slot, settings.depth);
+        vacate(&mut self.flows, moved.from);
+        enter(&mut self.flows, &mut self.seating, &mut self.sums, moved.to);
+        Ok(moved.to.record)
     }
 
     /// Takes a member out of the action's context and ends it. The context ends with its last member (RFC 3525, section
     /// 7.2.3).
-    pub fn subtract(&mut self, target: Target, number: u32) -> Result<mg_rooms::Done, ErrorNumber>
+    pub fn subtract(&mut self, target: Target, number: u32) -> Result<Record, ErrorNumber>
         ensures outcome { (w : Gateway) → StandsFor self.old w → IsOutcome self.new result (subtract w target number) }
         ensures refused { OnErr result (self.new ≡ self.old) }
         ensures work { RisesAtMost 4 self.old.sums.work self.new.sums.work }
     {
-        gateways_are_sound(&self.rooms);
-        what_is_found_is_within_limits();
-        nothing_is_held_twice();
-        others_are_left_alone();
-        members_are_those_in_the_context();
-        let slot = slot_of(&self.rooms, number);
-        let place = place(&self.rooms, number);
-        let done = self.rooms.subtract(target, number)?;
-        gateways_are_sound(&self.rooms);
-        leave(&mut self.held, slot);
-        vacate(&mut self.flows, place);
-        silence(&mut self.sums, slot);
-        Ok(done)
+        let gone = self.rooms.subtract(target, number)?;
+        without(&mut self.held, gone.record.slot);
+        vacate(&mut self.flows, gone);
+        part(&mut self.sums, Row::new(gone.record.slot));
+        Ok(gone.record)
     }
 
     /// Applies all triples to the members that the action's context has now, in order, or none of them, by the first
@@ -347,8 +286,6 @@ impl Engine {
         ensures refused { OnErr result (self.new ≡ self.old) }
         ensures work { RisesAtMost 4 self.old.sums.work self.new.sums.work }
     {
-        gateways_are_sound(&self.rooms);
-        nothing_is_held_twice();
         overlap_is_a_common_seat();
         let at = topology_room(&self.rooms, target)?;
         let by_seats = triples_of(&self.rooms, &self.flows, at, triples.as_slice())?;
@@ -361,11 +298,10 @@ impl Engine {
     /// The termination that has a port.
     fn at_port(&self, port: u16) -> Option<Record>
         ensures value { result ≡ at_port self.now.rooms port }
-        ensures slot { IfSome result (λ r. r.slot < self.now.rooms.limits.slots) }
+        ensures sound { IsSound self.now.rooms }
+        ensures slot { IfSome result (λ r. r.slot < length self.now.media) }
         ensures found { IfSome result (λ r. record_at self.now.rooms r.number ≡ Some r) }
     {
-        gateways_are_sound(&self.rooms);
-        each_is_found();
         match self.ports.slot(port) {
             Some(slot) => self.rooms.held(slot),
             None => None,
@@ -407,10 +343,6 @@ impl Engine {
             × Takes w port source.address bytes.now after result × StandsFor self.new after }
         ensures work { self.new.sums.work ≡ self.old.sums.work }
     {
-        gateways_are_sound(&self.rooms);
-        each_is_found();
-        what_is_found_is_within_limits();
-        nothing_is_held_twice();
         let packet = read(bytes);
         match self.at_port(port) {
             Some(termination) => self.place(&termination, source, packet),
@@ -422,10 +354,10 @@ impl Engine {
     pub fn flow(&self, talker: u32, listener: u32) -> bool
         ensures value { (w : Gateway) → StandsFor self.now w → result ≡ flow w talker listener }
     {
-        gateways_are_sound(&self.rooms);
-        nothing_is_held_twice();
-        match (member(&self.rooms, talker), member(&self.rooms, listener)) {
-            (Some((_, from)), Some((_, to))) => {
+        match (self.rooms.member(talker), self.rooms.member(listener)) {
+            (Some(speaking), Some(hearing)) => {
+                let from = member_place(speaking);
+                let to = member_place(hearing);
                 from.room == to.room && mask::has_seat(*self.flows.open(to), usize::from(from.seat))
             }
             _ => false,
@@ -437,12 +369,34 @@ impl Engine {
     pub fn hears(&self, listener: u32, talker: u32) -> bool
         ensures value { (w : Gateway) → StandsFor self.now w → result ≡ hears w talker listener }
     {
-        gateways_are_sound(&self.rooms);
-        nothing_is_held_twice();
-        match (member(&self.rooms, talker), member(&self.rooms, listener)) {
-            (Some((_, from)), Some((_, to))) => self.flows.hears(to, from),
+        match (self.rooms.member(talker), self.rooms.member(listener)) {
+            (Some(speaking), Some(hearing)) => {
+                let from = member_place(speaking);
+                let to = member_place(hearing);
+                self.flows.hears(to, from)
+            }
             _ => false,
         }
+    }
+
+    /// The members of a context with their places, in the order of their entry: for who asks of many pairs of them
+    /// whether one hears the other.
+    pub fn seated(&self, context: u32) -> ArrayVec<SeatedMember, MEMBERS>
+        ensures numbers { (w : Gateway) → StandsFor self.now w → map (λ m. m.number) result.items ≡ members_at w.rooms context }
+        ensures places { All (IsOnSeat self.now.rooms) result.items }
+    {
+        seated_members(&self.rooms, self.rooms.members(context))
+    }
+
+    /// Whether a listener hears a talker, whatever their modes. The listener comes first, as in the sentence.
+    pub fn hears_seated(&self, listener: SeatedMember, talker: SeatedMember) -> bool
+        requires listener { IsOnSeat self.now.rooms listener }
+        requires talker { IsOnSeat self.now.rooms talker }
+        ensures value { (w : Gateway) → StandsFor self.now w → result ≡ hears w talker.number listener.number }
+    {
+        let from = talker.place();
+        let to = listener.place();
+        self.flows.hears(to, from)
     }
 
     /// The plain sum of a sample of this tick, the i-th of 160, over the members of a context that talk. There is none
@@ -450,11 +404,6 @@ impl Engine {
     pub fn total(&self, context: u32, i: usize) -> Option<i32>
         ensures value { (w : Gateway) → StandsFor self.now w → result ≡ total_at w context i }
     {
-        gateways_are_sound(&self.rooms);
-        each_is_found();
-        what_is_found_is_within_limits();
-        nothing_is_held_twice();
-        members_are_those_in_the_context();
         sums_are_valid(&self.sums);
         if i >= SAMPLES {
             return None;
@@ -498,10 +447,6 @@ impl Engine {
         ensures rooms { self.new.rooms ≡ self.old.rooms }
         ensures work { RisesAtMost (2 * length self.old.rooms.terminations) self.old.sums.work self.new.sums.work }
     {
-        gateways_are_sound(&self.rooms);
-        each_is_found();
-        what_is_found_is_within_limits();
-        nothing_is_held_twice();
         play_slots(self.held.as_slice(), &mut self.media, &mut self.sums);
     }
 
@@ -511,10 +456,6 @@ impl Engine {
         ensures after { (w : Gateway) → StandsFor self.old w → StandsFor self.new w }
         ensures work { (w : Gateway) → StandsFor self.old w → RisesAtMost (sum_by (sending_work w) w.rooms.terminations) self.old.sums.work self.new.sums.work }
     {
-        gateways_are_sound(&self.rooms);
-        each_is_found();
-        nothing_is_held_twice();
-        members_are_those_in_the_context();
         outbox.clear();
         self.shares.clear();
         let count = self.held.len();
@@ -526,10 +467,6 @@ impl Engine {
         ensures after { (w : Gateway) → StandsFor self.old w → StandsFor self.new (all_ended w) }
         ensures sums { self.new.sums ≡ self.old.sums }
     {
-        gateways_are_sound(&self.rooms);
-        each_is_found();
-        what_is_found_is_within_limits();
-        nothing_is_held_twice();
         end_slots(&self.rooms, self.held.as_slice(), &mut self.media);
     }
 
@@ -553,8 +490,6 @@ impl Engine {
         ensures work { (r : Record) → holder_of self.old.rooms slot ≡ Some r →
             RisesAtMost (sending_work_now self.old r) self.old.sums.work self.new.sums.work }
     {
-        gateways_are_sound(&self.rooms);
-        each_is_found();
         let Some(sender) = self.rooms.held(slot) else {
             return;
         };
@@ -574,8 +509,6 @@ impl Engine {
             outbox.new.items ≡ before ++ packet_now self.now sender.now to ∷ [] }
         ensures payload { payload_of (packet_now self.now sender.now to) ≡ map (byte_of to.law) (mixed_now self.now sender.now) }
     {
-        gateways_are_sound(&self.rooms);
-        what_is_found_is_within_limits();
         let media = self.media.as_slice();
         let ssrc = self.config.ssrc.wrapping_add(sender.number);
         let header = media[usize::from(sender.slot)].header(payload_type(to.law), ssrc);
@@ -598,9 +531,6 @@ impl Engine {
         ensures same { self.new ≡ with_mixes self.old self.new.sums.work self.new.shares }
         ensures work { RisesAtMost (mix_work_now self.old sender.now) self.old.sums.work self.new.sums.work }
     {
-        gateways_are_sound(&self.rooms);
-        what_is_found_is_within_limits();
-        members_are_those_in_the_context();
         if is_loopback(sender.mode) {
             let payload = encode_frame(law, self.sums.frame(Row::new(sender.slot)));
             push_payload(outbox, &payload);
@@ -625,10 +555,6 @@ impl Engine {
         ensures same { self.new ≡ with_mixes self.old self.new.sums.work self.new.shares }
         ensures work { RisesAtMost (1 + silenced_now self.old listener.now) self.old.sums.work self.new.sums.work }
     {
-        gateways_are_sound(&self.rooms);
-        each_is_found();
-        what_is_found_is_within_limits();
-        nothing_is_held_twice();
         let talkers = *self.flows.open(place);
         if let Some(packet) = self.shares.find(place.room, talkers, law) {
             lend(outbox, packet);
@@ -655,11 +581,6 @@ impl Engine {
         ensures same { self.new ≡ with_mixes self.old self.new.sums.work self.old.shares }
         ensures work { RisesAtMost (1 + silenced_now self.old listener.now) self.old.sums.work self.new.sums.work }
     {
-        gateways_are_sound(&self.rooms);
-        each_is_found();
-        what_is_found_is_within_limits();
-        nothing_is_held_twice();
-        members_are_those_in_the_context();
         sums_are_valid(&self.sums);
         total_is_left_out_and_heard();
         let silenced = rows_on(&self.seating, place.room, *self.flows.silenced(place));
@@ -676,14 +597,13 @@ impl Engine {
 fn fill(engine: &mut Engine, count: usize, outbox: &mut Outbox)
     requires all { count ≡ length engine.old.rooms.terminations }
     requires few { count ≤ TERMINATIONS }
-    requires sound { IsConsistent engine.old.rooms }
+    requires sound { IsSound engine.old.rooms }
     requires nothing { outbox.old.items ≡ [] }
     requires unshared { engine.old.shares ≡ replicate context_limit [] }
     ensures value { outbox.new.items ≡ packets_now engine.old }
     ensures same { engine.new ≡ with_mixes engine.old engine.new.sums.work engine.new.shares }
     ensures work { RisesAtMost (sum_by (sending_work_now engine.old) engine.old.rooms.terminations) engine.old.sums.work engine.new.sums.work }
 {
-    each_is_found();
     for i in 0..count {
         let slot = engine.held_at(i);
         engine.put_packet(slot, outbox);
@@ -765,13 +685,12 @@ fn stats_in(media: &[Media], slot: u8) -> Stats
 
 /// The context of an action that is there, and its room.
 fn topology_room(rooms: &Rooms, target: Target) -> Result<TopologyRoom, ErrorNumber>
+    requires sound { IsSound rooms.now }
     ensures value { MatchResult result
         (λ at. (context_there rooms.now target ≡ Ok at.context) × IsRoomOf rooms.now at.context at.room)
         (λ e. context_there rooms.now target ≡ Err e) }
     ensures room { IfOk result (λ at. at.room < context_limit) }
 {
-    gateways_are_sound(rooms);
-    what_is_found_is_within_limits();
     match target {
         Target::Number(context) => match rooms.room(context) {
             Some(room) => Ok(TopologyRoom { context, room }),
@@ -789,47 +708,24 @@ fn slot_of(rooms: &Rooms, number: u32) -> Option<u8>
     rooms.record(number).map(|record| record.slot)
 }
 
-/// Sets the depth of a termination's play list, where a command names one.
-fn tune(rooms: &Rooms, media: &mut Vec<Media>, number: u32, depth: Option<u16>)
-    requires slots { rooms.now.limits.slots ≤ length media.old.items }
-    ensures long { length media.new.items ≡ length media.old.items }
-    ensures tuned { (r : Record) → record_at rooms.now number ≡ Some r →
-        media.new.items ≡ slice_set media.old.items r.slot (tuned_media depth (media_at media.old.items r.slot)) }
+/// Sets the depth of the play list of a slot, where a command names one.
+fn tune(media: &mut Vec<Media>, slot: u8, depth: Option<u16>)
+    requires slot { slot < length media.old.items }
+    ensures tuned { media.new.items ≡ slice_set media.old.items slot (tuned_media depth (media_at media.old.items slot)) }
 {
-    if depth.is_none() {
-        return;
-    }
-    if let Some(slot) = slot_of(rooms, number) {
-        media[usize::from(slot)].tune(depth);
-    }
+    media[usize::from(slot)].tune(depth);
 }
 
-/// Begins the media of a termination that was made, with a silent frame.
-fn begin(rooms: &Rooms, media: &mut Vec<Media>, sums: &mut Sums, number: u32, config: &Config)
-    requires slots { rooms.now.limits.slots ≤ length media.old.items }
-    ensures long { length media.new.items ≡ length media.old.items }
-    ensures begun { (r : Record) → record_at rooms.now number ≡ Some r →
-        media.new.items ≡ slice_set media.old.items r.slot (begun config.now) }
-    ensures silent { (r : Record) → record_at rooms.now number ≡ Some r →
-        sums.new.frames ≡ slice_set sums.old.frames r.slot silence }
+/// Begins the media of a slot, with a silent frame.
+fn begin(media: &mut Vec<Media>, sums: &mut Sums, slot: u8, config: &Config)
+    requires slot { (slot < length media.old.items) × (slot < termination_limit) }
+    ensures begun { media.new.items ≡ slice_set media.old.items slot (begun config.now) }
+    ensures silent { sums.new.frames ≡ slice_set sums.old.frames slot silence }
     ensures joined { sums.new.rooms ≡ sums.old.rooms }
     ensures work { RisesAtMost 2 sums.old.work sums.new.work }
 {
-    gateways_are_sound(rooms);
-    if let Some(slot) = slot_of(rooms, number) {
-        media[usize::from(slot)].begin(config.timestamp, config.sequence);
-        sums.set_frame(Row::new(slot), None);
-    }
-}
-
-/// Puts the slot of a termination that was made after those that are held.
-fn hold(rooms: &Rooms, held: &mut ArrayVec<u8, TERMINATIONS>, number: u32)
-    requires room { length held.old.items < TERMINATIONS }
-    ensures held { (r : Record) → record_at rooms.now number ≡ Some r → held.new.items ≡ held.old.items ++ r.slot ∷ [] }
-{
-    if let Some(slot) = slot_of(rooms, number) {
-        held.push(slot);
-    }
+    media[usize::from(slot)].begin(config.timestamp, config.sequence);
+    sums.set_frame(Row::new(slot), None);
 }
 
 /// The slots that are held without one of them.
@@ -837,25 +733,4 @@ fn without(held: &mut ArrayVec<u8, TERMINATIONS>, slot: u8)
     ensures value { held.new.items ≡ filter (λ s. not (s == slot)) held.old.items }
 {
     held.retain(|other| *other != slot);
-}
-
-/// The row of a slot is joined to no room from then on.
-fn silence(sums: &mut Sums, slot: Option<u8>)
-    requires slot { IfSome slot (λ k. k < termination_limit) }
-    ensures joined { (k : ℕ) → slot ≡ Some k → SetsRow sums.old.rooms sums.new.rooms k None }
-    ensures frames { sums.new.frames ≡ sums.old.frames }
-    ensures work { RisesAtMost 2 sums.old.work sums.new.work }
-{
-    if let Some(slot) = slot {
-        part(sums, Row::new(slot));
-    }
-}
-
-/// Takes the slot of a termination out of those that are held.
-fn leave(held: &mut ArrayVec<u8, TERMINATIONS>, slot: Option<u8>)
-    ensures value { (k : ℕ) → slot ≡ Some k → held.new.items ≡ filter (λ s. not (s == k)) held.old.items }
-{
-    if let Some(slot) = slot {
-        without(held, slot);
-    }
 }

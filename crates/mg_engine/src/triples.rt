@@ -4,6 +4,7 @@ ghost use Rattle.std.specs.Prelude.{◌≡◌, ◌≤◌, [], ◌∷◌, length,
 ghost use Rattle.std.specs.List.{list_any};
 ghost use Rattle.mg_topology.specs.Triple.{overlaps};
 ghost use Rattle.mg_rooms.specs.Registry.{members_at};
+ghost use Rattle.mg_rooms.specs.Sound.{IsSound};
 ghost use Rattle.mg_engine.specs.declared.topology_triple.TheConstants.{TRIPLES};
 ghost use Rattle.mg_engine.specs.Flow.{has};
 ghost use Rattle.mg_engine.specs.Triples.{is_barred, names_others, matched, check_triple, check_triples};
@@ -14,10 +15,6 @@ use crate::topology_triple::{TRIPLES, TopologyTriple};
 use crate::triple_term::TripleTerm;
 use arrayvec::ArrayVec;
 use mg_flow::FlowTable;
-use mg_rooms::laws::{
-    gateways_are_sound, members_are_those_in_the_context, nothing_is_held_twice,
-    what_is_found_is_within_limits,
-};
 use mg_rooms::{ErrorNumber, Rooms};
 use mg_topology::Triple;
 use mg_topology::laws::{masks_are_sets, overlap_is_a_common_seat};
@@ -39,14 +36,11 @@ fn is_barred(term: TripleTerm) -> bool
 
 /// The seat of a member by its number.
 fn seat_of(rooms: &Rooms, context: u32, number: u32) -> Option<Mask>
+    requires sound { IsSound rooms.now }
     ensures some { IfSome result (λ seats. IsTrue (has (members_at rooms.now context) number)
         × Matches rooms.now context (number ∷ []) seats) }
     ensures none { IfNone result (IsFalse (has (members_at rooms.now context) number)) }
 {
-    gateways_are_sound(rooms);
-    what_is_found_is_within_limits();
-    nothing_is_held_twice();
-    members_are_those_in_the_context();
     match rooms.record(number) {
         Some(record) => {
             if record.context == context {
@@ -61,15 +55,13 @@ fn seat_of(rooms: &Rooms, context: u32, number: u32) -> Option<Mask>
 
 /// The seats of the members that a term matches. There are none where it names something else.
 fn seats_of(rooms: &Rooms, flows: &FlowTable, at: TopologyRoom, term: TripleTerm) -> Option<Mask>
+    requires sound { IsSound rooms.now }
     requires room { IsRoomOf rooms.now at.context at.room }
     requires members { HasMembers rooms.now flows.now }
     ensures some { IfSome result (λ seats. (names_others (members_at rooms.now at.context) term ≡ false)
         × Matches rooms.now at.context (matched (members_at rooms.now at.context) term) seats) }
     ensures none { IfNone result (names_others (members_at rooms.now at.context) term ≡ true) }
 {
-    gateways_are_sound(rooms);
-    nothing_is_held_twice();
-    members_are_those_in_the_context();
     masks_are_sets();
     match term {
         TripleTerm::Every => Some(flows.held(at.room)),
@@ -86,6 +78,7 @@ fn triple_of(
     at: TopologyRoom,
     triple: &TopologyTriple,
 ) -> Result<Triple, ErrorNumber>
+    requires sound { IsSound rooms.now }
     requires room { IsRoomOf rooms.now at.context at.room }
     requires members { HasMembers rooms.now flows.now }
     ensures value { MatchResult result
@@ -94,8 +87,6 @@ fn triple_of(
         × (overlaps by_seats ≡ false))
         (λ e. check_triple (members_at rooms.now at.context) triple.now ≡ Err e) }
 {
-    gateways_are_sound(rooms);
-    nothing_is_held_twice();
     overlap_is_a_common_seat();
     if is_barred(triple.first) || is_barred(triple.second) {
         return Err(ErrorNumber::IdentifierNotAllowed);
@@ -126,6 +117,7 @@ pub fn triples_of(
     triples: &[TopologyTriple],
 ) -> Result<ArrayVec<Triple, TRIPLES>, ErrorNumber>
     requires few { length triples.now ≤ TRIPLES }
+    requires sound { IsSound rooms.now }
     requires room { IsRoomOf rooms.now at.context at.room }
     requires members { HasMembers rooms.now flows.now }
     ensures value { MatchResult result

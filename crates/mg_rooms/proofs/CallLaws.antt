@@ -1,6 +1,6 @@
 -- What searches in the tables say of the world that they stand for.
-use Rattle.std.proofs.Common.{◌≡◌, ℕ, ◌+◌, ◌<◌, ◌≤◌, ◌&&◌, ◌==◌, Bool, List, [], ◌∷◌, ◌++◌, option_and_then, vec_len, length, Option, Some, None, refl, sym, ◌∙◌, ap, arith, get_or, slice_get, find, option_map, is_none, Ok, Err, nat_lt, nat_le, true, false, set, inl, inr, IfSome}
-use Rattle.std.specs.List.{list_any, position_from}
+use Rattle.std.proofs.Common.{◌≡◌, ℕ, ◌+◌, ◌<◌, ◌≤◌, ◌&&◌, ◌==◌, Bool, List, [], ◌∷◌, ◌++◌, option_and_then, vec_len, length, Option, Some, None, refl, sym, ◌∙◌, ap, arith, get_or, slice_get, find, option_map, is_none, not, Ok, Err, suc, subst, nat_lt, nat_le, true, false, set, inl, inr, IfSome}
+use Rattle.std.specs.List.{list_any, position_from, range_with_len}
 use Rattle.std.proofs.lemmas.Option.{get_or_from_slice_get, slice_get_past, slice_get_read}
 use Rattle.mg_rooms.specs.declared.tables.Tables.TheInside.{Inside}
 use Rattle.mg_rooms.specs.declared.record.Record.{Record}
@@ -14,7 +14,7 @@ use Rattle.mg_rooms.specs.Members.{without}
 use Rattle.mg_rooms.specs.Outcome.{new_context}
 use Rattle.mg_words.specs.declared.limits.TheConstants.{CONTEXTS, MEMBERS, LAST_CONTEXT}
 use Rattle.mg_rooms.specs.aids.Tables.{IsKept, IsTable, world_of}
-use Rattle.mg_rooms.specs.Registry.{Registry, members_of, record_at, context_at, free_slot, free_room}
+use Rattle.mg_rooms.specs.Registry.{Registry, members_of, record_at, context_at, free_slot, free_room, free_seat}
 use Rattle.mg_rooms.proofs.OrderLaws.{any-in_order, KeepsKey, change_at, change_none, found_key, in_order-push, length-in_order_room, length-in_order_full, find-in_order, first_at_zero}
 use Rattle.mg_rooms.proofs.TableLaws.{OnlyAt, lookup_some, lookup_none, free-in_order, find_spot, entry_at, empty_place, IsTable-set}
 
@@ -45,8 +45,23 @@ pub free_room_is : (a : Inside) (o : Option ℕ) → IsKept a → o ≡ position
 free_room_is a o kept found =
     found ∙ free-in_order (λ x. x.number) (λ x. x.room) a.next_context CONTEXTS a.rooms.items kept.rooms
 
-pub seated_is : (a : Inside) (c seat : ℕ) (b : Bool) → b ≡ list_any (passes_at (λ r. (r.context == c) && (r.seat == seat))) a.slots.items → b ≡ list_any (λ r. (r.context == c) && (r.seat == seat)) ((world_of a).terminations)
-seated_is a c seat b h = h ∙ sym (any-in_order (λ r. r.number) (λ r. (r.context == c) && (r.seat == seat)) a.slots.items)
+find_free : (held : List Bool) (test : ℕ → Bool) (k : ℕ) → ((i j : ℕ) → j ≡ i + k → i < length held → get_or held i true ≡ test j) → position_from not k held ≡ find (λ s. not (test s)) (range_with_len k (length held))
+find_free [] test k h = refl
+find_free (true ∷ held) test k h =
+    let is : true ≡ test k = h 0 k (omega arith) (omega arith) in
+    rw (← is) (find_free held test (k + 1) (λ i j eq lt. h (suc i) j (omega arith) (omega arith)))
+find_free (false ∷ held) test k h =
+    let is : false ≡ test k = h 0 k (omega arith) (omega arith) in
+    rw (← is) refl
+
+-- the first seat that is not held is the free one
+pub free_seat_is : (a : Inside) (c : ℕ) (held : List Bool) → length held ≡ MEMBERS
+    → ((seat : ℕ) → seat < MEMBERS → get_or held seat true ≡ list_any (passes_at (λ r. (r.context == c) && (r.seat == seat))) a.slots.items)
+    → position_from not 0 held ≡ free_seat (world_of a) c
+free_seat_is a c held long h =
+    find_free held (λ seat. list_any (λ r. (r.context == c) && (r.seat == seat)) ((world_of a).terminations)) 0
+    (λ i j same lt. let eq : i ≡ j = omega arith in subst (λ (k : ℕ). get_or held i true ≡ list_any (λ r. (r.context == c) && (r.seat == k)) ((world_of a).terminations)) eq (h i (omega arith) ∙ sym (any-in_order (λ r. r.number) (λ r. (r.context == c) && (r.seat == i)) a.slots.items)))
+    ∙ ap (λ (n : ℕ). find (λ seat. not (list_any (λ r. (r.context == c) && (r.seat == seat)) ((world_of a).terminations))) (range_with_len 0 n)) long
 
 slot_entry : (a : Inside) (s : ℕ) (o : Option Record) → s < length a.slots.items → o ≡ get_or a.slots.items s o → slice_get a.slots.items s ≡ Some o
 slot_entry a s o lt at = slice_get_read a.slots.items (length a.slots.items) s o refl lt at

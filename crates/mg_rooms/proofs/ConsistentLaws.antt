@@ -6,7 +6,6 @@ use Rattle.std.proofs.lemmas.Bool.{cases_Bool, eqb-true, eqb-false, eq-eqb, and_
 use Rattle.mg_rooms.specs.declared.record.Record.{Record}
 use Rattle.mg_rooms.specs.declared.context.Context.{Context}
 use Rattle.mg_rooms.specs.declared.place.Place.{Place}
-use Rattle.mg_rooms.specs.declared.done.Done.{Done}
 use Rattle.mg_rooms.specs.declared.settings.Settings.{Settings}
 use Rattle.mg_rooms.specs.declared.target.Target.{Target}
 use Rattle.mg_rooms.specs.declared.target.Target.TheVariants.{Null, New, Number}
@@ -18,7 +17,7 @@ use Rattle.mg_words.specs.ResultSteps.{◌>>=◌}
 use Rattle.mg_rooms.specs.Results.{passes}
 use Rattle.mg_rooms.specs.Settings.{depth_after, local_after, remote_after, mode_after}
 use Rattle.mg_rooms.specs.Limits.{slot_port, AreValidLimits}
-use Rattle.mg_rooms.specs.Record.{fresh, at_place, with_settings, done}
+use Rattle.mg_rooms.specs.Record.{fresh, at_place, with_settings}
 use Rattle.mg_rooms.specs.Members.{without}
 use Rattle.mg_rooms.specs.Changes.{change, inserted, replaced, removed, entered_at, entered, left, with_members}
 use Rattle.mg_rooms.specs.Registry.{Registry, start_of, record_at, context_at, members_of, members_at, free_slot, free_room, free_seat}
@@ -36,14 +35,14 @@ pub bind_ok : {A B : Type 0} (r : Result A ErrorNumber) (f : A → Result B Erro
 bind_ok (Ok x) f y h = (x, refl, h)
 bind_ok (Err e) f y h = absurd (cc)
 
-abbrev pub SameOk : Registry × Done → Registry × Done → Type 0
-SameOk p q = let first : Result (Registry × Done) ErrorNumber = Ok p in first ≡ Ok q
+abbrev pub SameOk : Registry × Record → Registry × Record → Type 0
+SameOk p q = let first : Result (Registry × Record) ErrorNumber = Ok p in first ≡ Ok q
 
-pub ok_done : (p q : Registry × Done) → SameOk p q → p ≡ q
+pub ok_done : (p q : Registry × Record) → SameOk p q → p ≡ q
 ok_done p q h = cc
 
-pub ok_world : (u v : Registry) (a b : Done) → SameOk (u, a) (v, b) → u ≡ v
-ok_world u v a b h = ap (λ (p : Registry × Done). p.0) (ok_done (u, a) (v, b) h)
+pub ok_world : (u v : Registry) (a b : Record) → SameOk (u, a) (v, b) → u ≡ v
+ok_world u v a b h = ap (λ (p : Registry × Record). p.0) (ok_done (u, a) (v, b) h)
 
 pub passes_ok : (b : Bool) (e : ErrorNumber) (u : Unit {0}) → passes b e ≡ Ok u → b ≡ true
 passes_ok true e u h = refl
@@ -317,12 +316,12 @@ same_count p rs r old at bits =
 pub at_own : (w : Registry) (n : ℕ) (r : Record) → record_at w n ≡ Some r → record_at w r.number ≡ Some r
 at_own w n r found = subst (λ (k : ℕ). record_at w k ≡ Some r) (sym (found_number w n r found)) found
 
-pub modify_sound : (w after : Registry) (target : Target) (n : ℕ) (settings : Settings) (d : Done) → IsConsistent w → modify w target n settings ≡ Ok (after, d) → IsConsistent after
+pub modify_sound : (w after : Registry) (target : Target) (n : ℕ) (settings : Settings) (d : Record) → IsConsistent w → modify w target n settings ≡ Ok (after, d) → IsConsistent after
 unfolding modify
 modify_sound w after target n settings d h outcome =
     let (old, found, later) = bind_ok (member w target n) _ (after, d) outcome in
     let (r, set, last) = bind_ok (with_settings w.limits settings old) _ (after, d) later in
-    let is = ok_world (replaced w r) after (done r) d last in
+    let is = ok_world (replaced w r) after r d last in
     subst IsConsistent is (sound old r (member_found w target n old found) (with_settings_ok w.limits settings old r set))
   where
     sound : (old r : Record) → record_at w n ≡ Some old → HasSettings old r → IsConsistent (replaced w r)
@@ -342,11 +341,11 @@ modify_sound w after target n settings d h outcome =
           last_context = h.last_context;
         }
 
-pub subtract_sound : (w after : Registry) (target : Target) (n : ℕ) (d : Done) → IsConsistent w → subtract w target n ≡ Ok (after, d) → IsConsistent after
+pub subtract_sound : (w after : Registry) (target : Target) (n : ℕ) (d : Record) → IsConsistent w → subtract w target n ≡ Ok (after, d) → IsConsistent after
 unfolding subtract
 subtract_sound w after target n d h outcome =
     let (old, found, last) = bind_ok (member w target n) _ (after, d) outcome in
-    let is = ok_world (left (removed w old.number) old.context old.number) after (done old) d last in
+    let is = ok_world (left (removed w old.number) old.context old.number) after old d last in
     subst IsConsistent is (sound old (member_found w target n old found))
   where
     sound : (old : Record) → record_at w n ≡ Some old → IsConsistent (left (removed w old.number) old.context old.number)
@@ -403,14 +402,14 @@ new_slot_ok w slot h =
     let (u, passed, later) = bind_ok (passes (nat_le w.next_termination LAST_TERMINATION) ErrorNumber.NoTerminationLeft) _ slot h in
     (leb-true w.next_termination LAST_TERMINATION (passes_ok (nat_le w.next_termination LAST_TERMINATION) ErrorNumber.NoTerminationLeft u passed), ok_or_ok (free_slot w) ErrorNumber.NoTerminationLeft slot later)
 
-pub add_sound : (w after : Registry) (target : Target) (settings : Settings) (d : Done) → IsConsistent w → add w target settings ≡ Ok (after, d) → IsConsistent after
+pub add_sound : (w after : Registry) (target : Target) (settings : Settings) (d : Record) → IsConsistent w → add w target settings ≡ Ok (after, d) → IsConsistent after
 unfolding add
 add_sound w after target settings d h outcome =
     let (u, may, later) = bind_ok (may_enter w target) _ (after, d) outcome in
     let (slot, new, more) = bind_ok (new_slot w) _ (after, d) later in
     let (place, free, rest) = bind_ok (new_place w target) _ (after, d) more in
     let (r, set, last) = bind_ok (with_settings w.limits settings (fresh w.next_termination slot place)) _ (after, d) rest in
-    let is = ok_world (entered (inserted w r) place r.number) after (done r) d last in
+    let is = ok_world (entered (inserted w r) place r.number) after r d last in
     let (opens, has) = new_place_ok w target u place may free in
     subst IsConsistent is (sound slot place r (new_slot_ok w slot new) opens has (with_settings_ok w.limits settings (fresh w.next_termination slot place) r set))
   where
@@ -460,7 +459,7 @@ moved_termination w n old place r h found seat has =
       max_depth = has.max_depth was.max_depth;
     }
 
-pub move_sound : (w after : Registry) (target : Target) (n : ℕ) (settings : Settings) (d : Done) → IsConsistent w → move_to w target n settings ≡ Ok (after, d) → IsConsistent after
+pub move_sound : (w after : Registry) (target : Target) (n : ℕ) (settings : Settings) (d : Record) → IsConsistent w → move_to w target n settings ≡ Ok (after, d) → IsConsistent after
 unfolding move_to
 move_sound w after target n settings d h outcome =
     let (old, found, later) = bind_ok (named w n) _ (after, d) outcome in
@@ -468,7 +467,7 @@ move_sound w after target n settings d h outcome =
     let (u, may, more) = bind_ok (may_enter w target) _ (after, d) some in
     let (place, free, rest) = bind_ok (new_place w target) _ (after, d) more in
     let (r, set, last) = bind_ok (with_settings w.limits settings (at_place old place)) _ (after, d) rest in
-    let is = ok_world (left (entered (replaced w r) place r.number) old.context r.number) after (done r) d last in
+    let is = ok_world (left (entered (replaced w r) place r.number) old.context r.number) after r d last in
     let (opens, has) = new_place_ok w target u place may free in
     subst IsConsistent is (sound old place r (ok_or_ok (record_at w n) ErrorNumber.UnknownTermination old found) opens has (with_settings_ok w.limits settings (at_place old place) r set))
   where

@@ -1,15 +1,14 @@
 -- What each outcome leaves as it was.
 use Rattle.std.proofs.Common.{◌≡◌, ℕ, false, not, List, [], ◌∷◌, ◌++◌, Option, Some, None, Ok, refl, sym, ◌∙◌, ap, subst, arith, inl, inr, ◌==◌, find, option_and_then, IfSome}
-use Rattle.std.proofs.lemmas.Bool.{cases_Bool, eqb-true, ne_eqb, not-true}
+use Rattle.std.proofs.lemmas.Bool.{cases_Bool, eqb-true, eq-eqb, ne_eqb, not-true}
 use Rattle.mg_rooms.specs.declared.record.Record.{Record}
 use Rattle.mg_rooms.specs.declared.context.Context.{Context}
 use Rattle.mg_rooms.specs.declared.place.Place.{Place}
-use Rattle.mg_rooms.specs.declared.done.Done.{Done}
 use Rattle.mg_rooms.specs.declared.settings.Settings.{Settings}
 use Rattle.mg_rooms.specs.declared.target.Target.{Target}
 use Rattle.mg_words.specs.declared.error_number.ErrorNumber.{ErrorNumber}
 use Rattle.mg_rooms.specs.Results.{passes}
-use Rattle.mg_rooms.specs.Record.{fresh, at_place, with_settings, done}
+use Rattle.mg_rooms.specs.Record.{fresh, at_place, with_settings}
 use Rattle.mg_rooms.specs.Members.{without}
 use Rattle.mg_rooms.specs.Changes.{inserted, replaced, removed, entered_at, entered, left, with_members}
 use Rattle.mg_rooms.specs.Registry.{Registry, record_at, context_at}
@@ -17,7 +16,7 @@ use Rattle.mg_rooms.specs.Outcome.{named, may_enter, is_number, member, new_slot
 use Rattle.mg_rooms.specs.Consistent.{IsTermination, AreContexts, IsConsistent}
 use Rattle.mg_rooms.specs.Lasting.{Lasts, LeavesOthers}
 use Rattle.mg_rooms.proofs.OrderLaws.{KeepsKey}
-use Rattle.mg_rooms.proofs.CountLaws.{all-found, find-push_some, find-push_other, find-change_other, find-change_same}
+use Rattle.mg_rooms.proofs.CountLaws.{all-found, find-push_some, find-push_none, find-push_other, find-change_other, find-change_same}
 use Rattle.mg_rooms.proofs.ConsistentLaws.{context_there, other_context, ok_done, bind_ok, passes_ok, ok_or_ok, ok_world, found_number, member_found, HasSettings, with_settings_ok, IsOpen, new_place_ok, entered_ok}
 
 -- ## Terminations
@@ -35,6 +34,9 @@ pub own_replaced : (w : Registry) (r old : Record) → IsConsistent w → record
 own_replaced w r old h found =
     find-change_same (λ x. x.number) r.number (λ _. Some r) w.terminations (λ x e. sym (eqb-true x.number r.number e)) (h.terminations.one_number r.number)
     ∙ ap (option_and_then (λ (_ : Record). Some r)) found
+
+pub now_replaced : (w : Registry) (n : ℕ) (old r : Record) → IsConsistent w → record_at w n ≡ Some old → r.number ≡ n → record_at (replaced w r) n ≡ Some r
+now_replaced w n old r h at is = subst (λ (k : ℕ). record_at (replaced w r) k ≡ Some r) is (own_replaced w r old h (subst (λ (k : ℕ). record_at w k ≡ Some old) (sym is) at))
 
 abbrev nothing : Record → Option Record
 nothing r = None
@@ -118,13 +120,6 @@ same_record w after n r s is found later =
     let same : r ≡ s = cc in
     sym same
 
-pub nothing_done : (w : Registry) → Lasts w w
-nothing_done w = record {
-  slot = λ n r s a b. ap (λ (x : Record). x.slot) (same_record w w n r s refl a b);
-  seat = λ n r s a b _. ap (λ (x : Record). x.seat) (same_record w w n r s refl a b);
-  room = λ c x y a b. same_room w w c x y refl a b;
-}
-
 -- ## Outcomes
 
 -- what is there has another number than what is made next
@@ -135,18 +130,18 @@ old_number w n r h found =
     let number = found_number w n r found in
     ne_eqb w.next_termination n (λ q. omega arith)
 
-pub add_lasts : (w after : Registry) (target : Target) (settings : Settings) (d : Done) → IsConsistent w → add w target settings ≡ Ok (after, d) → Lasts w after × LeavesOthers w after d.termination d.context d.context
+pub add_lasts : (w after : Registry) (target : Target) (settings : Settings) (d : Record) → IsConsistent w → add w target settings ≡ Ok (after, d) → Lasts w after × LeavesOthers w after d.number d.context d.context
 unfolding add
 add_lasts w after target settings d h outcome =
     let (u, may, later) = bind_ok (may_enter w target) _ (after, d) outcome in
     let (slot, new, more) = bind_ok (new_slot w) _ (after, d) later in
     let (place, free, rest) = bind_ok (new_place w target) _ (after, d) more in
     let (r, set, last) = bind_ok (with_settings w.limits settings (fresh w.next_termination slot place)) _ (after, d) rest in
-    let is = ok_world (entered (inserted w r) place r.number) after (done r) d last in
-    let made = ok_done (entered (inserted w r) place r.number, done r) (after, d) last in
+    let is = ok_world (entered (inserted w r) place r.number) after r d last in
+    let made = ok_done (entered (inserted w r) place r.number, r) (after, d) last in
     let has = with_settings_ok w.limits settings (fresh w.next_termination slot place) r set in
     let opens = (new_place_ok w target u place may free).0 in
-    subst (λ (p : Registry × Done). Lasts w p.0 × LeavesOthers w p.0 p.1.termination p.1.context p.1.context) made (lasts r place has opens, leaves r place has)
+    subst (λ (p : Registry × Record). Lasts w p.0 × LeavesOthers w p.0 p.1.number p.1.context p.1.context) made (lasts r place has opens, leaves r place has)
   where
     same : (r : Record) (place : Place) (m : ℕ) → (r.number == m) ≡ false → record_at (entered (inserted w r) place r.number) m ≡ record_at w m
     same r place m ne = record_entered (inserted w r) place r.number place.made m ∙ record_inserted w r m ne
@@ -168,12 +163,12 @@ add_lasts w after target settings d h outcome =
       context = λ e ne _. context_entered (inserted w r) place r.number place.made e (ne_eqb place.context e (λ q. ne (sym q ∙ sym has.context)));
     }
 
-pub modify_lasts : (w after : Registry) (target : Target) (n : ℕ) (settings : Settings) (d : Done) → IsConsistent w → modify w target n settings ≡ Ok (after, d) → Lasts w after × LeavesOthers w after n d.context d.context
+pub modify_lasts : (w after : Registry) (target : Target) (n : ℕ) (settings : Settings) (d : Record) → IsConsistent w → modify w target n settings ≡ Ok (after, d) → Lasts w after × LeavesOthers w after n d.context d.context
 unfolding modify
 modify_lasts w after target n settings d h outcome =
     let (old, found, later) = bind_ok (member w target n) _ (after, d) outcome in
     let (r, set, last) = bind_ok (with_settings w.limits settings old) _ (after, d) later in
-    let is = ok_world (replaced w r) after (done r) d last in
+    let is = ok_world (replaced w r) after r d last in
     let at = member_found w target n old found in
     let has = with_settings_ok w.limits settings old r set in
     subst (λ (v : Registry). Lasts w v × LeavesOthers w v n d.context d.context) is (lasts old r at has, leaves old r at has)
@@ -182,7 +177,7 @@ modify_lasts w after target n settings d h outcome =
     number old r at has = has.number ∙ found_number w n old at
 
     now : (old r : Record) → record_at w n ≡ Some old → HasSettings old r → record_at (replaced w r) n ≡ Some r
-    now old r at has = subst (λ (k : ℕ). record_at (replaced w r) k ≡ Some r) (number old r at has) (own_replaced w r old h (subst (λ (k : ℕ). record_at w k ≡ Some old) (sym (number old r at has)) at))
+    now old r at has = now_replaced w n old r h at (number old r at has)
 
     stays : (old r : Record) → record_at w n ≡ Some old → HasSettings old r → (m : ℕ) (x y : Record) → record_at w m ≡ Some x → record_at (replaced w r) m ≡ Some y → (y.slot ≡ x.slot) × (y.seat ≡ x.seat)
     stays old r at has m x y a b =
@@ -213,13 +208,13 @@ modify_lasts w after target n settings d h outcome =
       context = λ e a b. refl;
     }
 
-pub subtract_lasts : (w after : Registry) (target : Target) (n : ℕ) (d : Done) → IsConsistent w → subtract w target n ≡ Ok (after, d) → Lasts w after × LeavesOthers w after n d.context d.context
+pub subtract_lasts : (w after : Registry) (target : Target) (n : ℕ) (d : Record) → IsConsistent w → subtract w target n ≡ Ok (after, d) → Lasts w after × LeavesOthers w after n d.context d.context
 unfolding subtract
 subtract_lasts w after target n d h outcome =
     let (old, found, last) = bind_ok (member w target n) _ (after, d) outcome in
-    let made = ok_done (left (removed w old.number) old.context old.number, done old) (after, d) last in
+    let made = ok_done (left (removed w old.number) old.context old.number, old) (after, d) last in
     let at = member_found w target n old found in
-    subst (λ (p : Registry × Done). Lasts w p.0 × LeavesOthers w p.0 n p.1.context p.1.context) made (lasts old at, leaves old at)
+    subst (λ (p : Registry × Record). Lasts w p.0 × LeavesOthers w p.0 n p.1.context p.1.context) made (lasts old at, leaves old at)
   where
     gone : (old : Record) → record_at w n ≡ Some old → record_at (removed w old.number) n ≡ None
     gone old at = subst (λ (k : ℕ). record_at (removed w old.number) k ≡ None) (found_number w n old at) (own_removed w old.number h)
@@ -250,7 +245,7 @@ subtract_lasts w after target n d h outcome =
       context = λ e ne _. context_left (removed w old.number) old.context old.number e (ne_eqb old.context e (λ q. ne (sym q)));
     }
 
-pub move_lasts : (w after : Registry) (target : Target) (n : ℕ) (settings : Settings) (d : Done) (old : Record) → IsConsistent w → record_at w n ≡ Some old → move_to w target n settings ≡ Ok (after, d) → Lasts w after × LeavesOthers w after n old.context d.context
+pub move_lasts : (w after : Registry) (target : Target) (n : ℕ) (settings : Settings) (d : Record) (old : Record) → IsConsistent w → record_at w n ≡ Some old → move_to w target n settings ≡ Ok (after, d) → Lasts w after × LeavesOthers w after n old.context d.context
 unfolding move_to
 move_lasts w after target n settings d from h at outcome =
     let (old, found, later) = bind_ok (named w n) _ (after, d) outcome in
@@ -258,7 +253,7 @@ move_lasts w after target n settings d from h at outcome =
     let (u, may, more) = bind_ok (may_enter w target) _ (after, d) some in
     let (place, free, rest) = bind_ok (new_place w target) _ (after, d) more in
     let (r, set, last) = bind_ok (with_settings w.limits settings (at_place old place)) _ (after, d) rest in
-    let made = ok_done (left (entered (replaced w r) place r.number) old.context r.number, done r) (after, d) last in
+    let made = ok_done (left (entered (replaced w r) place r.number) old.context r.number, r) (after, d) last in
     let has = with_settings_ok w.limits settings (at_place old place) r set in
     let opens = (new_place_ok w target u place may free).0 in
     let there = ok_or_ok (record_at w n) ErrorNumber.UnknownTermination old found in
@@ -267,7 +262,7 @@ move_lasts w after target n settings d from h at outcome =
     let both : Some old ≡ Some from = sym there ∙ at in
     let is : old ≡ from = cc in
     subst (λ (x : Record). Lasts w after × LeavesOthers w after n x.context d.context) is
-    (subst (λ (p : Registry × Done). Lasts w p.0 × LeavesOthers w p.0 n old.context p.1.context) made (lasts old place r there has opens differ, leaves old place r there has))
+    (subst (λ (p : Registry × Record). Lasts w p.0 × LeavesOthers w p.0 n old.context p.1.context) made (lasts old place r there has opens differ, leaves old place r there has))
   where
     number : (old : Record) (place : Place) (r : Record) → record_at w n ≡ Some old → HasSettings (at_place old place) r → r.number ≡ n
     number old place r there has = has.number ∙ found_number w n old there
@@ -276,10 +271,7 @@ move_lasts w after target n settings d from h at outcome =
     same old place r m ne = record_entered (replaced w r) place r.number place.made m ∙ record_replaced w r m ne
 
     now : (old : Record) (place : Place) (r : Record) → record_at w n ≡ Some old → HasSettings (at_place old place) r → record_at (left (entered (replaced w r) place r.number) old.context r.number) n ≡ Some r
-    now old place r there has =
-        let is = number old place r there has in
-        let own = own_replaced w r old h (subst (λ (k : ℕ). record_at w k ≡ Some old) (sym is) there) in
-        record_entered (replaced w r) place r.number place.made n ∙ subst (λ (k : ℕ). record_at (replaced w r) k ≡ Some r) is own
+    now old place r there has = record_entered (replaced w r) place r.number place.made n ∙ now_replaced w n old r h there (number old place r there has)
 
     stays : (old : Record) (place : Place) (r : Record) → record_at w n ≡ Some old → HasSettings (at_place old place) r → (place.context ≡ old.context → ⊥) → (m : ℕ) (x y : Record) → record_at w m ≡ Some x → record_at (left (entered (replaced w r) place r.number) old.context r.number) m ≡ Some y → (y.slot ≡ x.slot) × (y.context ≡ x.context → y.seat ≡ x.seat)
     stays old place r there has differ m x y a b =
@@ -318,13 +310,55 @@ move_lasts w after target n settings d from h at outcome =
           ∙ context_entered (replaced w r) place r.number place.made e (ne_eqb place.context e (λ q. not_new (sym q ∙ sym has.context)));
     }
 
-moved_there : (w after : Registry) (target : Target) (n : ℕ) (settings : Settings) (d : Done) → move_to w target n settings ≡ Ok (after, d) → (old : Record) × (record_at w n ≡ Some old)
-unfolding move_to
-moved_there w after target n settings d outcome =
-    let (old, found, later) = bind_ok (named w n) _ (after, d) outcome in
-    (old, ok_or_ok (record_at w n) ErrorNumber.UnknownTermination old found)
+-- ## The termination that a command was done on
 
-pub move_keeps : (w after : Registry) (target : Target) (n : ℕ) (settings : Settings) (d : Done) → IsConsistent w → move_to w target n settings ≡ Ok (after, d) → Lasts w after
-move_keeps w after target n settings d h outcome =
-    let (old, there) = moved_there w after target n settings d outcome in
-    (move_lasts w after target n settings d old h there outcome).0
+next_is_new : (w : Registry) (o : Option Record) → IsConsistent w → record_at w w.next_termination ≡ o → o ≡ None
+next_is_new w None h found = refl
+next_is_new w (Some r) h found =
+    let same = eq-eqb w.next_termination w.next_termination refl in
+    let other = old_number w w.next_termination r h found in
+    absurd (cc)
+
+own_inserted : (w : Registry) (r : Record) → IsConsistent w → r.number ≡ w.next_termination → record_at (inserted w r) r.number ≡ Some r
+own_inserted w r h is =
+    let new : record_at w r.number ≡ None = subst (λ (k : ℕ). record_at w k ≡ None) (sym is) (next_is_new w (record_at w w.next_termination) h refl) in
+    find-push_none (λ x. x.number == r.number) w.terminations r new ∙ rw (eq-eqb r.number r.number refl) refl
+
+pub add_own : (w after : Registry) (target : Target) (settings : Settings) (d : Record) → IsConsistent w → add w target settings ≡ Ok (after, d) → record_at after d.number ≡ Some d
+unfolding add
+add_own w after target settings d h outcome =
+    let (u, may, later) = bind_ok (may_enter w target) _ (after, d) outcome in
+    let (slot, new, more) = bind_ok (new_slot w) _ (after, d) later in
+    let (place, free, rest) = bind_ok (new_place w target) _ (after, d) more in
+    let (r, set, last) = bind_ok (with_settings w.limits settings (fresh w.next_termination slot place)) _ (after, d) rest in
+    let made = ok_done (entered (inserted w r) place r.number, r) (after, d) last in
+    let has = with_settings_ok w.limits settings (fresh w.next_termination slot place) r set in
+    subst (λ (p : Registry × Record). record_at p.0 p.1.number ≡ Some p.1) made (record_entered (inserted w r) place r.number place.made r.number ∙ own_inserted w r h has.number)
+
+pub modify_own : (w after : Registry) (target : Target) (n : ℕ) (settings : Settings) (d : Record) → IsConsistent w → modify w target n settings ≡ Ok (after, d) → record_at after n ≡ Some d
+unfolding modify
+modify_own w after target n settings d h outcome =
+    let (old, found, later) = bind_ok (member w target n) _ (after, d) outcome in
+    let (r, set, last) = bind_ok (with_settings w.limits settings old) _ (after, d) later in
+    let made = ok_done (replaced w r, r) (after, d) last in
+    let at = member_found w target n old found in
+    let has = with_settings_ok w.limits settings old r set in
+    subst (λ (p : Registry × Record). record_at p.0 n ≡ Some p.1) made (now_replaced w n old r h at (has.number ∙ found_number w n old at))
+
+pub move_own : (w after : Registry) (target : Target) (n : ℕ) (settings : Settings) (d : Record) → IsConsistent w → move_to w target n settings ≡ Ok (after, d) → record_at after n ≡ Some d
+unfolding move_to
+move_own w after target n settings d h outcome =
+    let (old, found, later) = bind_ok (named w n) _ (after, d) outcome in
+    let (v, other, some) = bind_ok (passes (not (is_number target old.context)) ErrorNumber.AlreadyInContext) _ (after, d) later in
+    let (u, may, more) = bind_ok (may_enter w target) _ (after, d) some in
+    let (place, free, rest) = bind_ok (new_place w target) _ (after, d) more in
+    let (r, set, last) = bind_ok (with_settings w.limits settings (at_place old place)) _ (after, d) rest in
+    let made = ok_done (left (entered (replaced w r) place r.number) old.context r.number, r) (after, d) last in
+    let has = with_settings_ok w.limits settings (at_place old place) r set in
+    let there = ok_or_ok (record_at w n) ErrorNumber.UnknownTermination old found in
+    subst (λ (p : Registry × Record). record_at p.0 n ≡ Some p.1) made (record_entered (replaced w r) place r.number place.made n ∙ now_replaced w n old r h there (has.number ∙ found_number w n old there))
+
+-- a member of the action's context that is taken out of it is what a Subtract was done on
+pub ended : (w : Registry) (target : Target) (n : ℕ) (old : Record) → member w target n ≡ Ok old → subtract w target n ≡ Ok (left (removed w old.number) old.context old.number, old)
+unfolding subtract
+ended w target n old found = rw found refl

@@ -11,6 +11,7 @@ pub mod AgreeLaws
 pub mod ListsLaws
 pub mod LastLaws
 pub mod StateLaws
+pub mod SoundLaws
 pub mod RoomsLaws
 pub mod Rows
 pub mod ConsistentLaws

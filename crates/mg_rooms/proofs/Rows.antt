@@ -9,7 +9,6 @@ use Rattle.mg_rooms.specs.declared.media_setting.MediaSetting.TheVariants.{Offer
 use Rattle.mg_rooms.specs.declared.settings.Settings.{Settings}
 use Rattle.mg_rooms.specs.declared.limits.Limits.{Limits}
 use Rattle.mg_rooms.specs.declared.record.Record.{Record}
-use Rattle.mg_rooms.specs.declared.done.Done.{Done}
 use Rattle.mg_rooms.specs.Registry.{Registry, start_of, record_at, context_at, members_at}
 use Rattle.mg_rooms.specs.Outcome.{add, modify, move_to, subtract}
 
@@ -24,7 +23,7 @@ abbrev no_settings : Settings
 no_settings = record { mode = None; depth = None; local = None; remote = None }
 
 abbrev Command : Type 0
-Command = Registry → Result (Registry × Done) ErrorNumber
+Command = Registry → Result (Registry × Record) ErrorNumber
 
 abbrev adds : Target → Command
 adds target w = add w target no_settings
@@ -38,7 +37,7 @@ moves target n w = move_to w target n no_settings
 abbrev subtracts : Target → ℕ → Command
 subtracts target n w = subtract w target n
 
-abbrev after : Registry → Result (Registry × Done) ErrorNumber → Registry
+abbrev after : Registry → Result (Registry × Record) ErrorNumber → Registry
 after w (Ok (next, done)) = next
 after w (Err refusal) = w
 
@@ -47,8 +46,8 @@ abbrev run : List Command → Registry → Registry
 run [] w = w
 run (command ∷ commands) w = run commands (after w (command w))
 
-abbrev answer_of : Result (Registry × Done) ErrorNumber → Result (ℕ × ℕ) ErrorNumber
-answer_of (Ok (next, done)) = Ok (done.context, done.termination)
+abbrev answer_of : Result (Registry × Record) ErrorNumber → Result (ℕ × ℕ) ErrorNumber
+answer_of (Ok (next, done)) = Ok (done.context, done.number)
 answer_of (Err refusal) = Err refusal
 
 -- the context and the termination, or the refusal, of each command

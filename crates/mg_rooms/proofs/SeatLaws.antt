@@ -1,7 +1,7 @@
 -- Where fewer than 32 terminations are in a context, a seat is free.
-use Rattle.std.proofs.Common.{◌≡◌, ℕ, zero, suc, ◌+◌, ◌<◌, ◌≤◌, Bool, true, false, not, cond, ◌&&◌, List, [], ◌∷◌, Option, Some, None, refl, arith, inl, inr, ◌==◌, nat_le, find, IsSome}
-use Rattle.std.proofs.lemmas.Bool.{cases_Bool, cases_order, eq-eqb, ne_eqb, le-leb, lt-leb}
-use Rattle.std.specs.List.{list_any, range_with_len, count_by}
+use Rattle.std.proofs.Common.{◌≡◌, ℕ, zero, suc, ◌+◌, ◌<◌, ◌≤◌, Bool, true, false, not, cond, ◌&&◌, List, [], ◌∷◌, Option, Some, None, refl, ap, ◌∙◌, arith, inl, inr, ◌==◌, nat_le, nat_lt, find, IsSome, length}
+use Rattle.std.proofs.lemmas.Bool.{cases_Bool, cases_order, eq-eqb, ne_eqb, le-leb, lt-leb, lt-ltb, le-ltb}
+use Rattle.std.specs.List.{list_any, range_with_len, count_by, AllByRecursion}
 use Rattle.mg_rooms.proofs.CountLaws.{one, count-cons}
 
 module _ {A : Type 0} (among : A → Bool) (seat : A → ℕ) where
@@ -88,3 +88,68 @@ module _ {A : Type 0} (among : A → Bool) (seat : A → ℕ) where
       found : (o : Option ℕ) → find (λ s. not (list_any (λ x. among x && (seat x == s)) xs)) (range_with_len 0 n) ≡ o → IsSome o
       found None h = let taken : n ≤ from 0 xs = all_taken 0 n xs h in absurd (omega (arith, from_all 0 xs))
       found (Some s) h = refl
+
+-- those whose spots are below k
+abbrev below : {A : Type 0} → (A → ℕ) → ℕ → List A → ℕ
+below spot k xs = count_by (λ x. nat_lt (spot x) k) xs
+
+bit : (s k : ℕ) → one (nat_lt s (k + 1)) ≡ one (s == k) + one (nat_lt s k)
+bit s k =
+    elim (cases_order s k) [
+      | inl same ↦
+          let a : nat_lt s (k + 1) ≡ true = lt-ltb s (k + 1) (omega arith) in
+          let b : (s == k) ≡ true = eq-eqb s k same in
+          let c : nat_lt s k ≡ false = le-ltb s k (omega arith) in
+          rw (a, b, c) refl
+      | inr order ↦ elim order [
+        | inl lower ↦
+            let a : nat_lt s (k + 1) ≡ true = lt-ltb s (k + 1) (omega arith) in
+            let b : (s == k) ≡ false = ne_eqb s k (λ q. omega arith) in
+            let c : nat_lt s k ≡ true = lt-ltb s k lower in
+            rw (a, b, c) refl
+        | inr above ↦
+            let a : nat_lt s (k + 1) ≡ false = le-ltb s (k + 1) (omega arith) in
+            let b : (s == k) ≡ false = ne_eqb s k (λ q. omega arith) in
+            let c : nat_lt s k ≡ false = le-ltb s k (omega arith) in
+            rw (a, b, c) refl
+      ]
+    ]
+
+below_next : {A : Type 0} (spot : A → ℕ) (k : ℕ) (xs : List A) → below spot (k + 1) xs ≡ count_by (λ x. spot x == k) xs + below spot k xs
+below_next spot k [] = refl
+below_next spot k (x ∷ xs) =
+    let here = bit (spot x) k in
+    let rest = below_next spot k xs in
+    let all = count-cons (λ y. nat_lt (spot y) (k + 1)) x xs in
+    let same = count-cons (λ y. spot y == k) x xs in
+    let lower = count-cons (λ y. nat_lt (spot y) k) x xs in
+    omega arith
+
+below_few : {A : Type 0} (spot : A → ℕ) (k : ℕ) (xs : List A) → ((s : ℕ) → count_by (λ x. spot x == s) xs ≤ 1) → below spot k xs ≤ k
+below_few spot zero xs once = let none : below spot 0 xs ≡ 0 = nothing xs in omega arith
+  where
+    nothing : (ys : List _) → below spot 0 ys ≡ 0
+    nothing [] = refl
+    nothing (y ∷ ys) = let rest = nothing ys in let step = count-cons (λ z. nat_lt (spot z) 0) y ys in let none : nat_lt (spot y) 0 ≡ false = le-ltb (spot y) 0 (omega arith) in let bit : one (nat_lt (spot y) 0) ≡ 0 = rw none refl in omega arith
+below_few spot (suc k) xs once =
+    let same : suc k ≡ k + 1 = omega arith in
+    let step = ap (λ (n : ℕ). below spot n xs) same ∙ below_next spot k xs in
+    let rest = below_few spot k xs once in
+    let here = once k in
+    omega arith
+
+below_all : {A : Type 0} (spot : A → ℕ) (n : ℕ) (xs : List A) → AllByRecursion (λ x. spot x < n) xs → below spot n xs ≡ length xs
+below_all spot n [] all = refl
+below_all spot n (x ∷ xs) all =
+    let here : nat_lt (spot x) n ≡ true = lt-ltb (spot x) n all.0 in
+    let bit : one (nat_lt (spot x) n) ≡ 1 = rw here refl in
+    let rest = below_all spot n xs all.1 in
+    let step = count-cons (λ y. nat_lt (spot y) n) x xs in
+    omega arith
+
+-- there are not more than spots where each has a spot of its own
+pub no_more : {A : Type 0} (spot : A → ℕ) (n : ℕ) (xs : List A) → AllByRecursion (λ x. spot x < n) xs → ((s : ℕ) → count_by (λ x. spot x == s) xs ≤ 1) → length xs ≤ n
+no_more spot n xs all once =
+    let few = below_few spot n xs once in
+    let every = below_all spot n xs all in
+    omega arith

@@ -1,12 +1,11 @@
 -- The outcome of a command on one termination (RFC 3525, sections 7.2.1 to 7.2.4): the refusal of
--- the first check that fails, or the world after the command with what it was done on. The order of
--- the checks is this project's own: the termination, the action's context, what is used up, the
--- media.
+-- the first check that fails, or the world after the command with the termination as it is then, or
+-- as it was until it was subtracted. The order of the checks is this project's own: the
+-- termination, the action's context, what is used up, the media.
 use Rattle.std.specs.Prelude.{◌≡◌, ℕ, Bool, false, not, ◌&&◌, length, Some, None, Result, Ok, Err}
 use Rattle.std.specs.Prelude.{◌==◌, nat_lt, ok_or}
 use Rattle.mg_rooms.specs.declared.record.Record.{Record}
 use Rattle.mg_rooms.specs.declared.place.Place.{Place}
-use Rattle.mg_rooms.specs.declared.done.Done.{Done}
 use Rattle.mg_rooms.specs.declared.settings.Settings.{Settings}
 use Rattle.mg_rooms.specs.declared.target.Target.{Target}
 use Rattle.mg_rooms.specs.declared.target.Target.TheVariants as targets
@@ -17,7 +16,7 @@ use Rattle.mg_words.specs.ResultSteps.{◌>>=◌}
 use Rattle.mg_rooms.specs.Results.{passes}
 use Rattle.mg_rooms.specs.Registry.{Registry, record_at, context_at, members_at, free_slot}
 use Rattle.mg_rooms.specs.Registry.{free_room, free_seat, has_termination_left, has_context_left}
-use Rattle.mg_rooms.specs.Record.{fresh, at_place, with_settings, done}
+use Rattle.mg_rooms.specs.Record.{fresh, at_place, with_settings}
 use Rattle.mg_rooms.specs.Changes.{inserted, replaced, removed, entered, left}
 
 -- ## Checks
@@ -85,36 +84,36 @@ new_place w (targets.Number c) = new_seat w c
 
 -- ## Outcomes
 
-unfoldable pub add : Registry → Target → Settings → Result (Registry × Done) ErrorNumber
+unfoldable pub add : Registry → Target → Settings → Result (Registry × Record) ErrorNumber
 add w target settings = do
   _ ← may_enter w target
   slot ← new_slot w
   place ← new_place w target
   r ← with_settings w.limits settings (fresh w.next_termination slot place)
-  Ok (entered (inserted w r) place r.number, done r)
+  Ok (entered (inserted w r) place r.number, r)
 
-unfoldable pub modify : Registry → Target → ℕ → Settings → Result (Registry × Done) ErrorNumber
+unfoldable pub modify : Registry → Target → ℕ → Settings → Result (Registry × Record) ErrorNumber
 modify w target n settings = do
   old ← member w target n
   r ← with_settings w.limits settings old
-  Ok (replaced w r, done r)
+  Ok (replaced w r, r)
 
-unfoldable pub move_to : Registry → Target → ℕ → Settings → Result (Registry × Done) ErrorNumber
+unfoldable pub move_to : Registry → Target → ℕ → Settings → Result (Registry × Record) ErrorNumber
 move_to w target n settings = do
   old ← named w n
   _ ← passes (not (is_number target old.context)) refusals.AlreadyInContext
   _ ← may_enter w target
   place ← new_place w target
   r ← with_settings w.limits settings (at_place old place)
-  Ok (left (entered (replaced w r) place r.number) old.context r.number, done r)
+  Ok (left (entered (replaced w r) place r.number) old.context r.number, r)
 
-unfoldable pub subtract : Registry → Target → ℕ → Result (Registry × Done) ErrorNumber
+unfoldable pub subtract : Registry → Target → ℕ → Result (Registry × Record) ErrorNumber
 subtract w target n = do
   r ← member w target n
-  Ok (left (removed w r.number) r.context r.number, done r)
+  Ok (left (removed w r.number) r.context r.number, r)
 
 -- what a call returned and left is the outcome. A refused call changes nothing
-abbrev pub Gives : Registry → Registry → Result Done ErrorNumber
-    → Result (Registry × Done) ErrorNumber → Type 0
-Gives old new (Ok d) outcome = outcome ≡ Ok (new, d)
-Gives old new (Err e) outcome = (outcome ≡ Err e) × (new ≡ old)
+abbrev pub Gives : {A : Type 0} → (A → Record) → Registry → Registry → Result A ErrorNumber
+    → Result (Registry × Record) ErrorNumber → Type 0
+Gives record_of old new (Ok x) outcome = outcome ≡ Ok (new, record_of x)
+Gives record_of old new (Err e) outcome = (outcome ≡ Err e) × (new ≡ old)

@@ -6,7 +6,6 @@ use Rattle.mg_rooms.specs.declared.settings.Settings.{Settings}
 use Rattle.mg_rooms.specs.declared.limits.Limits.{Limits}
 use Rattle.mg_rooms.specs.declared.record.Record.{Record}
 use Rattle.mg_rooms.specs.declared.place.Place.{Place}
-use Rattle.mg_rooms.specs.declared.done.Done.{Done}
 use Rattle.mg_rooms.specs.Limits.{slot_port}
 use Rattle.mg_words.specs.Limits.{first_depth}
 use Rattle.mg_words.specs.ResultSteps.{◌>>=◌}
@@ -41,6 +40,3 @@ with_settings limits settings old = do
     local = local;
     remote = remote;
   })
-
-abbrev pub done : Record → Done
-done r = record { context = r.context; termination = r.number }

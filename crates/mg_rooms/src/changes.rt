@@ -7,6 +7,7 @@ ghost use Rattle.mg_rooms.specs.aids.Entering.{CanEnter, CanEnterAt};
 
 use crate::context::Context;
 use crate::entries::{enter_entry, leave_entry, room_of, slot_of};
+use crate::member::Member;
 use crate::members::Members;
 use crate::place::Place;
 use crate::record::Record;
@@ -44,20 +45,20 @@ impl Tables {
     }
 
     /// Ends a termination.
-    pub(crate) fn remove(&mut self, number: u32)
-        ensures value { self.new ≡ removed self.old number }
+    pub(crate) fn remove(&mut self, old: Record)
+        ensures value { self.new ≡ removed self.old old.number }
     {
-        if let Some(slot) = slot_of(&self.slots, self.slot_hints.place(number), number) {
+        if let Some(slot) = slot_of(&self.slots, old.slot, old.number) {
             self.slots[slot] = None;
         }
     }
 
-    /// Lets a termination leave a context, which ends with its last member.
-    pub(crate) fn leave(&mut self, context: u32, number: u32)
-        ensures value { self.new ≡ left self.old context number }
+    /// Lets a member leave its context, which ends with its last member.
+    pub(crate) fn leave(&mut self, old: Member)
+        ensures value { self.new ≡ left self.old old.record.context old.record.number }
     {
-        if let Some(room) = room_of(&self.rooms, self.room_hints.place(context), context) {
-            leave_entry(&mut self.rooms[room], number);
+        if let Some(room) = room_of(&self.rooms, old.room, old.record.context) {
+            leave_entry(&mut self.rooms[room], old.record.number);
         }
     }
 

@@ -1,6 +1,6 @@
 //! Searches in tables by slot and by room, and what changes in one entry of them.
 
-ghost use Rattle.std.specs.Prelude.{◌≡◌, ◌<◌, ◌==◌, ◌&&◌, length, replicate, None, is_none, IfOk, IfSome};
+ghost use Rattle.std.specs.Prelude.{◌≡◌, ℕ, ◌<◌, ◌==◌, ◌&&◌, ◌||◌, true, not, length, replicate, None, is_none, IfOk, IfSome, slice_index_or};
 ghost use Rattle.std.specs.List.{position_from, list_any};
 ghost use Rattle.mg_rooms.specs.aids.Order.{has_key, passes_at};
 ghost use Rattle.mg_rooms.specs.aids.Tables.{HoldsOnce};
@@ -77,12 +77,39 @@ pub fn room_of(rooms: &[Option<Context>], hint: u8, number: u32) -> Option<usize
     }
 }
 
-/// Whether a termination of the context holds the seat.
-pub fn is_seated(slots: &[Option<Record>], context: u32, seat: u8) -> bool
-    ensures value { result ≡ list_any (passes_at (λ r. (r.context == context) && (r.seat == seat))) slots.now }
+/// Notes the seat of a slot's termination, where it is in the context.
+fn note_seat(held: &mut [bool; MEMBERS], context: u32, entry: &Option<Record>)
+    ensures long { length held.new ≡ length held.old }
+    ensures value { (seat : ℕ) → seat < MEMBERS → slice_index_or held.new seat true
+        ≡ (slice_index_or held.old seat true || passes_at (λ r. (r.context == context) && (r.seat == seat)) entry.now) }
 {
-    slots.iter().any(|entry| entry.is_some_and(|record| record.context == context
-        && record.seat == seat))
+    if let Some(record) = entry {
+        let seat = usize::from(record.seat);
+        if record.context == context && seat < MEMBERS {
+            held[seat] = true;
+        }
+    }
+}
+
+/// Whether each seat of the context is held by a termination in it.
+pub fn held_seats(slots: &[Option<Record>], context: u32) -> [bool; MEMBERS]
+    ensures long { length result ≡ MEMBERS }
+    ensures value { (seat : ℕ) → seat < MEMBERS → slice_index_or result seat true
+        ≡ list_any (passes_at (λ r. (r.context == context) && (r.seat == seat))) slots.now }
+{
+    let mut held = [false; MEMBERS];
+    for entry in slots {
+        note_seat(&mut held, context, entry);
+    }
+    held
+}
+
+/// The first seat that isn't held.
+pub fn first_free(held: &[bool; MEMBERS]) -> Option<usize>
+    ensures value { result ≡ position_from not 0 held.now }
+    ensures in_range { IfSome result (λ seat. seat < MEMBERS) }
+{
+    held.iter().position(|is_held| !*is_held)
 }
 
 /// Lets a termination enter the context in a room.

@@ -11,28 +11,30 @@
 //!
 //! ```rust
 //! let mut rooms = Rooms::new(alloc, limits)?;
-//! let done = rooms.add(Target::New, &Settings::default())?;
-//! assert_eq!(rt; rooms.members(done.context), [done.termination].as_slice());
-//! assert_eq!(rt; rooms.subtract(Target::Null, done.termination), Err(ErrorNumber::NotInContext));
+//! let made = rooms.add(Target::New, &Settings::default())?.record;
+//! assert_eq!(rt; rooms.members(made.context), [made.number].as_slice());
+//! assert_eq!(rt; rooms.subtract(Target::Null, made.number), Err(ErrorNumber::NotInContext));
 //! ```
 //!
 //! [`Rooms::new`] takes the memory for all that there can be, and no other call takes any.
 //!
 //! Contracts see a world: the terminations and contexts in the order of their numbers (`specs/Registry.antt`).
-//! Each call's contract is the outcome of its command on that world (`specs/Outcome.antt`). [`laws`] has
-//! what holds of each world that a gateway comes to, and what a command leaves as it was.
+//! Each call's contract is the outcome of its command on that world (`specs/Outcome.antt`), says that the
+//! world after it is sound (`specs/Sound.antt`), and what the command leaves as it was (`specs/Lasting.antt`).
+//! It gives back the termination with the room of its context. [`laws`] says when something is used up.
 #![tactic(auto)]
 
 mod changes;
 mod checks;
 mod context;
-mod done;
 mod entries;
 mod hints;
 pub mod laws;
 mod limits;
 mod media_setting;
+mod member;
 mod members;
+mod moved;
 mod outcomes;
 mod place;
 mod record;
@@ -42,13 +44,14 @@ mod tables;
 mod target;
 
 pub use crate::settings::{Settings, depth_within};
-pub use done::Done;
 pub use limits::Limits;
 pub use media_setting::MediaSetting;
+pub use member::Member;
 pub use mg_words::{
     CONTEXTS, ErrorNumber, FIRST_DEPTH, LAST_CONTEXT, LAST_TERMINATION, MAX_DEPTH, MEMBERS,
     MIN_DEPTH, Mode, TERMINATIONS, mode_listens, mode_talks,
 };
+pub use moved::Moved;
 pub use record::Record;
 pub use rooms::Rooms;
 pub use target::Target;

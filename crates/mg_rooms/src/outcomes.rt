@@ -1,8 +1,11 @@
 //! The commands on one termination: all checks, and then all changes.
 
-ghost use Rattle.mg_rooms.specs.Outcome.{Gives, add, modify, move_to, subtract};
+ghost use Rattle.std.specs.Prelude.{◌≡◌, ◌<◌, Some};
+ghost use Rattle.mg_rooms.specs.Registry.{record_at};
+ghost use Rattle.mg_rooms.specs.Changes.{removed, left};
+ghost use Rattle.mg_rooms.specs.Outcome.{Gives, add, modify, move_to};
 
-use crate::done::Done;
+use crate::member::Member;
 use crate::record::Record;
 use crate::settings::Settings;
 use crate::tables::Tables;
@@ -12,8 +15,8 @@ use mg_words::ErrorNumber;
 impl Tables {
     /// Makes a termination in the action's context.
     #[tactic(auto, unfolding(crate::specs::Outcome::add))]
-    pub(crate) fn add(&mut self, target: Target, settings: &Settings) -> Result<Done, ErrorNumber>
-        ensures outcome { Gives self.old self.new result (add self.old target settings.now) }
+    pub(crate) fn add(&mut self, target: Target, settings: &Settings) -> Result<Record, ErrorNumber>
+        ensures outcome { Gives (λ r. r) self.old self.new result (add self.old target settings.now) }
     {
         self.may_enter(target)?;
         let slot = self.new_slot()?;
@@ -22,7 +25,7 @@ impl Tables {
         let added = self.with_settings(settings, fresh)?;
         self.insert(added);
         self.enter(place, added.number);
-        Ok(added.done())
+        Ok(added)
     }
 
     /// Changes a member of the action's context.
@@ -32,26 +35,28 @@ impl Tables {
         target: Target,
         number: u32,
         settings: &Settings,
-    ) -> Result<Done, ErrorNumber>
-        ensures outcome { Gives self.old self.new result (modify self.old target number settings.now) }
+    ) -> Result<Record, ErrorNumber>
+        ensures outcome { Gives (λ r. r) self.old self.new result (modify self.old target number settings.now) }
     {
         let old = self.member(target, number)?;
         let changed = self.with_settings(settings, old)?;
         self.replace(changed);
-        Ok(changed.done())
+        Ok(changed)
     }
 
-    /// Takes a termination into the action's context, out of the one that it is in.
+    /// Takes a termination that is there into the action's context, out of the one that it is in.
     #[tactic(auto, unfolding(crate::specs::Outcome::move_to))]
     pub(crate) fn move_to(
         &mut self,
         target: Target,
-        number: u32,
+        from: Member,
         settings: &Settings,
-    ) -> Result<Done, ErrorNumber>
-        ensures outcome { Gives self.old self.new result (move_to self.old target number settings.now) }
+    ) -> Result<Record, ErrorNumber>
+        requires there { record_at self.old from.record.number ≡ Some from.record }
+        requires slot { from.record.slot < self.old.limits.slots }
+        ensures outcome { Gives (λ r. r) self.old self.new result (move_to self.old target from.record.number settings.now) }
     {
-        let old = self.named(number)?;
+        let old = from.record;
         if target.is_number(old.context) {
             return Err(ErrorNumber::AlreadyInContext);
         }
@@ -60,18 +65,15 @@ impl Tables {
         let moved = self.with_settings(settings, old.at_place(place))?;
         self.replace(moved);
         self.enter(place, moved.number);
-        self.leave(old.context, moved.number);
-        Ok(moved.done())
+        self.leave(from);
+        Ok(moved)
     }
 
-    /// Takes a member out of the action's context, and ends it.
-    #[tactic(auto, unfolding(crate::specs::Outcome::subtract))]
-    pub(crate) fn subtract(&mut self, target: Target, number: u32) -> Result<Done, ErrorNumber>
-        ensures outcome { Gives self.old self.new result (subtract self.old target number) }
+    /// Takes a termination out of the context that it is in, and ends it.
+    pub(crate) fn end(&mut self, old: Member)
+        ensures value { self.new ≡ left (removed self.old old.record.number) old.record.context old.record.number }
     {
-        let old = self.member(target, number)?;
-        self.remove(old.number);
-        self.leave(old.context, old.number);
-        Ok(old.done())
+        self.remove(old.record);
+        self.leave(old);
     }
 }

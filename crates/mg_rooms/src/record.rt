@@ -1,7 +1,6 @@
 ghost use Rattle.std.specs.Prelude.{◌≡◌};
-ghost use Rattle.mg_rooms.specs.Record.{fresh, at_place, done};
+ghost use Rattle.mg_rooms.specs.Record.{fresh, at_place};
 
-use crate::done::Done;
 use crate::place::Place;
 use mg_sdp::Chosen;
 use mg_words::{FIRST_DEPTH, Mode};
@@ -52,16 +51,6 @@ impl Record {
             context: place.context,
             seat: place.seat,
             ..self
-        }
-    }
-
-    /// What a command on the termination was done on.
-    pub(crate) fn done(self) -> Done
-        ensures value { result ≡ done self }
-    {
-        Done {
-            context: self.context,
-            termination: self.number,
         }
     }
 }

@@ -1,11 +1,14 @@
-ghost use Rattle.std.specs.Prelude.{◌≡◌, ◌<◌, ◌≤◌, IfOk, IfSome, OnErr, length, option_map};
+ghost use Rattle.std.specs.Prelude.{◌≡◌, ◌<◌, ◌≤◌, None, IfOk, IfSome, IfNone, OnErr, length, option_map};
 ghost use Rattle.mg_rooms.specs.Limits.{AreValidLimits};
 ghost use Rattle.mg_rooms.specs.Registry.{start_of, record_at, context_at, members_at, holder_of};
-ghost use Rattle.mg_rooms.specs.Lasting.{Lasts};
+ghost use Rattle.mg_rooms.specs.Lasting.{Lasts, LeavesOthers};
+ghost use Rattle.mg_rooms.specs.Member.{IsThereAs};
+ghost use Rattle.mg_rooms.specs.Sound.{IsSound};
 ghost use Rattle.mg_rooms.specs.Outcome.{Gives, member, add, modify, move_to, subtract};
 
-use crate::done::Done;
 use crate::limits::Limits;
+use crate::member::Member;
+use crate::moved::Moved;
 use crate::record::Record;
 use crate::settings::Settings;
 use crate::tables::Tables;
@@ -17,7 +20,7 @@ use std::marker::Model;
 /// The terminations and contexts of a gateway.
 ///
 /// Contracts see the terminations and the contexts in the order of their numbers, and the numbers of the
-/// next ones (`specs/Registry.antt`). [`laws`](crate::laws) has what holds of them after any commands.
+/// next ones (`specs/Registry.antt`). What holds of them after any commands is `IsSound` (`specs/Sound.antt`).
 #[derive(Drop)]
 pub struct Rooms {
     tables: Tables,
@@ -43,6 +46,7 @@ impl Rooms {
     pub fn new(alloc: Global, limits: Limits) -> Result<Rooms, AllocError>
         requires valid { AreValidLimits limits }
         ensures start { IfOk result (λ rooms. rooms ≡ start_of limits) }
+        ensures sound { IfOk result IsSound }
     {
         let tables = Tables::new(alloc, limits)?;
         Ok(Rooms { tables })
@@ -54,6 +58,15 @@ impl Rooms {
         ensures slot { IfSome result (λ r. r.slot < self.now.limits.slots) }
     {
         self.tables.record(number)
+    }
+
+    /// The termination with this number, with the room of its context.
+    pub fn member(&self, number: u32) -> Option<Member>
+        ensures some { IfSome result (IsThereAs self.now number) }
+        ensures none { IfNone result (record_at self.now number ≡ None) }
+    {
+        let record = self.tables.record(number)?;
+        Some(self.tables.member_of(record))
     }
 
     /// The numbers of a context's members in the order of their entry. A context that isn't there has
@@ -97,63 +110,79 @@ impl Rooms {
     }
 
     /// Makes a termination in the action's context, and the context too where it is new (RFC 3525,
-    /// section 7.2.1).
+    /// section 7.2.1). The answer is the termination as it was made.
     #[tactic(auto, using(crate::proofs::RoomsLaws::laws))]
-    pub fn add(&mut self, target: Target, settings: &Settings) -> Result<Done, ErrorNumber>
-        ensures outcome { Gives self.old self.new result (add self.old target settings.now) }
+    pub fn add(&mut self, target: Target, settings: &Settings) -> Result<Member, ErrorNumber>
+        ensures outcome { Gives (λ m. m.record) self.old self.new result (add self.old target settings.now) }
         ensures refused { OnErr result (self.new ≡ self.old) }
+        ensures sound { IsSound self.new }
+        ensures member { IfOk result (λ m. IsThereAs self.new m.record.number m) }
         ensures lasts { Lasts self.old self.new }
+        ensures others { IfOk result (λ m. LeavesOthers self.old self.new m.record.number m.record.context m.record.context) }
     {
-        self.tables.add(target, settings)
+        let made = self.tables.add(target, settings)?;
+        Ok(self.tables.member_of(made))
     }
 
-    /// Changes a member of the action's context (RFC 3525, section 7.2.2).
+    /// Changes a member of the action's context (RFC 3525, section 7.2.2). The answer is the termination
+    /// as it is then.
     #[tactic(auto, using(crate::proofs::RoomsLaws::laws))]
     pub fn modify(
         &mut self,
         target: Target,
         number: u32,
         settings: &Settings,
-    ) -> Result<Done, ErrorNumber>
-        ensures outcome { Gives self.old self.new result (modify self.old target number settings.now) }
+    ) -> Result<Member, ErrorNumber>
+        ensures outcome { Gives (λ m. m.record) self.old self.new result (modify self.old target number settings.now) }
         ensures refused { OnErr result (self.new ≡ self.old) }
+        ensures sound { IsSound self.new }
+        ensures member { IfOk result (IsThereAs self.new number) }
         ensures lasts { Lasts self.old self.new }
+        ensures others { IfOk result (λ m. LeavesOthers self.old self.new number m.record.context m.record.context) }
     {
-        self.tables.modify(target, number, settings)
+        let changed = self.tables.modify(target, number, settings)?;
+        Ok(self.tables.member_of(changed))
     }
 
     /// Takes a termination into the action's context, out of the one that it is in, which ends where it
-    /// was the last there (RFC 3525, section 7.2.4).
+    /// was the last there (RFC 3525, section 7.2.4). The answer is the termination as it was and as it is
+    /// then.
     #[tactic(auto, using(crate::proofs::RoomsLaws::laws))]
     pub fn move_to(
         &mut self,
         target: Target,
         number: u32,
         settings: &Settings,
-    ) -> Result<Done, ErrorNumber>
-        ensures outcome { Gives self.old self.new result (move_to self.old target number settings.now) }
+    ) -> Result<Moved, ErrorNumber>
+        ensures outcome { Gives (λ m. m.to.record) self.old self.new result (move_to self.old target number settings.now) }
         ensures refused { OnErr result (self.new ≡ self.old) }
+        ensures sound { IsSound self.new }
+        ensures from { IfOk result (λ m. IsThereAs self.old number m.from) }
+        ensures to { IfOk result (λ m. IsThereAs self.new number m.to) }
         ensures lasts { Lasts self.old self.new }
+        ensures others { IfOk result (λ m. LeavesOthers self.old self.new number m.from.record.context m.to.record.context) }
     {
-        self.tables.move_to(target, number, settings)
+        let old = self.tables.named(number)?;
+        let from = self.tables.member_of(old);
+        let moved = self.tables.move_to(target, from, settings)?;
+        let to = self.tables.member_of(moved);
+        Ok(Moved { from, to })
     }
 
     /// Takes a member out of the action's context and ends it. The context ends with its last member
-    /// (RFC 3525, section 7.2.3).
-    #[tactic(auto, using(crate::proofs::RoomsLaws::laws))]
-    pub fn subtract(&mut self, target: Target, number: u32) -> Result<Done, ErrorNumber>
-        ensures outcome { Gives self.old self.new result (subtract self.old target number) }
+    /// (RFC 3525, section 7.2.3). The answer is the termination as it was.
+    #[tactic(auto, using(crate::proofs::RoomsLaws::laws), unfolding(crate::specs::Outcome::subtract))]
+    pub fn subtract(&mut self, target: Target, number: u32) -> Result<Member, ErrorNumber>
+        ensures outcome { Gives (λ m. m.record) self.old self.new result (subtract self.old target number) }
         ensures refused { OnErr result (self.new ≡ self.old) }
+        ensures sound { IsSound self.new }
+        ensures member { IfOk result (IsThereAs self.old number) }
         ensures lasts { Lasts self.old self.new }
+        ensures others { IfOk result (λ m. LeavesOthers self.old self.new number m.record.context m.record.context) }
     {
-        self.tables.subtract(target, number)
-    }
-
-    /// What holds of each gateway.
-    pub(crate) fn know(&self)
-        ensures sound { IsConsistent self.now }
-        ensures few { length self.now.terminations ≤ self.now.limits.slots }
-    {
-        self.tables.know_few();
+        let old = self.tables.member(target, number)?;
+        let gone = self.tables.member_of(old);
+        self.tables.end(gone);
+        Ok(gone)
     }
 }

@@ -1,12 +1,12 @@
-ghost use Rattle.std.specs.Prelude.{◌≡◌, ◌<◌, ◌≤◌, ◌==◌, ◌&&◌, IfOk, IfSome, length, find, option_map};
-ghost use Rattle.std.specs.List.{list_any};
+ghost use Rattle.std.specs.Prelude.{◌≡◌, ◌<◌, ◌≤◌, IfOk, IfSome, IsSome, Some, length, option_map};
 ghost use Rattle.mg_rooms.specs.Limits.{AreValidLimits};
 ghost use Rattle.mg_rooms.specs.Registry.{start_of, record_at, context_at, members_at, holder_of, free_slot, free_seat};
 
 use crate::context::Context;
-use crate::entries::{self, empty_place, empty_table, room_of, slot_of};
+use crate::entries::{empty_place, empty_table, first_free, held_seats, room_of, slot_of};
 use crate::hints::Hints;
 use crate::limits::Limits;
+use crate::member::Member;
 use crate::record::Record;
 use mg_words::{CONTEXTS, MEMBERS};
 use std::alloc::{AllocError, Global};
@@ -89,6 +89,19 @@ impl Tables {
         Some(room as u8)
     }
 
+    /// A termination with the room of its context, which is there.
+    pub(crate) fn member_of(&self, termination: Record) -> Member
+        requires there { IsSome (context_at self.now termination.context) }
+        ensures termination { result.record ≡ termination }
+        ensures room { option_map (λ x. x.room) (context_at self.now termination.context) ≡ Some result.room }
+    {
+        let room = self.room(termination.context).unwrap();
+        Member {
+            record: termination,
+            room,
+        }
+    }
+
     /// The record of the termination that holds a slot.
     pub(crate) fn held(&self, slot: u8) -> Option<Record>
         ensures value { result ≡ holder_of self.now slot }
@@ -102,13 +115,6 @@ impl Tables {
         }
     }
 
-    /// Shows that there are not more terminations than slots, and does nothing.
-    pub(crate) fn know_few(&self)
-        ensures few { length self.now.terminations ≤ self.now.limits.slots }
-    {
-        let _slots = &self.slots;
-    }
-
     /// The least slot that no termination holds.
     pub(crate) fn free_slot(&self) -> Option<u8>
         ensures value { result ≡ free_slot self.now }
@@ -118,17 +124,12 @@ impl Tables {
         Some(slot as u8)
     }
 
-    /// Whether a termination of the context holds the seat.
-    fn is_seated(&self, context: u32, seat: u8) -> bool
-        ensures value { result ≡ list_any (λ r. (r.context == context) && (r.seat == seat)) self.now.terminations }
-    {
-        entries::is_seated(&self.slots, context, seat)
-    }
-
     /// The least seat of the context that no termination in it holds.
     pub(crate) fn free_seat(&self, context: u32) -> Option<u8>
         ensures value { result ≡ free_seat self.now context }
     {
-        (0..MEMBERS as u8).find(|seat| !self.is_seated(context, *seat))
+        let held = held_seats(&self.slots, context);
+        let seat = first_free(&held)?;
+        Some(seat as u8)
     }
 }

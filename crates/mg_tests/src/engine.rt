@@ -61,8 +61,8 @@ fn packet(byte: u8) -> [u8; 172] {
 
 /// Adds a caller to a context.
 fn add(engine: &mut Engine, target: Target, settings: &Settings) -> Result<Target, Fail> {
-    let done = engine.add(target, settings).map_err(|_| "an Add")?;
-    Ok(Target::Number(done.context))
+    let added = engine.add(target, settings).map_err(|_| "an Add")?;
+    Ok(Target::Number(added.context))
 }
 
 /// Makes a conference of the first callers.
@@ -84,8 +84,8 @@ fn conference(alloc: Global, callers: usize) -> Result<Engine, Fail> {
 
 /// Changes a member of the first context.
 fn modify(engine: &mut Engine, number: u32, settings: &Settings) -> Result<(), Fail> {
-    let done = engine.modify(Target::Number(1), number, settings);
-    done.map_err(|_| "a Modify")?;
+    let changed = engine.modify(Target::Number(1), number, settings);
+    changed.map_err(|_| "a Modify")?;
     Ok(())
 }
 

@@ -1,8 +1,10 @@
 //! Terminations and contexts.
 
+ghost use Rattle.std.specs.Prelude.{◌≡◌};
+
 use mg_g711::Law;
 use mg_rooms::{
-    Done, ErrorNumber, Limits, MediaSetting, Mode, Record, Rooms, Settings, Target, mode_listens,
+    ErrorNumber, Limits, MediaSetting, Member, Mode, Record, Rooms, Settings, Target, mode_listens,
     mode_talks,
 };
 use mg_sdp::{Chosen, read_sessions};
@@ -17,13 +19,20 @@ const LIMITS: Limits = Limits {
     first_context: 1,
 };
 
+/// The context and the termination, each by its number.
+fn numbers(member: Member) -> (u32, u32)
+    ensures { result ≡ (member.record.context, member.record.number) }
+{
+    (member.record.context, member.record.number)
+}
+
 /// Makes a context and fills it.
 fn fill_context(rt: &impl Abort, rooms: &mut Rooms, context: u32) {
     let first = rooms.add(Target::New, &Settings::default());
-    assert_eq!(rt; first.map(|done| done.context), Ok(context));
+    assert_eq!(rt; first.map(|member| member.record.context), Ok(context));
     for _ in 1..32 {
         let next = rooms.add(Target::Number(context), &Settings::default());
-        assert_eq!(rt; next.map(|done| done.context), Ok(context));
+        assert_eq!(rt; next.map(|member| member.record.context), Ok(context));
     }
 }
 
@@ -47,13 +56,7 @@ fn slots_and_contexts_fill_up(rt: HostRuntime) -> Result<(), Fail> {
     );
 
     let gone = rooms.subtract(Target::Number(2), 40);
-    assert_eq!(rt;
-        gone,
-        Ok(Done {
-            context: 2,
-            termination: 40
-        })
-    );
+    assert_eq!(rt; gone.map(numbers), Ok((2, 40)));
     assert_eq!(rt; rooms.at_slot(39), None);
     assert_eq!(rt;
         rooms.add(Target::Number(1), &settings),
@@ -61,97 +64,98 @@ fn slots_and_contexts_fill_up(rt: HostRuntime) -> Result<(), Fail> {
     );
 
     let added = rooms.add(Target::Number(2), &settings);
-    assert_eq!(rt;
-        added,
-        Ok(Done {
-            context: 2,
-            termination: 129
-        })
-    );
+    assert_eq!(rt; added.map(numbers), Ok((2, 129)));
     assert_eq!(rt; rooms.at_slot(39), Some(129));
     assert_eq!(rt; rooms.members(2).last().copied(), Some(129));
     assert_eq!(rt; LIMITS.slot_port(39), 30078);
     Ok(())
 }
 
-#[test]
-fn settings_are_set_and_refused(rt: HostRuntime) -> Result<(), Fail> {
-    let mut rooms = Rooms::new(rt.alloc(), LIMITS)?;
-    let done = rooms.add(Target::New, &Settings::default());
-    assert_eq!(rt;
-        done,
-        Ok(Done {
-            context: 1,
-            termination: 1
-        })
-    );
-    let fresh = Record {
-        number: 1,
-        context: 1,
-        slot: 0,
-        seat: 0,
-        mode: Mode::Inactive,
-        depth: 4,
-        local: None,
-        remote: None,
-    };
-    assert_eq!(rt; rooms.record(1), Some(fresh));
+/// The first termination as it is made.
+const FRESH: Record = Record {
+    number: 1,
+    context: 1,
+    slot: 0,
+    seat: 0,
+    mode: Mode::Inactive,
+    depth: 4,
+    local: None,
+    remote: None,
+};
 
+/// The same with settings that are served.
+const SET: Record = Record {
+    mode: Mode::SendOnly,
+    depth: 2,
+    local: Some(Chosen {
+        address: [127, 0, 0, 1],
+        port: 30000,
+        law: Law::A,
+    }),
+    remote: Some(Chosen {
+        address: [127, 0, 0, 1],
+        port: 40000,
+        law: Law::Mu,
+    }),
+    ..FRESH
+};
+
+/// The same without media again.
+const CLEARED: Record = Record {
+    local: None,
+    remote: None,
+    ..SET
+};
+
+/// Why the first termination isn't changed.
+fn modify_fault(rooms: &mut Rooms, settings: &Settings) -> Option<ErrorNumber> {
+    rooms.modify(Target::Number(1), 1, settings).err()
+}
+
+/// Media that isn't served changes nothing.
+fn refuse_settings(rt: &impl Abort, rooms: &mut Rooms) {
     let unserved = Settings {
         mode: Some(Mode::SendOnly),
         depth: Some(1),
         local: Some(local(b"v=0\nm=audio $ RTP/AVP 18\n")),
         remote: None,
     };
-    assert_eq!(rt;
-        rooms.modify(Target::Number(1), 1, &unserved),
-        Err(ErrorNumber::NoMedia)
-    );
-    assert_eq!(rt; rooms.record(1), Some(fresh));
+    assert_eq!(rt; modify_fault(rooms, &unserved), Some(ErrorNumber::NoMedia));
+    assert_eq!(rt; rooms.record(1), Some(FRESH));
+}
 
+/// The first codec that is served is chosen, and a depth is taken within its limits.
+fn set_settings(rt: &impl Abort, rooms: &mut Rooms) {
     let served = Settings {
         mode: Some(Mode::SendOnly),
         depth: Some(1),
         local: Some(local(b"v=0\nc=IN IP4 $\nm=audio $ RTP/AVP 18 8 0\n")),
         remote: Some(local(b"v=0\nc=IN IP4 127.0.0.1\nm=audio 40000 RTP/AVP 0\n")),
     };
-    assert_eq!(rt;
-        rooms.modify(Target::Number(1), 1, &served),
-        Ok(Done {
-            context: 1,
-            termination: 1
-        })
-    );
-    let changed = Record {
-        mode: Mode::SendOnly,
-        depth: 2,
-        local: Some(Chosen {
-            address: [127, 0, 0, 1],
-            port: 30000,
-            law: Law::A,
-        }),
-        remote: Some(Chosen {
-            address: [127, 0, 0, 1],
-            port: 40000,
-            law: Law::Mu,
-        }),
-        ..fresh
-    };
-    assert_eq!(rt; rooms.find(Target::Number(1), 1), Ok(changed));
+    assert_eq!(rt; modify_fault(rooms, &served), None);
+    assert_eq!(rt; rooms.find(Target::Number(1), 1).ok(), Some(SET));
+}
 
+/// What is blank takes media away, and what isn't named stays.
+fn clear_settings(rt: &impl Abort, rooms: &mut Rooms) {
     let cleared = Settings {
         mode: None,
         depth: None,
         local: Some(local(b"")),
         remote: Some(MediaSetting::Clear),
     };
-    let _ = rooms.modify(Target::Number(1), 1, &cleared);
-    let blank = Record {
-        mode: Mode::SendOnly,
-        depth: 2,
-        ..fresh
-    };
-    assert_eq!(rt; rooms.record(1), Some(blank));
+    assert_eq!(rt; modify_fault(rooms, &cleared), None);
+    assert_eq!(rt; rooms.record(1), Some(CLEARED));
+}
+
+#[test]
+fn settings_are_set_and_refused(rt: HostRuntime) -> Result<(), Fail> {
+    let mut rooms = Rooms::new(rt.alloc(), LIMITS)?;
+    let made = rooms.add(Target::New, &Settings::default());
+    assert_eq!(rt; made.map(numbers), Ok((1, 1)));
+    refuse_settings(&rt, &mut rooms);
+    set_settings(&rt, &mut rooms);
+    clear_settings(&rt, &mut rooms);
     Ok(())
 }
 
@@ -175,13 +179,7 @@ fn terminations_move(rt: HostRuntime) -> Result<(), Fail> {
     );
 
     let moved = rooms.move_to(Target::New, 1, &settings);
-    assert_eq!(rt;
-        moved,
-        Ok(Done {
-            context: 2,
-            termination: 1
-        })
-    );
+    assert_eq!(rt; moved.map(|moved| numbers(moved.to)), Ok((2, 1)));
     assert_eq!(rt; rooms.room(1), Some(0));
     assert_eq!(rt; rooms.room(2), Some(1));
     assert_eq!(rt;
@@ -190,16 +188,32 @@ fn terminations_move(rt: HostRuntime) -> Result<(), Fail> {
     );
 
     let back = rooms.move_to(Target::Number(1), 1, &settings);
-    assert_eq!(rt;
-        back,
-        Ok(Done {
-            context: 1,
-            termination: 1
-        })
-    );
+    assert_eq!(rt; back.map(|moved| numbers(moved.to)), Ok((1, 1)));
     assert_eq!(rt; rooms.members(1), [2, 1].as_slice());
     assert_eq!(rt; rooms.room(2), None);
     Ok(())
+}
+
+/// Why one more termination isn't made.
+fn add_fault(rooms: &mut Rooms, target: Target) -> Option<ErrorNumber> {
+    rooms.add(target, &Settings::default()).err()
+}
+
+/// The last number of a context, and the last two of terminations.
+fn use_up_numbers(rt: &impl Abort, rooms: &mut Rooms) {
+    assert_eq!(rt; add_fault(rooms, Target::New), None);
+    assert_eq!(rt;
+        add_fault(rooms, Target::New),
+        Some(ErrorNumber::NoContextLeft)
+    );
+    let last = Target::Number(4294967293);
+    assert_eq!(rt; add_fault(rooms, last), None);
+    assert_eq!(rt;
+        rooms.members(4294967293),
+        [4294967294, 4294967295].as_slice()
+    );
+    let refused = add_fault(rooms, last);
+    assert_eq!(rt; refused.map(|refusal| refusal.number()), Some(432));
 }
 
 #[test]
@@ -210,30 +224,7 @@ fn numbers_end(rt: HostRuntime) -> Result<(), Fail> {
         ..LIMITS
     };
     let mut rooms = Rooms::new(rt.alloc(), limits)?;
-    let settings = Settings::default();
-    let first = rooms.add(Target::New, &settings);
-    assert_eq!(rt;
-        first,
-        Ok(Done {
-            context: 4294967293,
-            termination: 4294967294
-        })
-    );
-    assert_eq!(rt;
-        rooms.add(Target::New, &settings),
-        Err(ErrorNumber::NoContextLeft)
-    );
-    let last = rooms.add(Target::Number(4294967293), &settings);
-    assert_eq!(rt;
-        last,
-        Ok(Done {
-            context: 4294967293,
-            termination: 4294967295
-        })
-    );
-    let none = rooms.add(Target::Number(4294967293), &settings);
-    assert_eq!(rt; none, Err(ErrorNumber::NoTerminationLeft));
-    assert_eq!(rt; none.map_err(|refusal| refusal.number()), Err(432));
+    use_up_numbers(&rt, &mut rooms);
     Ok(())
 }
 

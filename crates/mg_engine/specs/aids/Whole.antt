@@ -2,6 +2,7 @@
 use Rattle.std.specs.Prelude.{◌≡◌, ℕ, List, map, length, Option}
 use Rattle.mg_rooms.specs.declared.limits.Limits.{Limits}
 use Rattle.mg_rooms.specs.Registry as rooms
+use Rattle.mg_rooms.specs.Sound.{IsSound}
 use Rattle.mg_engine.specs.declared.config.Config.{Config}
 use Rattle.mg_engine.specs.Config.{limits_of}
 use Rattle.mg_flow.specs.Table as flow
@@ -10,12 +11,14 @@ use Rattle.mg_engine.specs.aids.Members.{HasMembers}
 use Rattle.mg_engine.specs.aids.Joined.{AreJoined}
 use Rattle.mg_engine.specs.aids.Seating.{AreSeated, place_count}
 
--- all parts are made by one configuration, each slot has its media, the slots that are held are in
--- the order of their terminations' numbers, each member is on its place, and the rows of those who
--- talk are joined to their rooms
+-- what is looked up of terminations and contexts is sound, all parts are made by one
+-- configuration, each slot has its media, the slots that are held are in the order of their
+-- terminations' numbers, each member is on its place, and the rows of those who talk are joined to
+-- their rooms
 pub record IsWhole (config : Config) (rooms : rooms.Registry) (pool : Limits)
     (kept : List media.SlotMedia) (slots : List ℕ) (flows : List flow.Room)
     (seating : List ℕ) (rows : List (Option ℕ)) : Type 0 where
+  pub sound : IsSound rooms
   pub limits : rooms.limits ≡ limits_of config
   pub ports : pool ≡ limits_of config
   pub media : length kept ≡ config.slots

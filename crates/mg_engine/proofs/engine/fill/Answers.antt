@@ -43,7 +43,7 @@ loop-i-preserved c =
     let same = c.loop-i.invariant.same in
     let there : now.rooms ≡ k.rooms = ap (λ (x : EngineState). x.rooms) same in
     let slot = c.held_at-slot.ensures.value ∙ ap (λ (x : rooms.Registry). get_or (map (λ r. r.slot) x.terminations) i 0) there ∙ get_or-map (λ r. r.slot) rs i nobody 0 within in
-    let holder = ap (λ (x : rooms.Registry). holder_of x c.held_at-slot.result) there ∙ ap (holder_of k.rooms) slot ∙ c.each_is_found.ensures.slot k.rooms i nobody c.requires.sound within in
+    let holder = ap (λ (x : rooms.Registry). holder_of x c.held_at-slot.result) there ∙ ap (holder_of k.rooms) slot ∙ c.requires.sound.by_slot i nobody within in
     let put = subst (λ (m : ℕ). RisesAtMost m now.sums.work after.sums.work) (ap (λ (x : EngineState). sending_work_now x r) same) (c.put_packet.ensures.work r holder) in
     record {
       same = c.put_packet.ensures.same ∙ ap (λ (x : EngineState). with_mixes x after.sums.work after.shares) same;

@@ -22,7 +22,7 @@ returns-clause-put c before last was body =
     let all = c.as_slice-media.ensures.value in
     let slots = ap (λ (l : Limits). l.slots) c.self.invariant.limits in
     let found = ap (λ (x : EngineState). record_at x.rooms r.number) c.self.view_is ∙ c.requires.member in
-    let (number, is) = c.what_is_found_is_within_limits.ensures.termination k.rooms r.number r c.gateways_are_sound.ensures.sound found in
+    let (number, is) = c.self.invariant.sound.termination r.number r found in
     let within : r.slot < length k.media = omega (arith, is.slot, slots, c.self.invariant.media) in
     let place = c.index-media-from.is
     ∙ ap (λ (n : ℕ). get_or c.as_slice-media.result.now n c.index-media-from.result) c.from.ensures
@@ -43,5 +43,5 @@ slot_port-from-requires-clause-slot c =
     let w = c.self.inside.rooms in
     let r = c.args.sender.now in
     let found = ap (λ (x : EngineState). record_at x.rooms r.number) c.self.view_is ∙ c.requires.member in
-    let (number, is) = c.what_is_found_is_within_limits.ensures.termination w r.number r c.gateways_are_sound.ensures.sound found in
+    let (number, is) = c.self.invariant.sound.termination r.number r found in
     omega (arith, is.slot, ap (λ (l : Limits). l.slots) c.self.invariant.limits, ap (λ (l : Limits). l.slots) c.limits.ensures.value)

@@ -26,6 +26,7 @@ returns-in_err-by_seats-clause-outcome c w h =
 
 pub invariant_of-self : goal.invariant_of-self
 invariant_of-self c = record {
+  sound = c.self.invariant.sound;
   limits = c.self.invariant.limits;
   ports = c.self.invariant.ports;
   media = c.self.invariant.media;
@@ -49,7 +50,7 @@ returns-clause-outcome c w h =
     let es = with_triples (members_at k.rooms at.context) xs w.edits in
     elim c.match-on_triples.branch [
       | in-Ok b ↦
-          (let heard = hears_triples k.rooms at.context at.room k.flows c.on_triples.new.self xs ys w.edits (λ x y u v. c.nothing_is_held_twice.ensures.room k.rooms x y u v c.gateways_are_sound.ensures.sound) (λ x y u v. c.nothing_is_held_twice.ensures.seat k.rooms x y u v c.gateways_are_sound.ensures.sound) c.in_ok-at.ensures.value.1 matched c.self.invariant.members c.on_triples.ensures.others
+          (let heard = hears_triples k.rooms at.context at.room k.flows c.on_triples.new.self xs ys w.edits c.self.invariant.sound.one_room c.self.invariant.sound.one_seat c.in_ok-at.ensures.value.1 matched c.self.invariant.members c.on_triples.ensures.others
           (λ t l same together. b.in-Ok.ensures.hears t l same together ∙ ap (λ (zs : List Triple). hears_after zs t.seat l.seat (hears k.flows t l)) c.as_slice-2.ensures.value) stands.hears in
           ok_is _ c.match-on_triples.result _ at.context (record w { edits = es }) b.result-is (done_triples k w c.args.target xs at.context stands c.in_ok-at.ensures.value.0 checked) (words_stand k c.on_triples.new.self w es stands heard))
       | in-Err b ↦ absurd (absurd_overlap ys none (c.overlap_is_a_common_seat.ensures.any ys) (subst (λ (zs : List Triple). Any Overlaps zs) c.as_slice-2.ensures.value (b.in-Err.ensures.overlap.0 refl)))

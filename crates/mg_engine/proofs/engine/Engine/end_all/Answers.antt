@@ -10,23 +10,23 @@ pub end_slots-requires : goal.end_slots-requires
 end_slots-requires c =
     let w = c.self.inside.rooms in
     let slots = c.as_slice.result.now in
-    let sound = c.gateways_are_sound.ensures.sound in
+    let sound = c.self.invariant.sound in
     let held = c.as_slice.ensures.value ∙ c.self.invariant.held in
     let limit = ap (λ (l : Limits). l.slots) c.self.invariant.limits in
     record {
-      slots = held_below w slots held (length c.self.inside.media.items) (λ i d lt. c.each_is_found.ensures.number w i d sound lt)
-          (λ n r found. let (number, is) = c.what_is_found_is_within_limits.ensures.termination w n r sound found in omega (arith, is.slot, limit, c.self.invariant.media));
-      apart = held_apart w slots held (λ i d lt. c.each_is_found.ensures.number w i d sound lt) (λ a b r s first second same. c.nothing_is_held_twice.ensures.slot w a b r s sound first second same) sound.terminations.one_number;
+      slots = held_below w slots held (length c.self.inside.media.items) sound.by_number
+          (λ n r found. let (number, is) = sound.termination n r found in omega (arith, is.slot, limit, c.self.invariant.media));
+      apart = held_apart w slots held sound.by_number sound.one_slot sound.consistent.terminations.one_number;
     }
 
 pub returns-clause-after : goal.returns-clause-after
 returns-clause-after c w h =
     let k : EngineState = record { config = c.self.inside.config; rooms = c.self.inside.rooms; media = c.self.inside.media.items; flows = c.self.inside.flows; sums = c.self.inside.sums; shares = c.self.inside.shares } in
-    let sound = c.gateways_are_sound.ensures.sound in
+    let sound = c.self.invariant.sound in
     let slots = c.as_slice.result.now in
     let held = c.as_slice.ensures.value ∙ c.self.invariant.held in
     let stands = subst (λ (x : EngineState). StandsFor x w) (sym c.self.view_is) h in
     let all : AreEnded k.rooms k.media c.end_slots.new.media.items = λ n r found.
     let at = held_at k.rooms slots held n r found in
     subst (λ (s : ℕ). IsEnded k.rooms k.media c.end_slots.new.media.items s) at.is (c.end_slots.ensures.each at.at at.within) in
-    ended_stands k w c.end_slots.new.media.items (λ n r found. c.each_is_found.ensures.by_slot k.rooms n r sound found) all stands
+    ended_stands k w c.end_slots.new.media.items sound.holder all stands

@@ -7,4 +7,4 @@ pub returns-clause-told : goal.returns-clause-told
 returns-clause-told c w h =
     let k : EngineState = record { config = c.self.inside.config; rooms = c.self.inside.rooms; media = c.self.inside.media.items; flows = c.self.inside.flows; sums = c.self.inside.sums; shares = c.self.inside.shares } in
     let stands = subst (λ (x : EngineState). StandsFor x w) (sym c.self.view_is) h in
-    tells k w (λ x y u v. c.nothing_is_held_twice.ensures.room k.rooms x y u v c.gateways_are_sound.ensures.sound) c.self.invariant.members stands (λ x y u v. c.nothing_is_held_twice.ensures.seat k.rooms x y u v c.gateways_are_sound.ensures.sound)
+    tells k w c.self.invariant.sound.one_room c.self.invariant.members stands c.self.invariant.sound.one_seat

@@ -1,6 +1,10 @@
-use Rattle.std.proofs.Common.{sym, subst, ◌∙◌}
+use Rattle.std.proofs.Common.{sym, ap, subst, ◌∙◌}
+use Rattle.mg_flow.specs.declared.place.Place.{Place}
+use Rattle.mg_flow.specs.Table as table
+use Rattle.mg_engine.specs.Place.{member_place}
 use Rattle.mg_engine.specs.Stands.{EngineState, StandsFor}
 use Rattle.mg_engine.proofs.FlowLaws.{hears_places}
+use Rattle.mg_engine.proofs.PlaceLaws.{on_its_place}
 use Rattle.mg_engine.proofs.engine.Engine.hears.Goals as goal
 
 pub returns-in-Some-Some : goal.returns-in-Some-Some
@@ -8,6 +12,10 @@ returns-in-Some-Some c = record {
   value = λ w h.
       let k : EngineState = record { config = c.self.inside.config; rooms = c.self.inside.rooms; media = c.self.inside.media.items; flows = c.self.inside.flows; sums = c.self.inside.sums; shares = c.self.inside.shares } in
       let stands = subst (λ (x : EngineState). StandsFor x w) (sym c.self.view_is) h in
+      let t = c.in-Some-Some.speaking in
+      let l = c.in-Some-Some.hearing in
       c.hears.ensures.kept
-      ∙ hears_places k w (λ x y u v. c.nothing_is_held_twice.ensures.room k.rooms x y u v c.gateways_are_sound.ensures.sound) c.self.invariant.members stands c.args.talker c.args.listener c.in-Some-Some.field-0-0-0 c.in-Some-Some.field-0-0-1 c.in-Some-Some.from c.in-Some-Some.to c.in-Some-Some.ensures.some.0 c.in-Some-Some.ensures'.some.0;
+      ∙ ap (λ (p : Place). table.hears k.flows p c.member_place-to.result) c.member_place-from.ensures.value
+      ∙ ap (table.hears k.flows (member_place t)) c.member_place-to.ensures.value
+      ∙ hears_places k w c.self.invariant.sound.one_room c.self.invariant.members stands c.args.talker c.args.listener t.record l.record (member_place t) (member_place l) (on_its_place k.rooms c.args.talker t c.in-Some-Some.ensures.some) (on_its_place k.rooms c.args.listener l c.in-Some-Some.ensures'.some);
 }

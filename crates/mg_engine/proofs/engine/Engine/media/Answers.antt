@@ -1,7 +1,5 @@
-use Rattle.std.proofs.Common.{◌<◌, length, Option, refl, sym, ap, subst, ◌∙◌, arith}
-use Rattle.mg_rooms.specs.declared.limits.Limits.{Limits}
+use Rattle.std.proofs.Common.{Option, refl, sym, ap, subst, ◌∙◌}
 use Rattle.mg_rooms.specs.declared.record.Record.{Record}
-use Rattle.mg_rooms.specs.Consistent.{IsConsistent}
 use Rattle.mg_rooms.specs.Registry as rooms
 use Rattle.mg_rtp.specs.Reading.{reading_of}
 use Rattle.mg_sums.specs.Sums.{SumsState}
@@ -27,10 +25,7 @@ returns-in-Some c = record {
       let r = c.in-Some.termination in
       let reading = reading_of c.read-packet.result in
       let brought = arrived r c.args.source.address reading in
-      let sound = subst (λ (x : EngineState). IsConsistent x.rooms) c.self.view_is c.gateways_are_sound.ensures.sound in
-      let slots = ap (λ (l : Limits). l.slots) c.self.invariant.limits in
-      let lt : r.slot < length k.media = omega (arith, c.in-Some.ensures.slot, ap (λ (x : EngineState). x.rooms.limits.slots) c.self.view_is, ap (λ (x : EngineState). length x.media) c.self.view_is, slots, c.self.invariant.media) in
-      let (now, came, stands) = took_stands k w r c.place.new.self.media brought c.place.result (λ a b x y. c.nothing_is_held_twice.ensures.slot k.rooms a b x y sound) c.in-Some.ensures.found lt c.place.ensures.taken h in
+      let (now, came, stands) = took_stands k w r c.place.new.self.media brought c.place.result c.at_port.ensures.sound.one_slot c.in-Some.ensures.found c.in-Some.ensures.slot c.place.ensures.taken h in
       let here = ap (λ (x : rooms.Registry). at_port x c.args.port) h.rooms ∙ sym c.at_port.ensures.value ∙ c.in-Some.is in (
         now,
         (reading, is_reading c.args.bytes.now c.read-packet.result c.read-packet.ensures.found c.read-packet.ensures.fault, ap (λ (o : Option Record). taken_by w o c.args.source.address reading) here ∙ came),

@@ -18,7 +18,7 @@ silenced-requires c =
     let k : EngineState = record { config = c.self.inside.config; rooms = c.self.inside.rooms; media = c.self.inside.media.items; flows = c.self.inside.flows; sums = c.self.inside.sums; shares = c.self.inside.shares } in
     let l = c.args.listener.now in
     let p = c.args.place in
-    let sound = c.gateways_are_sound.ensures.sound in
+    let sound = c.self.invariant.sound in
     let on : IsOnPlace k.rooms l.number l p = subst (λ (x : EngineState). IsOnPlace x.rooms l.number l p) (sym c.self.view_is) c.requires.place in
     (c.self.invariant.members.each l.number l p on).held
 
@@ -26,31 +26,31 @@ pub rows_on-silenced-requires-clause-slots : goal.rows_on-silenced-requires-clau
 rows_on-silenced-requires-clause-slots c seat h =
     let w = c.self.inside.rooms in
     let p = c.args.place in
-    let sound = c.gateways_are_sound.ensures.sound in
+    let sound = c.self.invariant.sound in
     let (n, r, on) = c.self.invariant.members.nobody (beside p seat) (c.silenced.ensures.held seat h) in
-    let (number, limited) = c.what_is_found_is_within_limits.ensures.termination w n r sound on.found in
-    omega (arith, c.self.invariant.seats n r (beside p seat) on, limited.slot, sound.limits.0.few_slots)
+    let (number, limited) = sound.termination n r on.found in
+    omega (arith, c.self.invariant.seats n r (beside p seat) on, limited.slot, sound.consistent.limits.0.few_slots)
 
 pub mix-requires : goal.mix-requires
 mix-requires c =
     let k : EngineState = record { config = c.self.inside.config; rooms = c.self.inside.rooms; media = c.self.inside.media.items; flows = c.self.inside.flows; sums = c.self.inside.sums; shares = c.self.inside.shares } in
     let l = c.args.listener.now in
     let p = c.args.place in
-    let sound = c.gateways_are_sound.ensures.sound in
+    let sound = c.self.invariant.sound in
     let on : IsOnPlace k.rooms l.number l p = subst (λ (x : EngineState). IsOnPlace x.rooms l.number l p) (sym c.self.view_is) c.requires.place in
     let mask = c.silenced.result.now in
     let (y, context, is) = seats_there l.seat (context_at k.rooms l.context) p on.place in
     let own = c.own_row.ensures.value in
     let rows = c.as_slice.ensures.value ∙ c.rows_on-silenced.ensures.value in
     let out = left_out k c.self.inside.seating l p y mask sound c.self.invariant.members c.self.invariant.joined c.self.invariant.seats
-    (λ i d lt. c.each_is_found.ensures.number k.rooms i d sound lt)
-    (λ n r found. c.members_are_those_in_the_context.ensures.there k.rooms n r sound found)
-    (λ a b x z first second same. c.nothing_is_held_twice.ensures.room k.rooms a b x z sound first second same)
-    (λ a b x z first second same there. c.nothing_is_held_twice.ensures.seat k.rooms a b x z sound first second same there)
-    (λ n r found. (c.what_is_found_is_within_limits.ensures.termination k.rooms n r sound found).1.seat)
-    (λ i d lt. let (number, limited) = c.what_is_found_is_within_limits.ensures.termination k.rooms (get_or k.rooms.terminations i d).number (get_or k.rooms.terminations i d) sound (c.each_is_found.ensures.number k.rooms i d sound lt) in omega (arith, limited.slot, sound.limits.0.few_slots))
+    sound.by_number
+    sound.there
+    sound.one_room
+    sound.one_seat
+    (λ n r found. (sound.termination n r found).1.seat)
+    (λ i d lt. let (number, limited) = sound.termination (get_or k.rooms.terminations i d).number (get_or k.rooms.terminations i d) (sound.by_number i d lt) in omega (arith, limited.slot, sound.consistent.limits.0.few_slots))
     c.sums_are_valid.ensures.valid.rooms
-    (λ a b x z first second same. c.nothing_is_held_twice.ensures.slot k.rooms a b x z sound first second same)
+    sound.one_slot
     context is on c.requires.listens c.silenced.ensures.kept c.silenced.ensures.held in
     record {
       rows = subst (λ (room : ℕ). AreOfRoom k.sums.rooms room (left_out_by c.own_row.result c.as_slice.result.now)) (sym c.new.ensures)
@@ -63,31 +63,31 @@ returns-clause-value c =
     let k : EngineState = record { config = c.self.inside.config; rooms = c.self.inside.rooms; media = c.self.inside.media.items; flows = c.self.inside.flows; sums = c.self.inside.sums; shares = c.self.inside.shares } in
     let l = c.args.listener.now in
     let p = c.args.place in
-    let sound = c.gateways_are_sound.ensures.sound in
+    let sound = c.self.invariant.sound in
     let on : IsOnPlace k.rooms l.number l p = subst (λ (x : EngineState). IsOnPlace x.rooms l.number l p) (sym c.self.view_is) c.requires.place in
     let mask = c.silenced.result.now in
     let (y, context, is) = seats_there l.seat (context_at k.rooms l.context) p on.place in
     let own = c.own_row.ensures.value in
     let rows = c.as_slice.ensures.value ∙ c.rows_on-silenced.ensures.value in
     let out = left_out k c.self.inside.seating l p y mask sound c.self.invariant.members c.self.invariant.joined c.self.invariant.seats
-    (λ i d lt. c.each_is_found.ensures.number k.rooms i d sound lt)
-    (λ n r found. c.members_are_those_in_the_context.ensures.there k.rooms n r sound found)
-    (λ a b x z first second same. c.nothing_is_held_twice.ensures.room k.rooms a b x z sound first second same)
-    (λ a b x z first second same there. c.nothing_is_held_twice.ensures.seat k.rooms a b x z sound first second same there)
-    (λ n r found. (c.what_is_found_is_within_limits.ensures.termination k.rooms n r sound found).1.seat)
-    (λ i d lt. let (number, limited) = c.what_is_found_is_within_limits.ensures.termination k.rooms (get_or k.rooms.terminations i d).number (get_or k.rooms.terminations i d) sound (c.each_is_found.ensures.number k.rooms i d sound lt) in omega (arith, limited.slot, sound.limits.0.few_slots))
+    sound.by_number
+    sound.there
+    sound.one_room
+    sound.one_seat
+    (λ n r found. (sound.termination n r found).1.seat)
+    (λ i d lt. let (number, limited) = sound.termination (get_or k.rooms.terminations i d).number (get_or k.rooms.terminations i d) (sound.by_number i d lt) in omega (arith, limited.slot, sound.consistent.limits.0.few_slots))
     c.sums_are_valid.ensures.valid.rooms
-    (λ a b x z first second same. c.nothing_is_held_twice.ensures.slot k.rooms a b x z sound first second same)
+    sound.one_slot
     context is on c.requires.listens c.silenced.ensures.kept c.silenced.ensures.held in
     let mixed = mix_is k c.self.inside.seating l p y mask sound c.self.invariant.members c.self.invariant.joined c.self.invariant.seats
-    (λ i d lt. c.each_is_found.ensures.number k.rooms i d sound lt)
-    (λ n r found. c.members_are_those_in_the_context.ensures.there k.rooms n r sound found)
-    (λ a b x z first second same. c.nothing_is_held_twice.ensures.room k.rooms a b x z sound first second same)
-    (λ a b x z first second same there. c.nothing_is_held_twice.ensures.seat k.rooms a b x z sound first second same there)
-    (λ n r found. (c.what_is_found_is_within_limits.ensures.termination k.rooms n r sound found).1.seat)
-    (λ i d lt. let (number, limited) = c.what_is_found_is_within_limits.ensures.termination k.rooms (get_or k.rooms.terminations i d).number (get_or k.rooms.terminations i d) sound (c.each_is_found.ensures.number k.rooms i d sound lt) in omega (arith, limited.slot, sound.limits.0.few_slots))
+    sound.by_number
+    sound.there
+    sound.one_room
+    sound.one_seat
+    (λ n r found. (sound.termination n r found).1.seat)
+    (λ i d lt. let (number, limited) = sound.termination (get_or k.rooms.terminations i d).number (get_or k.rooms.terminations i d) (sound.by_number i d lt) in omega (arith, limited.slot, sound.consistent.limits.0.few_slots))
     c.sums_are_valid.ensures.valid.rooms
-    (λ a b x z first second same. c.nothing_is_held_twice.ensures.slot k.rooms a b x z sound first second same)
+    sound.one_slot
     context is on c.requires.listens c.silenced.ensures.kept c.silenced.ensures.held (λ i. c.total_is_left_out_and_heard.ensures k.sums p.room i _ out) in
     let law = c.args.law in
     c.mix.ensures.mix
@@ -102,21 +102,21 @@ returns-clause-work c =
     let k : EngineState = record { config = c.self.inside.config; rooms = c.self.inside.rooms; media = c.self.inside.media.items; flows = c.self.inside.flows; sums = c.self.inside.sums; shares = c.self.inside.shares } in
     let l = c.args.listener.now in
     let p = c.args.place in
-    let sound = c.gateways_are_sound.ensures.sound in
+    let sound = c.self.invariant.sound in
     let on : IsOnPlace k.rooms l.number l p = subst (λ (x : EngineState). IsOnPlace x.rooms l.number l p) (sym c.self.view_is) c.requires.place in
     let mask = c.silenced.result.now in
     let (y, context, is) = seats_there l.seat (context_at k.rooms l.context) p on.place in
     let own = c.own_row.ensures.value in
     let rows = c.as_slice.ensures.value ∙ c.rows_on-silenced.ensures.value in
     let many = how_many k c.self.inside.seating l p y mask sound c.self.invariant.members c.self.invariant.joined c.self.invariant.seats
-    (λ i d lt. c.each_is_found.ensures.number k.rooms i d sound lt)
-    (λ n r found. c.members_are_those_in_the_context.ensures.there k.rooms n r sound found)
-    (λ a b x z first second same. c.nothing_is_held_twice.ensures.room k.rooms a b x z sound first second same)
-    (λ a b x z first second same there. c.nothing_is_held_twice.ensures.seat k.rooms a b x z sound first second same there)
-    (λ n r found. (c.what_is_found_is_within_limits.ensures.termination k.rooms n r sound found).1.seat)
-    (λ i d lt. let (number, limited) = c.what_is_found_is_within_limits.ensures.termination k.rooms (get_or k.rooms.terminations i d).number (get_or k.rooms.terminations i d) sound (c.each_is_found.ensures.number k.rooms i d sound lt) in omega (arith, limited.slot, sound.limits.0.few_slots))
+    sound.by_number
+    sound.there
+    sound.one_room
+    sound.one_seat
+    (λ n r found. (sound.termination n r found).1.seat)
+    (λ i d lt. let (number, limited) = sound.termination (get_or k.rooms.terminations i d).number (get_or k.rooms.terminations i d) (sound.by_number i d lt) in omega (arith, limited.slot, sound.consistent.limits.0.few_slots))
     c.sums_are_valid.ensures.valid.rooms
-    (λ a b x z first second same. c.nothing_is_held_twice.ensures.slot k.rooms a b x z sound first second same)
+    sound.one_slot
     context is on c.requires.listens c.silenced.ensures.kept c.silenced.ensures.held in
     let count = ap (λ (xs : List ℕ). length xs) rows ∙ many ∙ ap (λ (x : EngineState). silenced_now x l) c.self.view_is in
     let old = ap (λ (x : EngineState). x.sums.work) c.self.view_is in

@@ -9,6 +9,7 @@ use Rattle.mg_engine.proofs.engine.Engine.new.Goals as goal
 
 pub invariant_of-result : goal.invariant_of-result
 invariant_of-result c = record {
+  sound = c.in_ok-rooms.ensures.sound;
   limits = ap (λ (w : rooms.Registry). w.limits) c.in_ok-rooms.ensures.start ∙ c.limits.ensures.value;
   ports = c.in_ok-ports.ensures.value ∙ c.limits-2.ensures.value;
   media = ap length c.in_ok-media.ensures.value ∙ length-replicate _ _;

@@ -11,14 +11,14 @@ pub play_slots-requires : goal.play_slots-requires
 play_slots-requires c =
     let w = c.self.inside.rooms in
     let slots = c.as_slice.result.now in
-    let sound = c.gateways_are_sound.ensures.sound in
+    let sound = c.self.invariant.sound in
     let held = c.as_slice.ensures.value ∙ c.self.invariant.held in
     let limit = ap (λ (l : Limits). l.slots) c.self.invariant.limits in
     record {
-      slots = held_below w slots held (length c.self.inside.media.items) (λ i d lt. c.each_is_found.ensures.number w i d sound lt)
-          (λ n r found. let (number, is) = c.what_is_found_is_within_limits.ensures.termination w n r sound found in omega (arith, is.slot, limit, c.self.invariant.media));
-      few = omega (arith, limit, c.self.invariant.media, sound.limits.0.few_slots);
-      apart = held_apart w slots held (λ i d lt. c.each_is_found.ensures.number w i d sound lt) (λ a b r s first second same. c.nothing_is_held_twice.ensures.slot w a b r s sound first second same) sound.terminations.one_number;
+      slots = held_below w slots held (length c.self.inside.media.items) sound.by_number
+          (λ n r found. let (number, is) = sound.termination n r found in omega (arith, is.slot, limit, c.self.invariant.media));
+      few = omega (arith, limit, c.self.invariant.media, sound.consistent.limits.0.few_slots);
+      apart = held_apart w slots held sound.by_number sound.one_slot sound.consistent.terminations.one_number;
     }
 
 pub returns-clause-after : goal.returns-clause-after

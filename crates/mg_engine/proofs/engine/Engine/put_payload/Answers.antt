@@ -41,7 +41,7 @@ returns-in-None-clause-put c =
     let l = c.args.sender.now in
     let w = c.self.inside.rooms in
     let found = ap (λ (x : EngineState). record_at x.rooms l.number) c.self.view_is ∙ c.requires.member in
-    let there = c.members_are_those_in_the_context.ensures.there w l.number l c.gateways_are_sound.ensures.sound found in
+    let there = c.self.invariant.sound.there l.number l found in
     absurd (somewhere l.seat (context_at w l.context) there (sym c.place_of.ensures.value ∙ c.in-None.is))
 
 pub returns-in-None-clause-shared : goal.returns-in-None-clause-shared

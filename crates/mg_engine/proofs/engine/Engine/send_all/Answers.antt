@@ -10,10 +10,10 @@ use Rattle.mg_engine.proofs.engine.Engine.send_all.Goals as goal
 pub returns-clause-sent : goal.returns-clause-sent
 returns-clause-sent c w old h =
     let k : EngineState = record { config = c.self.inside.config; rooms = c.self.inside.rooms; media = c.self.inside.media.items; flows = c.self.inside.flows; sums = c.self.inside.sums; shares = c.self.inside.shares } in
-    let sound = c.gateways_are_sound.ensures.sound in
+    let sound = c.self.invariant.sound in
     let stands = subst (λ (x : EngineState). StandsFor x w) (sym c.self.view_is) h in
     c.fill.ensures.value
-    ∙ sym (packets_are k w ((λ x y u v. c.nothing_is_held_twice.ensures.room k.rooms x y u v sound), (λ n r found. c.members_are_those_in_the_context.ensures.there k.rooms n r sound found)) c.self.invariant.members (λ i d lt. c.each_is_found.ensures.number k.rooms i d sound lt) old stands)
+    ∙ sym (packets_are k w (sound.one_room, sound.there) c.self.invariant.members sound.by_number old stands)
 
 pub returns-clause-after : goal.returns-clause-after
 returns-clause-after c w h =
@@ -24,9 +24,9 @@ returns-clause-after c w h =
 pub returns-clause-work : goal.returns-clause-work
 returns-clause-work c w h =
     let k : EngineState = record { config = c.self.inside.config; rooms = c.self.inside.rooms; media = c.self.inside.media.items; flows = c.self.inside.flows; sums = c.self.inside.sums; shares = c.self.inside.shares } in
-    let sound = c.gateways_are_sound.ensures.sound in
+    let sound = c.self.invariant.sound in
     let stands = subst (λ (x : EngineState). StandsFor x w) (sym c.self.view_is) h in
-    let most = all_work_is k w (λ x y u v. c.nothing_is_held_twice.ensures.room k.rooms x y u v sound) (λ x y u v. c.nothing_is_held_twice.ensures.seat k.rooms x y u v sound) (λ n r found. c.members_are_those_in_the_context.ensures.there k.rooms n r sound found) (λ i d lt. c.each_is_found.ensures.number k.rooms i d sound lt) c.self.invariant.members stands in
+    let most = all_work_is k w sound.one_room sound.one_seat sound.there sound.by_number c.self.invariant.members stands in
     let old = ap (λ (x : EngineState). x.sums.work) c.self.view_is in
     subst (λ (n : ℕ). RisesAtMost (sum_by (sending_work w) w.rooms.terminations) n c.fill.new.engine.sums.work) old
     (subst (λ (m : ℕ). RisesAtMost m k.sums.work c.fill.new.engine.sums.work) (sym most) c.fill.ensures.work)

@@ -1,16 +1,25 @@
-use Rattle.mg_rooms.specs.Outcome.{add}
-use Rattle.mg_rooms.proofs.RoomsLaws.{gives_sound, gives_lasts}
-use Rattle.mg_rooms.proofs.LastLaws.{add_lasts}
-use Rattle.mg_rooms.proofs.ConsistentLaws.{add_sound}
+use Rattle.std.proofs.Common.{sym, subst}
+use Rattle.mg_rooms.specs.Sound.{IsSound}
+use Rattle.mg_rooms.proofs.SoundLaws.{sound_if, add_leaves, made_as}
 use Rattle.mg_rooms.proofs.rooms.Rooms.add.Goals as goal
 
-pub invariant_of-self : goal.invariant_of-self
-invariant_of-self c =
-    gives_sound c.self.inside.tables c.add.new.self c.add.result (add c.self.inside.tables c.args.target c.args.settings.now) c.self.invariant
-    (λ after d h. add_sound c.self.inside.tables after c.args.target c.args.settings.now d c.self.invariant h) c.add.ensures.outcome
+pub returns-in_err-made-clause-sound : goal.returns-in_err-made-clause-sound
+returns-in_err-made-clause-sound c = subst IsSound (sym c.in_err-made.ensures.outcome.1) (sound_if c.self.inside.tables c.self.invariant)
+
+pub member_of-requires : goal.member_of-requires
+member_of-requires c = record { there = (add_leaves c.self.inside.tables c.add.new.self c.args.target c.args.settings.now c.in_ok-made.made c.self.invariant c.in_ok-made.ensures.outcome).there }
+
+pub invariant_of-self-2 : goal.invariant_of-self-2
+invariant_of-self-2 c = (add_leaves c.self.inside.tables c.add.new.self c.args.target c.args.settings.now c.in_ok-made.made c.self.invariant c.in_ok-made.ensures.outcome).sound.consistent
+
+pub returns-clause-sound : goal.returns-clause-sound
+returns-clause-sound c = (add_leaves c.self.inside.tables c.add.new.self c.args.target c.args.settings.now c.in_ok-made.made c.self.invariant c.in_ok-made.ensures.outcome).sound
+
+pub returns-clause-member : goal.returns-clause-member
+returns-clause-member c = made_as c.add.new.self c.in_ok-made.made c.member_of.result (add_leaves c.self.inside.tables c.add.new.self c.args.target c.args.settings.now c.in_ok-made.made c.self.invariant c.in_ok-made.ensures.outcome).own c.member_of.ensures.termination c.member_of.ensures.room
 
 pub returns-clause-lasts : goal.returns-clause-lasts
-returns-clause-lasts c =
-    rw (← c.self.view_is)
-    (gives_lasts c.self.inside.tables c.add.new.self c.add.result (add c.self.inside.tables c.args.target c.args.settings.now)
-    (λ after d h. (add_lasts c.self.inside.tables after c.args.target c.args.settings.now d c.self.invariant h).0) c.add.ensures.outcome)
+returns-clause-lasts c = rw (← c.self.view_is) (add_leaves c.self.inside.tables c.add.new.self c.args.target c.args.settings.now c.in_ok-made.made c.self.invariant c.in_ok-made.ensures.outcome).lasts
+
+pub returns-clause-others : goal.returns-clause-others
+returns-clause-others c = rw (← c.self.view_is, c.member_of.ensures.termination) (add_leaves c.self.inside.tables c.add.new.self c.args.target c.args.settings.now c.in_ok-made.made c.self.invariant c.in_ok-made.ensures.outcome).others

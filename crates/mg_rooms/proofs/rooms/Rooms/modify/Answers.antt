@@ -1,16 +1,25 @@
-use Rattle.mg_rooms.specs.Outcome.{modify}
-use Rattle.mg_rooms.proofs.RoomsLaws.{gives_sound, gives_lasts}
-use Rattle.mg_rooms.proofs.LastLaws.{modify_lasts}
-use Rattle.mg_rooms.proofs.ConsistentLaws.{modify_sound}
+use Rattle.std.proofs.Common.{sym, subst}
+use Rattle.mg_rooms.specs.Sound.{IsSound}
+use Rattle.mg_rooms.proofs.SoundLaws.{sound_if, modify_leaves, there_as}
 use Rattle.mg_rooms.proofs.rooms.Rooms.modify.Goals as goal
 
-pub invariant_of-self : goal.invariant_of-self
-invariant_of-self c =
-    gives_sound c.self.inside.tables c.modify.new.self c.modify.result (modify c.self.inside.tables c.args.target c.args.number c.args.settings.now) c.self.invariant
-    (λ after d h. modify_sound c.self.inside.tables after c.args.target c.args.number c.args.settings.now d c.self.invariant h) c.modify.ensures.outcome
+pub returns-in_err-changed-clause-sound : goal.returns-in_err-changed-clause-sound
+returns-in_err-changed-clause-sound c = subst IsSound (sym c.in_err-changed.ensures.outcome.1) (sound_if c.self.inside.tables c.self.invariant)
+
+pub member_of-requires : goal.member_of-requires
+member_of-requires c = record { there = (modify_leaves c.self.inside.tables c.modify.new.self c.args.target c.args.number c.args.settings.now c.in_ok-changed.changed c.self.invariant c.in_ok-changed.ensures.outcome).there }
+
+pub invariant_of-self-2 : goal.invariant_of-self-2
+invariant_of-self-2 c = (modify_leaves c.self.inside.tables c.modify.new.self c.args.target c.args.number c.args.settings.now c.in_ok-changed.changed c.self.invariant c.in_ok-changed.ensures.outcome).sound.consistent
+
+pub returns-clause-sound : goal.returns-clause-sound
+returns-clause-sound c = (modify_leaves c.self.inside.tables c.modify.new.self c.args.target c.args.number c.args.settings.now c.in_ok-changed.changed c.self.invariant c.in_ok-changed.ensures.outcome).sound
+
+pub returns-clause-member : goal.returns-clause-member
+returns-clause-member c = there_as c.modify.new.self c.args.number c.in_ok-changed.changed c.member_of.result (modify_leaves c.self.inside.tables c.modify.new.self c.args.target c.args.number c.args.settings.now c.in_ok-changed.changed c.self.invariant c.in_ok-changed.ensures.outcome).own c.member_of.ensures.termination c.member_of.ensures.room
 
 pub returns-clause-lasts : goal.returns-clause-lasts
-returns-clause-lasts c =
-    rw (← c.self.view_is)
-    (gives_lasts c.self.inside.tables c.modify.new.self c.modify.result (modify c.self.inside.tables c.args.target c.args.number c.args.settings.now)
-    (λ after d h. (modify_lasts c.self.inside.tables after c.args.target c.args.number c.args.settings.now d c.self.invariant h).0) c.modify.ensures.outcome)
+returns-clause-lasts c = rw (← c.self.view_is) (modify_leaves c.self.inside.tables c.modify.new.self c.args.target c.args.number c.args.settings.now c.in_ok-changed.changed c.self.invariant c.in_ok-changed.ensures.outcome).lasts
+
+pub returns-clause-others : goal.returns-clause-others
+returns-clause-others c = rw (← c.self.view_is, c.member_of.ensures.termination) (modify_leaves c.self.inside.tables c.modify.new.self c.args.target c.args.number c.args.settings.now c.in_ok-changed.changed c.self.invariant c.in_ok-changed.ensures.outcome).others

@@ -1,16 +1,18 @@
-use Rattle.mg_rooms.specs.Outcome.{subtract}
-use Rattle.mg_rooms.proofs.RoomsLaws.{gives_sound, gives_lasts}
-use Rattle.mg_rooms.proofs.LastLaws.{subtract_lasts}
-use Rattle.mg_rooms.proofs.ConsistentLaws.{subtract_sound}
+use Rattle.std.proofs.Common.{sym}
+use Rattle.mg_rooms.proofs.SoundLaws.{sound_if, subtract_ends}
 use Rattle.mg_rooms.proofs.rooms.Rooms.subtract.Goals as goal
 
+pub returns-in_err-old-clause-sound : goal.returns-in_err-old-clause-sound
+returns-in_err-old-clause-sound c = rw (← c.self.view_is) (sound_if c.self.inside.tables c.self.invariant)
+
 pub invariant_of-self : goal.invariant_of-self
-invariant_of-self c =
-    gives_sound c.self.inside.tables c.subtract.new.self c.subtract.result (subtract c.self.inside.tables c.args.target c.args.number) c.self.invariant
-    (λ after d h. subtract_sound c.self.inside.tables after c.args.target c.args.number d c.self.invariant h) c.subtract.ensures.outcome
+invariant_of-self c = (subtract_ends c.self.inside.tables c.end.new.self c.args.target c.args.number c.in_ok-old.old c.self.invariant (sym c.in_ok-old.ensures.value) (rw c.member_of-gone.ensures.termination at c.end.ensures.value)).sound.consistent
+
+pub returns-clause-sound : goal.returns-clause-sound
+returns-clause-sound c = (subtract_ends c.self.inside.tables c.end.new.self c.args.target c.args.number c.in_ok-old.old c.self.invariant (sym c.in_ok-old.ensures.value) (rw c.member_of-gone.ensures.termination at c.end.ensures.value)).sound
 
 pub returns-clause-lasts : goal.returns-clause-lasts
-returns-clause-lasts c =
-    rw (← c.self.view_is)
-    (gives_lasts c.self.inside.tables c.subtract.new.self c.subtract.result (subtract c.self.inside.tables c.args.target c.args.number)
-    (λ after d h. (subtract_lasts c.self.inside.tables after c.args.target c.args.number d c.self.invariant h).0) c.subtract.ensures.outcome)
+returns-clause-lasts c = rw (← c.self.view_is) (subtract_ends c.self.inside.tables c.end.new.self c.args.target c.args.number c.in_ok-old.old c.self.invariant (sym c.in_ok-old.ensures.value) (rw c.member_of-gone.ensures.termination at c.end.ensures.value)).lasts
+
+pub returns-clause-others : goal.returns-clause-others
+returns-clause-others c = rw (← c.self.view_is, c.member_of-gone.ensures.termination) (subtract_ends c.self.inside.tables c.end.new.self c.args.target c.args.number c.in_ok-old.old c.self.invariant (sym c.in_ok-old.ensures.value) (rw c.member_of-gone.ensures.termination at c.end.ensures.value)).others

@@ -14,12 +14,12 @@ pub returns-in-Some : goal.returns-in-Some
 returns-in-Some c = record {
   value =
       let found = rw c.deref.ensures.value at c.in-Some.ensures.value in
-      rw (← c.self.view_is) (ap (with_terminations (world_of c.self.inside)) (removed_is c.self.inside.slots.items c.args.number c.in-Some.slot found));
+      rw (← c.self.view_is) (ap (with_terminations (world_of c.self.inside)) (removed_is c.self.inside.slots.items c.args.old.number c.in-Some.slot found));
 }
 
 pub returns-in_default : goal.returns-in_default
 returns-in_default c = record {
   value =
       let found = rw c.deref.ensures.value at c.in_default.ensures.value in
-      rw (← c.self.view_is) (unchanged_termination c.self.inside c.args.number (λ _. None) found);
+      rw (← c.self.view_is) (unchanged_termination c.self.inside c.args.old.number (λ _. None) found);
 }

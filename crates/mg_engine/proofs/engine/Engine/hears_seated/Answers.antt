@@ -1,0 +1,22 @@
+use Rattle.std.proofs.Common.{sym, ap, subst, ◌∙◌}
+use Rattle.mg_flow.specs.declared.place.Place.{Place}
+use Rattle.mg_flow.specs.Table as table
+use Rattle.mg_engine.specs.Place.{IsOnSeat, seated_place}
+use Rattle.mg_engine.specs.Stands.{EngineState, StandsFor}
+use Rattle.mg_engine.proofs.FlowLaws.{hears_places}
+use Rattle.mg_engine.proofs.engine.Engine.hears_seated.Goals as goal
+
+pub returns : goal.returns
+returns c = record {
+  value = λ w h.
+      let k : EngineState = record { config = c.self.inside.config; rooms = c.self.inside.rooms; media = c.self.inside.media.items; flows = c.self.inside.flows; sums = c.self.inside.sums; shares = c.self.inside.shares } in
+      let stands = subst (λ (x : EngineState). StandsFor x w) (sym c.self.view_is) h in
+      let t = c.args.talker in
+      let l = c.args.listener in
+      let (a, first) = subst (λ (x : EngineState). IsOnSeat x.rooms t) (sym c.self.view_is) c.requires.talker in
+      let (b, second) = subst (λ (x : EngineState). IsOnSeat x.rooms l) (sym c.self.view_is) c.requires.listener in
+      c.hears.ensures.kept
+      ∙ ap (λ (p : Place). table.hears k.flows p c.place-to.result) c.place-from.ensures.value
+      ∙ ap (table.hears k.flows (seated_place t)) c.place-to.ensures.value
+      ∙ hears_places k w c.self.invariant.sound.one_room c.self.invariant.members stands t.number l.number a b (seated_place t) (seated_place l) first second;
+}

@@ -1,0 +1,11 @@
+use Rattle.std.proofs.Common.{◌≡◌, ℕ, ◌<◌, ◌&&◌, ◌==◌, true, get_or, take, length}
+use Rattle.std.specs.List.{list_any}
+use Rattle.mg_words.specs.declared.limits.TheConstants.{MEMBERS}
+use Rattle.mg_rooms.specs.aids.Order.{passes_at}
+use Rattle.mg_rooms.proofs.entries.held_seats.Given as goal
+
+abbrev pub invariant-loop-entry : goal.invariant-loop-entry
+invariant-loop-entry l = record {
+  long : length l.held ≡ MEMBERS;
+  held : (seat : ℕ) → seat < MEMBERS → get_or l.held seat true ≡ list_any (passes_at (λ r. (r.context == l.context) && (r.seat == seat))) (take l.entry-index l.slots);
+}

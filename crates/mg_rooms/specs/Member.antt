@@ -1,0 +1,10 @@
+-- A termination with the room of its context (this project's own).
+use Rattle.std.specs.Prelude.{◌≡◌, ℕ, Some}
+use Rattle.std.specs.Option.{option_map}
+use Rattle.mg_rooms.specs.declared.member.Member.{Member}
+use Rattle.mg_rooms.specs.Registry.{Registry, record_at, context_at}
+
+-- the termination n is there as this member: with its record, in the room of its context
+pub record IsThereAs (w : Registry) (n : ℕ) (m : Member) : Type 0 where
+  pub found : record_at w n ≡ Some m.record
+  pub room : option_map (λ x. x.room) (context_at w m.record.context) ≡ Some m.room

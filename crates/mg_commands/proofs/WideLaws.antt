@@ -37,7 +37,8 @@ use Rattle.mg_rooms.specs.Registry.{members_at}
 use Rattle.mg_text.specs.declared.context_property.ContextProperty.{ContextProperty}
 use Rattle.mg_text.specs.declared.command.Command.{Command}
 use Rattle.mg_text.specs.declared.request.Action.{Action}
-use Rattle.mg_text.specs.Proper.{action_is_proper}
+use Rattle.mg_text.specs.declared.request.Request.{Request}
+use Rattle.mg_text.specs.Proper.{action_is_proper, request_is_proper}
 use Rattle.mg_commands.specs.declared.command_parameters.CommandParameters.{CommandParameters}
 use Rattle.mg_commands.specs.declared.name.Name.{Name}
 use Rattle.mg_commands.specs.declared.name.Name.TheVariants as names
@@ -46,7 +47,6 @@ use Rattle.mg_commands.specs.Name.{name_of, written_as, written_name}
 use Rattle.mg_commands.specs.ContextProperties.{is_context_audit, action_fault, triples_of, pair_item, audit_pair, audit_pairs, audit_items, context_outcome}
 use Rattle.mg_commands.specs.Outcome.{CommandOutcome, Trial, check_new_name, number_in, in_same_world, outcome, trial_of, reply_parts, served_at, made_at}
 use Rattle.mg_commands.specs.ReplyDescriptors.{descriptors_after, descriptors_before}
-use Rattle.mg_commands.specs.Theorems.{ItemsAreWide, ItemsAreWhole}
 use Rattle.mg_commands.specs.Transaction.{ActionState, TransactionState, after_outcome, with_name, with_names, with_trial, with_command, unless_optional, go_on, with_commands, action_start, end_of_action, after_properties, after_commands, refusal, action_unless, with_action, go_on_after_action, with_actions, replied}
 
 -- ## Texts
@@ -278,7 +278,7 @@ unfolding with_actions
 actions_wide source [] s wide = wide
 actions_wide source (a ∷ xs) s wide = rest_of_holds (λ (s : TransactionState). AreWide s.items) (with_actions source xs) (with_action source a s) (with_action_wide source a s wide) (actions_wide source xs)
 
-pub items_are_wide : ItemsAreWide
+pub items_are_wide : (source : List ℕ) (request : Request) (w : Gateway) → request_is_proper source request ≡ true → list_all is_wide (replied source request w).items ≡ true
 items_are_wide source request w proper = actions_wide source request.actions (record { gateway = w; items = [] }) refl
 
 -- ## The last item
@@ -324,7 +324,8 @@ or_true : (a b : Bool) → b ≡ true → (a || b) ≡ true
 or_true true b h = refl
 or_true false b h = h
 
-pub items_are_whole : ItemsAreWhole
+pub items_are_whole : (source : List ℕ) (request : Request) (w : Gateway) → request_is_proper source request ≡ true
+    → (is_refusal (replied source request w).items || last_is_action false (replied source request w).items) ≡ true
 items_are_whole source request w proper =
     let two = and_parts (not (length request.actions == 0)) (list_all (action_is_proper source) request.actions) proper in
     or_true (is_refusal (replied source request w).items) (last_is_action false (replied source request w).items) (some_actions_last source request.actions (record { gateway = w; items = [] }) two.0)

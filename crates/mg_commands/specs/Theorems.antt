@@ -1,19 +1,12 @@
--- What holds of each transaction: a reply is too long by its text alone, and what is refused
--- changes nothing.
-use Rattle.std.specs.Prelude.{◌≡◌, ℕ, ◌||◌, true, false, List, [], ◌∷◌, ◌++◌, Some, None, Err}
-use Rattle.std.specs.List.{list_all}
+-- What holds of each transaction: what is refused changes nothing.
+use Rattle.std.specs.Prelude.{◌≡◌, ℕ, true, false, List, [], ◌∷◌, ◌++◌, Some, None, Err}
 use Rattle.mg_scan.specs.Span.{text_of}
 use Rattle.mg_words.specs.declared.command_word.CommandWord.{CommandWord}
 use Rattle.mg_words.specs.declared.error_number.ErrorNumber.{ErrorNumber}
 use Rattle.mg_reply.specs.declared.item.Item.TheVariants as replies
 use Rattle.mg_reply.specs.declared.outcome.Outcome.TheVariants.{Failed}
-use Rattle.mg_reply.specs.Reply.{is_refusal, last_is_action}
-use Rattle.mg_reply.specs.Theorems.{is_wide}
-use Rattle.mg_engine.specs.Gateway.{Gateway}
 use Rattle.mg_text.specs.declared.command.Command.{Command}
 use Rattle.mg_text.specs.declared.request.Action.{Action}
-use Rattle.mg_text.specs.declared.request.Request.{Request}
-use Rattle.mg_text.specs.Proper.{request_is_proper}
 use Rattle.mg_commands.specs.declared.command_parameters.CommandParameters.{CommandParameters}
 use Rattle.mg_commands.specs.declared.name.Name.{Name}
 use Rattle.mg_commands.specs.Name.{written_as, written_name}
@@ -21,22 +14,7 @@ use Rattle.mg_commands.specs.ContextProperties.{action_fault, context_outcome}
 use Rattle.mg_commands.specs.Outcome.{outcome, trial_of}
 use Rattle.mg_commands.specs.Transaction.{ActionState, TransactionState, action_start, id_of}
 use Rattle.mg_commands.specs.Transaction.{with_name, with_names, with_command, with_commands}
-use Rattle.mg_commands.specs.Transaction.{with_action, replied}
-
--- ## Items
-
--- each has at least 10 bytes with its comma
-abbrev pub ItemsAreWide : Type 0
-ItemsAreWide =
-    (source : List ℕ) (request : Request) (w : Gateway) → request_is_proper source request ≡ true
-    → list_all is_wide (replied source request w).items ≡ true
-
--- the last ends an action
-abbrev pub ItemsAreWhole : Type 0
-ItemsAreWhole =
-    (source : List ℕ) (request : Request) (w : Gateway) → request_is_proper source request ≡ true
-    → (is_refusal (replied source request w).items
-    || last_is_action false (replied source request w).items) ≡ true
+use Rattle.mg_commands.specs.Transaction.{with_action}
 
 -- ## Refusals
 

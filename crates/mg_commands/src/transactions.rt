@@ -1,7 +1,9 @@
-ghost use Rattle.std.specs.Prelude.{◌≡◌, ◌⊎◌, ◌<◌, length, map, true, None};
+ghost use Rattle.std.specs.Prelude.{◌≡◌, ◌⊎◌, ◌||◌, ◌<◌, length, map, true, false, None};
 ghost use Rattle.std.specs.List.{list_all};
 ghost use Rattle.mg_words.specs.Leads.{Leads};
-ghost use Rattle.mg_reply.specs.Reply.{Answered, IsWhole, new_reply, after_put, after_all};
+ghost use Rattle.mg_reply.specs.Reply.{Answered, IsWhole, new_reply, after_put, after_all, is_refusal, last_is_action};
+ghost use Rattle.mg_reply.specs.Theorems.{is_wide};
+ghost use Rattle.mg_engine.specs.Gateway.{Gateway};
 ghost use Rattle.mg_engine.specs.Stands.{StandsFor};
 ghost use Rattle.mg_scan.specs.Span.{text_of};
 ghost use Rattle.mg_text.specs.Proper.{command_is_proper, action_is_proper, request_is_proper};
@@ -244,6 +246,12 @@ pub fn transaction(engine: &mut Engine, source: &[u8], request: &Request, reply:
     ensures ran { Leads StandsFor engine.old engine.new (λ w next. ((replied source.now request.now w).gateway ≡ next)
         × (reply.new ≡ after_all (new_reply request.now.number) (replied source.now request.now w).items)) }
     ensures whole { IsWhole reply.new }
+
+    // Each item has at least 10 bytes with its comma, and the last ends an action. So a reply is too long by the
+    // length of its text alone, whether or not each item found room.
+    ensures wide { (w : Gateway) → list_all is_wide (replied source.now request.now w).items ≡ true }
+    ensures ended { (w : Gateway) → (is_refusal (replied source.now request.now w).items
+        || last_is_action false (replied source.now request.now w).items) ≡ true }
 {
     reply.start(request.number);
     try_actions(engine, source, request.actions.as_slice(), reply);

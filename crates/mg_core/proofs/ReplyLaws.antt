@@ -11,7 +11,7 @@ use Rattle.mg_text.specs.declared.body.MessageItem.TheVariants as items
 use Rattle.mg_scan.specs.Span.{text_of}
 use Rattle.mg_text.specs.declared.message.Message.{Message}
 use Rattle.mg_text.specs.Message.{items_of, requests_in}
-use Rattle.mg_text.specs.Proper.{are_proper, item_is_proper, request_is_proper}
+use Rattle.mg_text.specs.Proper.{are_proper, item_is_proper}
 use Rattle.mg_reply.specs.declared.item.Item.TheVariants.{Fault}
 use Rattle.mg_words.specs.declared.error_number.ErrorNumber.TheVariants.{ReplyTooLong}
 use Rattle.mg_words.specs.ErrorNumber.{error_row, error_text}
@@ -25,7 +25,6 @@ use Rattle.mg_reply.specs.Reply.{marked as marked_long}
 use Rattle.mg_text.specs.declared.body.Range.{Range}
 use Rattle.mg_text.specs.declared.request.Request.{Request}
 use Rattle.mg_kept.specs.KeptReplies.{KeptReply, kept_text, with_reply, without_range}
-use Rattle.mg_commands.specs.Theorems.{ItemsAreWide, ItemsAreWhole}
 use Rattle.mg_commands.specs.Transaction.{replied}
 use Rattle.mg_engine.specs.Gateway.{Gateway}
 use Rattle.mg_words.specs.Leads.{Leads}
@@ -97,15 +96,15 @@ put_is_sent alone there n xs wide whole =
     (alone n xs wide whole) refl (there n xs)
 
 -- a request that was run, and whose reply was written and kept
-pub request_run : TextAlone → AllThere → ItemsAreWide → ItemsAreWhole → (source sender : List ℕ) (request : Request) (old new : CoreState) (reply : Answered) (before text : List ℕ)
-    → new.counts ≡ old.counts → request_is_proper source request ≡ true
+pub request_run : TextAlone → AllThere → (source sender : List ℕ) (request : Request) (old new : CoreState) (reply : Answered) (before text : List ℕ)
+    → ((w : Gateway) → list_all is_wide (replied source request w).items ≡ true) → ((w : Gateway) → (is_refusal (replied source request w).items || last_is_action false (replied source request w).items) ≡ true) → new.counts ≡ old.counts
     → Leads engine_stands.StandsFor old.engine new.engine (λ w next. ((replied source request w).gateway ≡ next) × (reply ≡ after_all (new_reply request.number) (replied source request w).items))
     → new.kept ≡ with_reply (record { sender = sender; number = request.number; text = put_text reply }) old.kept
     → text ≡ before ++ put_text reply → Puts old new before text (λ w. run_and_kept sender request.number w (replied source request w.gateway))
-request_run alone there wide whole source sender request old new reply before text same proper ran keeps is w h =
+request_run alone there source sender request old new reply before text wide whole same ran keeps is w h =
     let (next, came, stands) = ran w.gateway h.gateway in
     let xs = (replied source request w.gateway).items in
-    let sent : put_text reply ≡ sent_text request.number xs = ap put_text came.1 ∙ put_is_sent alone there request.number xs (wide source request w.gateway proper) (whole source request w.gateway proper) in
+    let sent : put_text reply ≡ sent_text request.number xs = ap put_text came.1 ∙ put_is_sent alone there request.number xs (wide w.gateway) (whole w.gateway) in
     let kept = λ (l : List ℕ). let r : KeptReply = record { sender = sender; number = request.number; text = l } in r in
     let text_is = sent_text request.number xs in (
       record w { gateway = next; replies = with_reply (kept text_is) w.replies },

@@ -11,7 +11,6 @@ ghost use Rattle.mg_core.specs.Answer.{has_requests, item_replied, mark_after, r
 ghost use Rattle.mg_core.specs.aids.Steps.{Puts, put_text, refusal_of};
 
 use crate::state::CoreState;
-use mg_commands::laws::items_are_wide_and_whole;
 use mg_commands::{Kept, transaction};
 use mg_engine::Config;
 use mg_reply::theorems::too_long_by_text_alone;
@@ -101,7 +100,6 @@ fn run_request(
 {
     let start = answer.as_slice().len();
     transaction(&mut state.engine, source, request, reply);
-    items_are_wide_and_whole();
     too_long_by_text_alone();
     put_reply(reply, answer);
     let (_, text) = answer.as_slice().split_at(start);

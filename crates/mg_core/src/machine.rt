@@ -4,6 +4,8 @@ ghost use Rattle.mg_engine.specs.Flow.{flow};
 ghost use Rattle.mg_engine.specs.Mix.{total_at};
 ghost use Rattle.mg_engine.specs.Gateway.{stats_of};
 ghost use Rattle.mg_engine.specs.Work.{RisesAtMost, tick_work};
+ghost use Rattle.mg_scan.specs.Span.{text_of};
+ghost use Rattle.mg_words.specs.Limits.{sender_limit};
 ghost use Rattle.mg_text.specs.Message.{IsMessage, items_of};
 ghost use Rattle.mg_text.specs.Proper.{are_proper};
 ghost use Rattle.mg_core.specs.declared.event.Event.TheVariants as events;
@@ -21,7 +23,6 @@ use crate::state::CoreState;
 use mg_commands::Kept;
 use mg_engine::{Config, Datagram, Engine, Outbox, Peer, Rooms, StartFault, Stats, Taken};
 use mg_rooms::TERMINATIONS;
-use mg_text::laws::senders_are_short;
 use mg_text::{Bytes, ErrorNumber, Message, Reply, read, write_head};
 use std::alloc::Global;
 use std::marker::Model;
@@ -108,6 +109,7 @@ impl Core {
     fn reply_to(&mut self, source: &[u8], message: &Message) -> Answer
         requires message { IsMessage source.now message.now }
         requires proper { are_proper source.now (items_of message.now.body) ≡ true }
+        requires sender { length (text_of source.now message.now.sender) ≤ sender_limit }
         requires empty { self.old.answer ≡ [] }
         ensures replied { Leads StandsFor self.old.state self.new.state (λ w next.
             to_message source.now message.now w ≡ (told result self.new.answer, next)) }
@@ -115,7 +117,6 @@ impl Core {
         ensures outbox { self.new.outbox ≡ self.old.outbox }
         ensures short { length self.new.answer ≤ ANSWER_LIMIT }
     {
-        senders_are_short();
         let items = items_of(&message.body);
         let config = *self.state.engine.config();
         write_head(config.address, config.control_port, &mut self.answer);

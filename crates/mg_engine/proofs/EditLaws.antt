@@ -8,6 +8,7 @@ use Rattle.std.proofs.lemmas.List.{length-map, map-append, get_or-set_same, get_
 use Rattle.mg_playout.specs.Playout.{PlayList}
 use Rattle.mg_rooms.specs.declared.limits.Limits.{Limits}
 use Rattle.mg_words.specs.declared.limits.TheConstants.{TERMINATIONS}
+use Rattle.mg_words.specs.Limits.{termination_limit}
 use Rattle.mg_rooms.specs.declared.record.Record.{Record}
 use Rattle.mg_rooms.specs.declared.settings.Settings.{Settings}
 use Rattle.mg_rooms.specs.Changes.{change}
@@ -78,10 +79,11 @@ room_left config old new d pool kept held flows seating rows h a sound =
     omega (arith, sound.few, more_terminations old new d a, some, sound.consistent.limits.0.few_slots)
 
 pub whole_added : (config : Config) (old new : rooms.Registry) (d : Record) (pool : Limits) (kept after : List media.SlotMedia) (held now : List ℕ) (before flows : List flow.Room) (seating seated : List ℕ) (rows joined : List (Option ℕ)) → IsWhole config old pool kept held before seating rows → (a : Adds old new d) → IsSound new
-    → length after ≡ length kept → now ≡ held ++ d.slot ∷ [] → HasMembers new flows → AreSeated new seated → length seated ≡ length seating → AreJoined new joined → IsWhole config new pool after now flows seated joined
-whole_added config old new d pool kept after held now before flows seating seated rows joined h a sound same pushed members seats long at_rooms =
+    → length after ≡ length kept → now ≡ held ++ d.slot ∷ [] → HasMembers new flows → AreSeated new seated → length seated ≡ length seating → AreJoined new joined → length joined ≡ termination_limit → IsWhole config new pool after now flows seated joined
+whole_added config old new d pool kept after held now before flows seating seated rows joined h a sound same pushed members seats long at_rooms limited =
     record {
       sound = sound;
+      row_count = limited;
       joined = at_rooms;
       members = members;
       seats = seats;
@@ -194,9 +196,10 @@ kept_by f k new n d a same =
     ∙ mapped_kept (λ x. x.number) f n (λ _. Some d) k.rooms.terminations a.was (ap (λ (b : _). b ∷ []) same) a.there
 
 pub whole_changed : (k : EngineState) (new : rooms.Registry) (n : ℕ) (d : Record) (pool : Limits) (after : List media.SlotMedia) (held : List ℕ) (flows : List flow.Room) (seating seated : List ℕ) (joined : List (Option ℕ)) → IsWhole k.config k.rooms pool k.media held k.flows seating k.sums.rooms → Changes k.rooms new n d → IsSound new → length after ≡ length k.media
-    → HasMembers new flows → AreSeated new seated → length seated ≡ length seating → AreJoined new joined → IsWhole k.config new pool after held flows seated joined
-whole_changed k new n d pool after held flows seating seated joined h a sound same members seats long at_rooms = record {
+    → HasMembers new flows → AreSeated new seated → length seated ≡ length seating → AreJoined new joined → length joined ≡ termination_limit → IsWhole k.config new pool after held flows seated joined
+whole_changed k new n d pool after held flows seating seated joined h a sound same members seats long at_rooms limited = record {
   sound = sound;
+  row_count = limited;
   joined = at_rooms;
   members = members;
   seats = seats;
@@ -260,9 +263,10 @@ left_terminations : (k : EngineState) (new : rooms.Registry) (n : ℕ) (d : Reco
 left_terminations k new n d a = a.terminations ∙ ap (λ (m : ℕ). change (λ x. x.number) m (λ _. None) k.rooms.terminations) (removed_at k new n d a)
 
 pub whole_removed : (k : EngineState) (new : rooms.Registry) (n : ℕ) (d : Record) (pool : Limits) (held now : List ℕ) (flows : List flow.Room) (seating : List ℕ) (joined : List (Option ℕ)) → IsWhole k.config k.rooms pool k.media held k.flows seating k.sums.rooms → (a : Removes k.rooms new n d) → IsSound k.rooms → IsSound new → now ≡ filter (λ s. not (eqb s d.slot)) held
-    → HasMembers new flows → AreSeated new seating → AreJoined new joined → IsWhole k.config new pool k.media now flows seating joined
-whole_removed k new n d pool held now flows seating joined h a sound after left members seats at_rooms = record {
+    → HasMembers new flows → AreSeated new seating → AreJoined new joined → length joined ≡ termination_limit → IsWhole k.config new pool k.media now flows seating joined
+whole_removed k new n d pool held now flows seating joined h a sound after left members seats at_rooms limited = record {
   sound = after;
+  row_count = limited;
   joined = at_rooms;
   members = members;
   seats = seats;

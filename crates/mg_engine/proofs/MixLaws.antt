@@ -19,7 +19,7 @@ use Rattle.mg_rooms.specs.Registry.{record_at, context_at}
 use Rattle.mg_flow.specs.declared.place.Place.{Place}
 use Rattle.mg_flow.specs.Place.{beside}
 use Rattle.mg_flow.specs.Table as flow
-use Rattle.mg_sums.specs.Sums.{AreOfRoom, sample_in, is_joined, total_of, heard_of, left_out_by, mix_of}
+use Rattle.mg_sums.specs.Sums.{SumsState, AreOfRoom, sample_in, is_joined, total_of, heard_of, left_out_by, mix_of}
 use Rattle.mg_sums.specs.Samples.{sum_of, nearest_sample}
 use Rattle.mg_engine.proofs.PlainSums.{sum_of-cons, sum_of-map, sum_of-nil, sum_of-none, sum_of-plus, sum_of-same}
 use Rattle.mg_engine.specs.Place.{place_of, IsOnPlace}
@@ -108,6 +108,10 @@ same_number : (m n : ℕ) → pos m ≡ pos n → m ≡ n
 same_number m n e = cc e
 
 -- ## A listener's mix
+
+-- a total is the sum over the rows that are left out, and what is heard without them
+abbrev pub IsLeftAndHeard : SumsState → ℕ → List ℕ → Type 0
+IsLeftAndHeard kept room out = (i : ℕ) → total_of kept room i ≡ sum_of (sample_in kept.frames i) out +ℤ heard_of kept room out i
 
 module _ (k : EngineState) (seating : List ℕ) (l : Record) (p : Place) (y : Context) (mask : ℕ) (sound : IsSound k.rooms) (members : HasMembers k.rooms k.flows) (joined : AreJoined k.rooms k.sums.rooms) (seats : AreSeated k.rooms seating)
     (by_number : ByNumber k.rooms) (there : HaveContexts k.rooms) (one_room : OneRoom k.rooms) (one_seat : OneSeat k.rooms) (within : SeatWithin k.rooms) (spots : Spots k.rooms) (long : length k.sums.rooms ≡ termination_limit)
@@ -297,7 +301,7 @@ module _ (k : EngineState) (seating : List ℕ) (l : Record) (p : Place) (y : Co
   same_rest a b c d e f = omega (arith, ints, e, f)
 
   -- what is left of the total is what the listener hears
-  pub mix_is : ((i : ℕ) → total_of k.sums p.room i ≡ sum_of (sample_in k.sums.frames i) (left_out_by base minus) +ℤ heard_of k.sums p.room (left_out_by base minus) i)
+  pub mix_is : IsLeftAndHeard k.sums p.room (left_out_by base minus)
       → mix_of k.sums p.room (left_out_by base minus) ≡ map (λ i. nearest_sample (heard_now k l i)) (range_with_len 0 160)
   unfolding mix_of
   mix_is law = map_agree (λ i. nearest_sample (heard_of k.sums p.room (left_out_by base minus) i)) (λ i. nearest_sample (heard_now k l i)) (range_with_len 0 160) (λ i.

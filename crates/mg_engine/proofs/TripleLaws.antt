@@ -1,5 +1,5 @@
 -- Triples by the seats of the members that their terms match.
-use Rattle.std.proofs.Common.{◌≡◌, ℕ, ◌+◌, ◌<◌, ◌≤◌, eqb, ◌&&◌, ◌||◌, Bool, true, false, cond, List, [], ◌∷◌, ◌++◌, ◌==◌, length, get_or, take, drop, Option, Some, None, Result, Ok, Err, refl, sym, ap, subst, ◌∙◌}
+use Rattle.std.proofs.Common.{◌≡◌, ℕ, zero, suc, ◌+◌, ◌<◌, ◌≤◌, eqb, ◌&&◌, ◌||◌, Bool, true, false, cond, List, [], ◌∷◌, ◌++◌, ◌==◌, length, get_or, take, drop, Option, Some, None, Result, Ok, Err, refl, sym, ap, subst, ◌∙◌, arith}
 use Rattle.std.specs.Prelude.{IsTrue, ◌↔◌, Any}
 use Rattle.std.specs.List.{list_any}
 use Rattle.std.specs.Cmp.{both_ways}
@@ -36,7 +36,7 @@ use Rattle.mg_engine.specs.declared.topology_triple.TopologyTriple.{TopologyTrip
 use Rattle.mg_engine.specs.Triples as terms
 use Rattle.mg_engine.specs.Triples.{with_triples, matched, is_barred, names_others, check_triple, check_triples}
 use Rattle.mg_engine.specs.aids.Triples.{IsRoomOf, IsSeated, Matches, IsMatched, AreMatched}
-use Rattle.mg_engine.proofs.MemberLaws.{Hears, seats_differ, neither, unequal}
+use Rattle.mg_engine.proofs.MemberLaws.{Hears, seats_differ, unequal}
 use Rattle.mg_engine.proofs.PlaceLaws.{HaveContexts, OneSeat, OneRoom, at, on_place, one_record, in_one_room, both}
 
 abbrev pub AreMembers : Registry → ℕ → Type 0
@@ -193,13 +193,12 @@ matched_to w c members xs ys i x d y lt is h m =
     let all = matched_push w c members (take i xs) ys (get_or xs i d) y h (subst (λ (z : TopologyTriple). IsMatched w c members z y) is m) in
     subst (λ (zs : List TopologyTriple). AreMatched w c members zs (ys ++ y ∷ [])) (sym (take_more xs i d lt)) all
 
-none_first : (y : Triple) (ys : List Triple) (b : Bool) → (b || list_any overlaps ys) ≡ false → (list_any overlaps ys ≡ false → list_any overlaps (ys ++ y ∷ []) ≡ false) → (b || list_any overlaps (ys ++ y ∷ [])) ≡ false
-none_first y ys true h rest = absurd (cc h)
-none_first y ys false h rest = rest h
-
-pub none_overlaps : (ys : List Triple) (y : Triple) → list_any overlaps ys ≡ false → overlaps y ≡ false → list_any overlaps (ys ++ y ∷ []) ≡ false
-none_overlaps [] y h k = rw k refl
-none_overlaps (a ∷ ys) y h k = none_first y ys (overlaps a) h (λ rest. none_overlaps ys y rest k)
+pub none_overlaps : (ys : List Triple) (y : Triple) → ¬ Any Overlaps ys → ¬ Overlaps y → ¬ Any Overlaps (ys ++ y ∷ [])
+none_overlaps [] y none apart (zero, x, lt, is, overlap) = apart (subst Overlaps (sym is) overlap)
+none_overlaps [] y none apart (suc i, x, lt, is, overlap) = absurd (omega (arith, lt))
+none_overlaps (a ∷ ys) y none apart (zero, x, lt, is, overlap) = none (0, x, omega arith, is, overlap)
+none_overlaps (a ∷ ys) y none apart (suc i, x, lt, is, overlap) =
+    none_overlaps ys y (λ some. let (j, z, less, at, o) = some in none (suc j, z, omega (arith, less), at, o)) apart (i, x, omega (arith, lt), is, overlap)
 
 -- ## What triples change
 
@@ -320,6 +319,3 @@ words_stand k flows w es h hears = record {
   media = h.media;
   hears = hears;
 }
-
-pub absurd_overlap : (ys : List Triple) → list_any overlaps ys ≡ false → (IsTrue (list_any overlaps ys) ↔ Any Overlaps ys) → Any Overlaps ys → ⊥
-absurd_overlap ys none law some = neither (sym (law.1 some) ∙ none)

@@ -56,9 +56,7 @@ use mg_g711::{Law, encode_frame};
 use mg_rooms::{ErrorNumber, MEMBERS, Record, Rooms, Settings, TERMINATIONS, Target};
 use mg_rtp::{Packet, RtpFault, read};
 use mg_sdp::Chosen;
-use mg_sums::laws::{first_rows_are_silent, sums_are_valid, total_is_left_out_and_heard};
 use mg_sums::{Room, Row, Sums};
-use mg_topology::laws::overlap_is_a_common_seat;
 use mg_topology::{Overlap, mask};
 use mg_words::{SAMPLES, Stats};
 use std::alloc::{AllocError, Global};
@@ -124,7 +122,6 @@ impl Engine {
         let media = idle_media(alloc, config.slots)?;
         let flows = FlowTable::new(alloc)?;
         let seating = Seating::new(alloc)?;
-        first_rows_are_silent();
         let sums = Sums::new(alloc)?;
         let shares = Shares::new(alloc)?;
         Ok(Engine {
@@ -167,7 +164,6 @@ impl Engine {
         ensures value { result.now ≡ self.now.sums }
         ensures told { (w : Gateway) → StandsFor self.now w → TellsTotals w result.now }
     {
-        sums_are_valid(&self.sums);
         &self.sums
     }
 
@@ -216,7 +212,6 @@ impl Engine {
         ensures work { RisesAtMost 4 self.old.sums.work self.new.sums.work }
     {
         let made = self.rooms.add(target, settings)?;
-        sums_are_valid(&self.sums);
         let slot = made.record.slot;
         begin(&mut self.media, &mut self.sums, slot, &self.config);
         tune(&mut self.media, slot, settings.depth);
@@ -286,7 +281,6 @@ impl Engine {
         ensures refused { OnErr result (self.new ≡ self.old) }
         ensures work { RisesAtMost 4 self.old.sums.work self.new.sums.work }
     {
-        overlap_is_a_common_seat();
         let at = topology_room(&self.rooms, target)?;
         let by_seats = triples_of(&self.rooms, &self.flows, at, triples.as_slice())?;
         match self.flows.on_triples(at.room, by_seats.as_slice()) {
@@ -404,7 +398,6 @@ impl Engine {
     pub fn total(&self, context: u32, i: usize) -> Option<i32>
         ensures value { (w : Gateway) → StandsFor self.now w → result ≡ total_at w context i }
     {
-        sums_are_valid(&self.sums);
         if i >= SAMPLES {
             return None;
         }
@@ -581,8 +574,6 @@ impl Engine {
         ensures same { self.new ≡ with_mixes self.old self.new.sums.work self.old.shares }
         ensures work { RisesAtMost (1 + silenced_now self.old listener.now) self.old.sums.work self.new.sums.work }
     {
-        sums_are_valid(&self.sums);
-        total_is_left_out_and_heard();
         let silenced = rows_on(&self.seating, place.room, *self.flows.silenced(place));
         self.sums.mix(
             Room::new(place.room),
@@ -620,7 +611,6 @@ fn play(media: &mut Vec<Media>, sums: &mut Sums, slot: u8)
     ensures rooms { sums.new.rooms ≡ sums.old.rooms }
     ensures work { RisesAtMost 2 sums.old.work sums.new.work }
 {
-    sums_are_valid(sums);
     let row = Row::new(slot);
     let frame = media[usize::from(slot)].play();
     if frame.is_none() && sums.is_silent(row) {
@@ -722,6 +712,7 @@ fn begin(media: &mut Vec<Media>, sums: &mut Sums, slot: u8, config: &Config)
     ensures begun { media.new.items ≡ slice_set media.old.items slot (begun config.now) }
     ensures silent { sums.new.frames ≡ slice_set sums.old.frames slot silence }
     ensures joined { sums.new.rooms ≡ sums.old.rooms }
+    ensures rows { length sums.old.frames ≡ termination_limit }
     ensures work { RisesAtMost 2 sums.old.work sums.new.work }
 {
     media[usize::from(slot)].begin(config.timestamp, config.sequence);

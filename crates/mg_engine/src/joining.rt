@@ -1,13 +1,12 @@
 //! Which rows are joined to the rooms of contexts: those of the members who talk.
 
-ghost use Rattle.std.specs.Prelude.{◌≡◌, ◌<◌, ◌↔◌, IsTrue, None, Some};
+ghost use Rattle.std.specs.Prelude.{◌≡◌, ◌<◌, ◌↔◌, IsTrue, None, Some, length};
 ghost use Rattle.mg_words.specs.Limits.{context_limit, termination_limit};
 ghost use Rattle.mg_sums.specs.Sums.{room_of};
 ghost use Rattle.mg_engine.specs.Work.{RisesAtMost};
 ghost use Rattle.mg_engine.specs.aids.Joined.{SetsRow, room_for};
 
 use mg_rooms::{Mode, mode_talks};
-use mg_sums::laws::sums_are_valid;
 use mg_sums::{Room, Row, Sums};
 
 /// The room that the row of one who is in a room with a mode is joined to: that one, if it talks.
@@ -36,10 +35,10 @@ fn is_same(a: Option<Room>, b: Option<Room>) -> bool
 /// A row is joined to no room from then on.
 pub fn part(sums: &mut Sums, row: Row)
     ensures rooms { SetsRow sums.old.rooms sums.new.rooms row None }
+    ensures rows { length sums.new.rooms ≡ termination_limit }
     ensures frames { sums.new.frames ≡ sums.old.frames }
     ensures work { RisesAtMost 1 sums.old.work sums.new.work }
 {
-    sums_are_valid(sums);
     if let Some(room) = sums.room(row) {
         sums.leave(room, row);
     }
@@ -48,11 +47,12 @@ pub fn part(sums: &mut Sums, row: Row)
 /// A row that is joined to none is joined to a room from then on, if there is one.
 fn join(sums: &mut Sums, row: Row, room: Option<Room>)
     requires free { room_of sums.old row ≡ None }
+    requires rows { length sums.old.rooms ≡ termination_limit }
     ensures rooms { SetsRow sums.old.rooms sums.new.rooms row room }
+    ensures rows { length sums.new.rooms ≡ termination_limit }
     ensures frames { sums.new.frames ≡ sums.old.frames }
     ensures work { RisesAtMost 1 sums.old.work sums.new.work }
 {
-    sums_are_valid(sums);
     if let Some(room) = room {
         sums.join(room, row);
     }
@@ -62,6 +62,7 @@ fn join(sums: &mut Sums, row: Row, room: Option<Room>)
 pub fn join_if_talking(sums: &mut Sums, row: Row, room: u8, mode: Mode)
     requires room { room < context_limit }
     ensures rooms { SetsRow sums.old.rooms sums.new.rooms row (room_for mode room) }
+    ensures rows { length sums.new.rooms ≡ termination_limit }
     ensures frames { sums.new.frames ≡ sums.old.frames }
     ensures work { RisesAtMost 2 sums.old.work sums.new.work }
 {

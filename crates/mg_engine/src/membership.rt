@@ -1,6 +1,6 @@
 //! What the table of who hears whom is told of members, each by its place, and which of their rows are joined.
 
-ghost use Rattle.std.specs.Prelude.{◌≡◌, ◌<◌, IsFalse, IsTrue, slice_set};
+ghost use Rattle.std.specs.Prelude.{◌≡◌, ◌<◌, IsFalse, IsTrue, length, slice_set};
 ghost use Rattle.mg_words.specs.Limits.{termination_limit};
 ghost use Rattle.mg_flow.specs.Place.{IsWithinLimits};
 ghost use Rattle.mg_flow.specs.Table as table;
@@ -45,6 +45,7 @@ pub fn enter(flows: &mut FlowTable, seating: &mut Seating, sums: &mut Sums, memb
     ensures entered { Enters flows.old flows.new (member_place member) member.record.mode }
     ensures seated { seating.new ≡ slice_set seating.old (index_of (member_place member)) member.record.slot }
     ensures joined { SetsRow sums.old.rooms sums.new.rooms member.record.slot (room_for member.record.mode member.room) }
+    ensures rows { length sums.new.rooms ≡ termination_limit }
     ensures frames { sums.new.frames ≡ sums.old.frames }
     ensures work { RisesAtMost 2 sums.old.work sums.new.work }
 {
@@ -70,6 +71,7 @@ pub fn take_mode(flows: &mut FlowTable, sums: &mut Sums, member: Member)
     requires held { IsTrue (table.holds flows.old (member_place member)) }
     ensures taken { TakesMode flows.old flows.new (member_place member) member.record.mode }
     ensures joined { SetsRow sums.old.rooms sums.new.rooms member.record.slot (room_for member.record.mode member.room) }
+    ensures rows { length sums.new.rooms ≡ termination_limit }
     ensures frames { sums.new.frames ≡ sums.old.frames }
     ensures work { RisesAtMost 2 sums.old.work sums.new.work }
 {

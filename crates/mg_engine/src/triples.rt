@@ -1,8 +1,7 @@
 //! Triples of a topology by the seats of the members that their terms match.
 
-ghost use Rattle.std.specs.Prelude.{◌≡◌, ◌≤◌, [], ◌∷◌, length, Ok, Err, true, false, IfSome, IfNone, MatchResult, IsTrue, IsFalse};
-ghost use Rattle.std.specs.List.{list_any};
-ghost use Rattle.mg_topology.specs.Triple.{overlaps};
+ghost use Rattle.std.specs.Prelude.{Any, ◌≡◌, ◌≤◌, [], ◌∷◌, length, Ok, Err, true, false, IfSome, IfNone, MatchResult, IsTrue, IsFalse};
+ghost use Rattle.mg_topology.specs.Triple.{Overlaps};
 ghost use Rattle.mg_rooms.specs.Registry.{members_at};
 ghost use Rattle.mg_rooms.specs.Sound.{IsSound};
 ghost use Rattle.mg_engine.specs.declared.topology_triple.TheConstants.{TRIPLES};
@@ -17,7 +16,6 @@ use arrayvec::ArrayVec;
 use mg_flow::FlowTable;
 use mg_rooms::{ErrorNumber, Rooms};
 use mg_topology::Triple;
-use mg_topology::laws::{masks_are_sets, overlap_is_a_common_seat};
 use mg_topology::mask::{self, Mask};
 
 /// A context that is there, and the room of its topology.
@@ -53,8 +51,10 @@ fn seat_of(rooms: &Rooms, context: u32, number: u32) -> Option<Mask>
     }
 }
 
-/// The seats of the members that a term matches. There are none where it names something else.
+/// The seats of the members that a term matches, which may stand in a triple. There are none where it names something
+/// else.
 fn seats_of(rooms: &Rooms, flows: &FlowTable, at: TopologyRoom, term: TripleTerm) -> Option<Mask>
+    requires allowed { is_barred term ≡ false }
     requires sound { IsSound rooms.now }
     requires room { IsRoomOf rooms.now at.context at.room }
     requires members { HasMembers rooms.now flows.now }
@@ -62,12 +62,10 @@ fn seats_of(rooms: &Rooms, flows: &FlowTable, at: TopologyRoom, term: TripleTerm
         × Matches rooms.now at.context (matched (members_at rooms.now at.context) term) seats) }
     ensures none { IfNone result (names_others (members_at rooms.now at.context) term ≡ true) }
 {
-    masks_are_sets();
     match term {
         TripleTerm::Every => Some(flows.held(at.room)),
         TripleTerm::Number(number) => seat_of(rooms, at.context, number),
-        TripleTerm::Barred => Some(mask::EMPTY),
-        TripleTerm::Stranger => None,
+        TripleTerm::Barred | TripleTerm::Stranger => None,
     }
 }
 
@@ -84,10 +82,9 @@ fn triple_of(
     ensures value { MatchResult result
         (λ by_seats. (check_triple (members_at rooms.now at.context) triple.now ≡ Ok tt)
         × IsMatched rooms.now at.context (members_at rooms.now at.context) triple.now by_seats
-        × (overlaps by_seats ≡ false))
+        × ¬ Overlaps by_seats)
         (λ e. check_triple (members_at rooms.now at.context) triple.now ≡ Err e) }
 {
-    overlap_is_a_common_seat();
     if is_barred(triple.first) || is_barred(triple.second) {
         return Err(ErrorNumber::IdentifierNotAllowed);
     }
@@ -123,7 +120,7 @@ pub fn triples_of(
     ensures value { MatchResult result
         (λ by_seats. (check_triples (members_at rooms.now at.context) triples.now ≡ Ok tt)
         × AreMatched rooms.now at.context (members_at rooms.now at.context) triples.now by_seats.items
-        × (list_any overlaps by_seats.items ≡ false))
+        × ¬ Any Overlaps by_seats.items)
         (λ e. check_triples (members_at rooms.now at.context) triples.now ≡ Err e) }
 {
     let mut by_seats = ArrayVec::new();

@@ -1,4 +1,4 @@
-ghost use Rattle.std.specs.Prelude.{◌≡◌, ℕ, ◌+◌, ◌^◌, ◌<◌, ◌≤◌, ◌-ℤ◌, [], length, All, map, replicate, slice_set, Some, None, IfOk, IsTrue};
+ghost use Rattle.std.specs.Prelude.{◌≡◌, ℕ, ◌+◌, ◌*◌, ◌^◌, ◌<◌, ◌≤◌, ◌+ℤ◌, ◌-ℤ◌, [], unsigned_abs, length, All, map, replicate, slice_set, Some, None, IfOk, IsTrue};
 ghost use Rattle.std.specs.Option.{option_copied};
 ghost use Rattle.mg_words.specs.Limits.{context_limit, termination_limit};
 ghost use Rattle.mg_g711.specs.Frame.{IsFrame};
@@ -46,12 +46,14 @@ impl Model for Sums {
 }
 
 impl Sums {
-    ghost use Rattle.mg_sums.specs.Sums.{first_state, frame_of, room_of, total_of, mix_of, AreOfRoom, AreValidSums};
+    ghost use Rattle.mg_sums.specs.Sums.{first_state, frame_of, room_of, total_of, mix_of, heard_of, AreOfRoom, AreValidSums};
 
     /// Rows of silence that are joined nowhere. Fails only where memory is refused, and no other
     /// call takes any.
     pub fn new(alloc: Global) -> Result<Self, AllocError>
         ensures first { IfOk result (λ sums. sums ≡ first_state) }
+        ensures nowhere { IfOk result (λ sums. (row : ℕ) → room_of sums row ≡ None) }
+        ensures valid { IfOk result (λ sums. AreValidSums sums) }
     {
         Ok(Sums {
             frames: silent_frames(alloc)?,
@@ -67,10 +69,11 @@ impl Sums {
     /// total.
     pub fn join(&mut self, room: Room, row: Row)
         requires free { room_of self.old row ≡ None }
-        ensures { self.new ≡ record self.old {
+        ensures joined { self.new ≡ record self.old {
           rooms = slice_set self.old.rooms row (Some room);
           work = work_after 1 self.old.work;
         } }
+        ensures valid { AreValidSums self.new }
     {
         self.rooms[row.number()] = Some(room);
         let frame = &self.frames[row.number()];
@@ -80,10 +83,11 @@ impl Sums {
     /// Takes a row out of the room that it is joined to, and its frame out of the room's total.
     pub fn leave(&mut self, room: Room, row: Row)
         requires joined { room_of self.old row ≡ Some room }
-        ensures { self.new ≡ record self.old {
+        ensures left { self.new ≡ record self.old {
           rooms = slice_set self.old.rooms row None;
           work = work_after 1 self.old.work;
         } }
+        ensures valid { AreValidSums self.new }
     {
         self.rooms[row.number()] = None;
         let frame = &self.frames[row.number()];
@@ -93,10 +97,11 @@ impl Sums {
     /// Sets the frame of a row, silence for none. Where the row is joined, its old frame leaves
     /// the total and the new one comes in.
     pub fn set_frame(&mut self, row: Row, frame: Option<&Frame>)
-        ensures { self.new ≡ record self.old {
+        ensures set { self.new ≡ record self.old {
           frames = slice_set self.old.frames row (frame_or_silence (option_copied frame.entry));
           work = work_after (frame_calls (room_of self.old row)) self.old.work;
         } }
+        ensures valid { AreValidSums self.new }
     {
         let new = FrameRow::new(frame);
         if let Some(room) = self.room(row) {
@@ -107,7 +112,7 @@ impl Sums {
     }
 
     /// What is heard in a room without the base and the rows of `minus`, as the payload of a
-    /// packet.
+    /// packet: the room's total less those rows, limited once.
     ///
     /// The base is the listener's own row, or none where the listener doesn't talk, and `minus`
     /// has the rows that are silenced for it. All are joined to the room, and no two are the
@@ -116,6 +121,9 @@ impl Sums {
         requires rows { AreOfRoom self.old.rooms room (left_out_by base minus.now) }
         ensures mix { result
             ≡ map (byte_of law) (mix_of self.old room (left_out_by base minus.now)) }
+        ensures heard { (i : ℕ) → total_of self.old room i
+            ≡ sum_of (sample_in self.old.frames i) (left_out_by base minus.now)
+            +ℤ heard_of self.old room (left_out_by base minus.now) i }
         ensures kept { self.new ≡ record self.old {
           work = work_after (1 + length minus.now) self.old.work;
         } }
@@ -127,10 +135,12 @@ impl Sums {
         encode_frame(law, self.mix.frame())
     }
 
-    /// Sample `i` of a room's total, which is not limited.
+    /// Sample `i` of a room's total, which is not limited. No total is farther from zero than 128
+    /// times 32768.
     pub fn total(&self, room: Room, i: usize) -> &i32
         requires { i < 160 }
-        ensures { result.now ≡ total_of self.now room i }
+        ensures value { result.now ≡ total_of self.now room i }
+        ensures near { unsigned_abs (total_of self.now room i) ≤ termination_limit * 32768 }
     {
         self.totals[room.number()].sum(i)
     }
@@ -152,7 +162,8 @@ impl Sums {
 
     /// The room that a row is joined to, if any.
     pub fn room(&self, row: Row) -> Option<Room>
-        ensures { result ≡ room_of self.now row }
+        ensures value { result ≡ room_of self.now row }
+        ensures valid { AreValidSums self.now }
     {
         self.rooms[row.number()]
     }
@@ -162,13 +173,6 @@ impl Sums {
         ensures { result ≡ self.now.work }
     {
         self.work
-    }
-
-    /// Shows what holds of all that is kept, and does nothing.
-    pub(crate) fn know(&self)
-        ensures { AreValidSums self.now }
-    {
-        let _work = &self.work;
     }
 }
 

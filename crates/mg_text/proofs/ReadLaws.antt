@@ -1,10 +1,12 @@
 -- What the answers of reading a datagram say.
-use Rattle.std.proofs.Common.{◌≡◌, ◌≢◌, ℕ, ◌<◌, ◌≤◌, cond, ◌&&◌, Bool, true, false, eqb, List, Option, Some, None, Result, Ok, Err, refl, inl, inr, ◌⊎◌, sym, ap, subst, ◌∙◌}
+use Rattle.std.proofs.Common.{◌≡◌, ◌≢◌, ℕ, ◌<◌, ◌≤◌, cond, ◌&&◌, Bool, true, false, eqb, List, length, Option, Some, None, Result, Ok, Err, refl, inl, inr, ◌⊎◌, sym, ap, subst, ◌∙◌}
 use Rattle.std.specs.Prelude.{is_some, nat_le, IfOk}
 use Rattle.std.proofs.lemmas.Bool.{eqb-true, ne_eqb, true≢false, and_parts, leb-true, le-leb, lt-leb}
 use Rattle.std.proofs.lemmas.Bool.Decides.{leb_tells}
 use Rattle.mg_scan.specs.declared.fault.ScanFault.{ScanFault}
 use Rattle.mg_scan.specs.declared.token.Token.{Token}
+use Rattle.mg_scan.specs.Span.{text_of}
+use Rattle.mg_words.specs.Limits.{sender_limit}
 use Rattle.mg_text.specs.declared.fault.ReadFault.{ReadFault}
 use Rattle.mg_text.specs.declared.fault.ReadFault.TheVariants.{NoMemory, Syntax, Version, TooMany}
 use Rattle.mg_text.specs.declared.body.MessageItem.{MessageItem}
@@ -17,6 +19,7 @@ use Rattle.mg_text.specs.Message.{AreTokens, IsShort, IsTree, IsMessage, AsksToo
 use Rattle.mg_text.specs.Proper.{are_proper}
 use Rattle.mg_text.proofs.ProperLaws.{message_proper}
 use Rattle.mg_text.proofs.ScanLaws.{one_scan}
+use Rattle.mg_text.proofs.SenderLaws.{sender_short}
 use Rattle.mg_text.proofs.Sound.{ok_is, worded_found}
 use Rattle.mg_text.proofs.SoundItems.{text_found}
 use Rattle.mg_text.proofs.CompleteItems.{head_read, text_read}
@@ -147,6 +150,10 @@ message_is_proper : {source : List ℕ} (b : Bool) (m : Message) → IsTree sour
 message_is_proper {source} true m tree = message_proper source m.body tree.is.b tree.is.body
 message_is_proper {source} false m tree = tt
 
+message_sender : {source : List ℕ} (b : Bool) (m : Message) → IsTree source m → IfOk (on_message b m) (λ n. length (text_of source n.sender) ≤ sender_limit)
+message_sender {source} true m tree = sender_short (text_of source m.sender) tree.is.sender.named
+message_sender {source} false m tree = tt
+
 many_found : (source : List ℕ) (b : Bool) (m : Message) → is_served m ≡ b → IsTree source m → on_message b m ≡ failed TooMany → IsTooMany source
 many_found source true m is tree e = absurd cc
 many_found source false m is tree e = inr (m, tree, refused_counts (items_of m.body) is)
@@ -177,6 +184,10 @@ module _ (source : List ℕ) (ts : List Token) (f : Option ScanFault) (len : ℕ
   pub answer_proper : (r : Result Message ReadFault) → AgreesVersioned r (version_at source ts) (is_some f) (text_at source) → IfOk (answer_of len r) (λ m. are_proper source (items_of m.body) ≡ true)
   answer_proper (Ok m) g = message_is_proper (is_served m) m (is_found source ts f m short are g)
   answer_proper (Err e) g = tt
+
+  pub answer_sender : (r : Result Message ReadFault) → AgreesVersioned r (version_at source ts) (is_some f) (text_at source) → IfOk (answer_of len r) (λ m. length (text_of source m.sender) ≤ sender_limit)
+  answer_sender (Ok m) g = message_sender (is_served m) m (is_found source ts f m short are g)
+  answer_sender (Err e) g = tt
 
   pub answer_many_only : (r : Result Message ReadFault) → AgreesVersioned r (version_at source ts) (is_some f) (text_at source) → answer_of len r ≡ failed TooMany → IsTooMany source
   answer_many_only (Ok m) g e = many_found source (is_served m) m refl (is_found source ts f m short are g) e

@@ -1,10 +1,10 @@
 -- The sender of a message (RFC 3525, Annex B.2: mId, as a domain address, a domain name or a device
 -- name).
-use Rattle.std.specs.Prelude.{◌≡◌, ℕ, ◌≤◌, Bool, true, false, ◌&&◌, ◌||◌, ◌==◌, not, nat_le, List}
+use Rattle.std.specs.Prelude.{ℕ, Bool, true, false, ◌&&◌, ◌||◌, ◌==◌, not, nat_le, List}
 use Rattle.std.specs.Prelude.{[], ◌∷◌, length, Option, Some, None, is_some, if◌then◌else◌}
 use Rattle.std.specs.List.{list_all}
 use Rattle.std.specs.Char.{is_ascii_alphanumeric}
-use Rattle.mg_words.specs.Limits.{name_limit, sender_limit}
+use Rattle.mg_words.specs.Limits.{name_limit}
 use Rattle.mg_words.specs.Numbers.{port_of}
 use Rattle.mg_words.specs.Address.{address_of}
 use Rattle.mg_words.specs.Cut.{cut}
@@ -44,7 +44,3 @@ is_sender (b ∷ rest) =
     if b == 91 then is_address_host rest
     else (if b == 60 then is_domain_host rest
     else nat_le (length (b ∷ rest)) name_limit)
-
--- The longest is a domain name of 64 bytes in angle brackets, with a colon and five digits.
-abbrev pub SendersAreShort : Type 0
-SendersAreShort = (text : List ℕ) → is_sender text ≡ true → length text ≤ sender_limit

@@ -6,7 +6,6 @@ ghost use Rattle.mg_scan.specs.declared.token.Token.{Token};
 ghost use Rattle.mg_text.specs.declared.message.Message.{Message};
 ghost use Rattle.mg_text.specs.Message.{AreTokens, IsTree};
 ghost use Rattle.mg_text.specs.MessageReading.{MessageReading, IsReading};
-ghost use Rattle.mg_text.specs.Sender.{SendersAreShort};
 
 use mg_scan::Scanner;
 
@@ -38,11 +37,3 @@ pub fn one_reading(source: &[u8])
 {
     bytes_are_tokens(source);
 }
-
-/// The name of a sender has at most [`SENDER_LIMIT`] bytes.
-///
-/// [`SENDER_LIMIT`]: mg_words::SENDER_LIMIT
-#[tactic(auto, using(crate::proofs::SenderLaws::sender_short))]
-pub fn senders_are_short()
-    ensures law { SendersAreShort }
-{}

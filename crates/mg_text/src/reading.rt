@@ -1,5 +1,6 @@
 ghost use Rattle.std.specs.Prelude.{◌≡◌, ◌≢◌, ◌<◌, ◌≤◌, ◌⊎◌, ℕ, List, length, true, IfOk, Ok, Err};
-ghost use Rattle.mg_words.specs.Limits.{message_limit, request_limit, command_limit};
+ghost use Rattle.mg_words.specs.Limits.{message_limit, request_limit, command_limit, sender_limit};
+ghost use Rattle.mg_scan.specs.Span.{text_of};
 ghost use Rattle.mg_text.specs.declared.message.Message.{Message};
 ghost use Rattle.mg_text.specs.aids.Reading.{Agrees};
 ghost use Rattle.mg_text.specs.aids.Text.{version_at, sender_at, text_at, left_after, is_within, fault_within, answer_of, AgreesVersioned};
@@ -147,6 +148,7 @@ pub fn read(alloc: Global, source: &[u8]) -> Result<Message, ReadFault>
     // What is read is a message.
     ensures found { IfOk result (λ m. IsMessage source.now m) }
     ensures proper { IfOk result (λ m. are_proper source.now (items_of m.body) ≡ true) }
+    ensures sender { IfOk result (λ m. length (text_of source.now m.sender) ≤ sender_limit) }
     // Each message is read, unless memory runs out.
     ensures only { (m : Message) → IsMessage source.now m → (result ≡ Err ReadFault.NoMemory) ⊎ (result ≡ Ok m) }
 

@@ -1,4 +1,4 @@
-ghost use Rattle.std.specs.Prelude.{◌≡◌, ℕ, ◌<◌, ◌&&◌};
+ghost use Rattle.std.specs.Prelude.{◌≡◌, ℕ, ◌<◌, ◌&&◌, ◌↔◌, IsTrue};
 ghost use Rattle.mg_topology.specs.Mask.{has_seat};
 
 use crate::Association;
@@ -36,12 +36,13 @@ impl Default for Triple {
 }
 
 impl Triple {
-    ghost use Rattle.mg_topology.specs.Triple.{overlaps};
+    ghost use Rattle.mg_topology.specs.Triple.{overlaps, Overlaps};
     ghost use Rattle.mg_topology.specs.aids.Word.{word_after};
 
     /// Whether it is a Oneway triple with a seat in both of its sets, which a topology refuses.
     pub fn overlaps(&self) -> bool
-        ensures { result ≡ overlaps self.now }
+        ensures value { result ≡ overlaps self.now }
+        ensures common { IsTrue (overlaps self.now) ↔ Overlaps self.now }
     {
         match self.association {
             Association::Oneway => !mask::is_disjoint(self.first, self.second),

@@ -1,5 +1,6 @@
 -- What holds of the parts of an engine after any calls.
 use Rattle.std.specs.Prelude.{◌≡◌, ℕ, List, map, length, Option}
+use Rattle.mg_words.specs.Limits.{termination_limit}
 use Rattle.mg_rooms.specs.declared.limits.Limits.{Limits}
 use Rattle.mg_rooms.specs.Registry as rooms
 use Rattle.mg_rooms.specs.Sound.{IsSound}
@@ -13,8 +14,8 @@ use Rattle.mg_engine.specs.aids.Seating.{AreSeated, place_count}
 
 -- what is looked up of terminations and contexts is sound, all parts are made by one
 -- configuration, each slot has its media, the slots that are held are in the order of their
--- terminations' numbers, each member is on its place, and the rows of those who talk are joined to
--- their rooms
+-- terminations' numbers, each member is on its place, there is a row for each termination that there
+-- can be, and the rows of those who talk are joined to their rooms
 pub record IsWhole (config : Config) (rooms : rooms.Registry) (pool : Limits)
     (kept : List media.SlotMedia) (slots : List ℕ) (flows : List flow.Room)
     (seating : List ℕ) (rows : List (Option ℕ)) : Type 0 where
@@ -26,4 +27,5 @@ pub record IsWhole (config : Config) (rooms : rooms.Registry) (pool : Limits)
   pub members : HasMembers rooms flows
   pub seats : AreSeated rooms seating
   pub places : length seating ≡ place_count
+  pub row_count : length rows ≡ termination_limit
   pub joined : AreJoined rooms rows

@@ -17,5 +17,4 @@ returns-clause-ran c =
     let last : c.split_at.result.1.now ≡ sent = c.split_at.ensures.back ∙ ap (λ (l : List ℕ). drop (length c.as_slice-start.result.now) l) all
     ∙ ap (λ (l : List ℕ). drop (length l) (before ++ sent)) c.as_slice-start.ensures.value ∙ drop-append_seam before sent in
     let kept = c.keep.ensures.value ∙ ap (λ (l : List ℕ). with_reply (record { sender = c.args.sender.now; number = c.args.request.now.number; text = l }) c.args.state.now.kept) last in
-    request_run c.too_long_by_text_alone.ensures.law c.too_long_by_text_alone.ensures.kept c.items_are_wide_and_whole.ensures.wide c.items_are_wide_and_whole.ensures.whole
-    c.args.source.now c.args.sender.now c.args.request.now c.args.state.now state c.transaction.new.reply before c.put_reply.new.answer.text refl c.requires.proper c.transaction.ensures.ran kept text
+    request_run c.too_long_by_text_alone.ensures.law c.too_long_by_text_alone.ensures.kept c.args.source.now c.args.sender.now c.args.request.now c.args.state.now state c.transaction.new.reply before c.put_reply.new.answer.text c.transaction.ensures.wide c.transaction.ensures.ended refl c.transaction.ensures.ran kept text

@@ -2,6 +2,7 @@ use Rattle.std.proofs.Common.{sym, ◌∙◌, refl}
 use Rattle.mg_topology.specs.declared.triple.Triple.{Triple}
 use Rattle.mg_rooms.specs.Registry.{members_at}
 use Rattle.mg_engine.specs.aids.Triples.{IsMatched}
+use Rattle.mg_engine.proofs.MemberLaws.{neither}
 use Rattle.mg_engine.proofs.TripleLaws.{overlaps_are, not_barred}
 use Rattle.mg_engine.proofs.triples.triple_of.Goals as goal
 
@@ -11,13 +12,13 @@ returns-then-overlaps c =
     let x = c.args.triple.now in
     let members = members_at w c.args.at.context in
     let y : Triple = record { first = c.in-Some.first; second = c.in-Some-seats_of.second; association = x.association } in
-    let same = overlaps_are w c.args.at.context members x y (c.overlap_is_a_common_seat.ensures.one y) (record {
+    let same = overlaps_are w c.args.at.context members x y c.overlaps.ensures.common (record {
       association = refl;
       first = c.in-Some.ensures.some.1;
       second = c.in-Some-seats_of.ensures.some.1;
     }) in
     record {
-      value = not_barred members x (sym c.is_barred.ensures.value ∙ c.if-is_barred.false) (sym c.is_barred-else-is_barred.ensures.value ∙ c.if-is_barred-2.false) c.in-Some.ensures.some.0 c.in-Some-seats_of.ensures.some.0 _ (same ∙ sym c.overlaps.ensures ∙ c.if-overlaps.true);
+      value = not_barred members x (sym c.is_barred.ensures.value ∙ c.if-is_barred.false) (sym c.is_barred-else-is_barred.ensures.value ∙ c.if-is_barred-2.false) c.in-Some.ensures.some.0 c.in-Some-seats_of.ensures.some.0 _ (same ∙ sym c.overlaps.ensures.value ∙ c.if-overlaps.true);
     }
 
 pub returns : goal.returns
@@ -31,11 +32,11 @@ returns c =
       first = c.in-Some.ensures.some.1;
       second = c.in-Some-seats_of.ensures.some.1;
     } in
-    let same = overlaps_are w c.args.at.context members x y (c.overlap_is_a_common_seat.ensures.one y) is in
+    let same = overlaps_are w c.args.at.context members x y c.overlaps.ensures.common is in
     record {
       value = (
-        not_barred members x (sym c.is_barred.ensures.value ∙ c.if-is_barred.false) (sym c.is_barred-else-is_barred.ensures.value ∙ c.if-is_barred-2.false) c.in-Some.ensures.some.0 c.in-Some-seats_of.ensures.some.0 _ (same ∙ sym c.overlaps.ensures ∙ c.if-overlaps.false),
+        not_barred members x (sym c.is_barred.ensures.value ∙ c.if-is_barred.false) (sym c.is_barred-else-is_barred.ensures.value ∙ c.if-is_barred-2.false) c.in-Some.ensures.some.0 c.in-Some-seats_of.ensures.some.0 _ (same ∙ sym c.overlaps.ensures.value ∙ c.if-overlaps.false),
         is,
-        sym c.overlaps.ensures ∙ c.if-overlaps.false,
+        λ some. neither (sym (c.overlaps.ensures.common.1 some) ∙ sym c.overlaps.ensures.value ∙ c.if-overlaps.false),
       );
     }

@@ -1,7 +1,7 @@
-use Rattle.std.proofs.Common.{◌+◌, List, take, ◌∙◌, sym, ap, refl, subst, arith}
-use Rattle.std.specs.List.{list_any}
+use Rattle.std.proofs.Common.{◌+◌, List, take, sym, ap, refl, subst, arith}
+use Rattle.std.specs.Prelude.{Any}
 use Rattle.mg_topology.specs.declared.triple.Triple.{Triple}
-use Rattle.mg_topology.specs.Triple.{overlaps}
+use Rattle.mg_topology.specs.Triple.{Overlaps}
 use Rattle.mg_rooms.specs.Registry.{members_at}
 use Rattle.mg_engine.specs.aids.Triples.{AreMatched}
 use Rattle.mg_engine.proofs.TripleLaws.{checked_to, matched_to, none_overlaps}
@@ -19,6 +19,6 @@ loop-triple-preserved c =
     let (checked, matched, none) = c.in_ok-triple_of.ensures.value in record {
       checked = checked_to members xs i _ _ c.loop-triple-test.true refl before.checked checked;
       matched = subst (λ (ys : List Triple). AreMatched w at members (take (i + 1) xs) ys) (sym c.push.ensures.items) (matched_to w at members xs c.loop-triple.by_seats.items i _ _ y c.loop-triple-test.true refl before.matched matched);
-      none = ap (list_any overlaps) c.push.ensures.items ∙ none_overlaps c.loop-triple.by_seats.items y before.none none;
+      none = subst (λ (ys : List Triple). ¬ Any Overlaps ys) (sym c.push.ensures.items) (none_overlaps c.loop-triple.by_seats.items y before.none none);
       count = omega (arith, c.push.ensures.len, before.count);
     }

@@ -1,6 +1,6 @@
-use Rattle.std.proofs.Common.{◌≡◌, false, length, take, drop}
-use Rattle.std.specs.List.{list_any}
-use Rattle.mg_topology.specs.Triple.{overlaps}
+use Rattle.std.proofs.Common.{◌≡◌, length, take, drop}
+use Rattle.std.specs.Prelude.{Any}
+use Rattle.mg_topology.specs.Triple.{Overlaps}
 use Rattle.mg_rooms.specs.Registry.{members_at}
 use Rattle.mg_engine.specs.Triples.{check_triples}
 use Rattle.mg_engine.specs.aids.Triples.{AreMatched}
@@ -10,6 +10,6 @@ abbrev pub invariant-loop-triple : goal.invariant-loop-triple
 invariant-loop-triple l = record {
   checked : check_triples (members_at l.rooms l.at.context) l.triples ≡ check_triples (members_at l.rooms l.at.context) (drop l.triple-index l.triples);
   matched : AreMatched l.rooms l.at.context (members_at l.rooms l.at.context) (take l.triple-index l.triples) l.by_seats.items;
-  none : list_any overlaps l.by_seats.items ≡ false;
+  none : ¬ Any Overlaps l.by_seats.items;
   count : length l.by_seats.items ≡ l.triple-index;
 }

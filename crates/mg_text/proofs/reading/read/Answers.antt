@@ -1,5 +1,5 @@
 use Rattle.std.proofs.Common.{length, arith}
-use Rattle.mg_text.proofs.ReadLaws.{answer_found, answer_proper, answer_only, answer_many, answer_many_only, answer_version, answer_version_only, answer_syntax}
+use Rattle.mg_text.proofs.ReadLaws.{answer_found, answer_proper, answer_sender, answer_only, answer_many, answer_many_only, answer_version, answer_version_only, answer_syntax}
 use Rattle.mg_text.proofs.reading.read.Goals as goal
 
 pub returns-clause-found : goal.returns-clause-found
@@ -7,6 +7,9 @@ returns-clause-found c = rw c.answered.ensures.value (answer_found c.args.source
 
 pub returns-clause-proper : goal.returns-clause-proper
 returns-clause-proper c = rw c.answered.ensures.value (answer_proper c.args.source.now c.in_ok-tokens.tokens.items c.in_ok-tokens.fault (length c.args.source.now) (omega arith) c.in_ok-tokens.ensures c.versioned-message.result (rw (c.as_slice.ensures.value, c.is_some.ensures) at c.versioned-message.ensures))
+
+pub returns-clause-sender : goal.returns-clause-sender
+returns-clause-sender c = rw c.answered.ensures.value (answer_sender c.args.source.now c.in_ok-tokens.tokens.items c.in_ok-tokens.fault (length c.args.source.now) (omega arith) c.in_ok-tokens.ensures c.versioned-message.result (rw (c.as_slice.ensures.value, c.is_some.ensures) at c.versioned-message.ensures))
 
 pub returns-clause-only : goal.returns-clause-only
 returns-clause-only c = rw c.answered.ensures.value (answer_only c.args.source.now c.in_ok-tokens.tokens.items c.in_ok-tokens.fault (length c.args.source.now) c.in_ok-tokens.ensures c.versioned-message.result (rw (c.as_slice.ensures.value, c.is_some.ensures) at c.versioned-message.ensures))

@@ -85,7 +85,7 @@ invariant_of-self-2 c =
     let tuned = ap length c.tune.ensures.tuned ∙ length-set c.begin.new.media.items _ _ in
     let long = tuned ∙ ap length c.begin.ensures.begun ∙ length-set c.self.inside.media.items _ _ in
     whole_added c.self.inside.config old new d c.self.inside.ports c.self.inside.media.items c.tune.new.media.items c.self.inside.held.items c.push.new.self.items c.self.inside.flows c.enter.new.flows c.self.inside.seating c.enter.new.seating c.self.inside.sums.rooms c.enter.new.sums.rooms c.self.invariant a sound long c.push.ensures.items
-    members (rw put seats) (ap length put ∙ length-set c.self.inside.seating _ _) joined
+    members (rw put seats) (ap length put ∙ length-set c.self.inside.seating _ _) joined c.enter.ensures.rows
 
 pub returns-clause-outcome : goal.returns-clause-outcome
 returns-clause-outcome c w h =
@@ -106,7 +106,7 @@ returns-clause-outcome c w h =
     let is = (sound.termination n d at.found).1 in
     let slots = slots_kept k.config old new c.self.inside.ports k.media c.self.inside.held.items k.flows c.self.inside.seating c.self.inside.sums.rooms c.self.invariant a.limits in
     let lt : d.slot < length k.media = omega (arith, is.slot, slots) in
-    let in_rows : d.slot < length k.sums.frames = omega (arith, is.slot, sound.consistent.limits.0.few_slots, c.sums_are_valid.ensures.valid.frames) in
+    let in_rows : d.slot < length k.sums.frames = omega (arith, is.slot, sound.consistent.limits.0.few_slots, c.begin.ensures.rows) in
     let silent = c.enter.ensures.frames ∙ c.begin.ensures.silent in
     let others = c.in_ok-made.ensures.others.termination in
     let set_to = begun_tuned k.media c.begin.new.media.items c.tune.new.media.items d.slot (media.begun k.config) settings.depth lt c.begin.ensures.begun c.tune.ensures.tuned in

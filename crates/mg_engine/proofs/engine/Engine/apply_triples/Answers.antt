@@ -1,14 +1,13 @@
-use Rattle.std.proofs.Common.{rules, ◌≡◌, List, false, Ok, refl, sym, ap, subst, ◌∙◌}
+use Rattle.std.proofs.Common.{rules, ◌≡◌, List, Ok, refl, sym, ap, subst, ◌∙◌}
 use Rattle.std.specs.Prelude.{Any}
-use Rattle.std.specs.List.{list_any}
 use Rattle.mg_topology.specs.declared.triple.Triple.{Triple}
-use Rattle.mg_topology.specs.Triple.{Overlaps, overlaps}
+use Rattle.mg_topology.specs.Triple.{Overlaps}
 use Rattle.mg_flow.specs.Table.{hears, hears_after}
 use Rattle.mg_rooms.specs.Registry.{members_at}
 use Rattle.mg_engine.specs.Triples.{check_triples, with_triples}
 use Rattle.mg_engine.specs.aids.Triples.{AreMatched}
 use Rattle.mg_engine.specs.Stands.{EngineState, StandsFor}
-use Rattle.mg_engine.proofs.TripleLaws.{refused_there, refused_triples, done_triples, err_is, ok_is, has_still, hears_triples, words_stand, absurd_overlap}
+use Rattle.mg_engine.proofs.TripleLaws.{refused_there, refused_triples, done_triples, err_is, ok_is, has_still, hears_triples, words_stand}
 use Rattle.mg_engine.proofs.engine.Engine.apply_triples.Goals.{in-Ok, in-Err}
 use Rattle.mg_engine.proofs.engine.Engine.apply_triples.Goals as goal
 
@@ -34,6 +33,7 @@ invariant_of-self c = record {
   members = has_still c.self.inside.rooms c.self.inside.flows c.on_triples.new.self c.on_triples.ensures.places c.self.invariant.members;
   seats = c.self.invariant.seats;
   places = c.self.invariant.places;
+  row_count = c.self.invariant.row_count;
   joined = c.self.invariant.joined;
 }
 
@@ -45,7 +45,7 @@ returns-clause-outcome c w h =
     let xs = c.args.triples.now.items in
     let ys = c.in_ok-by_seats.by_seats.items in
     let members = members_at k.rooms at.context in
-    let parts : (check_triples members xs ≡ Ok tt) × AreMatched k.rooms at.context members xs ys × (list_any overlaps ys ≡ false) = rw (sym c.as_slice.ensures.value) c.in_ok-by_seats.ensures.value in
+    let parts : (check_triples members xs ≡ Ok tt) × AreMatched k.rooms at.context members xs ys × ¬ Any Overlaps ys = rw (sym c.as_slice.ensures.value) c.in_ok-by_seats.ensures.value in
     let (checked, matched, none) = parts in
     let es = with_triples (members_at k.rooms at.context) xs w.edits in
     elim c.match-on_triples.branch [
@@ -53,5 +53,5 @@ returns-clause-outcome c w h =
           (let heard = hears_triples k.rooms at.context at.room k.flows c.on_triples.new.self xs ys w.edits c.self.invariant.sound.one_room c.self.invariant.sound.one_seat c.in_ok-at.ensures.value.1 matched c.self.invariant.members c.on_triples.ensures.others
           (λ t l same together. b.in-Ok.ensures.hears t l same together ∙ ap (λ (zs : List Triple). hears_after zs t.seat l.seat (hears k.flows t l)) c.as_slice-2.ensures.value) stands.hears in
           ok_is _ c.match-on_triples.result _ at.context (record w { edits = es }) b.result-is (done_triples k w c.args.target xs at.context stands c.in_ok-at.ensures.value.0 checked) (words_stand k c.on_triples.new.self w es stands heard))
-      | in-Err b ↦ absurd (absurd_overlap ys none (c.overlap_is_a_common_seat.ensures.any ys) (subst (λ (zs : List Triple). Any Overlaps zs) c.as_slice-2.ensures.value (b.in-Err.ensures.overlap.0 refl)))
+      | in-Err b ↦ absurd (none (subst (λ (zs : List Triple). Any Overlaps zs) c.as_slice-2.ensures.value (b.in-Err.ensures.overlap.0 refl)))
     ]

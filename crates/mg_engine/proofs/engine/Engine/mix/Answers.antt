@@ -10,7 +10,7 @@ use Rattle.mg_engine.specs.Place.{IsOnPlace}
 use Rattle.mg_engine.specs.Stands.{EngineState}
 use Rattle.mg_engine.specs.aids.Sending.{heard_now, silenced_now}
 use Rattle.mg_engine.proofs.MaskLaws.{seats_there}
-use Rattle.mg_engine.proofs.MixLaws.{left_out, how_many, mix_is}
+use Rattle.mg_engine.proofs.MixLaws.{IsLeftAndHeard, left_out, how_many, mix_is}
 use Rattle.mg_engine.proofs.engine.Engine.mix.Goals as goal
 
 pub silenced-requires : goal.silenced-requires
@@ -49,7 +49,7 @@ mix-requires c =
     sound.one_seat
     (λ n r found. (sound.termination n r found).1.seat)
     (λ i d lt. let (number, limited) = sound.termination (get_or k.rooms.terminations i d).number (get_or k.rooms.terminations i d) (sound.by_number i d lt) in omega (arith, limited.slot, sound.consistent.limits.0.few_slots))
-    c.sums_are_valid.ensures.valid.rooms
+    c.self.invariant.row_count
     sound.one_slot
     context is on c.requires.listens c.silenced.ensures.kept c.silenced.ensures.held in
     record {
@@ -76,9 +76,12 @@ returns-clause-value c =
     sound.one_seat
     (λ n r found. (sound.termination n r found).1.seat)
     (λ i d lt. let (number, limited) = sound.termination (get_or k.rooms.terminations i d).number (get_or k.rooms.terminations i d) (sound.by_number i d lt) in omega (arith, limited.slot, sound.consistent.limits.0.few_slots))
-    c.sums_are_valid.ensures.valid.rooms
+    c.self.invariant.row_count
     sound.one_slot
     context is on c.requires.listens c.silenced.ensures.kept c.silenced.ensures.held in
+    let heard = subst (λ (m : List ℕ). IsLeftAndHeard k.sums p.room (left_out_by (cond (talks l.mode) (Some l.slot) None) m)) rows
+    (subst (λ (b : Option ℕ). IsLeftAndHeard k.sums p.room (left_out_by b c.as_slice.result.now)) own
+    (subst (λ (room : ℕ). IsLeftAndHeard k.sums room (left_out_by c.own_row.result c.as_slice.result.now)) c.new.ensures c.mix.ensures.heard)) in
     let mixed = mix_is k c.self.inside.seating l p y mask sound c.self.invariant.members c.self.invariant.joined c.self.invariant.seats
     sound.by_number
     sound.there
@@ -86,9 +89,9 @@ returns-clause-value c =
     sound.one_seat
     (λ n r found. (sound.termination n r found).1.seat)
     (λ i d lt. let (number, limited) = sound.termination (get_or k.rooms.terminations i d).number (get_or k.rooms.terminations i d) (sound.by_number i d lt) in omega (arith, limited.slot, sound.consistent.limits.0.few_slots))
-    c.sums_are_valid.ensures.valid.rooms
+    c.self.invariant.row_count
     sound.one_slot
-    context is on c.requires.listens c.silenced.ensures.kept c.silenced.ensures.held (λ i. c.total_is_left_out_and_heard.ensures k.sums p.room i _ out) in
+    context is on c.requires.listens c.silenced.ensures.kept c.silenced.ensures.held heard in
     let law = c.args.law in
     c.mix.ensures.mix
     ∙ ap (λ (room : ℕ). map (byte_of law) (mix_of k.sums room (left_out_by c.own_row.result c.as_slice.result.now))) c.new.ensures
@@ -115,7 +118,7 @@ returns-clause-work c =
     sound.one_seat
     (λ n r found. (sound.termination n r found).1.seat)
     (λ i d lt. let (number, limited) = sound.termination (get_or k.rooms.terminations i d).number (get_or k.rooms.terminations i d) (sound.by_number i d lt) in omega (arith, limited.slot, sound.consistent.limits.0.few_slots))
-    c.sums_are_valid.ensures.valid.rooms
+    c.self.invariant.row_count
     sound.one_slot
     context is on c.requires.listens c.silenced.ensures.kept c.silenced.ensures.held in
     let count = ap (λ (xs : List ℕ). length xs) rows ∙ many ∙ ap (λ (x : EngineState). silenced_now x l) c.self.view_is in

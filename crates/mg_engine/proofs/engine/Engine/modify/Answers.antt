@@ -79,7 +79,7 @@ invariant_of-self-2 c =
     let seats = seated_mode old new n a.was d p c.self.inside.seating same was on a.slot c.self.invariant.seats in
     let joined = joined_changed old new n d p c.self.inside.sums.rooms c.take_mode.new.sums.rooms sound.one_slot same on (λ x there. ap (λ (y : Record). y.slot) (same_Some x a.was (sym there ∙ a.there)) ∙ sym a.slot) c.take_mode.ensures.joined c.self.invariant.joined in
     let long = ap length c.tune.ensures.tuned ∙ length-set c.self.inside.media.items _ _ in
-    whole_changed k new n d c.self.inside.ports c.tune.new.media.items c.self.inside.held.items c.take_mode.new.flows c.self.inside.seating c.self.inside.seating c.take_mode.new.sums.rooms c.self.invariant a sound long members seats refl joined
+    whole_changed k new n d c.self.inside.ports c.tune.new.media.items c.self.inside.held.items c.take_mode.new.flows c.self.inside.seating c.self.inside.seating c.take_mode.new.sums.rooms c.self.invariant a sound long members seats refl joined c.take_mode.ensures.rows
 
 pub returns-clause-outcome : goal.returns-clause-outcome
 returns-clause-outcome c w h =

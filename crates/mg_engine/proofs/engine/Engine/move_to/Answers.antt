@@ -95,7 +95,7 @@ invariant_of-self-2 c =
     let put = c.enter.ensures.seated in
     let joined = joined_changed old new n d p c.self.inside.sums.rooms c.enter.new.sums.rooms sound.one_slot same on (λ x there. ap (λ (y : Record). y.slot) (same_Some x a.was (sym there ∙ a.there)) ∙ sym a.slot) c.enter.ensures.joined c.self.invariant.joined in
     let long = ap length c.tune.ensures.tuned ∙ length-set c.self.inside.media.items _ _ in
-    whole_changed k new n d c.self.inside.ports c.tune.new.media.items c.self.inside.held.items c.enter.new.flows c.self.inside.seating c.enter.new.seating c.enter.new.sums.rooms c.self.invariant a sound long members (rw put seats) (ap length put ∙ length-set c.self.inside.seating _ _) joined
+    whole_changed k new n d c.self.inside.ports c.tune.new.media.items c.self.inside.held.items c.enter.new.flows c.self.inside.seating c.enter.new.seating c.enter.new.sums.rooms c.self.invariant a sound long members (rw put seats) (ap length put ∙ length-set c.self.inside.seating _ _) joined c.enter.ensures.rows
 
 pub returns-clause-outcome : goal.returns-clause-outcome
 returns-clause-outcome c w h =

@@ -2,7 +2,7 @@ use Rattle.std.proofs.Common.{ℕ, length, map, sym, ap, ◌∙◌}
 use Rattle.std.proofs.lemmas.List.{length-replicate}
 use Rattle.mg_rooms.specs.Registry as rooms
 use Rattle.mg_engine.specs.aids.Seating.{place_count}
-use Rattle.mg_sums.specs.Sums.{SumsState, first_state, room_of}
+use Rattle.mg_sums.specs.Sums.{SumsState, first_state}
 use Rattle.mg_engine.proofs.JoinedLaws.{joined_nowhere}
 use Rattle.mg_engine.proofs.MemberLaws.{has_nobody, nobody_seated}
 use Rattle.mg_engine.proofs.engine.Engine.new.Goals as goal
@@ -17,7 +17,8 @@ invariant_of-result c = record {
   members = has_nobody c.in_ok-rooms.rooms c.limits.result c.in_ok-flows.flows c.in_ok-rooms.ensures.start c.in_ok-flows.ensures.edits;
   seats = nobody_seated c.in_ok-rooms.rooms c.limits.result c.in_ok-seating.seating c.in_ok-rooms.ensures.start;
   places = ap length c.in_ok-seating.ensures.value ∙ length-replicate {A = ℕ} place_count 0;
-  joined = joined_nowhere c.in_ok-rooms.rooms c.limits.result c.in_ok-sums.sums.rooms c.in_ok-rooms.ensures.start (λ row. ap (λ (s : SumsState). room_of s row) c.in_ok-sums.ensures.first ∙ c.first_rows_are_silent.ensures.rooms row);
+  joined = joined_nowhere c.in_ok-rooms.rooms c.limits.result c.in_ok-sums.sums.rooms c.in_ok-rooms.ensures.start c.in_ok-sums.ensures.nowhere;
+  row_count = c.in_ok-sums.ensures.valid.rooms;
 }
 
 pub returns-clause-work : goal.returns-clause-work

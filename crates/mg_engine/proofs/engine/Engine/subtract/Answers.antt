@@ -42,7 +42,7 @@ invariant_of-self-2 c =
     let seats = seated_all new n c.self.inside.seating none (carry_seats old new n c.self.inside.seating same c.self.invariant.seats) in
     let apart = subst (λ (row : ℕ). SetsRow c.self.inside.sums.rooms c.part.new.sums.rooms row None) c.new.ensures c.part.ensures.rooms in
     let joined = joined_left old new n d c.self.inside.sums.rooms c.part.new.sums.rooms before.one_slot same was.found none apart c.self.invariant.joined in
-    whole_removed k new n d c.self.inside.ports c.self.inside.held.items c.without.new.held.items c.vacate.new.flows c.self.inside.seating c.part.new.sums.rooms c.self.invariant a before sound c.without.ensures.value members seats joined
+    whole_removed k new n d c.self.inside.ports c.self.inside.held.items c.without.new.held.items c.vacate.new.flows c.self.inside.seating c.part.new.sums.rooms c.self.invariant a before sound c.without.ensures.value members seats joined c.part.ensures.rows
 
 pub returns-clause-outcome : goal.returns-clause-outcome
 returns-clause-outcome c w h =

@@ -24,5 +24,5 @@ returns-clause-told c w h =
           (sound.members context)
           (sound.once context)
           (λ j d lt. let (number, limited) = sound.termination (get_or k.rooms.terminations j d).number (get_or k.rooms.terminations j d) (sound.by_number j d lt) in omega (arith, limited.slot, sound.consistent.limits.0.few_slots))
-          c.sums_are_valid.ensures.valid.rooms stands (ap (λ (y : rooms.Registry). context_at y context) (sym stands.rooms) ∙ found);
+          c.self.invariant.row_count stands (ap (λ (y : rooms.Registry). context_at y context) (sym stands.rooms) ∙ found);
     }

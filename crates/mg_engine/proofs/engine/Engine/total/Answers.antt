@@ -16,7 +16,7 @@ returns c = record {
       let (x, found, room) = context_with (context_at k.rooms c.args.context) c.in_ok-room.room (sym c.room.ensures.value ∙ c.in_ok-room.was) in
       ap (λ (z : ℤ). Some z)
       (to_z-of_z w32 c.total.result.now (search rules)
-      ∙ c.total.ensures
+      ∙ c.total.ensures.value
       ∙ ap (λ (at : ℕ). total_of k.sums at c.args.i) (c.new.ensures ∙ sym room)
       ∙ total_is k w c.args.context c.args.i x sound c.self.invariant.joined sound.by_number
       sound.there
@@ -25,6 +25,6 @@ returns c = record {
       (sound.members c.args.context)
       (sound.once c.args.context)
       (λ j d lt. let (number, limited) = sound.termination (get_or k.rooms.terminations j d).number (get_or k.rooms.terminations j d) (sound.by_number j d lt) in omega (arith, limited.slot, sound.consistent.limits.0.few_slots))
-      c.sums_are_valid.ensures.valid.rooms stands found)
+      c.self.invariant.row_count stands found)
       ∙ total_there k w c.args.context c.args.i x stands lt found;
 }

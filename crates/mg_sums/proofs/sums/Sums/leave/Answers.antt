@@ -22,3 +22,6 @@ invariant_of-self c =
     c.take.ensures.sums i l
     ∙ (ap (λ (xs : List ℤ). sample xs i -ℤ sample c.index-frame.result.now i) (rw c.number-3.ensures.value at total)
     ∙ ap (λ (xs : List ℤ). sample (slice_index_or c.self.inside.totals.items c.args.room []) i -ℤ sample xs i) (rw c.number-2.ensures.value at frame))))
+
+pub returns-clause-valid : goal.returns-clause-valid
+returns-clause-valid c = (invariant_of-self c).valid

@@ -4,7 +4,7 @@ use Rattle.std.proofs.lemmas.List.{get_or_read}
 use Rattle.mg_g711.specs.Law.{byte_of}
 use Rattle.mg_sums.specs.Samples.{sample, sum_of}
 use Rattle.mg_sums.specs.Sums.{SumsState, AreOfRoom, left_out_by, sample_in}
-use Rattle.mg_sums.proofs.HeardLemmas.{few_rows, few_minus, mix_is}
+use Rattle.mg_sums.proofs.HeardLemmas.{few_rows, few_minus, mix_is, whole_is}
 use Rattle.mg_sums.proofs.TotalLemmas.{read_near}
 use Rattle.mg_sums.proofs.sums.Sums.mix.Goals as goal
 
@@ -30,3 +30,6 @@ returns-clause-mix c =
     let whole = ap (λ (xs : List ℤ). sample xs i) (rw c.number.ensures.value at total) ∙ c.self.invariant.sums c.args.room i (omega arith) l in
     let left = ap (λ (fs : List (List ℤ)). sum_of (sample_in fs i) rows) c.as_slice-frames.ensures.value in
     omega (arith, ints, c.write_rest.ensures.sums i l, whole, left))))
+
+pub returns-clause-heard : goal.returns-clause-heard
+returns-clause-heard c = λ i. whole_is (sample_in c.args.self.now.frames i) c.args.self.now.rooms c.args.room (left_out_by c.args.base c.args.minus.now) c.requires.rows

@@ -9,3 +9,4 @@ pub mod WideLaws
 pub mod RefusalLaws
 pub mod Rows
 pub mod StreamSteps
+pub mod KeepLaws

@@ -1,12 +1,16 @@
--- What holds of each transaction: what is refused changes nothing.
+-- What holds of each transaction: what is refused changes nothing, and what it leads to is
+-- consistent.
 use Rattle.std.specs.Prelude.{◌≡◌, ℕ, true, false, List, [], ◌∷◌, ◌++◌, Some, None, Err}
 use Rattle.mg_scan.specs.Span.{text_of}
 use Rattle.mg_words.specs.declared.command_word.CommandWord.{CommandWord}
 use Rattle.mg_words.specs.declared.error_number.ErrorNumber.{ErrorNumber}
 use Rattle.mg_reply.specs.declared.item.Item.TheVariants as replies
 use Rattle.mg_reply.specs.declared.outcome.Outcome.TheVariants.{Failed}
+use Rattle.mg_rooms.specs.Consistent.{IsConsistent}
+use Rattle.mg_engine.specs.Gateway.{Gateway}
 use Rattle.mg_text.specs.declared.command.Command.{Command}
 use Rattle.mg_text.specs.declared.request.Action.{Action}
+use Rattle.mg_text.specs.declared.request.Request.{Request}
 use Rattle.mg_commands.specs.declared.command_parameters.CommandParameters.{CommandParameters}
 use Rattle.mg_commands.specs.declared.name.Name.{Name}
 use Rattle.mg_commands.specs.Name.{written_as, written_name}
@@ -14,7 +18,7 @@ use Rattle.mg_commands.specs.ContextProperties.{action_fault, context_outcome}
 use Rattle.mg_commands.specs.Outcome.{outcome, trial_of}
 use Rattle.mg_commands.specs.Transaction.{ActionState, TransactionState, action_start, id_of}
 use Rattle.mg_commands.specs.Transaction.{with_name, with_names, with_command, with_commands}
-use Rattle.mg_commands.specs.Transaction.{with_action}
+use Rattle.mg_commands.specs.Transaction.{with_action, replied}
 
 -- ## Refusals
 
@@ -74,3 +78,11 @@ OthersAreTried =
     → let told : ActionState = with_error run c.word (written_as (text_of source c.term) x) e in
     with_names source c parameters (x ∷ xs) run
     ≡ ((with_names source c parameters xs told).0, false)
+
+-- ## Consistency
+
+-- whatever a request asks, what it leads to is consistent where what it was run on was
+abbrev pub RequestsAreConsistent : Type 0
+RequestsAreConsistent =
+    (source : List ℕ) (request : Request) (w : Gateway)
+    → IsConsistent w.rooms → IsConsistent (replied source request w).gateway.rooms

@@ -2,7 +2,7 @@
 //!
 //! The calls change nothing: their contracts are the theorems.
 
-ghost use Rattle.mg_commands.specs.Theorems.{RefusedNamesChangeNothing, RefusedCommandsChangeNothing, RefusedActionsChangeNothing, RefusedTopologiesChangeNothing, OthersAreTried};
+ghost use Rattle.mg_commands.specs.Theorems.{RefusedNamesChangeNothing, RefusedCommandsChangeNothing, RefusedActionsChangeNothing, RefusedTopologiesChangeNothing, OthersAreTried, RequestsAreConsistent};
 
 /// What is refused leaves the gateway, the action's context and what `$` names as they were, and adds only what the
 /// reply tells of it: a command for one name; a command that may not be tried at all; an action as a whole, before its
@@ -15,3 +15,11 @@ pub fn refused_commands_change_nothing()
     ensures topologies { RefusedTopologiesChangeNothing }
     ensures others { OthersAreTried }
 {}
+
+/// What a request leads to has consistent terminations and contexts, where what it was run on had. So it holds of whatever
+/// requests lead to, with no engine at hand.
+pub fn requests_are_consistent()
+    ensures law { RequestsAreConsistent }
+{
+    mg_engine::laws::worlds_are_consistent();
+}

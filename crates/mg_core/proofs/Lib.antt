@@ -6,3 +6,5 @@ pub mod LineLaws
 pub mod RunLaws
 pub mod HeadlineLaws
 pub mod ScriptLaws
+pub mod ConsistentLaws
+pub mod InterleavingLaws

@@ -6,5 +6,6 @@ pub mod Step
 pub mod Script
 pub mod Run
 pub mod Headline
+pub mod Interleaving
 pub mod Repeats
 pub mod aids

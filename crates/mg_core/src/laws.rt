@@ -5,6 +5,7 @@ ghost use Rattle.mg_core.specs.declared.event.Event.{Event};
 ghost use Rattle.mg_commands.specs.Theorems.{RefusedNamesChangeNothing, RefusedCommandsChangeNothing, RefusedActionsChangeNothing, RefusedTopologiesChangeNothing, OthersAreTried};
 ghost use Rattle.mg_core.specs.Headline.{EventsLeadToOneWorld, OneGatewayOneFuture};
 ghost use Rattle.mg_engine.specs.Isolation.{NobodyHearsHimself, IsolatedAreNotHeard, UnheardChangesNoPacket, PayloadsAreMixes};
+ghost use Rattle.mg_core.specs.Interleaving.{OrderOfPortsIsNothing, HistoriesAreOne, ScriptsAreOne};
 ghost use Rattle.mg_core.specs.Repeats.{KeptRepliesAreSent, RepetitionsAreAnsweredAlike, OthersAreRun};
 ghost use Rattle.mg_core.specs.Step.{Sent, Step, Run};
 ghost use Rattle.mg_core.specs.World.{World};
@@ -49,6 +50,20 @@ pub fn repetitions_are_answered_alike()
     ensures others { OthersAreRun }
 {
     mg_kept::laws::kept_reply_is_found();
+}
+
+/// In which order the packets of different callers came makes no difference: two lists of events with the same control
+/// datagrams and ticks, between any two of which each port has the same RTP datagrams in the same order, have the same
+/// datagrams sent, byte for byte, and lead to one world.
+pub fn order_of_ports_is_nothing()
+    ensures events { OrderOfPortsIsNothing }
+    ensures histories { HistoriesAreOne }
+    ensures scripts { ScriptsAreOne }
+{
+    outcomes_are_one();
+    mg_engine::laws::order_of_ports_is_nothing();
+    mg_engine::laws::worlds_are_consistent();
+    mg_commands::laws::requests_are_consistent();
 }
 
 /// The headline, joined. By its clauses `headline` and `packets` a [`Core`](crate::Core) answers and sends, after any list of

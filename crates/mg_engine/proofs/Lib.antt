@@ -27,3 +27,4 @@ pub mod ArrivalLaws
 pub mod PortLaws
 pub mod OutcomeLaws
 pub mod IsolationLaws
+pub mod OrderLaws

@@ -15,4 +15,5 @@ pub mod Masks
 pub mod Totals
 pub mod Work
 pub mod Isolation
+pub mod Order
 pub mod aids

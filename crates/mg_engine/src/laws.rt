@@ -1,9 +1,19 @@
 //! What holds of all gateways and datagrams. The functions here do nothing: their contracts are the laws.
 
-ghost use Rattle.std.specs.Prelude.{◌≡◌, ℕ, List};
+ghost use Rattle.std.specs.Prelude.{◌≡◌, ◌≤◌, ℕ, List, Ok};
+ghost use Rattle.mg_words.specs.declared.limits.TheConstants.{LAST_TERMINATION};
+ghost use Rattle.mg_rooms.specs.declared.record.Record.{Record};
+ghost use Rattle.mg_rooms.specs.declared.settings.Settings.{Settings};
+ghost use Rattle.mg_rooms.specs.declared.target.Target.{Target};
+ghost use Rattle.mg_rooms.specs.Consistent.{IsConsistent};
+ghost use Rattle.mg_engine.specs.declared.config.Config.{Config};
 ghost use Rattle.mg_engine.specs.declared.taken.Taken.{Taken};
+ghost use Rattle.mg_engine.specs.declared.topology_triple.TopologyTriple.{TopologyTriple};
 ghost use Rattle.mg_engine.specs.Arrival.{Takes};
-ghost use Rattle.mg_engine.specs.Gateway.{Gateway};
+ghost use Rattle.mg_engine.specs.Config.{IsValidConfig};
+ghost use Rattle.mg_engine.specs.Gateway.{Gateway, start_of};
+ghost use Rattle.mg_engine.specs.Outcome.{add, modify, move_to, subtract, apply_triples};
+ghost use Rattle.mg_engine.specs.Order.{OrderOfTwoIsNothing};
 ghost use Rattle.mg_engine.specs.Isolation.{NobodyHearsHimself, IsolatedAreNotHeard, UnheardChangesNoPacket, PayloadsAreMixes};
 ghost use Rattle.mg_engine.specs.Triples.{triple_limit};
 
@@ -43,4 +53,31 @@ pub fn payloads_are_mixes()
 /// The most triples of one edit are as many as the definitions speak of.
 pub fn triples_are_limited()
     ensures { TRIPLES ≡ triple_limit }
+{}
+
+/// At first the terminations and contexts are consistent, and what each edit and each RTP datagram leads to is, where
+/// what it came to was. So it holds of whatever these lead to, with no engine at hand.
+pub fn worlds_are_consistent()
+    ensures start { (config : Config) → IsValidConfig config → config.first_termination ≤ LAST_TERMINATION →
+        IsConsistent (start_of config).rooms }
+    ensures add { (w next : Gateway) (target : Target) (settings : Settings) (r : Record) → IsConsistent w.rooms →
+        add w target settings ≡ Ok (next, r) → IsConsistent next.rooms }
+    ensures modify { (w next : Gateway) (target : Target) (n : ℕ) (settings : Settings) (r : Record) → IsConsistent w.rooms →
+        modify w target n settings ≡ Ok (next, r) → IsConsistent next.rooms }
+    ensures move_to { (w next : Gateway) (target : Target) (n : ℕ) (settings : Settings) (r : Record) → IsConsistent w.rooms →
+        move_to w target n settings ≡ Ok (next, r) → IsConsistent next.rooms }
+    ensures subtract { (w next : Gateway) (target : Target) (n : ℕ) (r : Record) → IsConsistent w.rooms →
+        subtract w target n ≡ Ok (next, r) → IsConsistent next.rooms }
+    ensures triples { (w next : Gateway) (target : Target) (triples : List TopologyTriple) (c : ℕ) →
+        IsConsistent w.rooms → apply_triples w target triples ≡ Ok (next, c) → IsConsistent next.rooms }
+    ensures media { (w next : Gateway) (port : ℕ) (source bytes : List ℕ) (result : Taken) → IsConsistent w.rooms →
+        Takes w port source bytes next result → IsConsistent next.rooms }
+{
+    mg_rooms::laws::outcomes_are_consistent();
+}
+
+/// Which of two RTP datagrams came first makes no difference where they came to two ports: the same becomes of each, and
+/// of the gateway.
+pub fn order_of_ports_is_nothing()
+    ensures law { OrderOfTwoIsNothing }
 {}

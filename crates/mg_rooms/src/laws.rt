@@ -1,12 +1,17 @@
-//! What is free and what is used up, whatever commands were done.
+//! What is free and what is used up, and what holds of all that there is, whatever commands were done.
 //!
 //! The functions here do nothing: their contracts are the laws.
 
-ghost use Rattle.std.specs.Prelude.{◌≡◌, ℕ, ◌<◌, ◌≤◌, ◌↔◌, ◌⊎◌, None, Err, IsSome, length};
+ghost use Rattle.std.specs.Prelude.{◌≡◌, ℕ, ◌<◌, ◌≤◌, ◌↔◌, ◌⊎◌, None, Ok, Err, IsSome, length};
 ghost use Rattle.mg_words.specs.declared.limits.TheConstants.{CONTEXTS, MEMBERS, LAST_TERMINATION, LAST_CONTEXT};
 ghost use Rattle.mg_words.specs.declared.error_number.ErrorNumber.TheVariants.{ContextFull, NoContextLeft, NoTerminationLeft};
-ghost use Rattle.mg_rooms.specs.Registry.{Registry, members_at, free_slot, free_seat, free_room};
-ghost use Rattle.mg_rooms.specs.Outcome.{new_slot, new_seat, new_context};
+ghost use Rattle.mg_rooms.specs.declared.limits.Limits.{Limits};
+ghost use Rattle.mg_rooms.specs.declared.record.Record.{Record};
+ghost use Rattle.mg_rooms.specs.declared.settings.Settings.{Settings};
+ghost use Rattle.mg_rooms.specs.declared.target.Target.{Target};
+ghost use Rattle.mg_rooms.specs.Limits.{AreValidLimits};
+ghost use Rattle.mg_rooms.specs.Registry.{Registry, start_of, members_at, free_slot, free_seat, free_room};
+ghost use Rattle.mg_rooms.specs.Outcome.{new_slot, new_seat, new_context, add, modify, move_to, subtract};
 ghost use Rattle.mg_rooms.specs.Consistent.{IsConsistent};
 
 /// A seat is free in each context that isn't full, and a room where there are not as many contexts as
@@ -28,4 +33,19 @@ pub fn what_is_used_up_is_refused()
         (MEMBERS ≤ length (members_at w c)) }
     ensures context { (w : Registry) → IsConsistent w → (new_context w ≡ Err NoContextLeft) ↔
         ((CONTEXTS ≤ length w.contexts) ⊎ (LAST_CONTEXT < w.next_context)) }
+{}
+
+/// At first all is consistent, and what a command leads to is, where what it was done on was. So it holds of whatever
+/// commands lead to, with no table at hand.
+pub fn outcomes_are_consistent()
+    ensures start { (limits : Limits) → AreValidLimits limits → limits.first_termination ≤ LAST_TERMINATION →
+        IsConsistent (start_of limits) }
+    ensures add { (w next : Registry) (target : Target) (settings : Settings) (r : Record) → IsConsistent w →
+        add w target settings ≡ Ok (next, r) → IsConsistent next }
+    ensures modify { (w next : Registry) (target : Target) (n : ℕ) (settings : Settings) (r : Record) → IsConsistent w →
+        modify w target n settings ≡ Ok (next, r) → IsConsistent next }
+    ensures move_to { (w next : Registry) (target : Target) (n : ℕ) (settings : Settings) (r : Record) → IsConsistent w →
+        move_to w target n settings ≡ Ok (next, r) → IsConsistent next }
+    ensures subtract { (w next : Registry) (target : Target) (n : ℕ) (r : Record) → IsConsistent w →
+        subtract w target n ≡ Ok (next, r) → IsConsistent next }
 {}

@@ -1,0 +1,55 @@
+-- In which order the packets of different callers came makes no difference.
+use Rattle.std.specs.Prelude.{◌≡◌, ◌<◌, ◌^◌, ◌==◌, not, ℕ, Bool, false, List, Option, filter}
+use Rattle.mg_engine.specs.declared.config.Config.{Config}
+use Rattle.mg_engine.specs.Config.{IsValidConfig}
+use Rattle.mg_core.specs.declared.counts.Counts.{Counts}
+use Rattle.mg_core.specs.declared.event.Event.{Event}
+use Rattle.mg_core.specs.declared.event.Event.TheVariants.{Control, Media, Tick}
+use Rattle.mg_core.specs.declared.state.CoreState.{CoreState}
+use Rattle.mg_core.specs.Headline.{CameTo}
+use Rattle.mg_core.specs.Run.{RanToEnd}
+use Rattle.mg_core.specs.Step.{Sent, Run}
+use Rattle.mg_core.specs.World.{World, start_of}
+
+-- an RTP datagram at another port
+abbrev pub is_elsewhere : ℕ → Event → Bool
+is_elsewhere port (Control source bytes) = false
+is_elsewhere port (Media other source bytes) = not (other == port)
+is_elsewhere port Tick = false
+
+-- what a port sees of events: all but the RTP datagrams at other ports
+abbrev pub seen_at : ℕ → List Event → List Event
+seen_at port events = filter (λ e. not (is_elsewhere port e)) events
+
+-- The same control datagrams and ticks in the same order, and between any two of these, before the
+-- first and after the last, each port has the same RTP datagrams in the same order.
+abbrev pub AreSameToEachPort : List Event → List Event → Type 0
+AreSameToEachPort a b = (port : ℕ) → seen_at port a ≡ seen_at port b
+
+-- a gateway can be started with the configuration, whose first number is one of 32 bits
+abbrev pub IsStart : Config → Type 0
+IsStart config = IsValidConfig config × (config.first_termination < 2 ^ 32)
+
+-- Two lists of events that are the same to each port have the same datagrams sent, byte for byte
+-- and in the same order, and lead to one world.
+abbrev pub OrderOfPortsIsNothing : Type 0
+OrderOfPortsIsNothing =
+    (config : Config) (a b : List Event) (s t : List Sent) (v w : World)
+    → IsStart config → AreSameToEachPort a b
+    → Run (start_of config) a s v → Run (start_of config) b t w → (s ≡ t) × (v ≡ w)
+
+-- So it is of what came to two gateways that were started alike ..
+abbrev pub HistoriesAreOne : Type 0
+HistoriesAreOne =
+    (config : Config) (a b : List Event) (s t : List Sent) (v w : World) (one other : CoreState)
+    → IsStart config → AreSameToEachPort a b
+    → CameTo config a s v one → CameTo config b t w other → (s ≡ t) × (v ≡ w)
+
+-- .. and of two scripts that were run whole: they have had the same datagrams written.
+abbrev pub ScriptsAreOne : Type 0
+ScriptsAreOne =
+    (config : Config) (one other : List ℕ) (counts more : Counts) (old new was is : Option (List ℕ))
+    → IsStart config
+    → (a : RanToEnd config one counts old new) (b : RanToEnd config other more was is)
+    → AreSameToEachPort a.ran.events b.ran.events
+    → (a.ran.sent ≡ b.ran.sent) × (a.last ≡ b.last)

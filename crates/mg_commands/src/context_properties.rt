@@ -12,6 +12,7 @@ ghost use Rattle.mg_commands.specs.aids.Runs.{Tells};
 
 use crate::action_fault::has_context_audit;
 use crate::context_audit::put_pairs;
+use crate::named_member::named_members;
 use crate::name::{Name, name_of};
 use crate::progress::Progress;
 use mg_engine::{Engine, TopologyTriple, TopologyTriples, TripleTerm};
@@ -73,8 +74,12 @@ fn apply_topology(
     ensures came { (w : Gateway) → StandsFor engine.old w → IsOutcome engine.new result (apply_triples w progress.target (triples_of source.now progress.made properties.now)) }
     ensures refused { OnErr result (engine.new ≡ engine.old) }
 {
-    let triples = triples_of(source, progress.made, topology_in(properties));
-    engine.apply_triples(progress.target, &triples)
+    let triples = topology_in(properties);
+    if triples.is_empty() {
+        return engine.topology_context(progress.target);
+    }
+    let by_number = triples_of(source, progress.made, triples);
+    engine.apply_triples(progress.target, &by_number)
 }
 
 /// Answers the audit of a context, if one is asked for.
@@ -82,7 +87,7 @@ fn answer_audit(engine: &Engine, properties: &[ContextProperty], context: u32, r
     ensures value { (w : Gateway) → StandsFor engine.now w → reply.new ≡ after_all reply.old (audit_items properties.now w context) }
 {
     if has_context_audit(properties) {
-        let members = engine.seated(context);
+        let members = named_members(engine.seated(context).as_slice());
         put_pairs(engine, members.as_slice(), reply);
     }
 }

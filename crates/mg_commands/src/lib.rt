@@ -34,6 +34,7 @@ mod descriptor_parts;
 pub mod laws;
 mod members;
 mod name;
+mod named_member;
 mod outcomes;
 mod part;
 mod progress;

@@ -289,6 +289,15 @@ impl Engine {
         }
     }
 
+    /// The context that triples of an action would be applied to: the action's, if it is there. This is what becomes of a
+    /// topology without a triple, or of none.
+    pub fn topology_context(&self, target: Target) -> Result<u32, ErrorNumber>
+        ensures outcome { (w : Gateway) → StandsFor self.now w → IsOutcome self.now result (apply_triples w target []) }
+    {
+        let at = topology_room(&self.rooms, target)?;
+        Ok(at.context)
+    }
+
     /// The termination that has a port.
     fn at_port(&self, port: u16) -> Option<Record>
         ensures value { result ≡ at_port self.now.rooms port }

@@ -5,5 +5,6 @@ pub mod ActionLaws
 pub mod ReplyLaws
 pub mod WrittenLaws
 pub mod BraceLaws
+pub mod BytesLaws
 pub mod PrefixLaws
 pub mod WideLaws

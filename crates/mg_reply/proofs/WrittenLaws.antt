@@ -8,6 +8,10 @@ use Rattle.mg_reply.specs.Written.{head_text}
 pub port_short : (n : ℕ) → n < 2 ^ 16 → length (decimal n) ≤ 5
 port_short n h = length-decimal-le 5 n (omega arith) (omega arith) (omega arith)
 
+-- a termination's number takes at most 10 bytes
+pub number_short : (n : ℕ) → n < 2 ^ 32 → length (decimal n) ≤ 10
+number_short n h = length-decimal-le 10 n (omega arith) (omega arith) (omega arith)
+
 pub appended-appended : (w : Written) (a b : List ℕ) → appended (appended w a) b ≡ appended w (a ++ b)
 appended-appended w a b =
     let room : w.room - length a - length b ≡ w.room - length (a ++ b) = omega (arith, length-append a b) in
@@ -20,7 +24,7 @@ head_short address port short small = parts (address_text address) (decimal port
     parts : (a p : List ℕ) → length a ≤ 15 → length p ≤ 5 → length (codes "MEGACO/1 [" ++ (a ++ (codes "]:" ++ (p ++ codes "\n")))) ≤ 33
     parts a p h k = simp length-append (omega arith)
 
-pub ruleset lengths = (port_short)
+pub ruleset lengths = (port_short, number_short)
 
 -- what was written after a part is after what that part is after
 pub after : (w n m : Written) (a b : List ℕ) → n ≡ appended w a → m ≡ appended n b → m ≡ appended w (a ++ b)

@@ -3,6 +3,7 @@ ghost use Rattle.mg_reply.specs.aids.Draft.{drafted};
 ghost use Rattle.mg_reply.specs.Listed.{listed, grouped};
 ghost use Rattle.mg_reply.specs.aids.Marks.{is_empty, mark_of, closing};
 ghost use Rattle.mg_reply.specs.Entries.{outcome_text, item_text, texts_of, topology_entry, entries_of};
+ghost use Rattle.mg_words.specs.Association.{association_text};
 ghost use Rattle.mg_words.specs.ContextId.{context_text};
 ghost use Rattle.mg_reply.specs.Written.{action_text, actions_text};
 
@@ -11,6 +12,7 @@ use crate::entry_kind::EntryKind;
 use crate::item::Item;
 use crate::outcome::Outcome;
 use crate::parts_writing::{put_number, put_parts};
+use crate::rtp_name::RtpName;
 use mg_words::{Association, CommandWord, ContextId, Term};
 
 fn put_context(draft: &mut Draft, id: ContextId)
@@ -38,15 +40,25 @@ fn put_outcome(draft: &mut Draft, outcome: Outcome)
     }
 }
 
+/// A comma and the word of an association: a literal each, so that it is put by one store.
+fn put_association(draft: &mut Draft, association: Association)
+    ensures value { draft.new ≡ drafted draft.old (codes "," ++ association_text association) }
+{
+    match association {
+        Association::Isolate => draft.put(b",Isolate"),
+        Association::Oneway => draft.put(b",Oneway"),
+        Association::Bothway => draft.put(b",Bothway"),
+    }
+}
+
 #[tactic(auto, using(crate::proofs::DraftLaws::joins))]
-fn put_triple(draft: &mut Draft, a: &Term, b: &Term, association: Association)
+fn put_triple(draft: &mut Draft, a: &RtpName, b: &RtpName, association: Association)
     ensures value { draft.new ≡ drafted draft.old (item_text (Item.Triple a.now b.now association)) }
 {
-    draft.put(a.as_slice());
+    draft.put_name(a);
     draft.put(b",");
-    draft.put(b.as_slice());
-    draft.put(b",");
-    draft.put(association.as_str().as_bytes());
+    draft.put_name(b);
+    put_association(draft, association);
 }
 
 #[tactic(auto, using(crate::proofs::DraftLaws::joins))]
@@ -72,10 +84,14 @@ fn put_item(draft: &mut Draft, item: &Item)
 }
 
 /// The mark before the next part of a list.
-fn mark_of(opening: &[u8], is_first: bool) -> &[u8]
-    ensures value { result.now ≡ mark_of opening.now is_first }
+fn put_mark(draft: &mut Draft, opening: &[u8], is_first: bool)
+    ensures value { draft.new ≡ drafted draft.old (mark_of opening.now is_first) }
 {
-    if is_first { opening } else { b"," }
+    if is_first {
+        draft.put(opening);
+    } else {
+        draft.put(b",");
+    }
 }
 
 /// What closes a list, unless it has no part.
@@ -105,7 +121,7 @@ fn put_if_of(
         draft.put(b"");
         return is_first;
     }
-    draft.put(mark_of(opening, is_first));
+    put_mark(draft, opening, is_first);
     put_item(draft, item);
     false
 }

@@ -1,6 +1,7 @@
-ghost use Rattle.std.specs.Prelude.{◌≡◌, ◌+◌, ◌≤◌, [], length, IfOk};
+ghost use Rattle.std.specs.Prelude.{◌≡◌, ◌+◌, ◌≤◌, ◌++◌, [], length, take, IfOk};
 ghost use Rattle.mg_reply.specs.Bytes.{appended, cut_to};
 
+use crate::rtp_name::RtpName;
 use std::alloc::{AllocError, Global};
 use std::marker::Model;
 
@@ -22,6 +23,15 @@ impl Model for Bytes {
     ghost view = { λ b. record { text = take b.len b.bytes.items; room = length b.bytes.items - b.len } };
 
     ghost invariant = { λ b. b.len ≤ length b.bytes.items };
+}
+
+/// Writes a name at a place, with all 16 bytes that it is kept in.
+fn write_at(bytes: &mut [u8], at: usize, name: &RtpName)
+    requires fits { at + 16 ≤ length bytes.old }
+    ensures value { take (at + length name.now) bytes.new ≡ take at bytes.old ++ name.now }
+    ensures len { length bytes.new ≡ length bytes.old }
+{
+    bytes[at..at + 16].copy_from_slice(name.padded());
 }
 
 impl Bytes {
@@ -68,6 +78,20 @@ impl Bytes {
         let end = self.len + part.len();
         self.bytes[self.len..end].copy_from_slice(part);
         self.len = end;
+    }
+
+    /// Puts a name after the text: all 16 bytes that it is kept in at once, where there is room for them.
+    pub(crate) fn push_name(&mut self, name: &RtpName)
+        requires fits { length name.now ≤ self.old.room }
+        ensures value { self.new ≡ appended self.old name.now }
+    {
+        let end = self.len + 16;
+        if end > self.bytes.len() {
+            self.push(name.as_slice());
+            return;
+        }
+        write_at(&mut self.bytes, self.len, name);
+        self.len += name.len();
     }
 
     /// Empties the text, and gives its room back.

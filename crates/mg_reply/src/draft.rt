@@ -3,6 +3,7 @@ ghost use Rattle.mg_words.specs.Limits.{reply_limit};
 ghost use Rattle.mg_reply.specs.aids.Draft.{drafted, closed};
 
 use crate::bytes::Bytes;
+use crate::rtp_name::RtpName;
 use mg_words::REPLY_LIMIT;
 use std::marker::Model;
 use std::mem;
@@ -54,6 +55,19 @@ impl Draft {
         } else {
             self.bytes.push(part);
             self.left -= part.len();
+        }
+    }
+
+    /// Puts a name after the reply, unless it grows too long by it.
+    #[tactic(auto, unfolding(crate::specs::aids::Draft::drafted))]
+    pub fn put_name(&mut self, name: &RtpName)
+        ensures value { self.new ≡ drafted self.old name.now }
+    {
+        if self.is_full || name.len() > self.left {
+            self.is_full = true;
+        } else {
+            self.bytes.push_name(name);
+            self.left -= name.len();
         }
     }
 

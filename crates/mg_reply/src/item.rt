@@ -3,13 +3,14 @@ ghost use Rattle.mg_reply.specs.Entries.{is_of, action_id};
 
 use crate::entry_kind::EntryKind;
 use crate::outcome::Outcome;
+use crate::rtp_name::RtpName;
 use mg_words::{Association, CommandWord, ContextId, ErrorNumber, Term};
 
 /// A part of a reply.
 #[derive(Drop)]
 pub enum Item {
     /// Who hears whom between two terminations of the action's context.
-    Triple(Term, Term, Association),
+    Triple(RtpName, RtpName, Association),
     /// A command that was tried, the termination that it named, and how it came out.
     Command(CommandWord, Term, Outcome),
     /// The refusal of an action, or of the whole request where it stands alone.

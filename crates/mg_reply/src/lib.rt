@@ -27,6 +27,7 @@ mod media;
 mod outcome;
 mod parts_writing;
 mod reply;
+mod rtp_name;
 pub mod theorems;
 mod writing;
 
@@ -36,6 +37,7 @@ pub use crate::item::Item;
 pub use crate::media::Media;
 pub use crate::outcome::{Outcome, Parts};
 pub use crate::reply::{ITEM_LIMIT, Reply};
+pub use crate::rtp_name::RtpName;
 pub use crate::writing::{
     HEAD_LIMIT, TooLong, write_address, write_error, write_head, write_port, write_reply,
 };

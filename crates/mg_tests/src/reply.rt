@@ -5,7 +5,7 @@ ghost use Rattle.std.specs.Prelude.{◌≤◌};
 use mg_g711::Law;
 use mg_reply::{
     Association, Bytes, CommandWord, ContextId, Control, ErrorNumber, Item, Media, Mode, Outcome,
-    Parts, Reply, Stats, Term, TooLong, write_error, write_head, write_reply,
+    Parts, Reply, RtpName, Stats, Term, TooLong, write_error, write_head, write_reply,
 };
 use mg_sdp::Chosen;
 use std::test::Fail;
@@ -91,14 +91,10 @@ fn writes_the_topology_first(rt: HostRuntime) -> Result<(), Fail> {
         Term::new(b"RTP/1").ok_or("name")?,
         Outcome::Done(Parts::default()),
     ));
-    for (a, b) in [
-        (b"RTP/2", b"RTP/3"),
-        (b"RTP/2", b"RTP/1"),
-        (b"RTP/3", b"RTP/1"),
-    ] {
+    for (a, b) in [(2, 3), (2, 1), (3, 1)] {
         reply.put(Item::Triple(
-            Term::new(a).ok_or("name")?,
-            Term::new(b).ok_or("name")?,
+            RtpName::new(a),
+            RtpName::new(b),
             Association::Bothway,
         ));
     }

@@ -1,5 +1,5 @@
 -- The head of a message (RFC 3525, Annex B.2: MEGACOP, with its version).
-use Rattle.std.specs.Prelude.{ℕ, List, length, take, drop, Option, Some, None, nat_lt, codes}
+use Rattle.std.specs.Prelude.{ℕ, List, length, take, drop, Option, None, nat_lt, codes}
 use Rattle.std.specs.Prelude.{if◌then◌else◌}
 use Rattle.std.specs.Option.{option_or}
 use Rattle.mg_words.specs.Numbers.{version_in_digits}

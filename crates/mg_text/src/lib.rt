@@ -53,7 +53,7 @@ pub use crate::reading::read;
 pub use crate::request::{Action, Request};
 pub use crate::tree_list::TreeList;
 pub use mg_reply::{
-    Bytes, Control, HEAD_LIMIT, ITEM_LIMIT, Item, Media, Outcome, Parts, Reply, TooLong,
+    Bytes, Control, HEAD_LIMIT, ITEM_LIMIT, Item, Media, Outcome, Parts, Reply, RtpName, TooLong,
     write_address, write_error, write_head, write_port, write_reply,
 };
 pub use mg_words::{

@@ -1,0 +1,75 @@
+ghost use Rattle.std.specs.Prelude.{◌≡◌, ◌≤◌, length};
+ghost use Rattle.mg_words.specs.Term.{rtp_name};
+
+use arrayvec::ArrayVec;
+use mg_engine::SeatedMember;
+use mg_text::RtpName;
+use mg_words::MEMBERS;
+use std::marker::Model;
+
+/// A member of a context with the name of its termination, which is made once. Contracts see the member.
+#[derive(Drop)]
+pub struct NamedMember {
+    seated: SeatedMember,
+    name: RtpName,
+}
+
+impl Model for NamedMember {
+    ghost use Rattle.std.specs.Prelude.{◌≡◌};
+    ghost use Rattle.mg_words.specs.Term.{rtp_name};
+    ghost use Rattle.mg_engine.specs.declared.seated_member.SeatedMember.{SeatedMember};
+
+    ghost Value = { SeatedMember };
+
+    ghost view = { λ m. m.seated };
+
+    ghost invariant = { λ m. m.name ≡ rtp_name m.seated.number };
+}
+
+impl NamedMember {
+    /// A member with its name.
+    pub fn new(seated: SeatedMember) -> Self
+        ensures value { result ≡ seated }
+    {
+        NamedMember {
+            seated,
+            name: RtpName::new(seated.number),
+        }
+    }
+
+    /// The member.
+    pub fn seated(&self) -> SeatedMember
+        ensures value { result ≡ self.now }
+    {
+        self.seated
+    }
+
+    /// The name of its termination.
+    pub fn name(&self) -> RtpName
+        ensures value { result ≡ rtp_name self.now.number }
+    {
+        self.name.again()
+    }
+}
+
+impl Default for NamedMember {
+    ghost use Rattle.std.specs.Prelude.{◌≡◌};
+
+    ghost is_default = { λ m. m ≡ record { number = 0; room = 0; seat = 0 } };
+
+    fn default() -> Self {
+        NamedMember::new(SeatedMember::default())
+    }
+}
+
+/// Members with their names.
+pub fn named_members(members: &[SeatedMember]) -> ArrayVec<NamedMember, MEMBERS>
+    requires few { length members.now ≤ MEMBERS }
+    ensures value { result.items ≡ members.now }
+{
+    let mut named = ArrayVec::new();
+    for member in members {
+        named.push(NamedMember::new(*member));
+    }
+    named
+}

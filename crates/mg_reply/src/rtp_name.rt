@@ -1,0 +1,70 @@
+ghost use Rattle.std.specs.Prelude.{◌≡◌, ◌≤◌, length, take};
+ghost use Rattle.mg_words.specs.Term.{rtp_name};
+
+use itoa::Buffer;
+use std::marker::Model;
+
+/// The name of a termination by its number, `RTP/` and the number in plain decimal: 5 to 14 bytes, kept in 16, so that
+/// it is written by one move. Contracts see the name.
+#[derive(Drop)]
+pub struct RtpName {
+    padded: [u8; 16],
+    len: usize,
+}
+
+impl Model for RtpName {
+    ghost use Rattle.std.specs.Prelude.{List, ℕ, ◌≤◌, take};
+
+    ghost Value = { List ℕ };
+
+    ghost view = { λ name. take name.len name.padded };
+
+    ghost invariant = { λ name. name.len ≤ 16 };
+}
+
+impl RtpName {
+    /// The name of the termination with a number.
+    #[tactic(auto, using(crate::proofs::WrittenLaws::lengths))]
+    pub fn new(number: u32) -> Self
+        ensures value { result ≡ rtp_name number }
+    {
+        let mut buffer = Buffer::new();
+        let digits = buffer.format(number).as_bytes();
+        let mut padded = *b"RTP/000000000000";
+        let len = 4 + digits.len();
+        padded[4..len].copy_from_slice(digits);
+        RtpName { padded, len }
+    }
+
+    /// The bytes of the name.
+    pub fn as_slice(&self) -> &[u8]
+        ensures value { result.now ≡ self.now }
+    {
+        &self.padded[..self.len]
+    }
+
+    /// The same name once more.
+    pub fn again(&self) -> Self
+        ensures value { result ≡ self.now }
+    {
+        RtpName {
+            padded: self.padded,
+            len: self.len,
+        }
+    }
+
+    /// How many bytes the name has.
+    pub(crate) fn len(&self) -> usize
+        ensures value { result ≡ length self.now }
+    {
+        self.len
+    }
+
+    /// The 16 bytes that begin with the name.
+    pub(crate) fn padded(&self) -> &[u8; 16]
+        ensures value { take (length self.now) result.now ≡ self.now }
+        ensures short { length self.now ≤ 16 }
+    {
+        &self.padded
+    }
+}

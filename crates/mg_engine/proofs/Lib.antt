@@ -28,3 +28,5 @@ pub mod PortLaws
 pub mod OutcomeLaws
 pub mod IsolationLaws
 pub mod OrderLaws
+pub mod ElsewhereLaws
+pub mod LeftAloneLaws

@@ -52,7 +52,7 @@ Others old new n = (m : ℕ) → m ≢ n → record_at new m ≡ record_at old m
 abbrev pub KeepsRooms : Registry → Registry → Type 0
 KeepsRooms old new = (c : ℕ) (x y : Context) → context_at old c ≡ Some x → context_at new c ≡ Some y → y.room ≡ x.room
 
-some_context : (o : Option Context) → is_some o ≡ true → (x : Context) × (o ≡ Some x)
+pub some_context : (o : Option Context) → is_some o ≡ true → (x : Context) × (o ≡ Some x)
 some_context (Some x) h = (x, refl)
 some_context None h = absurd (cc h)
 

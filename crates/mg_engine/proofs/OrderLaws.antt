@@ -110,7 +110,7 @@ two_changes n m p q [] apart = refl
 two_changes n m p q (x ∷ xs) apart = two_at n m p q x xs (eqb x.number n) (eqb x.number m) refl refl apart (two_changes n m p q xs apart)
 
 -- the media of the one stay where those of the other change
-other_media : (w : Gateway) (n m : ℕ) (p : Header × List ℤ) → eqb n m ≡ false → media_of (record w { media = played_at n p w.media }) m ≡ media_of w m
+pub other_media : (w : Gateway) (n m : ℕ) (p : Header × List ℤ) → eqb n m ≡ false → media_of (record w { media = played_at n p w.media }) m ≡ media_of w m
 other_media w n m p apart =
     found_other (λ s. s.number) (λ s. Some (play p s)) n m w.media (λ x ys same. let no : eqb x.number m ≡ false = ap (λ (i : ℕ). eqb i m) (eqb-true x.number n same) ∙ apart in rw no refl)
 

@@ -18,17 +18,17 @@ use Rattle.mg_rooms.specs.Changes.{change, inserted, replaced, removed, entered,
 use Rattle.mg_rooms.specs.Outcome.{may_enter, may_have_members, member, named, is_number, new_slot, new_place, add, modify, move_to, subtract}
 
 -- each step of an outcome that is done is done
-after_ok : {A B : Type 0} (P : Type 0) (r : Result A ErrorNumber) (f : A → Result B ErrorNumber) (y : B) → (r >>= f) ≡ Ok y → ((x : A) → f x ≡ Ok y → P) → P
+pub after_ok : {A B : Type 0} (P : Type 0) (r : Result A ErrorNumber) (f : A → Result B ErrorNumber) (y : B) → (r >>= f) ≡ Ok y → ((x : A) → f x ≡ Ok y → P) → P
 after_ok P (Ok x) f y e k = k x e
 after_ok P (Err refusal) f y e k = absurd (cc e)
 
 abbrev some : Record → Option Record
 some r = Some r
 
-abbrev did : Registry × Record → Result (Registry × Record) ErrorNumber
+abbrev pub did : Registry × Record → Result (Registry × Record) ErrorNumber
 did p = Ok p
 
-ok_is : (p q : Registry × Record) → did p ≡ did q → p ≡ q
+pub ok_is : (p q : Registry × Record) → did p ≡ did q → p ≡ q
 ok_is p q e = cc
 
 entered_terminations : (w : Registry) (place : Place) (n : ℕ) (made : Option ℕ) → (entered_at w place n made).terminations ≡ w.terminations
@@ -73,7 +73,7 @@ add_adds w target settings new d e =
     after_ok (Adds w new d) (with_settings w.limits settings (fresh w.next_termination slot place)) _ (new, d) three (λ r four.
     adds_by w new d r place four))))
 
-after_ok_is : {A B : Type 0} (P : Type 0) (r : Result A ErrorNumber) (f : A → Result B ErrorNumber) (y : B) → (r >>= f) ≡ Ok y → ((x : A) → r ≡ Ok x → f x ≡ Ok y → P) → P
+pub after_ok_is : {A B : Type 0} (P : Type 0) (r : Result A ErrorNumber) (f : A → Result B ErrorNumber) (y : B) → (r >>= f) ≡ Ok y → ((x : A) → r ≡ Ok x → f x ≡ Ok y → P) → P
 after_ok_is P (Ok x) f y e k = k x refl e
 after_ok_is P (Err refusal) f y e k = absurd (cc e)
 
@@ -83,11 +83,11 @@ fine r = Ok r
 fine_is : (r q : Record) → fine r ≡ fine q → r ≡ q
 fine_is r q e = cc e
 
-named_at : (o : Option Record) (r : Record) → ok_or o UnknownTermination ≡ fine r → o ≡ Some r
+pub named_at : (o : Option Record) (r : Record) → ok_or o UnknownTermination ≡ fine r → o ≡ Some r
 named_at (Some x) r e = ap some (fine_is x r e)
 named_at None r e = absurd (cc e)
 
-member_at : (w : Registry) (target : Target) (n : ℕ) (r : Record) → member w target n ≡ fine r → record_at w n ≡ Some r
+pub member_at : (w : Registry) (target : Target) (n : ℕ) (r : Record) → member w target n ≡ fine r → record_at w n ≡ Some r
 member_at w target n r e =
     after_ok_is (record_at w n ≡ Some r) (named w n) _ r e (λ x found one.
     after_ok (record_at w n ≡ Some r) (may_have_members w target) _ r one (λ _ two.
@@ -99,7 +99,7 @@ pub record SameTermination (old r : Record) : Type 0 where
   pub slot : r.slot ≡ old.slot
   pub number : r.number ≡ old.number
 
-settings_keep : (limits : Limits) (settings : Settings) (old r : Record) → with_settings limits settings old ≡ fine r → SameTermination old r
+pub settings_keep : (limits : Limits) (settings : Settings) (old r : Record) → with_settings limits settings old ≡ fine r → SameTermination old r
 settings_keep limits settings old r e =
     after_ok (SameTermination old r) (local_after limits.address (slot_port limits old.slot) settings.local old.local) _ r e (λ local one.
     after_ok (SameTermination old r) (remote_after settings.remote old.remote) _ r one (λ remote two.

@@ -16,4 +16,5 @@ pub mod Totals
 pub mod Work
 pub mod Isolation
 pub mod Order
+pub mod LeftAlone
 pub mod aids

@@ -1,8 +1,9 @@
-ghost use Rattle.std.specs.Prelude.{All, ◌≡◌, ◌≢◌, ℕ, List, [], ◌∷◌, ◌<◌, ◌≤◌, ◌+◌, ◌++◌, ◌↔◌, ◌==◌, not, Err, Some, IfOk, IfSome, OnOk, OnErr, MatchResult, Ok, EachIndex, length, map, filter, replicate, slice_set, option_map, option_to_list, slice_index_or, IsTrue, None, ◌*◌, sum_by};
+ghost use Rattle.std.specs.Prelude.{All, ◌≡◌, ◌≢◌, ℕ, List, [], ◌∷◌, ◌<◌, ◌≤◌, ◌+◌, ◌++◌, ◌↔◌, ◌==◌, not, Err, Some, IfOk, IfSome, IsSome, OnOk, OnErr, MatchResult, Ok, EachIndex, length, map, filter, replicate, slice_set, option_map, option_to_list, slice_index_or, IsTrue, false, None, ◌*◌, sum_by};
 ghost use Rattle.mg_rooms.specs.declared.record.Record.{Record};
 ghost use Rattle.mg_words.specs.declared.limits.TheConstants.{TERMINATIONS};
 ghost use Rattle.std.specs.List.{range_with_len};
-ghost use Rattle.mg_rooms.specs.Registry.{holder_of, record_at, members_at};
+ghost use Rattle.mg_rooms.specs.Outcome.{is_number};
+ghost use Rattle.mg_rooms.specs.Registry.{holder_of, record_at, context_at, members_at};
 ghost use Rattle.mg_words.specs.Limits.{context_limit, termination_limit};
 ghost use Rattle.mg_sums.specs.Samples.{nearest_sample};
 ghost use Rattle.mg_engine.specs.Outcome.{outcome, add, modify, move_to, subtract, context_there, apply_triples};
@@ -23,6 +24,7 @@ ghost use Rattle.mg_sums.specs.Sums.{frame_of};
 ghost use Rattle.mg_rtp.specs.Reading.{reading_of};
 ghost use Rattle.mg_engine.specs.Arrival.{at_port, arrived, Takes};
 ghost use Rattle.mg_engine.specs.Flow.{flow, hears};
+ghost use Rattle.mg_engine.specs.LeftAlone.{IsLeftAlone, IsElsewhere, IsEditElsewhere, IsPortElsewhere};
 ghost use Rattle.mg_engine.specs.Mix.{total_at};
 ghost use Rattle.mg_engine.specs.Media.{idle, begun, ended, tuned as tuned_media};
 ghost use Rattle.mg_engine.specs.Config.{IsValidConfig};
@@ -171,6 +173,8 @@ impl Engine {
     pub fn edit(&mut self, edit: &Edit) -> Result<Done, ErrorNumber>
         ensures outcome { (w : Gateway) → StandsFor self.old w → IsOutcome self.new result (outcome w edit.now) }
         ensures refused { OnErr result (self.new ≡ self.old) }
+        ensures others { (w next : Gateway) (done : Done) (c : ℕ) → StandsFor self.old w → outcome w edit.now ≡ Ok (next, done) →
+            IsSome (context_at w.rooms c) → IsEditElsewhere w c edit.now → IsLeftAlone w next c }
         ensures work { RisesAtMost 4 self.old.sums.work self.new.sums.work }
     {
         match edit {
@@ -209,6 +213,8 @@ impl Engine {
     pub fn add(&mut self, target: Target, settings: &Settings) -> Result<Record, ErrorNumber>
         ensures outcome { (w : Gateway) → StandsFor self.old w → IsOutcome self.new result (add w target settings.now) }
         ensures refused { OnErr result (self.new ≡ self.old) }
+        ensures others { (w next : Gateway) (r : Record) (c : ℕ) → StandsFor self.old w → add w target settings.now ≡ Ok (next, r) →
+            IsSome (context_at w.rooms c) → is_number target c ≡ false → IsLeftAlone w next c }
         ensures work { RisesAtMost 4 self.old.sums.work self.new.sums.work }
     {
         let made = self.rooms.add(target, settings)?;
@@ -229,6 +235,8 @@ impl Engine {
     ) -> Result<Record, ErrorNumber>
         ensures outcome { (w : Gateway) → StandsFor self.old w → IsOutcome self.new result (modify w target number settings.now) }
         ensures refused { OnErr result (self.new ≡ self.old) }
+        ensures others { (w next : Gateway) (r : Record) (c : ℕ) → StandsFor self.old w → modify w target number settings.now ≡ Ok (next, r) →
+            IsElsewhere w c target number → IsLeftAlone w next c }
         ensures work { RisesAtMost 4 self.old.sums.work self.new.sums.work }
     {
         let changed = self.rooms.modify(target, number, settings)?;
@@ -247,6 +255,8 @@ impl Engine {
     ) -> Result<Record, ErrorNumber>
         ensures outcome { (w : Gateway) → StandsFor self.old w → IsOutcome self.new result (move_to w target number settings.now) }
         ensures refused { OnErr result (self.new ≡ self.old) }
+        ensures others { (w next : Gateway) (r : Record) (c : ℕ) → StandsFor self.old w → move_to w target number settings.now ≡ Ok (next, r) →
+            IsSome (context_at w.rooms c) → IsElsewhere w c target number → IsLeftAlone w next c }
         ensures work { RisesAtMost 4 self.old.sums.work self.new.sums.work }
     {
         let moved = self.rooms.move_to(target, number, settings)?;
@@ -261,6 +271,8 @@ impl Engine {
     pub fn subtract(&mut self, target: Target, number: u32) -> Result<Record, ErrorNumber>
         ensures outcome { (w : Gateway) → StandsFor self.old w → IsOutcome self.new result (subtract w target number) }
         ensures refused { OnErr result (self.new ≡ self.old) }
+        ensures others { (w next : Gateway) (r : Record) (c : ℕ) → StandsFor self.old w → subtract w target number ≡ Ok (next, r) →
+            IsElsewhere w c target number → IsLeftAlone w next c }
         ensures work { RisesAtMost 4 self.old.sums.work self.new.sums.work }
     {
         let gone = self.rooms.subtract(target, number)?;
@@ -279,6 +291,8 @@ impl Engine {
     ) -> Result<u32, ErrorNumber>
         ensures outcome { (w : Gateway) → StandsFor self.old w → IsOutcome self.new result (apply_triples w target triples.now.items) }
         ensures refused { OnErr result (self.new ≡ self.old) }
+        ensures others { (w next : Gateway) (context c : ℕ) → StandsFor self.old w → apply_triples w target triples.now.items ≡ Ok (next, context) →
+            is_number target c ≡ false → IsLeftAlone w next c }
         ensures work { RisesAtMost 4 self.old.sums.work self.new.sums.work }
     {
         let at = topology_room(&self.rooms, target)?;
@@ -344,6 +358,8 @@ impl Engine {
     pub fn media(&mut self, port: u16, source: Peer, bytes: &[u8]) -> Taken
         ensures taken { (w : Gateway) → StandsFor self.old w → (after : Gateway)
             × Takes w port source.address bytes.now after result × StandsFor self.new after }
+        ensures others { (w next : Gateway) (c : ℕ) → StandsFor self.old w → Takes w port source.address bytes.now next result →
+            IsPortElsewhere w c port → IsLeftAlone w next c }
         ensures work { self.new.sums.work ≡ self.old.sums.work }
     {
         let packet = read(bytes);

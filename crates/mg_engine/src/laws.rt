@@ -13,6 +13,7 @@ ghost use Rattle.mg_engine.specs.Arrival.{Takes};
 ghost use Rattle.mg_engine.specs.Config.{IsValidConfig};
 ghost use Rattle.mg_engine.specs.Gateway.{Gateway, start_of};
 ghost use Rattle.mg_engine.specs.Outcome.{add, modify, move_to, subtract, apply_triples};
+ghost use Rattle.mg_engine.specs.LeftAlone.{EditsLeaveOthersAlone, DatagramsLeaveOthersAlone};
 ghost use Rattle.mg_engine.specs.Order.{OrderOfTwoIsNothing};
 ghost use Rattle.mg_engine.specs.Isolation.{NobodyHearsHimself, IsolatedAreNotHeard, UnheardChangesNoPacket, PayloadsAreMixes};
 ghost use Rattle.mg_engine.specs.Triples.{triple_limit};
@@ -81,3 +82,13 @@ pub fn worlds_are_consistent()
 pub fn order_of_ports_is_nothing()
     ensures law { OrderOfTwoIsNothing }
 {}
+
+/// An edit leaves the other contexts alone, and so does an RTP datagram: the members and their order, the record and the
+/// media of each, who of them hears whom, what flows between them, and the total. An edit is about the action's context and
+/// that of the termination that it names, a datagram about that of the termination that has its port.
+pub fn other_contexts_are_left_alone()
+    ensures edits { EditsLeaveOthersAlone }
+    ensures media { DatagramsLeaveOthersAlone }
+{
+    mg_rooms::laws::what_is_consistent_is_sound();
+}

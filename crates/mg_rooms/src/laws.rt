@@ -13,6 +13,7 @@ ghost use Rattle.mg_rooms.specs.Limits.{AreValidLimits};
 ghost use Rattle.mg_rooms.specs.Registry.{Registry, start_of, members_at, free_slot, free_seat, free_room};
 ghost use Rattle.mg_rooms.specs.Outcome.{new_slot, new_seat, new_context, add, modify, move_to, subtract};
 ghost use Rattle.mg_rooms.specs.Consistent.{IsConsistent};
+ghost use Rattle.mg_rooms.specs.Sound.{IsSound};
 
 /// A seat is free in each context that isn't full, and a room where there are not as many contexts as
 /// there can be. So a command is told that a context is full, or that none can be made, only where that
@@ -48,4 +49,9 @@ pub fn outcomes_are_consistent()
         move_to w target n settings ≡ Ok (next, r) → IsConsistent next }
     ensures subtract { (w next : Registry) (target : Target) (n : ℕ) (r : Record) → IsConsistent w →
         subtract w target n ≡ Ok (next, r) → IsConsistent next }
+{}
+
+/// What is consistent is sound: what is looked up of terminations and contexts agrees, with no table at hand.
+pub fn what_is_consistent_is_sound()
+    ensures { (w : Registry) → IsConsistent w → IsSound w }
 {}

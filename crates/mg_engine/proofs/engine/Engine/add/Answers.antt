@@ -15,6 +15,7 @@ use Rattle.mg_engine.proofs.JoinedLaws.{joined_changed}
 use Rattle.mg_engine.proofs.WorkLaws.{rises_twice}
 use Rattle.mg_engine.proofs.PlaceLaws.{on_its_place, member_within, within}
 use Rattle.mg_engine.proofs.SeatingLaws.{carry_seats, seated_put}
+use Rattle.mg_engine.proofs.LeftAloneLaws.{add_alone, sound_as}
 use Rattle.mg_engine.proofs.engine.Engine.add.Goals as goal
 
 pub begin-requires : goal.begin-requires
@@ -122,3 +123,6 @@ pub returns-clause-work : goal.returns-clause-work
 returns-clause-work c =
     subst (λ (x : EngineState). RisesAtMost 4 x.sums.work c.enter.new.sums.work) c.self.view_is
     (rises_twice 2 2 4 c.self.inside.sums.work c.begin.new.sums.work c.enter.new.sums.work (omega arith) c.begin.ensures.work c.enter.ensures.work)
+
+pub returns-clause-others : goal.returns-clause-others
+returns-clause-others c w next r context h done there apart = add_alone w next c.args.target c.args.settings.now r context (sound_as _ c.args.self.now w c.self.view_is c.self.invariant.sound h) done there apart

@@ -15,6 +15,7 @@ use Rattle.mg_engine.proofs.JoinedLaws.{joined_changed}
 use Rattle.mg_engine.proofs.WorkLaws.{rises_less}
 use Rattle.mg_engine.proofs.PlaceLaws.{on_its_place, member_within}
 use Rattle.mg_engine.proofs.SeatingLaws.{seated_mode}
+use Rattle.mg_engine.proofs.LeftAloneLaws.{modify_alone}
 use Rattle.mg_engine.proofs.engine.Engine.modify.Goals as goal
 
 pub tune-requires : goal.tune-requires
@@ -111,3 +112,6 @@ pub returns-clause-work : goal.returns-clause-work
 returns-clause-work c =
     subst (λ (x : EngineState). RisesAtMost 4 x.sums.work c.take_mode.new.sums.work) c.self.view_is
     (rises_less 2 4 c.self.inside.sums.work c.take_mode.new.sums.work (omega arith) c.take_mode.ensures.work)
+
+pub returns-clause-others : goal.returns-clause-others
+returns-clause-others c w next r context h done apart = modify_alone w next c.args.target c.args.number c.args.settings.now r context done apart

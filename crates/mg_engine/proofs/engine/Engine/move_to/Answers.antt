@@ -16,6 +16,7 @@ use Rattle.mg_engine.proofs.JoinedLaws.{joined_changed}
 use Rattle.mg_engine.proofs.WorkLaws.{rises_less}
 use Rattle.mg_engine.proofs.PlaceLaws.{on_its_place, member_within, within}
 use Rattle.mg_engine.proofs.SeatingLaws.{carry_seats, seated_put}
+use Rattle.mg_engine.proofs.LeftAloneLaws.{move_alone, sound_as}
 use Rattle.mg_engine.proofs.engine.Engine.move_to.Goals as goal
 
 pub tune-requires : goal.tune-requires
@@ -133,3 +134,6 @@ pub returns-clause-work : goal.returns-clause-work
 returns-clause-work c =
     subst (λ (x : EngineState). RisesAtMost 4 x.sums.work c.enter.new.sums.work) c.self.view_is
     (rises_less 2 4 c.self.inside.sums.work c.enter.new.sums.work (omega arith) c.enter.ensures.work)
+
+pub returns-clause-others : goal.returns-clause-others
+returns-clause-others c w next r context h done there apart = move_alone w next c.args.target c.args.number c.args.settings.now r context (sound_as _ c.args.self.now w c.self.view_is c.self.invariant.sound h) done there apart

@@ -13,6 +13,7 @@ use Rattle.mg_engine.proofs.JoinedLaws.{joined_left}
 use Rattle.mg_engine.proofs.WorkLaws.{rises_less}
 use Rattle.mg_engine.proofs.PlaceLaws.{on_its_place}
 use Rattle.mg_engine.proofs.SeatingLaws.{carry_seats, seated_all}
+use Rattle.mg_engine.proofs.LeftAloneLaws.{subtract_alone, sound_as}
 use Rattle.mg_engine.proofs.engine.Engine.subtract.Goals as goal
 
 pub vacate-requires : goal.vacate-requires
@@ -71,3 +72,6 @@ pub returns-clause-work : goal.returns-clause-work
 returns-clause-work c =
     subst (λ (x : EngineState). RisesAtMost 4 x.sums.work c.part.new.sums.work) c.self.view_is
     (rises_less 1 4 c.self.inside.sums.work c.part.new.sums.work (omega arith) c.part.ensures.work)
+
+pub returns-clause-others : goal.returns-clause-others
+returns-clause-others c w next r context h done apart = subtract_alone w next c.args.target c.args.number r context (sound_as _ c.args.self.now w c.self.view_is c.self.invariant.sound h) done apart

@@ -10,3 +10,4 @@ pub mod RefusalLaws
 pub mod Rows
 pub mod StreamSteps
 pub mod KeepLaws
+pub mod AgreeLaws

@@ -9,4 +9,5 @@ pub mod ReplyDescriptors
 pub mod Outcome
 pub mod Transaction
 pub mod Theorems
+pub mod Agreement
 pub mod aids

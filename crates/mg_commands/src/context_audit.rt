@@ -12,7 +12,12 @@ use mg_engine::{Association, Engine};
 use mg_text::{Item, Reply};
 
 /// How two members hear each other.
-fn pair_item(second_hears: bool, first_hears: bool, first: &NamedMember, second: &NamedMember) -> Item
+fn pair_item(
+    second_hears: bool,
+    first_hears: bool,
+    first: &NamedMember,
+    second: &NamedMember,
+) -> Item
     ensures value { result ≡ pair_item second_hears first_hears first.now.number second.now.number }
 {
     let a = first.name();

@@ -12,8 +12,8 @@ ghost use Rattle.mg_commands.specs.aids.Runs.{Tells};
 
 use crate::action_fault::has_context_audit;
 use crate::context_audit::put_pairs;
-use crate::named_member::named_members;
 use crate::name::{Name, name_of};
+use crate::named_member::named_members;
 use crate::progress::Progress;
 use mg_engine::{Engine, TopologyTriple, TopologyTriples, TripleTerm};
 use mg_text::{ContextProperty, ErrorNumber, Item, Reply, Triple};

@@ -2,6 +2,7 @@
 //!
 //! The calls change nothing: their contracts are the theorems.
 
+ghost use Rattle.mg_commands.specs.Agreement.{RequestsKeepAgreement};
 ghost use Rattle.mg_commands.specs.Theorems.{RefusedNamesChangeNothing, RefusedCommandsChangeNothing, RefusedActionsChangeNothing, RefusedTopologiesChangeNothing, OthersAreTried, RequestsAreConsistent};
 
 /// What is refused leaves the gateway, the action's context and what `$` names as they were, and adds only what the
@@ -22,4 +23,12 @@ pub fn requests_are_consistent()
     ensures law { RequestsAreConsistent }
 {
     mg_engine::laws::worlds_are_consistent();
+}
+
+/// A request in two gateways that agree outside some terminations leads to gateways that do, and the replies differ at most
+/// in the packets received that their statistics tell.
+pub fn requests_keep_agreement()
+    ensures law { RequestsKeepAgreement }
+{
+    mg_engine::laws::agreement_lasts();
 }

@@ -8,3 +8,4 @@ pub mod HeadlineLaws
 pub mod ScriptLaws
 pub mod ConsistentLaws
 pub mod InterleavingLaws
+pub mod ApartLaws

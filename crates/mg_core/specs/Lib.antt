@@ -7,5 +7,6 @@ pub mod Script
 pub mod Run
 pub mod Headline
 pub mod Interleaving
+pub mod Apart
 pub mod Repeats
 pub mod aids

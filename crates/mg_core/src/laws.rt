@@ -3,6 +3,7 @@
 ghost use Rattle.std.specs.Prelude.{◌≡◌, List};
 ghost use Rattle.mg_core.specs.declared.event.Event.{Event};
 ghost use Rattle.mg_commands.specs.Theorems.{RefusedNamesChangeNothing, RefusedCommandsChangeNothing, RefusedActionsChangeNothing, RefusedTopologiesChangeNothing, OthersAreTried};
+ghost use Rattle.mg_core.specs.Apart.{SameEventKeepsAgreement, OneArrivalKeepsAgreement, SamePackets, UnheardChangesNothing, UnheardInHistories, UnheardInScripts};
 ghost use Rattle.mg_core.specs.Headline.{EventsLeadToOneWorld, OneGatewayOneFuture};
 ghost use Rattle.mg_engine.specs.Isolation.{NobodyHearsHimself, IsolatedAreNotHeard, UnheardChangesNoPacket, PayloadsAreMixes};
 ghost use Rattle.mg_core.specs.Interleaving.{OrderOfPortsIsNothing, HistoriesAreOne, ScriptsAreOne};
@@ -64,6 +65,23 @@ pub fn order_of_ports_is_nothing()
     mg_engine::laws::order_of_ports_is_nothing();
     mg_engine::laws::worlds_are_consistent();
     mg_commands::laws::requests_are_consistent();
+}
+
+/// What some terminations send changes nothing for whoever doesn't hear them, over any time: of two gateways to which the
+/// same comes, but for RTP datagrams at ports of these terminations, the same packets are sent, byte for byte, from the port
+/// of each that hears none of them. What is said of events, one at a time, adds up to lists, histories and scripts.
+pub fn unheard_changes_nothing()
+    ensures event { SameEventKeepsAgreement }
+    ensures one { OneArrivalKeepsAgreement }
+    ensures packets { SamePackets }
+    ensures lists { UnheardChangesNothing }
+    ensures histories { UnheardInHistories }
+    ensures scripts { UnheardInScripts }
+{
+    mg_text::laws::one_reading(b"");
+    mg_engine::laws::agreement_lasts();
+    mg_engine::laws::packets_are_of_what_is_heard();
+    mg_commands::laws::requests_keep_agreement();
 }
 
 /// The headline, joined. By its clauses `headline` and `packets` a [`Core`](crate::Core) answers and sends, after any list of

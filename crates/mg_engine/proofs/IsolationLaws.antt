@@ -1,7 +1,8 @@
 -- Who isn't heard.
-use Rattle.std.proofs.Common.{◌≡◌, ℕ, ℤ, pos, ◌+◌, ◌<◌, eqb, not, ◌&&◌, ◌||◌, Bool, true, false, List, [], ◌∷◌, ◌++◌, length, map, get_or, find, Option, Some, None, refl, sym, ap, ◌∙◌, arith, if◌then◌else◌}
+use Rattle.std.proofs.Common.{◌≡◌, ℕ, ℤ, pos, ◌+◌, ◌-◌, ◌*◌, ◌%◌, ◌^◌, ◌<◌, eqb, not, ◌&&◌, ◌||◌, Bool, true, false, List, [], ◌∷◌, ◌++◌, length, map, get_or, find, Option, Some, None, refl, sym, ap, ◌∙◌, arith, if◌then◌else◌}
 use Rattle.std.specs.List.{list_all, range_with_len}
 use Rattle.std.specs.Option.{option_map}
+use Rattle.std.proofs.lemmas.Option.{same_Some}
 use Rattle.std.specs.Prelude.{slice_index_or}
 use Rattle.std.proofs.lemmas.Bool.{eqb-true, eq-eqb}
 use Rattle.std.proofs.lemmas.List.{get_or-append-add}
@@ -13,15 +14,17 @@ use Rattle.mg_topology.specs.Triple.{lets}
 use Rattle.mg_words.specs.Mode.{talks, listens}
 use Rattle.mg_words.specs.declared.association.Association.TheVariants.{Isolate}
 use Rattle.mg_rooms.specs.declared.record.Record.{Record}
-use Rattle.mg_sums.specs.Samples.{nearest_sample}
+use Rattle.mg_rooms.specs.Limits.{slot_port}
+use Rattle.mg_rooms.specs.Registry as rooms
+use Rattle.mg_sums.specs.Samples.{nearest_sample, sum_of}
 use Rattle.mg_engine.proofs.PlainSums.{map_agree}
 use Rattle.mg_engine.proofs.PlainSums.{sum_of-same}
 use Rattle.mg_engine.specs.declared.datagram.Datagram.{Datagram}
-use Rattle.mg_engine.specs.Gateway.{Gateway, TerminationMedia, ContextEdit, Enter, Leave, Apply, media_of, frame_of, frame_in, mode_of, context_of}
+use Rattle.mg_engine.specs.Gateway.{Gateway, TerminationMedia, ContextEdit, Enter, Leave, Apply, media_of, frame_of, frame_in, mode_of, context_of, numbers_of}
 use Rattle.mg_engine.specs.Flow.{flow, leads, speaks_of, lets_hear}
 use Rattle.mg_engine.specs.Mix.{played_sample, part_of_mix, heard, mix, mixed, is_loopback}
-use Rattle.mg_engine.specs.Tick.{packet, packet_to, header_of, sent_to}
-use Rattle.mg_engine.specs.Isolation.{NobodyHearsHimself, leaves_isolated, IsolatedAreNotHeard, replayed, with_frame, UnheardChangesNoPacket, PayloadsAreMixes}
+use Rattle.mg_engine.specs.Tick.{packet, packet_to, header_of, sent_to, type_of}
+use Rattle.mg_engine.specs.Isolation.{NobodyHearsHimself, leaves_isolated, IsolatedAreNotHeard, replayed, with_frame, hears_itself, progress_of, PacketsAreOfWhatIsHeard, OwnSpeechChangesNoPacket, UnheardChangesNoPacket, PayloadsAreMixes}
 
 and_none : (x y : Bool) → y ≡ false → (x && y) ≡ false
 and_none true y h = h
@@ -90,6 +93,68 @@ isolated_are_not_heard w a b h = (
       ∙ not_heard h.since h.first h.second h.before b a (or_other (leads h.first h.second b a) (leads h.first h.second a b) ∙ h.isolated) (all_leave a b h.since ∙ h.left)),
 )
 
+-- ## What a packet depends on
+
+module _ (a b : Gateway) (same_rooms : a.rooms ≡ b.rooms) (same_edits : a.edits ≡ b.edits) where
+  flow_same : (talker listener : ℕ) → flow a talker listener ≡ flow b talker listener
+  flow_same talker listener = λ i. flow (record a { rooms = same_rooms i; edits = same_edits i }) talker listener
+
+  sample_same : (n k : ℕ) → frame_of a n ≡ frame_of b n → played_sample a n k ≡ played_sample b n k
+  sample_same n k same = ap (λ (f : List ℤ). slice_index_or f k (pos 0)) same
+
+  part_at : (listener k talker : ℕ) (x : Bool) → (x ≡ true → frame_of a talker ≡ frame_of b talker) → (if x then played_sample a talker k else pos 0) ≡ (if x then played_sample b talker k else pos 0)
+  part_at listener k talker true same = sample_same talker k (same refl)
+  part_at listener k talker false same = refl
+
+  part_same : (listener k talker : ℕ) → (flow a talker listener ≡ true → frame_of a talker ≡ frame_of b talker) → part_of_mix a listener k talker ≡ part_of_mix b listener k talker
+  part_same listener k talker same =
+      part_at listener k talker (flow a talker listener) same ∙ ap (λ (x : Bool). if x then played_sample b talker k else pos 0) (flow_same talker listener)
+
+  heard_same : (listener k : ℕ) → ((talker : ℕ) → flow a talker listener ≡ true → frame_of a talker ≡ frame_of b talker) → heard a listener k ≡ heard b listener k
+  heard_same listener k same =
+      sum_of-same (part_of_mix a listener k) (part_of_mix b listener k) (numbers_of a) (λ talker. part_same listener k talker (same talker))
+      ∙ ap (λ (z : rooms.Registry). sum_of (part_of_mix b listener k) (map (λ r. r.number) z.terminations)) same_rooms
+
+  mix_at : (n k : ℕ) (x : Bool) → (x ≡ true → frame_of a n ≡ frame_of b n) → heard a n k ≡ heard b n k → (if x then played_sample a n k else nearest_sample (heard a n k)) ≡ (if x then played_sample b n k else nearest_sample (heard b n k))
+  mix_at n k true own same = sample_same n k (own refl)
+  mix_at n k false own same = ap nearest_sample same
+
+  mix_same : (n k : ℕ) → ((talker : ℕ) → flow a talker n ≡ true → frame_of a talker ≡ frame_of b talker) → (hears_itself a n ≡ true → frame_of a n ≡ frame_of b n) → mix a n k ≡ mix b n k
+  mix_same n k same own =
+      mix_at n k (hears_itself a n) own (heard_same n k same)
+      ∙ ap (λ (z : rooms.Registry). if is_loopback (mode_of (record a { rooms = z }) n) then played_sample b n k else nearest_sample (heard b n k)) same_rooms
+
+  header_same : (to : Chosen) (s t : TerminationMedia) → a.config ≡ b.config → progress_of s ≡ progress_of t → header_of a to s ≡ header_of b to t
+  header_same to s t same e = λ i. record {
+    marker = not (e i).1.1.1;
+    payload_type = type_of to.law;
+    sequence = ((same i).sequence + (e i).1.1.0) % 2 ^ 16;
+    timestamp = ((same i).timestamp + 160 * ((e i).1.0 - 1)) % 2 ^ 32;
+    ssrc = ((same i).ssrc + (e i).0) % 2 ^ 32;
+  }
+
+  packet_same : (r : Record) (to : Chosen) (s t : TerminationMedia) → header_of a to s ≡ header_of b to t → mixed a r.number ≡ mixed b r.number → packet a r to s ≡ packet b r to t
+  packet_same r to s t header samples = λ i. record {
+    from = slot_port (same_rooms i).limits r.slot;
+    to = record { address = to.address; port = to.port };
+    bytes = header_bytes plain (header i) ++ map (byte_of to.law) (samples i);
+  }
+
+  sent_same : (r : Record) (to : Chosen) (o k : Option TerminationMedia) → a.config ≡ b.config → option_map progress_of o ≡ option_map progress_of k → mixed a r.number ≡ mixed b r.number → option_map (packet a r to) o ≡ option_map (packet b r to) k
+  sent_same r to None None same e samples = refl
+  sent_same r to None (Some t) same e samples = absurd (cc e)
+  sent_same r to (Some s) None same e samples = absurd (cc e)
+  sent_same r to (Some s) (Some t) same e samples =
+      ap (λ (d : Datagram). let o : Option Datagram = Some d in o) (packet_same r to s t (header_same to s t same (same_Some (progress_of s) (progress_of t) e)) samples)
+
+  packet_to_same : (r : Record) (to : Option Chosen) → a.config ≡ b.config → option_map progress_of (media_of a r.number) ≡ option_map progress_of (media_of b r.number) → mixed a r.number ≡ mixed b r.number → packet_to a r to ≡ packet_to b r to
+  packet_to_same r None same e samples = refl
+  packet_to_same r (Some to) same e samples = sent_same r to (media_of a r.number) (media_of b r.number) same e samples
+
+pub packets_are_of_what_is_heard : PacketsAreOfWhatIsHeard
+packets_are_of_what_is_heard a b r config same_rooms edits progress same own =
+    packet_to_same a b same_rooms edits r (sent_to r) config progress (map_agree (mix a r.number) (mix b r.number) (range_with_len 0 160) (λ k. mix_same a b same_rooms edits r.number k same own))
+
 -- ## Unheard
 
 module _ (t : ℕ) (frame : List ℤ) where
@@ -121,9 +186,6 @@ module _ (t : ℕ) (frame : List ℤ) where
   frame_stays : (w : Gateway) (n : ℕ) → eqb n t ≡ false → frame_of (with_frame w t frame) n ≡ frame_of w n
   frame_stays w n apart = ap frame_in (media_stays n w.media) ∙ frame_found n apart w.media
 
-  sample_stays : (w : Gateway) (n i : ℕ) → eqb n t ≡ false → played_sample (with_frame w t frame) n i ≡ played_sample w n i
-  sample_stays w n i apart = ap (λ (f : List ℤ). slice_index_or f i (pos 0)) (frame_stays w n apart)
-
   -- whoever flows to one to whom t doesn't isn't t
   not_it : (w : Gateway) (listener k : ℕ) → flow w t listener ≡ false → flow w k listener ≡ true → eqb k t ≡ false
   not_it w listener k none some = cases (eqb k t) refl where
@@ -131,40 +193,29 @@ module _ (t : ℕ) (frame : List ℤ) where
     cases true e = sym some ∙ ap (λ (x : ℕ). flow w x listener) (eqb-true k t e) ∙ none
     cases false e = refl
 
-  part_stays : (w : Gateway) (listener i k : ℕ) → flow w t listener ≡ false → part_of_mix (with_frame w t frame) listener i k ≡ part_of_mix w listener i k
-  part_stays w listener i k none = cases (flow w k listener) refl where
-    cases : (b : Bool) → flow w k listener ≡ b → (if b then played_sample (with_frame w t frame) k i else pos 0) ≡ (if b then played_sample w k i else pos 0)
-    cases true e = sample_stays w k i (not_it w listener k none e)
-    cases false e = refl
+  progress_stays : (w : Gateway) (n : ℕ) → option_map progress_of (media_of (with_frame w t frame) n) ≡ option_map progress_of (media_of w n)
+  progress_stays w n = ap (option_map progress_of) (media_stays n w.media) ∙ each (media_of w n) where
+    one : (s : TerminationMedia) (b : Bool) → progress_of (if b then record s { frame = frame } else s) ≡ progress_of s
+    one s true = refl
+    one s false = refl
 
-  mix_stays : (w : Gateway) (n i : ℕ) → flow w t n ≡ false → (eqb n t && is_loopback (mode_of w n)) ≡ false → mix (with_frame w t frame) n i ≡ mix w n i
-  mix_stays w n i none other = cases (is_loopback (mode_of w n)) refl where
-    apart : (x : Bool) → (x && true) ≡ false → x ≡ false
-    apart true h = h
-    apart false h = refl
-
-    cases : (b : Bool) → is_loopback (mode_of w n) ≡ b → (if b then played_sample (with_frame w t frame) n i else nearest_sample (heard (with_frame w t frame) n i)) ≡ (if b then played_sample w n i else nearest_sample (heard w n i))
-    cases true e = sample_stays w n i (apart (eqb n t) (ap (λ (x : Bool). eqb n t && x) (sym e) ∙ other))
-    cases false e = ap nearest_sample (sum_of-same (part_of_mix (with_frame w t frame) n i) (part_of_mix w n i) _ (λ k. part_stays w n i k none))
-
-  packet_stays : (w : Gateway) (r : Record) (to : Chosen) (s : TerminationMedia) → mixed (with_frame w t frame) r.number ≡ mixed w r.number → packet (with_frame w t frame) r to (replayed t frame s) ≡ packet w r to s
-  packet_stays w r to s same = cases (eqb s.number t) ∙ ap carrying same where
-    carrying : List ℤ → Datagram
-    carrying samples = record (packet w r to s) { bytes = header_bytes plain (header_of w to s) ++ map (byte_of to.law) samples }
-
-    cases : (b : Bool) → packet (with_frame w t frame) r to (if b then record s { frame = frame } else s) ≡ carrying (mixed (with_frame w t frame) r.number)
-    cases true = refl
-    cases false = refl
-
-  sent_stays : (w : Gateway) (r : Record) (to : Option Chosen) → mixed (with_frame w t frame) r.number ≡ mixed w r.number → packet_to (with_frame w t frame) r to ≡ packet_to w r to
-  sent_stays w r None same = refl
-  sent_stays w r (Some to) same = ap (option_map (packet (with_frame w t frame) r to)) (media_stays r.number w.media) ∙ each (media_of w r.number) where
-    each : (o : Option TerminationMedia) → option_map (packet (with_frame w t frame) r to) (option_map (replayed t frame) o) ≡ option_map (packet w r to) o
+    each : (o : Option TerminationMedia) → option_map progress_of (option_map (replayed t frame) o) ≡ option_map progress_of o
     each None = refl
-    each (Some s) = ap (λ (d : Datagram). let o : Option Datagram = Some d in o) (packet_stays w r to s same)
+    each (Some s) = ap (λ (p : ℕ × (ℕ × (ℕ × Bool))). let o : Option (ℕ × (ℕ × (ℕ × Bool))) = Some p in o) (one s (eqb s.number t))
+
+other_than : (x : Bool) → (x && true) ≡ false → x ≡ false
+other_than true h = h
+other_than false h = refl
 
 pub unheard_changes_no_packet : UnheardChangesNoPacket
-unheard_changes_no_packet w t frame r none other = sent_stays t frame w r (sent_to r) (map_agree (mix (with_frame w t frame) r.number) (mix w r.number) (range_with_len 0 160) (λ i. mix_stays t frame w r.number i none other))
+unheard_changes_no_packet w t frame r none other =
+    packets_are_of_what_is_heard (with_frame w t frame) w r refl refl refl (progress_stays t frame w r.number)
+    (λ k flows. frame_stays t frame w k (not_it t frame w r.number k none flows))
+    (λ own. frame_stays t frame w r.number (other_than (eqb r.number t) (ap (λ (x : Bool). eqb r.number t && x) (sym own) ∙ other)))
+
+pub own_speech_changes_no_packet : OwnSpeechChangesNoPacket
+own_speech_changes_no_packet w frame r h =
+    unheard_changes_no_packet w r.number frame r (nobody_hears_himself w r.number) (and_none (eqb r.number r.number) (hears_itself w r.number) h)
 
 -- ## Payloads
 

@@ -30,3 +30,4 @@ pub mod IsolationLaws
 pub mod OrderLaws
 pub mod ElsewhereLaws
 pub mod LeftAloneLaws
+pub mod ApartLaws

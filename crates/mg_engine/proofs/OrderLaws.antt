@@ -63,7 +63,7 @@ passes_at q x y xs true e found rest = ap q (sym (same_Some x y found)) ∙ e
 passes_at q x y xs false e found rest = rest found
 
 -- what a test finds passes it
-found_passes : {A : Type 0} (q : A → Bool) (xs : List A) (y : A) → find q xs ≡ Some y → q y ≡ true
+pub found_passes : {A : Type 0} (q : A → Bool) (xs : List A) (y : A) → find q xs ≡ Some y → q y ≡ true
 found_passes q [] y found = absurd (cc found)
 found_passes q (x ∷ xs) y found = passes_at q x y xs (q x) refl found (λ later. found_passes q xs y later)
 

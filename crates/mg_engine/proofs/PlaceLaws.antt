@@ -1,6 +1,6 @@
 -- Places of members: each has one, and no two of them one place.
 use Rattle.std.proofs.Common.{arith, ◌≡◌, ◌≢◌, ℕ, ◌<◌, eqb, ◌&&◌, Bool, true, false, List, length, get_or, Option, Some, None, refl, sym, ap, ◌∙◌}
-use Rattle.std.specs.Prelude.{is_some, IsSome, IfSome, IsTrue}
+use Rattle.std.specs.Prelude.{is_some, IsSome}
 use Rattle.std.specs.Option.{option_map}
 use Rattle.std.proofs.lemmas.Bool.{eqb-true}
 use Rattle.std.proofs.lemmas.Option.{same_Some}
@@ -13,10 +13,9 @@ use Rattle.mg_rooms.specs.Sound.{IsSound}
 use Rattle.mg_rooms.specs.Registry.{Registry, record_at, context_at}
 use Rattle.mg_flow.specs.declared.place.Place.{Place}
 use Rattle.mg_flow.specs.Place.{IsWithinLimits, is_same_place}
-use Rattle.mg_flow.specs.Table.{Room, room_at, holds, talks, listens, hears, flows}
+use Rattle.mg_flow.specs.Table.{Room, room_at, talks, listens, hears, flows}
 use Rattle.mg_topology.specs.Topology as topology
 use Rattle.mg_engine.specs.Place.{place_of, member_place, IsOnPlace}
-use Rattle.mg_engine.specs.aids.Members.{HasMembers}
 
 -- ## Laws of the registry, as the calls of mg_rooms hand them out
 

@@ -2,12 +2,13 @@
 use Rattle.std.specs.Prelude.{◌≡◌, ℕ, ℤ, ◌+◌, ◌<◌, ◌==◌, ◌&&◌, ◌||◌, not, Bool, true, false, List}
 use Rattle.std.specs.Prelude.{◌∷◌, ◌++◌, map, slice_index, if◌then◌else◌}
 use Rattle.std.specs.List.{list_all}
+use Rattle.std.specs.Option.{option_map}
 use Rattle.mg_g711.specs.Law.{byte_of}
 use Rattle.mg_sdp.specs.declared.chosen.Chosen.{Chosen}
 use Rattle.mg_words.specs.declared.association.Association.TheVariants.{Isolate}
 use Rattle.mg_rooms.specs.declared.record.Record.{Record}
 use Rattle.mg_engine.specs.Gateway.{Gateway, TerminationMedia, ContextEdit, Enter, Leave, Apply}
-use Rattle.mg_engine.specs.Gateway.{mode_of}
+use Rattle.mg_engine.specs.Gateway.{frame_of, media_of, mode_of}
 use Rattle.mg_engine.specs.Flow.{flow, speaks_of}
 use Rattle.mg_engine.specs.Mix.{mix, is_loopback}
 use Rattle.mg_engine.specs.Tick.{packet, packet_of}
@@ -15,6 +16,24 @@ use Rattle.mg_engine.specs.Tick.{packet, packet_of}
 -- nobody hears himself: no termination's own speech goes to it
 abbrev pub NobodyHearsHimself : Type 0
 NobodyHearsHimself = (w : Gateway) (n : ℕ) → flow w n n ≡ false
+
+abbrev pub replayed : ℕ → List ℤ → TerminationMedia → TerminationMedia
+replayed n frame s = if s.number == n then record s { frame = frame } else s
+
+-- the gateway as it would be if this tick played another frame of a termination
+abbrev pub with_frame : Gateway → ℕ → List ℤ → Gateway
+with_frame w n frame = record w { media = map (replayed n frame) w.media }
+
+-- a termination is sent its own speech in a loopback alone
+abbrev pub hears_itself : Gateway → ℕ → Bool
+hears_itself w n = is_loopback (mode_of w n)
+
+-- Outside a loopback, no byte of a packet to a termination depends on what it says itself. (That
+-- its speech doesn't go to it stands in the definition of flow; this says what follows from it.)
+abbrev pub OwnSpeechChangesNoPacket : Type 0
+OwnSpeechChangesNoPacket =
+    (w : Gateway) (frame : List ℤ) (r : Record) → hears_itself w r.number ≡ false
+    → packet_of (with_frame w r.number frame) r ≡ packet_of w r
 
 -- ## An isolated participant isn't heard
 
@@ -42,16 +61,21 @@ IsolatedAreNotHeard =
 
 -- ## Who isn't heard leaves no trace
 
-abbrev pub replayed : ℕ → List ℤ → TerminationMedia → TerminationMedia
-replayed n frame s = if s.number == n then record s { frame = frame } else s
+-- where the packets of a termination stand: its number, the ticks of its life, the packets that it
+-- has sent, and whether its last tick sent one
+abbrev pub progress_of : TerminationMedia → ℕ × (ℕ × (ℕ × Bool))
+progress_of s = (s.number, (s.ticks, (s.packets, s.sent_last)))
 
--- the gateway as it would be if this tick played another frame of a termination
-abbrev pub with_frame : Gateway → ℕ → List ℤ → Gateway
-with_frame w n frame = record w { media = map (replayed n frame) w.media }
-
--- a termination is sent its own speech in a loopback alone
-abbrev pub hears_itself : Gateway → ℕ → Bool
-hears_itself w n = is_loopback (mode_of w n)
+-- A packet is a function of the configuration, the terminations and contexts, all edits, where its
+-- listener's packets stand, and the frames of all whose speech goes to the listener: its own in a
+-- loopback.
+abbrev pub PacketsAreOfWhatIsHeard : Type 0
+PacketsAreOfWhatIsHeard =
+    (a b : Gateway) (r : Record) → a.config ≡ b.config → a.rooms ≡ b.rooms → a.edits ≡ b.edits
+    → option_map progress_of (media_of a r.number) ≡ option_map progress_of (media_of b r.number)
+    → ((talker : ℕ) → flow a talker r.number ≡ true → frame_of a talker ≡ frame_of b talker)
+    → (hears_itself a r.number ≡ true → frame_of a r.number ≡ frame_of b r.number)
+    → packet_of a r ≡ packet_of b r
 
 -- Whatever a talker says, the packet to a listener to whom its speech doesn't go is the same, byte
 -- for byte. (In a loopback a termination is its own listener.)

@@ -17,4 +17,5 @@ pub mod Work
 pub mod Isolation
 pub mod Order
 pub mod LeftAlone
+pub mod Apart
 pub mod aids

@@ -9,13 +9,14 @@ ghost use Rattle.mg_rooms.specs.Consistent.{IsConsistent};
 ghost use Rattle.mg_engine.specs.declared.config.Config.{Config};
 ghost use Rattle.mg_engine.specs.declared.taken.Taken.{Taken};
 ghost use Rattle.mg_engine.specs.declared.topology_triple.TopologyTriple.{TopologyTriple};
+ghost use Rattle.mg_engine.specs.Apart.{SameEditsKeepAgreement, SameArrivalKeepsAgreement, OneArrivalKeepsAgreement, AgreementIsMutual, SameTickKeepsAgreement, SameStatsButReceived, SamePackets};
 ghost use Rattle.mg_engine.specs.Arrival.{Takes};
 ghost use Rattle.mg_engine.specs.Config.{IsValidConfig};
 ghost use Rattle.mg_engine.specs.Gateway.{Gateway, start_of};
 ghost use Rattle.mg_engine.specs.Outcome.{add, modify, move_to, subtract, apply_triples};
 ghost use Rattle.mg_engine.specs.LeftAlone.{EditsLeaveOthersAlone, DatagramsLeaveOthersAlone};
 ghost use Rattle.mg_engine.specs.Order.{OrderOfTwoIsNothing};
-ghost use Rattle.mg_engine.specs.Isolation.{NobodyHearsHimself, IsolatedAreNotHeard, UnheardChangesNoPacket, PayloadsAreMixes};
+ghost use Rattle.mg_engine.specs.Isolation.{NobodyHearsHimself, OwnSpeechChangesNoPacket, PacketsAreOfWhatIsHeard, IsolatedAreNotHeard, UnheardChangesNoPacket, PayloadsAreMixes};
 ghost use Rattle.mg_engine.specs.Triples.{triple_limit};
 
 use crate::topology_triple::TRIPLES;
@@ -35,7 +36,7 @@ pub fn one_arrival(bytes: &[u8])
 /// sent, but in Loopback.
 pub fn nobody_hears_himself()
     ensures flow { NobodyHearsHimself }
-    ensures packets { UnheardChangesNoPacket }
+    ensures packets { OwnSpeechChangesNoPacket }
 {}
 
 /// An isolated participant isn't heard: after an Isolate on two, until one of them enters a context or another triple
@@ -92,3 +93,24 @@ pub fn other_contexts_are_left_alone()
 {
     mg_rooms::laws::what_is_consistent_is_sound();
 }
+
+/// Two gateways that agree outside some terminations do so after the same edit, after the same RTP datagram, after an RTP
+/// datagram at a port of one of these terminations that came to one of the gateways alone, and after a tick. The counters of
+/// each termination are the same in both, but for what was received.
+pub fn agreement_lasts()
+    ensures edits { SameEditsKeepAgreement }
+    ensures media { SameArrivalKeepsAgreement }
+    ensures one { OneArrivalKeepsAgreement }
+    ensures turned { AgreementIsMutual }
+    ensures tick { SameTickKeepsAgreement }
+    ensures stats { SameStatsButReceived }
+{
+    one_reading(b"");
+}
+
+/// A packet is a function of what its listener hears and of where its packets stand. So in a tick two gateways that agree
+/// outside some terminations send the same packet, byte for byte, to each that hears none of these.
+pub fn packets_are_of_what_is_heard()
+    ensures law { PacketsAreOfWhatIsHeard }
+    ensures packets { SamePackets }
+{}

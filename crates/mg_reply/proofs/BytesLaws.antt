@@ -8,7 +8,7 @@ pub part_seen : (len : ℕ) (bytes padded rest part : List ℕ) → len ≤ leng
 part_seen len bytes padded rest part within short begins =
     let xs = take len bytes in
     ap (λ (n : ℕ). take (n + length part) (xs ++ (padded ++ rest))) (sym (length-take-le len bytes within))
-      ∙ take-append-add xs (padded ++ rest) (length part)
-      ∙ ap (λ (ys : List ℕ). xs ++ ys) (take-append-le (length part) padded rest short ∙ begins)
+    ∙ take-append-add xs (padded ++ rest) (length part)
+    ∙ ap (λ (ys : List ℕ). xs ++ ys) (take-append-le (length part) padded rest short ∙ begins)
 
 pub ruleset seen = (part_seen)

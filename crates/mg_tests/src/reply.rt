@@ -92,11 +92,7 @@ fn writes_the_topology_first(rt: HostRuntime) -> Result<(), Fail> {
         Outcome::Done(Parts::default()),
     ));
     for (a, b) in [(2, 3), (2, 1), (3, 1)] {
-        reply.put(Item::Triple(
-            RtpName::new(a),
-            RtpName::new(b),
-            Association::Bothway,
-        ));
+        reply.put(Item::Triple(RtpName::new(a), RtpName::new(b), Association::Bothway));
     }
     reply.put(Item::Action(ContextId::Number(1)));
     assert!(rt; write_reply(&reply, &mut text).is_ok());

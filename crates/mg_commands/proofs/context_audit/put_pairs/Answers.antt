@@ -25,8 +25,8 @@ loop-i-preserved c w s =
     let i = c.loop-i.i in
     let first = c.index-members-i.result in
     let put = c.put_pairs_of.ensures.value w s
-        ∙ ap (λ (m : SeatedMember). after_all c.loop-i.reply (map (λ n. audit_pair w m.number n.number) c.split_at.result.1.now)) c.index-members-i.is
-        ∙ ap (λ (later : List SeatedMember). after_all c.loop-i.reply (map (λ n. audit_pair w (get_or ms i first).number n.number) later)) c.split_at.ensures.back in
+    ∙ ap (λ (m : SeatedMember). after_all c.loop-i.reply (map (λ n. audit_pair w m.number n.number) c.split_at.result.1.now)) c.index-members-i.is
+    ∙ ap (λ (later : List SeatedMember). after_all c.loop-i.reply (map (λ n. audit_pair w (get_or ms i first).number n.number) later)) c.split_at.ensures.back in
     seated_told w ms i first c.loop-i.reply c.put_pairs_of.new.reply _ c.loop-i-test.true put (c.loop-i.invariant w s)
 
 pub returns : goal.returns

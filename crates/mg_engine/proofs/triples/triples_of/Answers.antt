@@ -1,4 +1,4 @@
-use Rattle.std.proofs.Common.{◌+◌, List, take, sym, ap, refl, subst, arith}
+use Rattle.std.proofs.Common.{◌+◌, List, take, sym, refl, subst, arith}
 use Rattle.std.specs.Prelude.{Any}
 use Rattle.mg_topology.specs.declared.triple.Triple.{Triple}
 use Rattle.mg_topology.specs.Triple.{Overlaps}

@@ -1,0 +1,36 @@
+-- A request in two gateways that differ in what some terminations received.
+use Rattle.std.specs.Prelude.{◌≡◌, ℕ, List, map}
+use Rattle.std.specs.Option.{option_map}
+use Rattle.mg_reply.specs.declared.item.Item.{Item}
+use Rattle.mg_reply.specs.declared.item.Item.TheVariants.{Triple, Command, Fault, Action}
+use Rattle.mg_reply.specs.declared.outcome.Outcome.{Outcome}
+use Rattle.mg_reply.specs.declared.outcome.Outcome.TheVariants.{Failed, Done}
+use Rattle.mg_reply.specs.declared.outcome.Parts.{Parts}
+use Rattle.mg_engine.specs.Apart.{AgreeOutside, but_received}
+use Rattle.mg_engine.specs.Gateway.{Gateway}
+use Rattle.mg_text.specs.declared.request.Request.{Request}
+use Rattle.mg_commands.specs.Transaction.{replied}
+
+abbrev pub parts_but_received : Parts → Parts
+parts_but_received parts =
+    record parts { statistics = option_map but_received parts.statistics }
+
+abbrev pub outcome_but_received : Outcome → Outcome
+outcome_but_received (Failed e) = Failed e
+outcome_but_received (Done parts) = Done (parts_but_received parts)
+
+-- an item of a reply, but for the packets received that its statistics tell
+abbrev pub item_but_received : Item → Item
+item_but_received (Triple a b association) = Triple a b association
+item_but_received (Command word term outcome) = Command word term (outcome_but_received outcome)
+item_but_received (Fault e) = Fault e
+item_but_received (Action id) = Action id
+
+-- A request that is run in gateways that agree outside some terminations leads to gateways that
+-- do. The replies are the same, item by item, but for packets received that statistics tell.
+abbrev pub RequestsKeepAgreement : Type 0
+RequestsKeepAgreement =
+    (some : List ℕ) (source : List ℕ) (request : Request) (a b : Gateway) → AgreeOutside some a b
+    → AgreeOutside some (replied source request a).gateway (replied source request b).gateway
+    × (map item_but_received (replied source request a).items
+    ≡ map item_but_received (replied source request b).items)

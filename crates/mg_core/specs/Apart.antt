@@ -1,0 +1,135 @@
+-- Whatever some terminations send, whoever doesn't hear them is sent the same, over any time.
+use Rattle.std.specs.Prelude.{◌≡◌, ℕ, ◌==◌, Bool, false, List, [], ◌∷◌, filter, map, Option}
+use Rattle.std.specs.List.{AllByRecursion}
+use Rattle.mg_kept.specs.KeptReplies.{KeptReply}
+use Rattle.mg_rooms.specs.Limits.{slot_port}
+use Rattle.mg_engine.specs.declared.config.Config.{Config}
+use Rattle.mg_engine.specs.declared.peer.Peer.{Peer}
+use Rattle.mg_engine.specs.Apart as engine
+use Rattle.mg_engine.specs.Apart.{HearsNone, IsPortAmong}
+use Rattle.mg_engine.specs.Gateway.{Gateway}
+use Rattle.mg_core.specs.declared.counts.Counts.{Counts}
+use Rattle.mg_core.specs.declared.event.Event.{Event}
+use Rattle.mg_core.specs.declared.event.Event.TheVariants.{Control, Media, Tick}
+use Rattle.mg_core.specs.declared.state.CoreState.{CoreState}
+use Rattle.mg_core.specs.Headline.{CameTo}
+use Rattle.mg_core.specs.Run.{RanToEnd}
+use Rattle.mg_core.specs.Step.{Sent, Reply, Packet, Step, Run}
+use Rattle.mg_core.specs.World.{World, start_of}
+
+-- ## Agreement
+
+-- what a kept reply answers
+abbrev pub key_of : KeptReply → List ℕ × ℕ
+key_of reply = (reply.sender, reply.number)
+
+-- Two worlds agree outside some terminations where their gateways do, and the same requests are
+-- answered by kept replies. The texts of these may differ, in the packets received that they tell;
+-- and nothing is said of how many events came.
+pub record AgreeOutside (some : List ℕ) (a b : World) : Type 0 where
+  pub gateway : engine.AgreeOutside some a.gateway b.gateway
+  pub replies : map key_of a.replies ≡ map key_of b.replies
+
+-- the same event, whatever it is, keeps it
+abbrev pub SameEventKeepsAgreement : Type 0
+SameEventKeepsAgreement =
+    (some : List ℕ) (a b x y : World) (event : Event) (s t : List Sent)
+    → AgreeOutside some a b → Step a event s x → Step b event t y → AgreeOutside some x y
+
+-- so does an RTP datagram to one of these terminations that comes to one of the worlds alone
+abbrev pub OneArrivalKeepsAgreement : Type 0
+OneArrivalKeepsAgreement =
+    (some : List ℕ) (a b x : World) (port : ℕ) (source : Peer) (bytes : List ℕ) (s : List Sent)
+    → AgreeOutside some a b → IsPortAmong some a.gateway port
+    → Step a (Media port source bytes) s x → AgreeOutside some x b
+
+-- ## Packets from a port
+
+abbrev pub is_packet_from : ℕ → Sent → Bool
+is_packet_from port (Reply to text) = false
+is_packet_from port (Packet d) = d.from == port
+
+abbrev pub packets_from : ℕ → List Sent → List Sent
+packets_from port sent = filter (is_packet_from port) sent
+
+-- whoever has the port hears none of some terminations
+abbrev pub HearsNoneAt : List ℕ → Gateway → ℕ → Type 0
+HearsNoneAt some w port =
+    AllByRecursion (λ r. slot_port w.rooms.limits r.slot ≡ port → HearsNone some w r.number)
+    w.rooms.terminations
+
+-- in a tick, whoever has the port hears none of some terminations
+abbrev pub HearsNoneIn : Event → List ℕ → Gateway → ℕ → Type 0
+HearsNoneIn (Control source bytes) some w port = Unit {0}
+HearsNoneIn (Media other source bytes) some w port = Unit {0}
+HearsNoneIn Tick some w port = HearsNoneAt some w port
+
+-- the same event has the same packets sent from the port of whoever hears none of them
+abbrev pub SamePackets : Type 0
+SamePackets =
+    (some : List ℕ) (port : ℕ) (a b x y : World) (event : Event) (s t : List Sent)
+    → AgreeOutside some a b → HearsNoneIn event some a.gateway port
+    → Step a event s x → Step b event t y → packets_from port s ≡ packets_from port t
+
+-- ## Two lists of events
+
+-- An event that comes to both of two worlds, or an RTP datagram that comes to one of them alone.
+pub data Happening : Type 0 where
+  Both : (event : Event) → Happening
+  FirstAlone : (port : ℕ) (source : Peer) (bytes : List ℕ) → Happening
+  SecondAlone : (port : ℕ) (source : Peer) (bytes : List ℕ) → Happening
+
+-- what comes to the one, and to the other
+abbrev pub first_of : List Happening → List Event
+first_of [] = []
+first_of (Both event ∷ xs) = event ∷ first_of xs
+first_of (FirstAlone port source bytes ∷ xs) = Media port source bytes ∷ first_of xs
+first_of (SecondAlone port source bytes ∷ xs) = first_of xs
+
+abbrev pub second_of : List Happening → List Event
+second_of [] = []
+second_of (Both event ∷ xs) = event ∷ second_of xs
+second_of (FirstAlone port source bytes ∷ xs) = second_of xs
+second_of (SecondAlone port source bytes ∷ xs) = Media port source bytes ∷ second_of xs
+
+-- Whatever comes to one of the worlds alone comes to a port that one of some terminations has at
+-- that time, and in each tick whoever has this port hears none of them.
+abbrev pub IsUnheardAt : List ℕ → ℕ → World → List Happening → Type 0
+IsUnheardAt some port w [] = Unit {0}
+IsUnheardAt some port w (Both event ∷ xs) =
+    HearsNoneIn event some w.gateway port
+    × ((s : List Sent) (next : World) → Step w event s next → IsUnheardAt some port next xs)
+IsUnheardAt some port w (FirstAlone other source bytes ∷ xs) =
+    IsPortAmong some w.gateway other
+    × ((s : List Sent) (next : World) → Step w (Media other source bytes) s next
+    → IsUnheardAt some port next xs)
+IsUnheardAt some port w (SecondAlone other source bytes ∷ xs) =
+    IsPortAmong some w.gateway other × IsUnheardAt some port w xs
+
+-- Two lists of events that differ in what some terminations send, in nothing else: from the port of
+-- one who hears none of these, the same packets are sent, byte for byte, however long they go on.
+abbrev pub UnheardChangesNothing : Type 0
+UnheardChangesNothing =
+    (some : List ℕ) (port : ℕ) (a b x y : World) (xs : List Happening) (s t : List Sent)
+    → AgreeOutside some a b → IsUnheardAt some port a xs
+    → Run a (first_of xs) s x → Run b (second_of xs) t y
+    → (packets_from port s ≡ packets_from port t) × AgreeOutside some x y
+
+-- So it is of what came to two gateways that were started alike ..
+abbrev pub UnheardInHistories : Type 0
+UnheardInHistories =
+    (some : List ℕ) (port : ℕ) (config : Config) (xs : List Happening) (s t : List Sent)
+    (v w : World) (one other : CoreState)
+    → IsUnheardAt some port (start_of config) xs
+    → CameTo config (first_of xs) s v one → CameTo config (second_of xs) t w other
+    → packets_from port s ≡ packets_from port t
+
+-- .. and of two scripts that were run whole.
+abbrev pub UnheardInScripts : Type 0
+UnheardInScripts =
+    (some : List ℕ) (port : ℕ) (config : Config) (xs : List Happening)
+    (one other : List ℕ) (counts more : Counts) (old new was is : Option (List ℕ))
+    (a : RanToEnd config one counts old new) (b : RanToEnd config other more was is)
+    → IsUnheardAt some port (start_of config) xs
+    → a.ran.events ≡ first_of xs → b.ran.events ≡ second_of xs
+    → packets_from port a.ran.sent ≡ packets_from port b.ran.sent

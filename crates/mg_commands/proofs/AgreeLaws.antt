@@ -10,14 +10,11 @@ use Rattle.mg_words.specs.declared.error_number.ErrorNumber.{ErrorNumber}
 use Rattle.mg_words.specs.declared.stats.Stats.{Stats}
 use Rattle.mg_reply.specs.declared.item.Item.{Item}
 use Rattle.mg_reply.specs.declared.item.Item.TheVariants as replies
-use Rattle.mg_reply.specs.declared.media.Media.{Media}
 use Rattle.mg_reply.specs.declared.outcome.Outcome.TheVariants.{Failed, Done}
-use Rattle.mg_reply.specs.declared.outcome.Parts.{Parts}
 use Rattle.mg_rooms.specs.Outcome.{member}
 use Rattle.mg_rooms.specs.Registry as rooms
 use Rattle.mg_rooms.specs.Registry.{members_at, record_at}
 use Rattle.mg_rooms.specs.declared.record.Record.{Record}
-use Rattle.mg_rooms.specs.declared.settings.Settings.{Settings}
 use Rattle.mg_rooms.specs.declared.target.Target.{Target}
 use Rattle.mg_rooms.specs.declared.target.Target.TheVariants as targets
 use Rattle.mg_engine.specs.Apart.{AgreeOutside, EndsAlike, SameEditsKeepAgreement, SameStatsButReceived, but_received}
@@ -28,7 +25,6 @@ use Rattle.mg_scan.specs.Span.{text_of}
 use Rattle.mg_text.specs.declared.command.Command.{Command}
 use Rattle.mg_text.specs.declared.context_property.ContextProperty.{ContextProperty}
 use Rattle.mg_text.specs.declared.request.Action.{Action}
-use Rattle.mg_text.specs.declared.request.Request.{Request}
 use Rattle.mg_commands.specs.declared.command_parameters.CommandParameters.{CommandParameters}
 use Rattle.mg_commands.specs.declared.name.Name.{Name}
 use Rattle.mg_commands.specs.declared.name.Name.TheVariants as names
@@ -37,9 +33,9 @@ use Rattle.mg_commands.specs.declared.served.Served.{Served}
 use Rattle.mg_commands.specs.Agreement.{RequestsKeepAgreement, item_but_received, parts_but_received}
 use Rattle.mg_commands.specs.ContextProperties.{action_fault, audit_items, audit_pair, audit_pairs, context_outcome, is_context_audit, pair_item, triples_of}
 use Rattle.mg_commands.specs.Name.{name_of, written_as, written_name}
-use Rattle.mg_commands.specs.Outcome.{CommandOutcome, Trial, when, all_names, audit_outcome, audit_root, audit_termination, check_command, check_new_name, in_same_world, local_media, made_at, media_of_record, members_in, names_for, number_in, outcome, reply_media, reply_parts, served_at, trial_of, whole_media}
+use Rattle.mg_commands.specs.Outcome.{CommandOutcome, Trial, when, all_names, audit_outcome, audit_root, audit_termination, check_command, check_new_name, in_same_world, made_at, names_for, number_in, outcome, reply_media, reply_parts, served_at, trial_of}
 use Rattle.mg_commands.specs.ReplyDescriptors.{descriptors_after, descriptors_before, descriptors_by_audit}
-use Rattle.mg_commands.specs.Transaction.{ActionState, TransactionState, action_start, action_unless, after_commands, after_outcome, after_properties, and_then, end_of_action, go_on, go_on_after_action, id_of, refusal, replied, unless_optional, with_action, with_actions, with_command, with_commands, with_name, with_names, with_trial}
+use Rattle.mg_commands.specs.Transaction.{ActionState, TransactionState, action_start, action_unless, after_commands, after_outcome, after_properties, end_of_action, go_on, go_on_after_action, id_of, unless_optional, with_action, with_actions, with_command, with_commands, with_name, with_names, with_trial}
 
 -- ## What is told
 

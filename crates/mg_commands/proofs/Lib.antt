@@ -11,3 +11,4 @@ pub mod Rows
 pub mod StreamSteps
 pub mod KeepLaws
 pub mod AgreeLaws
+pub mod AsBeforeLaws

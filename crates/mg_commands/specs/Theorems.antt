@@ -1,11 +1,14 @@
 -- What holds of each transaction: what is refused changes nothing, and what it leads to is
 -- consistent.
-use Rattle.std.specs.Prelude.{◌≡◌, ℕ, true, false, List, [], ◌∷◌, ◌++◌, Some, None, Err}
+use Rattle.std.specs.Prelude.{◌≡◌, ℕ, Bool, true, false, not, ◌||◌, List, [], ◌∷◌, ◌++◌, Some}
+use Rattle.std.specs.Prelude.{None, Err}
+use Rattle.std.specs.List.{list_all, list_any}
 use Rattle.mg_scan.specs.Span.{text_of}
 use Rattle.mg_words.specs.declared.command_word.CommandWord.{CommandWord}
 use Rattle.mg_words.specs.declared.error_number.ErrorNumber.{ErrorNumber}
+use Rattle.mg_reply.specs.declared.item.Item.{Item}
 use Rattle.mg_reply.specs.declared.item.Item.TheVariants as replies
-use Rattle.mg_reply.specs.declared.outcome.Outcome.TheVariants.{Failed}
+use Rattle.mg_reply.specs.declared.outcome.Outcome.TheVariants.{Failed, Done}
 use Rattle.mg_rooms.specs.Consistent.{IsConsistent}
 use Rattle.mg_engine.specs.Gateway.{Gateway}
 use Rattle.mg_text.specs.declared.command.Command.{Command}
@@ -14,7 +17,7 @@ use Rattle.mg_text.specs.declared.request.Request.{Request}
 use Rattle.mg_commands.specs.declared.command_parameters.CommandParameters.{CommandParameters}
 use Rattle.mg_commands.specs.declared.name.Name.{Name}
 use Rattle.mg_commands.specs.Name.{written_as, written_name}
-use Rattle.mg_commands.specs.ContextProperties.{action_fault, context_outcome}
+use Rattle.mg_commands.specs.ContextProperties.{action_fault, context_outcome, is_topology}
 use Rattle.mg_commands.specs.Outcome.{outcome, trial_of}
 use Rattle.mg_commands.specs.Transaction.{ActionState, TransactionState, action_start, id_of}
 use Rattle.mg_commands.specs.Transaction.{with_name, with_names, with_command, with_commands}
@@ -78,6 +81,28 @@ OthersAreTried =
     → let told : ActionState = with_error run c.word (written_as (text_of source c.term) x) e in
     with_names source c parameters (x ∷ xs) run
     ≡ ((with_names source c parameters xs told).0, false)
+
+-- whether an item tells of a command that was done
+abbrev pub tells_done : Item → Bool
+tells_done (replies.Command word term (Done parts)) = true
+tells_done (replies.Command word term (Failed e)) = false
+tells_done (replies.Triple a b association) = false
+tells_done (replies.Fault e) = false
+tells_done (replies.Action id) = false
+
+-- an action asks for no topology, or has a command that isn't optional, without which its topology
+-- isn't tried
+abbrev pub hangs_on_commands : Action → Bool
+hangs_on_commands a =
+    not (list_any is_topology a.properties) || list_any (λ c. not c.is_optional) a.commands
+
+-- a request of which each command that was tried was refused leaves the gateway as it was
+abbrev pub RefusedRequestsChangeNothing : Type 0
+RefusedRequestsChangeNothing =
+    (source : List ℕ) (request : Request) (w : Gateway)
+    → list_all hangs_on_commands request.actions ≡ true
+    → list_any tells_done (replied source request w).items ≡ false
+    → (replied source request w).gateway ≡ w
 
 -- ## Consistency
 

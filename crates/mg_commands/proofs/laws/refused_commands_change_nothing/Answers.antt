@@ -1,3 +1,4 @@
+use Rattle.mg_commands.proofs.AsBeforeLaws.{refused_requests}
 use Rattle.mg_commands.proofs.RefusalLaws.{names_refused, commands_refused, actions_refused, topologies_refused, others_tried}
 use Rattle.mg_commands.proofs.laws.refused_commands_change_nothing.Goals as goal
 
@@ -15,3 +16,6 @@ returns-clause-topologies c = topologies_refused
 
 pub returns-clause-others : goal.returns-clause-others
 returns-clause-others c = others_tried
+
+pub returns-clause-requests : goal.returns-clause-requests
+returns-clause-requests c = refused_requests

@@ -9,3 +9,4 @@ pub mod ScriptLaws
 pub mod ConsistentLaws
 pub mod InterleavingLaws
 pub mod ApartLaws
+pub mod CountingLaws

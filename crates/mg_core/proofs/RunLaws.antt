@@ -3,7 +3,7 @@ use Rattle.std.proofs.Common.{◌≡◌, ◌≢◌, ℕ, ◌+◌, ◌-◌, ◌<�
 use Rattle.std.proofs.lemmas.Grind.{flat_map-append}
 use Rattle.std.proofs.lemmas.List.{append-nil, take-append-drop, take_more, drop_more}
 use Rattle.std.proofs.lemmas.Bool.{ne_eqb, lt-ltb}
-use Rattle.std.specs.Prelude.{slice_index}
+use Rattle.std.specs.Prelude.{slice_index, OnOk}
 use Rattle.mg_words.specs.OptionSteps.{◌>>=◌}
 use Rattle.std.specs.Io.KnownBytes.{Appends, Keeps, Consumes, IsAtEnd}
 use Rattle.mg_engine.specs.declared.config.Config.{Config}
@@ -194,7 +194,7 @@ progress_bytes config script x y begun bytes left n m v u a b c p eaten h =
       ran = ran_both (start_of config) v u p.lines h.0 a b c p.ran h.3;
     }
 
-pub progress_fault : (config : Config) (script : List ℕ) (x y : Option (List ℕ)) (begun bytes left : List ℕ) (n m : ℕ) (state : CoreState) (v u : World) (a b c : Option (List ℕ)) (e : LineFault) → Progress config script x begun n v a b → Consumes x y bytes → BytesRan n m begun bytes left v u b c (Err e) → AllRan config script state a c (Err (script_fault_of e))
+pub progress_fault : (config : Config) (script : List ℕ) (x y : Option (List ℕ)) (begun bytes left : List ℕ) (n m : ℕ) (state : CoreState) (v u : World) (a b c : Option (List ℕ)) (e : LineFault) → Progress config script x begun n v a b → Consumes x y bytes → BytesRan n m begun bytes left v u b c (Err e) → AllRan config script state m a c (Err (script_fault_of e))
 progress_fault config script x y begun bytes left n m state v u a b c (faults.Bad k) p eaten h =
     let more = consumed x y p.rest bytes p.left eaten in
     let bad = h.1 more.0 in record {
@@ -249,9 +249,9 @@ abbrev pub script_result : Result (Unit {0}) LineFault → Result (Unit {0}) Scr
 script_result (Ok done) = Ok tt
 script_result (Err fault) = Err (script_fault_of fault)
 
-line_end : (config : Config) (script : List ℕ) (lines : List (List ℕ)) (line : List ℕ) (n : ℕ) (state : CoreState) (v u : World) (a b c : Option (List ℕ)) (r : Result (Unit {0}) LineFault) → lines_of true script ≡ lines ++ line ∷ [] → n ≡ length lines → StandsFor state u → Ran (start_of config) lines v a b → LineRan (n + 1) line v u b c r → AllRan config script state a c (script_result r)
-line_end config script lines line n state v u a b c (Ok done) split counted stands ran h = (u, subst (λ (l : List (List ℕ)). Ran (start_of config) l u a c) (sym split) (ran_both (start_of config) v u lines (line ∷ []) a b c ran h), stands)
-line_end config script lines line n state v u a b c (Err (faults.Bad k)) split counted stands ran h = record {
+line_end : (config : Config) (script : List ℕ) (lines : List (List ℕ)) (line : List ℕ) (n m : ℕ) (state : CoreState) (v u : World) (a b c : Option (List ℕ)) (r : Result (Unit {0}) LineFault) → lines_of true script ≡ lines ++ line ∷ [] → n ≡ length lines → StandsFor state u → Ran (start_of config) lines v a b → LineRan (n + 1) line v u b c r → OnOk r (m ≡ n + 1) → AllRan config script state m a c (script_result r)
+line_end config script lines line n m state v u a b c (Ok done) split counted stands ran h more = (u, subst (λ (l : List (List ℕ)). Ran (start_of config) l u a c) (sym split) (ran_both (start_of config) v u lines (line ∷ []) a b c ran h), stands, omega (arith, more, counted, length-append lines (line ∷ [])) ∙ ap length (sym split))
+line_end config script lines line n m state v u a b c (Err (faults.Bad k)) split counted stands ran h more = record {
   lines = lines;
   bad = line;
   others = [];
@@ -261,14 +261,14 @@ line_end config script lines line n state v u a b c (Err (faults.Bad k)) split c
   last = u;
   ran = ran_kept (start_of config) v u lines a b c ran h.2 h.3;
 }
-line_end config script lines line n state v u a b c (Err faults.Write) split counted stands ran h = record {
+line_end config script lines line n m state v u a b c (Err faults.Write) split counted stands ran h more = record {
   lines = lines ++ line ∷ [];
   others = [];
   script_is = split ∙ sym (append-nil (lines ++ line ∷ []));
   last = u;
   ran = ran_part (start_of config) v u lines (line ∷ []) a b c ran h;
 }
-line_end config script lines line n state v u a b c (Err faults.NoMemory) split counted stands ran h = record {
+line_end config script lines line n m state v u a b c (Err faults.NoMemory) split counted stands ran h more = record {
   lines = lines;
   others = line ∷ [];
   script_is = split;
@@ -276,15 +276,15 @@ line_end config script lines line n state v u a b c (Err faults.NoMemory) split 
   ran = ran_kept (start_of config) v u lines a b c ran h.0 h.1;
 }
 
-pub progress_end : (config : Config) (script : List ℕ) (x y : Option (List ℕ)) (begun : List ℕ) (n : ℕ) (state : CoreState) (v u : World) (a b c : Option (List ℕ)) (r : Result (Unit {0}) LineFault) → Progress config script x begun n v a b → Keeps x y × IsAtEnd y → StandsFor state u → Finishes n begun v u b c r → AllRan config script state a c (script_result r)
-progress_end config script x y [] n state v u a b c r p ended stands h =
+pub progress_end : (config : Config) (script : List ℕ) (x y : Option (List ℕ)) (begun : List ℕ) (n m : ℕ) (state : CoreState) (v u : World) (a b c : Option (List ℕ)) (r : Result (Unit {0}) LineFault) → Progress config script x begun n v a b → Keeps x y × IsAtEnd y → StandsFor state u → Finishes n m begun v u b c r → AllRan config script state m a c (script_result r)
+progress_end config script x y [] n m state v u a b c r p ended stands h =
     let empty = at_end x y p.rest p.left ended.0 ended.1 in
     let all = p.split ∙ ap (λ (l : List ℕ). p.lines ++ lines_after true [] l) empty ∙ ap (λ (l : List (List ℕ)). p.lines ++ l) no_line ∙ append-nil p.lines in
-    rw h.0 (u, subst (λ (l : List (List ℕ)). Ran (start_of config) l u a c) (sym all) (ran_kept (start_of config) v u p.lines a b c p.ran h.1 h.2), stands)
-progress_end config script x y (k ∷ ks) n state v u a b c r p ended stands h =
+    rw h.0 (u, subst (λ (l : List (List ℕ)). Ran (start_of config) l u a c) (sym all) (ran_kept (start_of config) v u p.lines a b c p.ran h.1 h.2), stands, h.3 ∙ p.counted ∙ ap length (sym all))
+progress_end config script x y (k ∷ ks) n m state v u a b c r p ended stands h =
     let empty = at_end x y p.rest p.left ended.0 ended.1 in
     let all = p.split ∙ ap (λ (l : List ℕ). p.lines ++ lines_after true (k ∷ ks) l) empty ∙ ap (λ (l : List (List ℕ)). p.lines ++ l) (last_line k ks) in
-    line_end config script p.lines (k ∷ ks) n state v u a b c r all p.counted stands p.ran h
+    line_end config script p.lines (k ∷ ks) n m state v u a b c r all p.counted stands p.ran h.0 h.1
 
 -- the same steps by the index of a byte
 around : (bytes : List ℕ) (i : ℕ) → i < length bytes → take i bytes ++ (get_or bytes i 0 ∷ drop (i + 1) bytes) ≡ bytes
@@ -334,14 +334,14 @@ comes_bytes config script x y begun bytes left n m kept new a b c come eaten ste
     let (after, h, last) = step now stands in
     (after, progress_bytes config script x y begun bytes left n m now after a b c p eaten h, last)
 
-pub comes_fault : (config : Config) (script : List ℕ) (x y : Option (List ℕ)) (begun bytes left : List ℕ) (n m : ℕ) (kept new : CoreState) (a b c : Option (List ℕ)) (e : LineFault) → Comes config script x begun n kept a b → Consumes x y bytes → HasRun n m begun bytes left kept new b c (Err e) → AllRan config script new a c (Err (script_fault_of e))
+pub comes_fault : (config : Config) (script : List ℕ) (x y : Option (List ℕ)) (begun bytes left : List ℕ) (n m : ℕ) (kept new : CoreState) (a b c : Option (List ℕ)) (e : LineFault) → Comes config script x begun n kept a b → Consumes x y bytes → HasRun n m begun bytes left kept new b c (Err e) → AllRan config script new m a c (Err (script_fault_of e))
 comes_fault config script x y begun bytes left n m kept new a b c e come eaten step =
     let (now, p, stands) = come in
     let (next, h, last) = step now stands in
     progress_fault config script x y begun bytes left n m new now next a b c e p eaten h
 
-pub comes_end : (config : Config) (script : List ℕ) (x y : Option (List ℕ)) (begun : List ℕ) (n : ℕ) (kept new : CoreState) (a b c : Option (List ℕ)) (r : Result (Unit {0}) LineFault) → Comes config script x begun n kept a b → Keeps x y × IsAtEnd y → Leads StandsFor kept new (λ w next. Finishes n begun w next b c r) → AllRan config script new a c (script_result r)
-comes_end config script x y begun n kept new a b c r come ended step =
+pub comes_end : (config : Config) (script : List ℕ) (x y : Option (List ℕ)) (begun : List ℕ) (n m : ℕ) (kept new : CoreState) (a b c : Option (List ℕ)) (r : Result (Unit {0}) LineFault) → Comes config script x begun n kept a b → Keeps x y × IsAtEnd y → Leads StandsFor kept new (λ w next. Finishes n m begun w next b c r) → AllRan config script new m a c (script_result r)
+comes_end config script x y begun n m kept new a b c r come ended step =
     let (now, p, stands) = come in
     let (next, h, last) = step now stands in
-    progress_end config script x y begun n new now next a b c r p ended last h
+    progress_end config script x y begun n m new now next a b c r p ended last h

@@ -1,5 +1,5 @@
 -- A run of a script as a whole.
-use Rattle.std.proofs.Common.{◌≡◌, ℕ, true, List, [], Option, Some, None, Result, Ok, Err, refl}
+use Rattle.std.proofs.Common.{◌≡◌, ℕ, true, List, [], Option, Some, None, Result, Ok, Err, refl, ◌∙◌}
 use Rattle.std.specs.Prelude.{IfSome}
 use Rattle.std.specs.Io.KnownBytes.{Keeps}
 use Rattle.mg_engine.specs.declared.config.Config.{Config}
@@ -31,11 +31,11 @@ pub not_started : (config : Config) (script : List ℕ) (a : Option (List ℕ)) 
 not_started config script a starts.BadConfig = keeps_same a
 not_started config script a starts.NoMemory = record { lines = []; others = lines_of true script; script_is = refl; last = start_of config; ran = ran_nothing (start_of config) a }
 
-pub script_fault : (config : Config) (script : List ℕ) (state : CoreState) (a b : Option (List ℕ)) (fault : ScriptFault) → AllRan config script state a b (Err fault) → ScriptRan config script a b (Err (run_fault_of fault))
-script_fault config script state a b (faults.Bad n) h = h
-script_fault config script state a b faults.Read h = h
-script_fault config script state a b faults.Write h = h
-script_fault config script state a b faults.NoMemory h = h
+pub script_fault : (config : Config) (script : List ℕ) (state : CoreState) (count : ℕ) (a b : Option (List ℕ)) (fault : ScriptFault) → AllRan config script state count a b (Err fault) → ScriptRan config script a b (Err (run_fault_of fault))
+script_fault config script state count a b (faults.Bad n) h = h
+script_fault config script state count a b faults.Read h = h
+script_fault config script state count a b faults.Write h = h
+script_fault config script state count a b faults.NoMemory h = h
 
 -- a fault of a script is no fault of the configuration
 pub not_bad : (r : Result Counts RunFault) (e : RunFault) (fault : ScriptFault) → r ≡ Err e → e ≡ run_fault_of fault → r ≡ Err ends.BadConfig → ⊥
@@ -44,5 +44,5 @@ not_bad r e faults.Read is from bad = cc (is, from, bad)
 not_bad r e faults.Write is from bad = cc (is, from, bad)
 not_bad r e faults.NoMemory is from bad = cc (is, from, bad)
 
-pub script_done : (config : Config) (script : List ℕ) (state : CoreState) (counts : Counts) (a b : Option (List ℕ)) → AllRan config script state a b (Ok tt) → ((w : World) → StandsFor state w → record counts { lines = 0; sent = 0; failed = 0 } ≡ counts_of w.tally) → ScriptRan config script a b (Ok counts)
-script_done config script state counts a b h counted = record { last = h.0; ran = h.1; counted = counted h.0 h.2 }
+pub script_done : (config : Config) (script : List ℕ) (state : CoreState) (count : ℕ) (counts : Counts) (a b : Option (List ℕ)) → AllRan config script state count a b (Ok tt) → counts.lines ≡ count → ((w : World) → StandsFor state w → record counts { lines = 0; sent = 0; failed = 0 } ≡ counts_of w.tally) → ScriptRan config script a b (Ok counts)
+script_done config script state count counts a b h lines counted = record { last = h.0; ran = h.1; lines = lines ∙ h.3; counted = counted h.0 h.2 }

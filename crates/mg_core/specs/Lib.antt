@@ -8,5 +8,6 @@ pub mod Run
 pub mod Headline
 pub mod Interleaving
 pub mod Apart
+pub mod Counting
 pub mod Repeats
 pub mod aids

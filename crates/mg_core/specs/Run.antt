@@ -62,11 +62,12 @@ pub record RanInPart (w : World) (lines : List (List ℕ)) (last : World)
 
 -- ## The outcome of a run over a script on a new gateway
 
--- all of the script was run, and its events were counted
+-- all of the script was run, and its lines and events were counted
 pub record RanToEnd (config : Config) (script : List ℕ) (counts : Counts)
     (old new : Option (List ℕ)) : Type 0 where
   pub last : World
   pub ran : Ran (start_of config) (lines_of true script) last old new
+  pub lines : counts.lines ≡ length (lines_of true script)
   pub counted : record counts { lines = 0; sent = 0; failed = 0 } ≡ counts_of last.tally
 
 -- the lines before the first bad one were run, which has this number

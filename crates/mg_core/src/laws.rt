@@ -4,6 +4,7 @@ ghost use Rattle.std.specs.Prelude.{◌≡◌, List};
 ghost use Rattle.mg_core.specs.declared.event.Event.{Event};
 ghost use Rattle.mg_commands.specs.Theorems.{RefusedNamesChangeNothing, RefusedCommandsChangeNothing, RefusedActionsChangeNothing, RefusedTopologiesChangeNothing, OthersAreTried};
 ghost use Rattle.mg_core.specs.Apart.{SameEventKeepsAgreement, OneArrivalKeepsAgreement, SamePackets, UnheardChangesNothing, UnheardInHistories, UnheardInScripts};
+ghost use Rattle.mg_core.specs.Counting.{EventsAreCounted, RunsTake};
 ghost use Rattle.mg_core.specs.Headline.{EventsLeadToOneWorld, OneGatewayOneFuture};
 ghost use Rattle.mg_engine.specs.Isolation.{NobodyHearsHimself, IsolatedAreNotHeard, UnheardChangesNoPacket, PayloadsAreMixes};
 ghost use Rattle.mg_core.specs.Interleaving.{OrderOfPortsIsNothing, HistoriesAreOne, ScriptsAreOne};
@@ -83,6 +84,13 @@ pub fn unheard_changes_nothing()
     mg_engine::laws::packets_are_of_what_is_heard();
     mg_commands::laws::requests_keep_agreement();
 }
+
+/// The counts are the numbers of the events that came: control datagrams, RTP datagrams, those of them that were placed in
+/// each way and dropped for each cause, and ticks.
+pub fn events_are_counted()
+    ensures law { EventsAreCounted }
+    ensures runs { RunsTake }
+{}
 
 /// The headline, joined. By its clauses `headline` and `packets` a [`Core`](crate::Core) answers and sends, after any list of
 /// events, what is computed anew from the world that they led to. This says the rest: that it is one world, what each packet

@@ -92,7 +92,7 @@ impl ScriptRunner {
     fn finish<W: Write>(&mut self, alloc: Global, writer: &mut W) -> Result<(), LineFault>
         requires few { self.old.lines + 1 < 2 ^ 64 }
         ensures value { Leads StandsFor self.old.runner.core.state self.new.runner.core.state (λ w next.
-            Finishes self.old.lines self.old.begun.text w next (W.contents writer.old) (W.contents writer.new) result) }
+            Finishes self.old.lines self.new.lines self.old.begun.text w next (W.contents writer.old) (W.contents writer.new) result) }
     {
         let line = self.begun.as_slice();
         if line.is_empty() {
@@ -115,7 +115,7 @@ impl ScriptRunner {
         requires begun { self.old.begun.text ≡ [] }
         ensures value { (config : Config) → StandsFor self.old.runner.core.state (start_of config) → (script : List ℕ) →
             R.remaining reader.old ≡ Some script → AllRan config script self.new.runner.core.state
-            (W.contents writer.old) (W.contents writer.new) result }
+            self.new.lines (W.contents writer.old) (W.contents writer.new) result }
     {
         let mut buffer = [0; READ_SIZE];
         for _ in 0..u32::MAX {
@@ -130,6 +130,7 @@ impl ScriptRunner {
 
     /// What was counted.
     pub fn counts(&self) -> Counts
+        ensures lines { result.lines ≡ self.now.lines }
         ensures events { (w : World) → StandsFor self.now.runner.core.state w →
             record result { lines = 0; sent = 0; failed = 0 } ≡ counts_of w.tally }
     {

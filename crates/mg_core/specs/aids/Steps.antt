@@ -1,7 +1,7 @@
 -- The steps of a run: one event, one line, and the bytes of one read.
 use Rattle.std.specs.Prelude.{if◌then◌else◌, ◌≡◌, ℕ, ◌+◌, List, [], ◌∷◌, ◌++◌, length}
 use Rattle.std.specs.Prelude.{true, Option, Some}
-use Rattle.std.specs.Prelude.{None, Result, Ok, Err}
+use Rattle.std.specs.Prelude.{None, Result, Ok, Err, OnOk}
 use Rattle.std.specs.Io.KnownBytes.{Keeps, Appends}
 use Rattle.mg_engine.specs.declared.config.Config.{Config}
 use Rattle.mg_engine.specs.declared.fault.StartFault.{StartFault}
@@ -99,23 +99,27 @@ BytesRan count counted begun bytes left w next old new (Err stops.NoMemory) =
     × (lines_after true begun (bytes ++ rest) ≡ lines ++ others))
     × Ran w lines next old new
 
--- the line that was begun is the last, if there is one
-abbrev pub Finishes : ℕ → List ℕ → World → World → Option (List ℕ) → Option (List ℕ)
+-- the line that was begun is the last, if there is one, and is counted
+abbrev pub Finishes : ℕ → ℕ → List ℕ → World → World → Option (List ℕ) → Option (List ℕ)
     → Result (Unit {0}) LineFault → Type 0
-Finishes count [] w next old new result = (result ≡ Ok tt) × Keeps old new × (next ≡ w)
-Finishes count (b ∷ bs) w next old new result = LineRan (count + 1) (b ∷ bs) w next old new result
+Finishes count counted [] w next old new result =
+    (result ≡ Ok tt) × Keeps old new × (next ≡ w) × (counted ≡ count)
+Finishes count counted (b ∷ bs) w next old new result =
+    LineRan (count + 1) (b ∷ bs) w next old new result × OnOk result (counted ≡ count + 1)
 
--- the whole of a script was run, and the state stands for the world that it came to; or how far it
--- was run
-abbrev pub AllRan : Config → List ℕ → CoreState → Option (List ℕ) → Option (List ℕ)
+-- the whole of a script was run, the state stands for the world that it came to, and the lines
+-- were counted; or how far it was run
+abbrev pub AllRan : Config → List ℕ → CoreState → ℕ → Option (List ℕ) → Option (List ℕ)
     → Result (Unit {0}) ScriptFault → Type 0
-AllRan config script state old new (Ok done) =
+AllRan config script state count old new (Ok done) =
     (last : World) × Ran (start_of config) (lines_of true script) last old new
-    × StandsFor state last
-AllRan config script state old new (Err (scripts.Bad n)) = RanToBadLine config script n old new
-AllRan config script state old new (Err scripts.Read) = RanFirst config script old new
-AllRan config script state old new (Err scripts.Write) = RanFirstInPart config script old new
-AllRan config script state old new (Err scripts.NoMemory) = RanFirst config script old new
+    × StandsFor state last × (count ≡ length (lines_of true script))
+AllRan config script state count old new (Err (scripts.Bad n)) =
+    RanToBadLine config script n old new
+AllRan config script state count old new (Err scripts.Read) = RanFirst config script old new
+AllRan config script state count old new (Err scripts.Write) =
+    RanFirstInPart config script old new
+AllRan config script state count old new (Err scripts.NoMemory) = RanFirst config script old new
 
 -- ## Faults as others
 

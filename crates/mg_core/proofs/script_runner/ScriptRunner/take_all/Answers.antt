@@ -23,7 +23,7 @@ returns-in_err-finish g c =
     rw (p.1, p.2) (record {
       value = λ config starts script is.
           comes_end config script (g.R.Read.remaining c.loop.reader) (g.R.Read.remaining c.read_some.new.reader)
-          c.loop.self.begun.text c.loop.self.lines c.loop.self.runner.core.state c.finish.new.self.runner.core.state (g.W.Write.contents c.args.writer.now) (g.W.Write.contents c.loop.writer) (g.W.Write.contents c.finish.new.writer) (Err c.in_err-finish.field-0.0)
+          c.loop.self.begun.text c.loop.self.lines c.finish.new.self.lines c.loop.self.runner.core.state c.finish.new.self.runner.core.state (g.W.Write.contents c.args.writer.now) (g.W.Write.contents c.loop.writer) (g.W.Write.contents c.finish.new.writer) (Err c.in_err-finish.field-0.0)
           (c.loop.invariant.value config starts script is) (rw c.in_default.is at c.in_ok-n.ensures.value) c.in_err-finish.ensures.value;
     })
 
@@ -31,7 +31,7 @@ pub returns-in_default : goal.returns-in_default
 returns-in_default g c = record {
   value = λ config starts script is.
       comes_end config script (g.R.Read.remaining c.loop.reader) (g.R.Read.remaining c.read_some.new.reader)
-      c.loop.self.begun.text c.loop.self.lines c.loop.self.runner.core.state c.finish.new.self.runner.core.state (g.W.Write.contents c.args.writer.now) (g.W.Write.contents c.loop.writer) (g.W.Write.contents c.finish.new.writer) (Ok tt)
+      c.loop.self.begun.text c.loop.self.lines c.finish.new.self.lines c.loop.self.runner.core.state c.finish.new.self.runner.core.state (g.W.Write.contents c.args.writer.now) (g.W.Write.contents c.loop.writer) (g.W.Write.contents c.finish.new.writer) (Ok tt)
       (c.loop.invariant.value config starts script is) (rw c.in_default.is at c.in_ok-n.ensures.value) c.in_ok-finish.ensures.value;
 }
 

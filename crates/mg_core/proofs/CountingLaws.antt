@@ -1,5 +1,5 @@
 -- The tally after events.
-use Rattle.std.proofs.Common.{◌≡◌, ℕ, ◌+◌, Bool, true, false, cond, List, [], ◌∷◌, Option, Some, None, refl, sym, ap, subst, ◌∙◌, arith}
+use Rattle.std.proofs.Common.{◌≡◌, ℕ, ◌+◌, Bool, true, false, cond, List, [], ◌∷◌, Option, Some, None, refl, sym, ap, ◌∙◌, arith}
 use Rattle.std.specs.Prelude.{count_by}
 use Rattle.std.proofs.lemmas.List.Sums.{sum_by-cons}
 use Rattle.mg_kept.specs.KeptReplies.{kept_text}
@@ -7,7 +7,6 @@ use Rattle.mg_playout.specs.declared.placed.Placed.TheVariants as answers
 use Rattle.mg_scan.specs.Span.{text_of}
 use Rattle.mg_text.specs.declared.body.MessageItem.{MessageItem}
 use Rattle.mg_text.specs.declared.body.MessageItem.TheVariants as items
-use Rattle.mg_text.specs.declared.message.Message.{Message}
 use Rattle.mg_text.specs.declared.request.Request.{Request}
 use Rattle.mg_text.specs.Message.{items_of}
 use Rattle.mg_text.specs.MessageReading.{MessageReading, Read, TooMany, OtherVersion, NoMessage}
@@ -17,8 +16,7 @@ use Rattle.mg_engine.specs.declared.taken.Taken.TheVariants.{Placed, Dropped}
 use Rattle.mg_core.specs.declared.event.Event.{Event}
 use Rattle.mg_core.specs.declared.event.Event.TheVariants.{Control, Media, Tick}
 use Rattle.mg_core.specs.Answer.{answer_head, answered, has_requests, if_asked, item_replied, mark_after, replied_to, unless_kept}
-use Rattle.mg_core.specs.Counting.{EventsAreCounted, RunTaking, RunsTake, is_control, is_media, is_tick, is_started, is_placed, is_pushed, is_again, is_late, is_to_nobody, is_stray, is_without_local, is_no_packet, is_of_another_type, is_of_another_length, numbers_of}
-use Rattle.mg_core.specs.Step.{Sent, Run}
+use Rattle.mg_core.specs.Counting.{EventsAreCounted, RunTaking, RunsTake, is_control, is_media, is_tick, is_started, is_placed, is_pushed, is_again, is_late, is_to_nobody, is_stray, is_without_local, is_no_packet, is_of_another_type, is_of_another_length}
 use Rattle.mg_core.specs.World.{World, Tally, cause_of, one_more_at, placed_counter, start_of, with_control, with_taken}
 
 -- ## A control datagram changes no other count

@@ -18,9 +18,9 @@ use Rattle.mg_lines.specs.Lines.{without_return, lines_after, lines_of}
 use Rattle.mg_core.specs.Script.{event_of, events_of, then_all}
 use Rattle.mg_core.specs.Step.{Sent, Run}
 use Rattle.mg_core.specs.Run.{Ran, RanInPart, RanFirst, lines_for, line_of}
-use Rattle.mg_core.specs.aids.Steps.{AllRan, LineRan, BytesRan, Finishes, script_fault_of}
+use Rattle.mg_core.specs.aids.Steps.{AllRan, LineRan, BytesRan, Finishes, RanCounted, after_sent, script_fault_of}
 use Rattle.mg_lines.proofs.WriterLaws.{appends_then, appends_keeps}
-use Rattle.mg_core.proofs.LineLaws.{same_appends}
+use Rattle.mg_core.proofs.LineLaws.{same_appends, sent_both}
 
 -- ## Lines and events one after another
 
@@ -81,9 +81,27 @@ pub ran_nothing : (w : World) (a : Option (List ℕ)) → Ran w [] w a a
 unfolding events_of
 ran_nothing w a = record { events = []; sent = []; are = refl; run = (refl, refl); written = same_appends a }
 
+-- the same with what was sent counted
+
+counted_both : (w v u : World) (xs ys : List (List ℕ)) (s t z : ℕ) (a b c : Option (List ℕ)) → RanCounted w xs v s t a b → RanCounted v ys u t z b c → RanCounted w (xs ++ ys) u s z a c
+unfolding ran_both
+counted_both w v u xs ys s t z a b c h k = record {
+  ran = ran_both w v u xs ys a b c h.ran k.ran;
+  counted = k.counted ∙ ap (λ (n : ℕ). after_sent n k.ran.sent) h.counted ∙ sym (sent_both s h.ran.sent k.ran.sent);
+}
+
+counted_kept : (w v u : World) (xs : List (List ℕ)) (s t : ℕ) (a b c : Option (List ℕ)) → RanCounted w xs v s t a b → Keeps b c → u ≡ v → RanCounted w xs u s t a c
+counted_kept w v u xs s t a b c h k same =
+    subst (λ (x : World). RanCounted w xs x s t a c) (sym same)
+    (record { ran = record { events = h.ran.events; sent = h.ran.sent; are = h.ran.are; run = h.ran.run; written = appends_keeps a b c (lines_for h.ran.sent) h.ran.written k }; counted = h.counted })
+
+counted_nothing : (w : World) (s t : ℕ) (a : Option (List ℕ)) → t ≡ s → RanCounted w [] w s t a a
+unfolding events_of after_sent
+counted_nothing w s t a same = record { ran = record { events = []; sent = []; are = refl; run = (refl, refl); written = same_appends a }; counted = same }
+
 -- no bytes yet
-pub bytes_start : (n : ℕ) (begun : List ℕ) (w : World) (a : Option (List ℕ)) → BytesRan n n begun [] begun w w a a (Ok tt)
-bytes_start n begun w a = ([], λ rest. refl, omega arith, ran_nothing w a)
+pub bytes_start : (n : ℕ) (begun : List ℕ) (w : World) (s : ℕ) (a : Option (List ℕ)) → BytesRan n n begun [] begun w w s s a a (Ok tt)
+bytes_start n begun w s a = ([], λ rest. refl, omega arith, counted_nothing w s s a refl)
 
 one_byte : (x : ℕ) (begun bytes : List ℕ) → x ≢ 10 → lines_after true begun (x ∷ bytes) ≡ lines_after true (begun ++ x ∷ []) bytes
 unfolding lines_after
@@ -97,17 +115,17 @@ regroup : (front : List ℕ) (x : ℕ) (rest : List ℕ) → (front ++ x ∷ [])
 regroup front x rest = append_assoc front (x ∷ []) rest
 
 -- a byte that ends no line
-pub bytes_plain : (n m : ℕ) (begun front left : List ℕ) (w v : World) (a b : Option (List ℕ)) (x : ℕ) → x ≢ 10 → BytesRan n m begun front left w v a b (Ok tt) → BytesRan n m begun (front ++ x ∷ []) (left ++ x ∷ []) w v a b (Ok tt)
-bytes_plain n m begun front left w v a b x ne h =
+pub bytes_plain : (n m : ℕ) (begun front left : List ℕ) (w v : World) (s t : ℕ) (a b : Option (List ℕ)) (x : ℕ) → x ≢ 10 → BytesRan n m begun front left w v s t a b (Ok tt) → BytesRan n m begun (front ++ x ∷ []) (left ++ x ∷ []) w v s t a b (Ok tt)
+bytes_plain n m begun front left w v s t a b x ne h =
     (h.0, λ rest. ap (lines_after true begun) (regroup front x rest) ∙ h.1 (x ∷ rest) ∙ ap (λ (l : List (List ℕ)). h.0 ++ l) (one_byte x left rest ne), h.2, h.3)
 
 -- a byte that ends a line, which was run
-pub bytes_line : (n m : ℕ) (begun front left : List ℕ) (w v u : World) (a b c : Option (List ℕ)) (number : ℕ) → BytesRan n m begun front left w v a b (Ok tt) → LineRan number (without_return left) v u b c (Ok tt) → BytesRan n (m + 1) begun (front ++ 10 ∷ []) [] w u a c (Ok tt)
-bytes_line n m begun front left w v u a b c number h k =
+pub bytes_line : (n m : ℕ) (begun front left : List ℕ) (w v u : World) (s t z : ℕ) (a b c : Option (List ℕ)) (number : ℕ) → BytesRan n m begun front left w v s t a b (Ok tt) → LineRan number (without_return left) v u t z b c (Ok tt) → BytesRan n (m + 1) begun (front ++ 10 ∷ []) [] w u s z a c (Ok tt)
+bytes_line n m begun front left w v u s t z a b c number h k =
     let line = without_return left in
     let next : (rest : List ℕ) → lines_after true begun ((front ++ 10 ∷ []) ++ rest) ≡ (h.0 ++ line ∷ []) ++ lines_after true [] rest =
     λ rest. ap (lines_after true begun) (regroup front 10 rest) ∙ h.1 (10 ∷ rest) ∙ ap (λ (l : List (List ℕ)). h.0 ++ l) (line_feed left rest) ∙ sym (append_assoc h.0 (line ∷ []) (lines_after true [] rest)) in
-    (h.0 ++ line ∷ [], next, omega (arith, length-append h.0 (line ∷ []), h.2), ran_both w v u h.0 (line ∷ []) a b c h.3 k)
+    (h.0 ++ line ∷ [], next, omega (arith, length-append h.0 (line ∷ []), h.2), counted_both w v u h.0 (line ∷ []) s t z a b c h.3 k)
 
 -- the lines after some bytes, where a line feed stands after the first of them
 at_feed : (begun front left back rest : List ℕ) (lines : List (List ℕ)) → ((rest : List ℕ) → lines_after true begun (front ++ rest) ≡ lines ++ lines_after true left rest) → lines_after true begun ((front ++ (10 ∷ back)) ++ rest) ≡ lines ++ without_return left ∷ lines_after true [] (back ++ rest)
@@ -115,14 +133,14 @@ at_feed begun front left back rest lines h =
     ap (lines_after true begun) (append_assoc front (10 ∷ back) rest) ∙ h (10 ∷ (back ++ rest)) ∙ ap (λ (l : List (List ℕ)). lines ++ l) (line_feed left (back ++ rest))
 
 -- a line that was not run
-pub bytes_stop : (n m p : ℕ) (begun front left back other : List ℕ) (w v u : World) (a b c : Option (List ℕ)) (e : LineFault) → BytesRan n m begun front left w v a b (Ok tt) → LineRan (m + 1) (without_return left) v u b c (Err e) → BytesRan n p begun (front ++ (10 ∷ back)) other w u a c (Err e)
-bytes_stop n m p begun front left back other w v u a b c (faults.Bad k) h l =
-    (h.0, λ rest. (without_return left, lines_after true [] (back ++ rest), at_feed begun front left back rest h.0 h.1, l.1), omega (arith, l.0, h.2), ran_kept w v u h.0 a b c h.3 l.2 l.3)
-bytes_stop n m p begun front left back other w v u a b c faults.Write h l =
+pub bytes_stop : (n m p : ℕ) (begun front left back other : List ℕ) (w v u : World) (s t z : ℕ) (a b c : Option (List ℕ)) (e : LineFault) → BytesRan n m begun front left w v s t a b (Ok tt) → LineRan (m + 1) (without_return left) v u t z b c (Err e) → BytesRan n p begun (front ++ (10 ∷ back)) other w u s z a c (Err e)
+bytes_stop n m p begun front left back other w v u s t z a b c (faults.Bad k) h l =
+    (h.0, λ rest. (without_return left, lines_after true [] (back ++ rest), at_feed begun front left back rest h.0 h.1, l.1), omega (arith, l.0, h.2), ran_kept w v u h.0 a b c h.3.ran l.2 l.3)
+bytes_stop n m p begun front left back other w v u s t z a b c faults.Write h l =
     let line = without_return left in
-    (h.0 ++ line ∷ [], λ rest. (lines_after true [] (back ++ rest), at_feed begun front left back rest h.0 h.1 ∙ sym (append_assoc h.0 (line ∷ []) (lines_after true [] (back ++ rest)))), ran_part w v u h.0 (line ∷ []) a b c h.3 l)
-bytes_stop n m p begun front left back other w v u a b c faults.NoMemory h l =
-    (h.0, λ rest. (without_return left ∷ lines_after true [] (back ++ rest), at_feed begun front left back rest h.0 h.1), ran_kept w v u h.0 a b c h.3 l.0 l.1)
+    (h.0 ++ line ∷ [], λ rest. (lines_after true [] (back ++ rest), at_feed begun front left back rest h.0 h.1 ∙ sym (append_assoc h.0 (line ∷ []) (lines_after true [] (back ++ rest)))), ran_part w v u h.0 (line ∷ []) a b c h.3.ran l)
+bytes_stop n m p begun front left back other w v u s t z a b c faults.NoMemory h l =
+    (h.0, λ rest. (without_return left ∷ lines_after true [] (back ++ rest), at_feed begun front left back rest h.0 h.1), ran_kept w v u h.0 a b c h.3.ran l.0 l.1)
 
 -- a line that is too long is bad, wherever it ends
 long_bad : (line : List ℕ) → 140001 ≤ length line → event_of line ≡ None
@@ -151,8 +169,8 @@ long_line begun [] le = rw (ne_eqb (length begun) 0 (λ e. absurd (omega arith))
 long_line begun (x ∷ bytes) le = long_step (eqb x 10) begun x bytes refl le (long_line (begun ++ x ∷ []) bytes (omega (arith, length-append begun (x ∷ []))))
 
 -- a byte that makes a line too long
-pub bytes_long : (n m p : ℕ) (begun front left back other : List ℕ) (w v : World) (a b : Option (List ℕ)) (x : ℕ) → x ≢ 10 → 140001 ≤ length left → BytesRan n m begun front left w v a b (Ok tt) → BytesRan n p begun (front ++ (x ∷ back)) other w v a b (Err (faults.Bad (m + 1)))
-bytes_long n m p begun front left back other w v a b x ne le h =
+pub bytes_long : (n m p : ℕ) (begun front left back other : List ℕ) (w v : World) (s t z : ℕ) (a b : Option (List ℕ)) (x : ℕ) → x ≢ 10 → 140001 ≤ length left → BytesRan n m begun front left w v s t a b (Ok tt) → BytesRan n p begun (front ++ (x ∷ back)) other w v s z a b (Err (faults.Bad (m + 1)))
+bytes_long n m p begun front left back other w v s t z a b x ne le h =
     let long : (rest : List ℕ) → HasLongLine (lines_after true (left ++ x ∷ []) (back ++ rest)) = λ rest. long_line (left ++ x ∷ []) (back ++ rest) (omega (arith, length-append left (x ∷ []))) in (
       h.0,
       λ rest. (
@@ -162,28 +180,28 @@ bytes_long n m p begun front left back other w v a b x ne le h =
         (long rest).is,
       ),
       omega (arith, h.2),
-      h.3,
+      h.3.ran,
     )
 
 -- How far a run of a script has come: its first lines were run on a new gateway, and the line after them is begun.
-pub record Progress (config : Config) (script : List ℕ) (remaining : Option (List ℕ)) (begun : List ℕ) (count : ℕ) (now : World) (old new : Option (List ℕ)) : Type 0 where
+pub record Progress (config : Config) (script : List ℕ) (remaining : Option (List ℕ)) (begun : List ℕ) (count : ℕ) (now : World) (sent : ℕ) (old new : Option (List ℕ)) : Type 0 where
   pub rest : List ℕ
   pub left : remaining ≡ Some rest
   pub lines : List (List ℕ)
   pub split : lines_of true script ≡ lines ++ lines_after true begun rest
   pub counted : count ≡ length lines
-  pub ran : Ran (start_of config) lines now old new
+  pub ran : RanCounted (start_of config) lines now 0 sent old new
 
-pub progress_start : (config : Config) (script : List ℕ) (remaining : Option (List ℕ)) (begun : List ℕ) (count : ℕ) (a : Option (List ℕ)) → remaining ≡ Some script → begun ≡ [] → count ≡ 0 → Progress config script remaining begun count (start_of config) a a
-progress_start config script remaining begun count a is none zero_is = record { rest = script; left = is; lines = []; split = ap (λ (l : List ℕ). lines_after true l script) (sym none); counted = zero_is; ran = ran_nothing (start_of config) a }
+pub progress_start : (config : Config) (script : List ℕ) (remaining : Option (List ℕ)) (begun : List ℕ) (count s : ℕ) (a : Option (List ℕ)) → remaining ≡ Some script → begun ≡ [] → count ≡ 0 → s ≡ 0 → Progress config script remaining begun count (start_of config) s a a
+progress_start config script remaining begun count s a is none zero_is unsent = record { rest = script; left = is; lines = []; split = ap (λ (l : List ℕ). lines_after true l script) (sym none); counted = zero_is; ran = counted_nothing (start_of config) 0 s a unsent }
 
 consumed : (x y : Option (List ℕ)) (rest bytes : List ℕ) → x ≡ Some rest → Consumes x y bytes → (more : List ℕ) × (y ≡ Some more) × (rest ≡ bytes ++ more)
 consumed None y rest bytes e h = absurd cc
 consumed (Some xs) None rest bytes e h = absurd h
 consumed (Some xs) (Some ys) rest bytes e h = let same : xs ≡ rest = cc in (ys, refl, sym same ∙ h)
 
-pub progress_bytes : (config : Config) (script : List ℕ) (x y : Option (List ℕ)) (begun bytes left : List ℕ) (n m : ℕ) (v u : World) (a b c : Option (List ℕ)) → Progress config script x begun n v a b → Consumes x y bytes → BytesRan n m begun bytes left v u b c (Ok tt) → Progress config script y left m u a c
-progress_bytes config script x y begun bytes left n m v u a b c p eaten h =
+pub progress_bytes : (config : Config) (script : List ℕ) (x y : Option (List ℕ)) (begun bytes left : List ℕ) (n m : ℕ) (v u : World) (s t : ℕ) (a b c : Option (List ℕ)) → Progress config script x begun n v s a b → Consumes x y bytes → BytesRan n m begun bytes left v u s t b c (Ok tt) → Progress config script y left m u t a c
+progress_bytes config script x y begun bytes left n m v u s t a b c p eaten h =
     let more = consumed x y p.rest bytes p.left eaten in
     record {
       rest = more.0;
@@ -191,11 +209,11 @@ progress_bytes config script x y begun bytes left n m v u a b c p eaten h =
       lines = p.lines ++ h.0;
       split = p.split ∙ ap (λ (l : List ℕ). p.lines ++ lines_after true begun l) more.2 ∙ ap (λ (l : List (List ℕ)). p.lines ++ l) (h.1 more.0) ∙ sym (append_assoc p.lines h.0 (lines_after true left more.0));
       counted = omega (arith, h.2, p.counted, length-append p.lines h.0);
-      ran = ran_both (start_of config) v u p.lines h.0 a b c p.ran h.3;
+      ran = counted_both (start_of config) v u p.lines h.0 0 s t a b c p.ran h.3;
     }
 
-pub progress_fault : (config : Config) (script : List ℕ) (x y : Option (List ℕ)) (begun bytes left : List ℕ) (n m : ℕ) (state : CoreState) (v u : World) (a b c : Option (List ℕ)) (e : LineFault) → Progress config script x begun n v a b → Consumes x y bytes → BytesRan n m begun bytes left v u b c (Err e) → AllRan config script state m a c (Err (script_fault_of e))
-progress_fault config script x y begun bytes left n m state v u a b c (faults.Bad k) p eaten h =
+pub progress_fault : (config : Config) (script : List ℕ) (x y : Option (List ℕ)) (begun bytes left : List ℕ) (n m : ℕ) (state : CoreState) (v u : World) (s t : ℕ) (a b c : Option (List ℕ)) (e : LineFault) → Progress config script x begun n v s a b → Consumes x y bytes → BytesRan n m begun bytes left v u s t b c (Err e) → AllRan config script state m t a c (Err (script_fault_of e))
+progress_fault config script x y begun bytes left n m state v u s t a b c (faults.Bad k) p eaten h =
     let more = consumed x y p.rest bytes p.left eaten in
     let bad = h.1 more.0 in record {
       lines = p.lines ++ h.0;
@@ -205,30 +223,30 @@ progress_fault config script x y begun bytes left n m state v u a b c (faults.Ba
       is_bad = bad.3;
       number_is = omega (arith, h.2, p.counted, length-append p.lines h.0);
       last = u;
-      ran = ran_both (start_of config) v u p.lines h.0 a b c p.ran h.3;
+      ran = ran_both (start_of config) v u p.lines h.0 a b c p.ran.ran h.3;
     }
-progress_fault config script x y begun bytes left n m state v u a b c faults.Write p eaten h =
+progress_fault config script x y begun bytes left n m state v u s t a b c faults.Write p eaten h =
     let more = consumed x y p.rest bytes p.left eaten in
     let others = h.1 more.0 in record {
       lines = p.lines ++ h.0;
       others = others.0;
       script_is = p.split ∙ ap (λ (l : List ℕ). p.lines ++ lines_after true begun l) more.2 ∙ ap (λ (l : List (List ℕ)). p.lines ++ l) others.1 ∙ sym (append_assoc p.lines h.0 others.0);
       last = u;
-      ran = ran_part (start_of config) v u p.lines h.0 a b c p.ran h.2;
+      ran = ran_part (start_of config) v u p.lines h.0 a b c p.ran.ran h.2;
     }
-progress_fault config script x y begun bytes left n m state v u a b c faults.NoMemory p eaten h =
+progress_fault config script x y begun bytes left n m state v u s t a b c faults.NoMemory p eaten h =
     let more = consumed x y p.rest bytes p.left eaten in
     let others = h.1 more.0 in record {
       lines = p.lines ++ h.0;
       others = others.0;
       script_is = p.split ∙ ap (λ (l : List ℕ). p.lines ++ lines_after true begun l) more.2 ∙ ap (λ (l : List (List ℕ)). p.lines ++ l) others.1 ∙ sym (append_assoc p.lines h.0 others.0);
       last = u;
-      ran = ran_both (start_of config) v u p.lines h.0 a b c p.ran h.2;
+      ran = ran_both (start_of config) v u p.lines h.0 a b c p.ran.ran h.2;
     }
 
 -- reading failed
-pub progress_unread : (config : Config) (script : List ℕ) (x : Option (List ℕ)) (begun : List ℕ) (n : ℕ) (v : World) (a b : Option (List ℕ)) → Progress config script x begun n v a b → RanFirst config script a b
-progress_unread config script x begun n v a b p = record { lines = p.lines; others = lines_after true begun p.rest; script_is = p.split; last = v; ran = p.ran }
+pub progress_unread : (config : Config) (script : List ℕ) (x : Option (List ℕ)) (begun : List ℕ) (n : ℕ) (v : World) (s : ℕ) (a b : Option (List ℕ)) → Progress config script x begun n v s a b → RanFirst config script a b
+progress_unread config script x begun n v s a b p = record { lines = p.lines; others = lines_after true begun p.rest; script_is = p.split; last = v; ran = p.ran.ran }
 
 -- the end of the script
 at_end : (x y : Option (List ℕ)) (rest : List ℕ) → x ≡ Some rest → Keeps x y → IsAtEnd y → rest ≡ []
@@ -249,9 +267,9 @@ abbrev pub script_result : Result (Unit {0}) LineFault → Result (Unit {0}) Scr
 script_result (Ok done) = Ok tt
 script_result (Err fault) = Err (script_fault_of fault)
 
-line_end : (config : Config) (script : List ℕ) (lines : List (List ℕ)) (line : List ℕ) (n m : ℕ) (state : CoreState) (v u : World) (a b c : Option (List ℕ)) (r : Result (Unit {0}) LineFault) → lines_of true script ≡ lines ++ line ∷ [] → n ≡ length lines → StandsFor state u → Ran (start_of config) lines v a b → LineRan (n + 1) line v u b c r → OnOk r (m ≡ n + 1) → AllRan config script state m a c (script_result r)
-line_end config script lines line n m state v u a b c (Ok done) split counted stands ran h more = (u, subst (λ (l : List (List ℕ)). Ran (start_of config) l u a c) (sym split) (ran_both (start_of config) v u lines (line ∷ []) a b c ran h), stands, omega (arith, more, counted, length-append lines (line ∷ [])) ∙ ap length (sym split))
-line_end config script lines line n m state v u a b c (Err (faults.Bad k)) split counted stands ran h more = record {
+line_end : (config : Config) (script : List ℕ) (lines : List (List ℕ)) (line : List ℕ) (n m : ℕ) (state : CoreState) (v u : World) (s t : ℕ) (a b c : Option (List ℕ)) (r : Result (Unit {0}) LineFault) → lines_of true script ≡ lines ++ line ∷ [] → n ≡ length lines → StandsFor state u → RanCounted (start_of config) lines v 0 s a b → LineRan (n + 1) line v u s t b c r → OnOk r (m ≡ n + 1) → AllRan config script state m t a c (script_result r)
+line_end config script lines line n m state v u s t a b c (Ok done) split counted stands ran h more = (u, subst (λ (l : List (List ℕ)). RanCounted (start_of config) l u 0 t a c) (sym split) (counted_both (start_of config) v u lines (line ∷ []) 0 s t a b c ran h), stands, omega (arith, more, counted, length-append lines (line ∷ [])) ∙ ap length (sym split))
+line_end config script lines line n m state v u s t a b c (Err (faults.Bad k)) split counted stands ran h more = record {
   lines = lines;
   bad = line;
   others = [];
@@ -259,89 +277,89 @@ line_end config script lines line n m state v u a b c (Err (faults.Bad k)) split
   is_bad = h.1;
   number_is = omega (arith, h.0, counted);
   last = u;
-  ran = ran_kept (start_of config) v u lines a b c ran h.2 h.3;
+  ran = ran_kept (start_of config) v u lines a b c ran.ran h.2 h.3;
 }
-line_end config script lines line n m state v u a b c (Err faults.Write) split counted stands ran h more = record {
+line_end config script lines line n m state v u s t a b c (Err faults.Write) split counted stands ran h more = record {
   lines = lines ++ line ∷ [];
   others = [];
   script_is = split ∙ sym (append-nil (lines ++ line ∷ []));
   last = u;
-  ran = ran_part (start_of config) v u lines (line ∷ []) a b c ran h;
+  ran = ran_part (start_of config) v u lines (line ∷ []) a b c ran.ran h;
 }
-line_end config script lines line n m state v u a b c (Err faults.NoMemory) split counted stands ran h more = record {
+line_end config script lines line n m state v u s t a b c (Err faults.NoMemory) split counted stands ran h more = record {
   lines = lines;
   others = line ∷ [];
   script_is = split;
   last = u;
-  ran = ran_kept (start_of config) v u lines a b c ran h.0 h.1;
+  ran = ran_kept (start_of config) v u lines a b c ran.ran h.0 h.1;
 }
 
-pub progress_end : (config : Config) (script : List ℕ) (x y : Option (List ℕ)) (begun : List ℕ) (n m : ℕ) (state : CoreState) (v u : World) (a b c : Option (List ℕ)) (r : Result (Unit {0}) LineFault) → Progress config script x begun n v a b → Keeps x y × IsAtEnd y → StandsFor state u → Finishes n m begun v u b c r → AllRan config script state m a c (script_result r)
-progress_end config script x y [] n m state v u a b c r p ended stands h =
+pub progress_end : (config : Config) (script : List ℕ) (x y : Option (List ℕ)) (begun : List ℕ) (n m : ℕ) (state : CoreState) (v u : World) (s t : ℕ) (a b c : Option (List ℕ)) (r : Result (Unit {0}) LineFault) → Progress config script x begun n v s a b → Keeps x y × IsAtEnd y → StandsFor state u → Finishes n m begun v u s t b c r → AllRan config script state m t a c (script_result r)
+progress_end config script x y [] n m state v u s t a b c r p ended stands h =
     let empty = at_end x y p.rest p.left ended.0 ended.1 in
     let all = p.split ∙ ap (λ (l : List ℕ). p.lines ++ lines_after true [] l) empty ∙ ap (λ (l : List (List ℕ)). p.lines ++ l) no_line ∙ append-nil p.lines in
-    rw h.0 (u, subst (λ (l : List (List ℕ)). Ran (start_of config) l u a c) (sym all) (ran_kept (start_of config) v u p.lines a b c p.ran h.1 h.2), stands, h.3 ∙ p.counted ∙ ap length (sym all))
-progress_end config script x y (k ∷ ks) n m state v u a b c r p ended stands h =
+    rw h.0 (u, subst (λ (n : ℕ). RanCounted (start_of config) (lines_of true script) u 0 n a c) (sym h.4) (subst (λ (l : List (List ℕ)). RanCounted (start_of config) l u 0 s a c) (sym all) (counted_kept (start_of config) v u p.lines 0 s a b c p.ran h.1 h.2)), stands, h.3 ∙ p.counted ∙ ap length (sym all))
+progress_end config script x y (k ∷ ks) n m state v u s t a b c r p ended stands h =
     let empty = at_end x y p.rest p.left ended.0 ended.1 in
     let all = p.split ∙ ap (λ (l : List ℕ). p.lines ++ lines_after true (k ∷ ks) l) empty ∙ ap (λ (l : List (List ℕ)). p.lines ++ l) (last_line k ks) in
-    line_end config script p.lines (k ∷ ks) n m state v u a b c r all p.counted stands p.ran h.0 h.1
+    line_end config script p.lines (k ∷ ks) n m state v u s t a b c r all p.counted stands p.ran h.0 h.1
 
 -- the same steps by the index of a byte
 around : (bytes : List ℕ) (i : ℕ) → i < length bytes → take i bytes ++ (get_or bytes i 0 ∷ drop (i + 1) bytes) ≡ bytes
 around bytes i lt = ap (λ (l : List ℕ). take i bytes ++ l) (sym (drop_more bytes i 0 lt)) ∙ take-append-drop i bytes
 
 -- So far, the lines that end in the first bytes were run, by an engine that was entered for each world w.
-abbrev pub HasRun : ℕ → ℕ → List ℕ → List ℕ → List ℕ → CoreState → CoreState → Option (List ℕ) → Option (List ℕ) → Result (Unit {0}) LineFault → Type 0
-HasRun n m begun bytes left entered kept a b r = Leads StandsFor entered kept (λ w now. BytesRan n m begun bytes left w now a b r)
+abbrev pub HasRun : ℕ → ℕ → List ℕ → List ℕ → List ℕ → CoreState → CoreState → ℕ → ℕ → Option (List ℕ) → Option (List ℕ) → Result (Unit {0}) LineFault → Type 0
+HasRun n m begun bytes left entered kept s t a b r = Leads StandsFor entered kept (λ w now. BytesRan n m begun bytes left w now s t a b r)
 
-pub index_start : (n : ℕ) (begun : List ℕ) (kept : CoreState) (a : Option (List ℕ)) → HasRun n n begun [] begun kept kept a a (Ok tt)
-index_start n begun kept a w h = (w, bytes_start n begun w a, h)
+pub index_start : (n : ℕ) (begun : List ℕ) (kept : CoreState) (s : ℕ) (a : Option (List ℕ)) → HasRun n n begun [] begun kept kept s s a a (Ok tt)
+index_start n begun kept s a w h = (w, bytes_start n begun w s a, h)
 
-pub index_plain : (n m : ℕ) (begun bytes left : List ℕ) (entered kept : CoreState) (a b : Option (List ℕ)) (i : ℕ) → i < length bytes → get_or bytes i 0 ≢ 10 → HasRun n m begun (take i bytes) left entered kept a b (Ok tt) → HasRun n m begun (take (i + 1) bytes) (left ++ get_or bytes i 0 ∷ []) entered kept a b (Ok tt)
-index_plain n m begun bytes left entered kept a b i lt ne inside w h =
+pub index_plain : (n m : ℕ) (begun bytes left : List ℕ) (entered kept : CoreState) (s t : ℕ) (a b : Option (List ℕ)) (i : ℕ) → i < length bytes → get_or bytes i 0 ≢ 10 → HasRun n m begun (take i bytes) left entered kept s t a b (Ok tt) → HasRun n m begun (take (i + 1) bytes) (left ++ get_or bytes i 0 ∷ []) entered kept s t a b (Ok tt)
+index_plain n m begun bytes left entered kept s t a b i lt ne inside w h =
     let (now, ran, stands) = inside w h in
-    (now, subst (λ (l : List ℕ). BytesRan n m begun l (left ++ get_or bytes i 0 ∷ []) w now a b (Ok tt)) (sym (take_more bytes i 0 lt)) (bytes_plain n m begun (take i bytes) left w now a b (get_or bytes i 0) ne ran), stands)
+    (now, subst (λ (l : List ℕ). BytesRan n m begun l (left ++ get_or bytes i 0 ∷ []) w now s t a b (Ok tt)) (sym (take_more bytes i 0 lt)) (bytes_plain n m begun (take i bytes) left w now s t a b (get_or bytes i 0) ne ran), stands)
 
-pub index_line : (n m : ℕ) (begun bytes left : List ℕ) (entered kept new : CoreState) (a b c : Option (List ℕ)) (i number : ℕ) → i < length bytes → get_or bytes i 0 ≡ 10 → HasRun n m begun (take i bytes) left entered kept a b (Ok tt) → Leads StandsFor kept new (λ w after. LineRan number (without_return left) w after b c (Ok tt)) → HasRun n (m + 1) begun (take (i + 1) bytes) [] entered new a c (Ok tt)
-index_line n m begun bytes left entered kept new a b c i number lt feed inside step w h =
-    let (now, ran, stands) = inside w h in
-    let (after, line, last) = step now stands in
-    (after, subst (λ (l : List ℕ). BytesRan n (m + 1) begun l [] w after a c (Ok tt)) (sym (take_more bytes i 0 lt ∙ ap (λ (x : ℕ). take i bytes ++ x ∷ []) feed)) (bytes_line n m begun (take i bytes) left w now after a b c number ran line), last)
-
-pub index_stop : (n m p : ℕ) (begun bytes left other : List ℕ) (entered kept new : CoreState) (a b c : Option (List ℕ)) (i : ℕ) (e : LineFault) → i < length bytes → get_or bytes i 0 ≡ 10 → HasRun n m begun (take i bytes) left entered kept a b (Ok tt) → Leads StandsFor kept new (λ w after. LineRan (m + 1) (without_return left) w after b c (Err e)) → HasRun n p begun bytes other entered new a c (Err e)
-index_stop n m p begun bytes left other entered kept new a b c i e lt feed inside step w h =
+pub index_line : (n m : ℕ) (begun bytes left : List ℕ) (entered kept new : CoreState) (s t z : ℕ) (a b c : Option (List ℕ)) (i number : ℕ) → i < length bytes → get_or bytes i 0 ≡ 10 → HasRun n m begun (take i bytes) left entered kept s t a b (Ok tt) → Leads StandsFor kept new (λ w after. LineRan number (without_return left) w after t z b c (Ok tt)) → HasRun n (m + 1) begun (take (i + 1) bytes) [] entered new s z a c (Ok tt)
+index_line n m begun bytes left entered kept new s t z a b c i number lt feed inside step w h =
     let (now, ran, stands) = inside w h in
     let (after, line, last) = step now stands in
-    (after, subst (λ (l : List ℕ). BytesRan n p begun l other w after a c (Err e)) (ap (λ (x : ℕ). take i bytes ++ (x ∷ drop (i + 1) bytes)) (sym feed) ∙ around bytes i lt) (bytes_stop n m p begun (take i bytes) left (drop (i + 1) bytes) other w now after a b c e ran line), last)
+    (after, subst (λ (l : List ℕ). BytesRan n (m + 1) begun l [] w after s z a c (Ok tt)) (sym (take_more bytes i 0 lt ∙ ap (λ (x : ℕ). take i bytes ++ x ∷ []) feed)) (bytes_line n m begun (take i bytes) left w now after s t z a b c number ran line), last)
 
-pub index_long : (n m p : ℕ) (begun bytes left other : List ℕ) (entered kept : CoreState) (a b : Option (List ℕ)) (i : ℕ) → i < length bytes → get_or bytes i 0 ≢ 10 → 140001 ≤ length left → HasRun n m begun (take i bytes) left entered kept a b (Ok tt) → HasRun n p begun bytes other entered kept a b (Err (faults.Bad (m + 1)))
-index_long n m p begun bytes left other entered kept a b i lt ne long inside w h =
+pub index_stop : (n m p : ℕ) (begun bytes left other : List ℕ) (entered kept new : CoreState) (s t z : ℕ) (a b c : Option (List ℕ)) (i : ℕ) (e : LineFault) → i < length bytes → get_or bytes i 0 ≡ 10 → HasRun n m begun (take i bytes) left entered kept s t a b (Ok tt) → Leads StandsFor kept new (λ w after. LineRan (m + 1) (without_return left) w after t z b c (Err e)) → HasRun n p begun bytes other entered new s z a c (Err e)
+index_stop n m p begun bytes left other entered kept new s t z a b c i e lt feed inside step w h =
     let (now, ran, stands) = inside w h in
-    (now, subst (λ (l : List ℕ). BytesRan n p begun l other w now a b (Err (faults.Bad (m + 1)))) (around bytes i lt) (bytes_long n m p begun (take i bytes) left (drop (i + 1) bytes) other w now a b (get_or bytes i 0) ne long ran), stands)
+    let (after, line, last) = step now stands in
+    (after, subst (λ (l : List ℕ). BytesRan n p begun l other w after s z a c (Err e)) (ap (λ (x : ℕ). take i bytes ++ (x ∷ drop (i + 1) bytes)) (sym feed) ∙ around bytes i lt) (bytes_stop n m p begun (take i bytes) left (drop (i + 1) bytes) other w now after s t z a b c e ran line), last)
+
+pub index_long : (n m p : ℕ) (begun bytes left other : List ℕ) (entered kept : CoreState) (s t z : ℕ) (a b : Option (List ℕ)) (i : ℕ) → i < length bytes → get_or bytes i 0 ≢ 10 → 140001 ≤ length left → HasRun n m begun (take i bytes) left entered kept s t a b (Ok tt) → HasRun n p begun bytes other entered kept s z a b (Err (faults.Bad (m + 1)))
+index_long n m p begun bytes left other entered kept s t z a b i lt ne long inside w h =
+    let (now, ran, stands) = inside w h in
+    (now, subst (λ (l : List ℕ). BytesRan n p begun l other w now s z a b (Err (faults.Bad (m + 1)))) (around bytes i lt) (bytes_long n m p begun (take i bytes) left (drop (i + 1) bytes) other w now s t z a b (get_or bytes i 0) ne long ran), stands)
 
 -- ## How far a run has come, by an engine
 
 -- a run of the script came this far, and the engine stands for the world that it came to
-abbrev pub Comes : Config → List ℕ → Option (List ℕ) → List ℕ → ℕ → CoreState → Option (List ℕ) → Option (List ℕ) → Type 0
-Comes config script remaining begun count kept old new = (now : World) × Progress config script remaining begun count now old new × StandsFor kept now
+abbrev pub Comes : Config → List ℕ → Option (List ℕ) → List ℕ → ℕ → CoreState → ℕ → Option (List ℕ) → Option (List ℕ) → Type 0
+Comes config script remaining begun count kept s old new = (now : World) × Progress config script remaining begun count now s old new × StandsFor kept now
 
-pub comes_start : (config : Config) (script : List ℕ) (remaining : Option (List ℕ)) (begun : List ℕ) (count : ℕ) (kept : CoreState) (a : Option (List ℕ)) → remaining ≡ Some script → begun ≡ [] → count ≡ 0 → StandsFor kept (start_of config) → Comes config script remaining begun count kept a a
-comes_start config script remaining begun count kept a is none zero_is stands = (start_of config, progress_start config script remaining begun count a is none zero_is, stands)
+pub comes_start : (config : Config) (script : List ℕ) (remaining : Option (List ℕ)) (begun : List ℕ) (count : ℕ) (kept : CoreState) (s : ℕ) (a : Option (List ℕ)) → remaining ≡ Some script → begun ≡ [] → count ≡ 0 → s ≡ 0 → StandsFor kept (start_of config) → Comes config script remaining begun count kept s a a
+comes_start config script remaining begun count kept s a is none zero_is unsent stands = (start_of config, progress_start config script remaining begun count s a is none zero_is unsent, stands)
 
-pub comes_bytes : (config : Config) (script : List ℕ) (x y : Option (List ℕ)) (begun bytes left : List ℕ) (n m : ℕ) (kept new : CoreState) (a b c : Option (List ℕ)) → Comes config script x begun n kept a b → Consumes x y bytes → HasRun n m begun bytes left kept new b c (Ok tt) → Comes config script y left m new a c
-comes_bytes config script x y begun bytes left n m kept new a b c come eaten step =
+pub comes_bytes : (config : Config) (script : List ℕ) (x y : Option (List ℕ)) (begun bytes left : List ℕ) (n m : ℕ) (kept new : CoreState) (s t : ℕ) (a b c : Option (List ℕ)) → Comes config script x begun n kept s a b → Consumes x y bytes → HasRun n m begun bytes left kept new s t b c (Ok tt) → Comes config script y left m new t a c
+comes_bytes config script x y begun bytes left n m kept new s t a b c come eaten step =
     let (now, p, stands) = come in
     let (after, h, last) = step now stands in
-    (after, progress_bytes config script x y begun bytes left n m now after a b c p eaten h, last)
+    (after, progress_bytes config script x y begun bytes left n m now after s t a b c p eaten h, last)
 
-pub comes_fault : (config : Config) (script : List ℕ) (x y : Option (List ℕ)) (begun bytes left : List ℕ) (n m : ℕ) (kept new : CoreState) (a b c : Option (List ℕ)) (e : LineFault) → Comes config script x begun n kept a b → Consumes x y bytes → HasRun n m begun bytes left kept new b c (Err e) → AllRan config script new m a c (Err (script_fault_of e))
-comes_fault config script x y begun bytes left n m kept new a b c e come eaten step =
+pub comes_fault : (config : Config) (script : List ℕ) (x y : Option (List ℕ)) (begun bytes left : List ℕ) (n m : ℕ) (kept new : CoreState) (s t : ℕ) (a b c : Option (List ℕ)) (e : LineFault) → Comes config script x begun n kept s a b → Consumes x y bytes → HasRun n m begun bytes left kept new s t b c (Err e) → AllRan config script new m t a c (Err (script_fault_of e))
+comes_fault config script x y begun bytes left n m kept new s t a b c e come eaten step =
     let (now, p, stands) = come in
     let (next, h, last) = step now stands in
-    progress_fault config script x y begun bytes left n m new now next a b c e p eaten h
+    progress_fault config script x y begun bytes left n m new now next s t a b c e p eaten h
 
-pub comes_end : (config : Config) (script : List ℕ) (x y : Option (List ℕ)) (begun : List ℕ) (n m : ℕ) (kept new : CoreState) (a b c : Option (List ℕ)) (r : Result (Unit {0}) LineFault) → Comes config script x begun n kept a b → Keeps x y × IsAtEnd y → Leads StandsFor kept new (λ w next. Finishes n m begun w next b c r) → AllRan config script new m a c (script_result r)
-comes_end config script x y begun n m kept new a b c r come ended step =
+pub comes_end : (config : Config) (script : List ℕ) (x y : Option (List ℕ)) (begun : List ℕ) (n m : ℕ) (kept new : CoreState) (s t : ℕ) (a b c : Option (List ℕ)) (r : Result (Unit {0}) LineFault) → Comes config script x begun n kept s a b → Keeps x y × IsAtEnd y → Leads StandsFor kept new (λ w next. Finishes n m begun w next s t b c r) → AllRan config script new m t a c (script_result r)
+comes_end config script x y begun n m kept new s t a b c r come ended step =
     let (now, p, stands) = come in
     let (next, h, last) = step now stands in
-    progress_end config script x y begun n m new now next a b c r p ended last h
+    progress_end config script x y begun n m new now next s t a b c r p ended last h

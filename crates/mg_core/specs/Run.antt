@@ -10,7 +10,7 @@ use Rattle.mg_core.specs.declared.counts.Counts.{Counts}
 use Rattle.mg_core.specs.declared.event.Event.{Event}
 use Rattle.mg_core.specs.declared.fault.RunFault.{RunFault}
 use Rattle.mg_core.specs.declared.fault.RunFault.TheVariants as faults
-use Rattle.mg_core.specs.World.{World, start_of, counts_of}
+use Rattle.mg_core.specs.World.{World, start_of, capped, counts_of}
 use Rattle.mg_core.specs.Peer.{peer_text}
 use Rattle.mg_core.specs.Step.{Sent, Reply, Packet, Run}
 use Rattle.mg_lines.specs.Lines.{lines_of}
@@ -62,12 +62,13 @@ pub record RanInPart (w : World) (lines : List (List ℕ)) (last : World)
 
 -- ## The outcome of a run over a script on a new gateway
 
--- all of the script was run, and its lines and events were counted
+-- all of the script was run, and its lines, its events and what they have sent were counted
 pub record RanToEnd (config : Config) (script : List ℕ) (counts : Counts)
     (old new : Option (List ℕ)) : Type 0 where
   pub last : World
   pub ran : Ran (start_of config) (lines_of true script) last old new
   pub lines : counts.lines ≡ length (lines_of true script)
+  pub sent : counts.sent ≡ capped (length ran.sent)
   pub counted : record counts { lines = 0; sent = 0; failed = 0 } ≡ counts_of last.tally
 
 -- the lines before the first bad one were run, which has this number

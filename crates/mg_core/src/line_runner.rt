@@ -37,6 +37,7 @@ impl LineRunner {
         ensures bad { (result ≡ Err StartFault.BadConfig) ↔ ¬ IsValidConfig config }
         ensures sound { OnOk result (IsValidConfig config) }
         ensures start { IfOk result (λ runner. StandsFor runner.core.state (start_of config)) }
+        ensures sent { IfOk result (λ runner. runner.sent ≡ 0) }
     {
         let core = Core::new(alloc, config)?;
         Ok(LineRunner {
@@ -56,7 +57,7 @@ impl LineRunner {
         writer: &mut W,
     ) -> Result<(), EventFault>
         ensures value { Leads StandsFor self.old.core.state self.new.core.state (λ w next.
-            EventRan (Event.Control source bytes.now) w next (W.contents writer.old) (W.contents writer.new) result) }
+            EventRan (Event.Control source bytes.now) w next self.old.sent self.new.sent (W.contents writer.old) (W.contents writer.new) result) }
     {
         let Ok(answer) = self.core.control(alloc, source, bytes) else {
             return Err(EventFault::NoMemory);
@@ -77,6 +78,7 @@ impl LineRunner {
     fn take_media(&mut self, port: u16, source: Peer, bytes: &[u8])
         ensures value { Leads StandsFor self.old.core.state self.new.core.state (λ w next.
             Step w (Event.Media port source bytes.now) [] next) }
+        ensures sent { self.new.sent ≡ self.old.sent }
     {
         let _ = self.core.media(port, source, bytes);
     }
@@ -85,7 +87,7 @@ impl LineRunner {
     #[tactic(auto, using(crate::proofs::AnswerLaws::totals))]
     fn take_tick<W: Write>(&mut self, writer: &mut W) -> Result<(), EventFault>
         ensures value { Leads StandsFor self.old.core.state self.new.core.state (λ w next.
-            EventRan Event.Tick w next (W.contents writer.old) (W.contents writer.new) result) }
+            EventRan Event.Tick w next self.old.sent self.new.sent (W.contents writer.old) (W.contents writer.new) result) }
     {
         self.core.tick();
         self.output.clear();
@@ -104,7 +106,7 @@ impl LineRunner {
         writer: &mut W,
     ) -> Result<(), EventFault>
         ensures value { Leads StandsFor self.old.core.state self.new.core.state (λ w next.
-            EventRan event.now w next (W.contents writer.old) (W.contents writer.new) result) }
+            EventRan event.now w next self.old.sent self.new.sent (W.contents writer.old) (W.contents writer.new) result) }
     {
         match event {
             Event::Tick => self.take_tick(writer),
@@ -127,7 +129,7 @@ impl LineRunner {
         writer: &mut W,
     ) -> Result<(), LineFault>
         ensures value { Leads StandsFor self.old.core.state self.new.core.state (λ w next.
-            LineRan number line.now w next (W.contents writer.old) (W.contents writer.new) result) }
+            LineRan number line.now w next self.old.sent self.new.sent (W.contents writer.old) (W.contents writer.new) result) }
     {
         match event_of(alloc, line) {
             Err(ParseFault::Bad) => Err(LineFault::Bad(number)),

@@ -35,6 +35,7 @@ impl ScriptRunner {
         ensures sound { OnOk result (IsValidConfig config) }
         ensures start { IfOk result (λ s. StandsFor s.runner.core.state (start_of config)) }
         ensures lines { IfOk result (λ s. s.lines ≡ 0) }
+        ensures sent { IfOk result (λ s. s.runner.sent ≡ 0) }
         ensures begun { IfOk result (λ s. s.begun.text ≡ []) }
     {
         let runner = LineRunner::new(alloc, config)?;
@@ -52,7 +53,7 @@ impl ScriptRunner {
         ensures lines { OnOk result (self.new.lines ≡ self.old.lines + 1) }
         ensures value { Leads StandsFor self.old.runner.core.state self.new.runner.core.state (λ w next.
             LineRan (self.old.lines + 1) (without_return self.old.begun.text)
-            w next (W.contents writer.old) (W.contents writer.new) result) }
+            w next self.old.runner.sent self.new.runner.sent (W.contents writer.old) (W.contents writer.new) result) }
     {
         let number = self.lines + 1;
         let line = without_return(self.begun.as_slice());
@@ -73,7 +74,7 @@ impl ScriptRunner {
         ensures lines { OnOk result (self.new.lines ≤ self.old.lines + length bytes.now) }
         ensures value { Leads StandsFor self.old.runner.core.state self.new.runner.core.state (λ w next.
             BytesRan self.old.lines self.new.lines self.old.begun.text bytes.now self.new.begun.text
-            w next (W.contents writer.old) (W.contents writer.new) result) }
+            w next self.old.runner.sent self.new.runner.sent (W.contents writer.old) (W.contents writer.new) result) }
     {
         for b in bytes {
             if *b == b'\n' {
@@ -92,7 +93,7 @@ impl ScriptRunner {
     fn finish<W: Write>(&mut self, alloc: Global, writer: &mut W) -> Result<(), LineFault>
         requires few { self.old.lines + 1 < 2 ^ 64 }
         ensures value { Leads StandsFor self.old.runner.core.state self.new.runner.core.state (λ w next.
-            Finishes self.old.lines self.new.lines self.old.begun.text w next (W.contents writer.old) (W.contents writer.new) result) }
+            Finishes self.old.lines self.new.lines self.old.begun.text w next self.old.runner.sent self.new.runner.sent (W.contents writer.old) (W.contents writer.new) result) }
     {
         let line = self.begun.as_slice();
         if line.is_empty() {
@@ -113,9 +114,10 @@ impl ScriptRunner {
     ) -> Result<(), ScriptFault>
         requires lines { self.old.lines ≡ 0 }
         requires begun { self.old.begun.text ≡ [] }
+        requires sent { self.old.runner.sent ≡ 0 }
         ensures value { (config : Config) → StandsFor self.old.runner.core.state (start_of config) → (script : List ℕ) →
             R.remaining reader.old ≡ Some script → AllRan config script self.new.runner.core.state
-            self.new.lines (W.contents writer.old) (W.contents writer.new) result }
+            self.new.lines self.new.runner.sent (W.contents writer.old) (W.contents writer.new) result }
     {
         let mut buffer = [0; READ_SIZE];
         for _ in 0..u32::MAX {
@@ -131,6 +133,7 @@ impl ScriptRunner {
     /// What was counted.
     pub fn counts(&self) -> Counts
         ensures lines { result.lines ≡ self.now.lines }
+        ensures sent { result.sent ≡ self.now.runner.sent }
         ensures events { (w : World) → StandsFor self.now.runner.core.state w →
             record result { lines = 0; sent = 0; failed = 0 } ≡ counts_of w.tally }
     {

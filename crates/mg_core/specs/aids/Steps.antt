@@ -25,7 +25,7 @@ use Rattle.mg_reply.specs.declared.item.Item.TheVariants as told
 use Rattle.mg_reply.specs.Reply.{Answered}
 use Rattle.mg_reply.specs.Theorems.{is_too_long}
 use Rattle.mg_reply.specs.Written.{reply_text}
-use Rattle.mg_core.specs.World.{World, StandsFor, start_of}
+use Rattle.mg_core.specs.World.{World, StandsFor, capped, start_of}
 use Rattle.mg_lines.specs.Lines.{lines_after, lines_of}
 use Rattle.mg_lines.specs.Streams.{WritesFront}
 use Rattle.mg_core.specs.Script.{event_of}
@@ -51,11 +51,18 @@ refusal_of (readings.Version n) = Some numbers.Version
 refusal_of readings.TooMany = Some numbers.NotServed
 refusal_of readings.NoMemory = None
 
--- an event was run, and the lines for what it sends were written
-pub record EventDone (event : Event) (w next : World) (old new : Option (List ℕ)) : Type 0 where
+-- a number after so many were sent, each counted up to the greatest value of 64 bits
+unfoldable pub after_sent : ℕ → List Sent → ℕ
+after_sent n [] = n
+after_sent n (s ∷ sent) = after_sent (capped (n + 1)) sent
+
+-- an event was run, the lines for what it sends were written, and what was sent was counted
+pub record EventDone (event : Event) (w next : World) (n m : ℕ)
+    (old new : Option (List ℕ)) : Type 0 where
   pub sent : List Sent
   pub step : Step w event sent next
   pub written : Appends old new (lines_for sent)
+  pub counted : m ≡ after_sent n sent
 
 -- an event was run, and the front of those lines was written
 pub record EventCut (event : Event) (w next : World) (old new : Option (List ℕ)) : Type 0 where
@@ -63,63 +70,69 @@ pub record EventCut (event : Event) (w next : World) (old new : Option (List ℕ
   pub step : Step w event sent next
   pub written : WritesFront (lines_for sent) old new
 
-abbrev pub EventRan : Event → World → World → Option (List ℕ) → Option (List ℕ)
+abbrev pub EventRan : Event → World → World → ℕ → ℕ → Option (List ℕ) → Option (List ℕ)
     → Result (Unit {0}) EventFault → Type 0
-EventRan event w next old new (Ok done) = EventDone event w next old new
-EventRan event w next old new (Err events.Write) = EventCut event w next old new
-EventRan event w next old new (Err events.NoMemory) = Keeps old new × (next ≡ w)
+EventRan event w next n m old new (Ok done) = EventDone event w next n m old new
+EventRan event w next n m old new (Err events.Write) = EventCut event w next old new
+EventRan event w next n m old new (Err events.NoMemory) = Keeps old new × (next ≡ w)
+
+-- lines were run, and what they sent was counted
+pub record RanCounted (w : World) (lines : List (List ℕ)) (last : World) (n m : ℕ)
+    (old new : Option (List ℕ)) : Type 0 where
+  pub ran : Ran w lines last old new
+  pub counted : m ≡ after_sent n ran.sent
 
 -- a line was run, or why it was not
-abbrev pub LineRan : ℕ → List ℕ → World → World → Option (List ℕ) → Option (List ℕ)
+abbrev pub LineRan : ℕ → List ℕ → World → World → ℕ → ℕ → Option (List ℕ) → Option (List ℕ)
     → Result (Unit {0}) LineFault → Type 0
-LineRan number line w next old new (Ok done) = Ran w (line ∷ []) next old new
-LineRan number line w next old new (Err (stops.Bad n)) =
-    (n ≡ number) × (event_of line ≡ None) × Keeps old new × (next ≡ w)
-LineRan number line w next old new (Err stops.Write) = RanInPart w (line ∷ []) next old new
-LineRan number line w next old new (Err stops.NoMemory) = Keeps old new × (next ≡ w)
+LineRan number line w next n m old new (Ok done) = RanCounted w (line ∷ []) next n m old new
+LineRan number line w next n m old new (Err (stops.Bad bad)) =
+    (bad ≡ number) × (event_of line ≡ None) × Keeps old new × (next ≡ w)
+LineRan number line w next n m old new (Err stops.Write) = RanInPart w (line ∷ []) next old new
+LineRan number line w next n m old new (Err stops.NoMemory) = Keeps old new × (next ≡ w)
 
 -- The lines that end in some bytes were run, and the line after them is begun; or why they were
 -- not, whatever stands after the bytes.
-abbrev pub BytesRan : ℕ → ℕ → List ℕ → List ℕ → List ℕ → World → World → Option (List ℕ)
-    → Option (List ℕ) → Result (Unit {0}) LineFault → Type 0
-BytesRan count counted begun bytes left w next old new (Ok done) =
+abbrev pub BytesRan : ℕ → ℕ → List ℕ → List ℕ → List ℕ → World → World → ℕ → ℕ
+    → Option (List ℕ) → Option (List ℕ) → Result (Unit {0}) LineFault → Type 0
+BytesRan count counted begun bytes left w next n m old new (Ok done) =
     (lines : List (List ℕ)) × ((rest : List ℕ) → lines_after true begun (bytes ++ rest) ≡ lines
     ++ lines_after true left rest)
-    × (counted ≡ count + length lines) × Ran w lines next old new
-BytesRan count counted begun bytes left w next old new (Err (stops.Bad n)) =
+    × (counted ≡ count + length lines) × RanCounted w lines next n m old new
+BytesRan count counted begun bytes left w next n m old new (Err (stops.Bad number)) =
     (lines : List (List ℕ)) × ((rest : List ℕ) → (bad : List ℕ) × (others : List (List ℕ))
     × (lines_after true begun (bytes ++ rest) ≡ lines ++ bad ∷ others) × (event_of bad ≡ None))
-    × (n ≡ count + length lines + 1) × Ran w lines next old new
-BytesRan count counted begun bytes left w next old new (Err stops.Write) =
+    × (number ≡ count + length lines + 1) × Ran w lines next old new
+BytesRan count counted begun bytes left w next n m old new (Err stops.Write) =
     (lines : List (List ℕ)) × ((rest : List ℕ) → (others : List (List ℕ))
     × (lines_after true begun (bytes ++ rest) ≡ lines ++ others))
     × RanInPart w lines next old new
-BytesRan count counted begun bytes left w next old new (Err stops.NoMemory) =
+BytesRan count counted begun bytes left w next n m old new (Err stops.NoMemory) =
     (lines : List (List ℕ)) × ((rest : List ℕ) → (others : List (List ℕ))
     × (lines_after true begun (bytes ++ rest) ≡ lines ++ others))
     × Ran w lines next old new
 
 -- the line that was begun is the last, if there is one, and is counted
-abbrev pub Finishes : ℕ → ℕ → List ℕ → World → World → Option (List ℕ) → Option (List ℕ)
-    → Result (Unit {0}) LineFault → Type 0
-Finishes count counted [] w next old new result =
-    (result ≡ Ok tt) × Keeps old new × (next ≡ w) × (counted ≡ count)
-Finishes count counted (b ∷ bs) w next old new result =
-    LineRan (count + 1) (b ∷ bs) w next old new result × OnOk result (counted ≡ count + 1)
+abbrev pub Finishes : ℕ → ℕ → List ℕ → World → World → ℕ → ℕ → Option (List ℕ)
+    → Option (List ℕ) → Result (Unit {0}) LineFault → Type 0
+Finishes count counted [] w next n m old new result =
+    (result ≡ Ok tt) × Keeps old new × (next ≡ w) × (counted ≡ count) × (m ≡ n)
+Finishes count counted (b ∷ bs) w next n m old new result =
+    LineRan (count + 1) (b ∷ bs) w next n m old new result × OnOk result (counted ≡ count + 1)
 
 -- the whole of a script was run, the state stands for the world that it came to, and the lines
--- were counted; or how far it was run
-abbrev pub AllRan : Config → List ℕ → CoreState → ℕ → Option (List ℕ) → Option (List ℕ)
+-- and what was sent were counted; or how far it was run
+abbrev pub AllRan : Config → List ℕ → CoreState → ℕ → ℕ → Option (List ℕ) → Option (List ℕ)
     → Result (Unit {0}) ScriptFault → Type 0
-AllRan config script state count old new (Ok done) =
-    (last : World) × Ran (start_of config) (lines_of true script) last old new
+AllRan config script state count n old new (Ok done) =
+    (last : World) × RanCounted (start_of config) (lines_of true script) last 0 n old new
     × StandsFor state last × (count ≡ length (lines_of true script))
-AllRan config script state count old new (Err (scripts.Bad n)) =
-    RanToBadLine config script n old new
-AllRan config script state count old new (Err scripts.Read) = RanFirst config script old new
-AllRan config script state count old new (Err scripts.Write) =
+AllRan config script state count n old new (Err (scripts.Bad number)) =
+    RanToBadLine config script number old new
+AllRan config script state count n old new (Err scripts.Read) = RanFirst config script old new
+AllRan config script state count n old new (Err scripts.Write) =
     RanFirstInPart config script old new
-AllRan config script state count old new (Err scripts.NoMemory) = RanFirst config script old new
+AllRan config script state count n old new (Err scripts.NoMemory) = RanFirst config script old new
 
 -- ## Faults as others
 

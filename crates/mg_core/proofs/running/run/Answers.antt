@@ -11,7 +11,7 @@ pub returns-in_err-take_all-clause-script : goal.returns-in_err-take_all-clause-
 returns-in_err-take_all-clause-script g c =
     let p = err_from_is_err_and c.from_residual-in_err-take_all.result c.from_residual-in_err-take_all.ensures.1 in
     rw (p.1, p.2) (if_known (g.R.Read.remaining c.args.reader.now) _ (λ script is.
-    script_fault c.args.config script c.take_all.new.self.runner.core.state c.take_all.new.self.lines (g.W.Write.contents c.args.writer.now) (g.W.Write.contents c.take_all.new.writer) c.in_err-take_all.field-0.0
+    script_fault c.args.config script c.take_all.new.self.runner.core.state c.take_all.new.self.lines c.take_all.new.self.runner.sent (g.W.Write.contents c.args.writer.now) (g.W.Write.contents c.take_all.new.writer) c.in_err-take_all.field-0.0
     (c.in_err-take_all.ensures.value c.args.config c.in_ok-runner.ensures.start script is)))
 
 pub returns-in_err-take_all-clause-bad : goal.returns-in_err-take_all-clause-bad
@@ -21,5 +21,5 @@ returns-in_err-take_all-clause-bad g c =
 
 pub returns-clause-script : goal.returns-clause-script
 returns-clause-script g c = if_known (g.R.Read.remaining c.args.reader.now) _ (λ script is.
-    script_done c.args.config script c.take_all.new.self.runner.core.state c.take_all.new.self.lines c.counts.result (g.W.Write.contents c.args.writer.now) (g.W.Write.contents c.take_all.new.writer)
-    (c.in_ok-take_all.ensures.value c.args.config c.in_ok-runner.ensures.start script is) c.counts.ensures.lines c.counts.ensures.events)
+    script_done c.args.config script c.take_all.new.self.runner.core.state c.take_all.new.self.lines c.take_all.new.self.runner.sent c.counts.result (g.W.Write.contents c.args.writer.now) (g.W.Write.contents c.take_all.new.writer)
+    (c.in_ok-take_all.ensures.value c.args.config c.in_ok-runner.ensures.start script is) c.counts.ensures.lines c.counts.ensures.sent c.counts.ensures.events)

@@ -6,7 +6,7 @@ use Rattle.mg_core.proofs.script_runner.ScriptRunner.take_all.Goals as goal
 pub loop-init : goal.loop-init
 loop-init g c = record {
   lines = omega (arith, c.requires.lines);
-  value = λ config starts script is. comes_start config script (g.R.Read.remaining c.args.reader.now) c.args.self.now.begun.text c.args.self.now.lines c.args.self.now.runner.core.state (g.W.Write.contents c.args.writer.now) is c.requires.begun c.requires.lines starts;
+  value = λ config starts script is. comes_start config script (g.R.Read.remaining c.args.reader.now) c.args.self.now.begun.text c.args.self.now.lines c.args.self.now.runner.core.state c.args.self.now.runner.sent (g.W.Write.contents c.args.writer.now) is c.requires.begun c.requires.lines c.requires.sent starts;
 }
 
 pub returns-in_err-n : goal.returns-in_err-n
@@ -14,7 +14,7 @@ returns-in_err-n g c =
     let p = err_from_is_err_and c.from_residual.result c.from_residual.ensures.1 in
     rw (p.1, p.2) (record {
       value = λ config starts script is. let come = c.loop.invariant.value config starts script is in
-          progress_unread config script (g.R.Read.remaining c.loop.reader) c.loop.self.begun.text c.loop.self.lines come.0 (g.W.Write.contents c.args.writer.now) (g.W.Write.contents c.loop.writer) come.1;
+          progress_unread config script (g.R.Read.remaining c.loop.reader) c.loop.self.begun.text c.loop.self.lines come.0 c.loop.self.runner.sent (g.W.Write.contents c.args.writer.now) (g.W.Write.contents c.loop.writer) come.1;
     })
 
 pub returns-in_err-finish : goal.returns-in_err-finish
@@ -23,7 +23,7 @@ returns-in_err-finish g c =
     rw (p.1, p.2) (record {
       value = λ config starts script is.
           comes_end config script (g.R.Read.remaining c.loop.reader) (g.R.Read.remaining c.read_some.new.reader)
-          c.loop.self.begun.text c.loop.self.lines c.finish.new.self.lines c.loop.self.runner.core.state c.finish.new.self.runner.core.state (g.W.Write.contents c.args.writer.now) (g.W.Write.contents c.loop.writer) (g.W.Write.contents c.finish.new.writer) (Err c.in_err-finish.field-0.0)
+          c.loop.self.begun.text c.loop.self.lines c.finish.new.self.lines c.loop.self.runner.core.state c.finish.new.self.runner.core.state c.loop.self.runner.sent c.finish.new.self.runner.sent (g.W.Write.contents c.args.writer.now) (g.W.Write.contents c.loop.writer) (g.W.Write.contents c.finish.new.writer) (Err c.in_err-finish.field-0.0)
           (c.loop.invariant.value config starts script is) (rw c.in_default.is at c.in_ok-n.ensures.value) c.in_err-finish.ensures.value;
     })
 
@@ -31,7 +31,7 @@ pub returns-in_default : goal.returns-in_default
 returns-in_default g c = record {
   value = λ config starts script is.
       comes_end config script (g.R.Read.remaining c.loop.reader) (g.R.Read.remaining c.read_some.new.reader)
-      c.loop.self.begun.text c.loop.self.lines c.finish.new.self.lines c.loop.self.runner.core.state c.finish.new.self.runner.core.state (g.W.Write.contents c.args.writer.now) (g.W.Write.contents c.loop.writer) (g.W.Write.contents c.finish.new.writer) (Ok tt)
+      c.loop.self.begun.text c.loop.self.lines c.finish.new.self.lines c.loop.self.runner.core.state c.finish.new.self.runner.core.state c.loop.self.runner.sent c.finish.new.self.runner.sent (g.W.Write.contents c.args.writer.now) (g.W.Write.contents c.loop.writer) (g.W.Write.contents c.finish.new.writer) (Ok tt)
       (c.loop.invariant.value config starts script is) (rw c.in_default.is at c.in_ok-n.ensures.value) c.in_ok-finish.ensures.value;
 }
 
@@ -42,7 +42,7 @@ returns-in_err-take_bytes g c =
     rw (p.1, p.2) (record {
       value = λ config starts script is. comes_fault config script (g.R.Read.remaining c.loop.reader) (g.R.Read.remaining c.read_some.new.reader)
           c.loop.self.begun.text (take c.in-Some.n c.read_some.new.buffer) c.take_bytes.new.self.begun.text c.loop.self.lines c.take_bytes.new.self.lines
-          c.loop.self.runner.core.state c.take_bytes.new.self.runner.core.state
+          c.loop.self.runner.core.state c.take_bytes.new.self.runner.core.state c.loop.self.runner.sent c.take_bytes.new.self.runner.sent
           (g.W.Write.contents c.args.writer.now) (g.W.Write.contents c.loop.writer) (g.W.Write.contents c.take_bytes.new.writer) c.in_err-take_bytes.field-0.0
           (c.loop.invariant.value config starts script is) read.1 c.in_err-take_bytes.ensures.value;
     })
@@ -54,10 +54,10 @@ loop-preserved g c =
       lines = omega (arith, c.in_ok-take_bytes.ensures.lines, length-take c.in-Some.n c.read_some.new.buffer, read.0, c.read_some.array_long, c.loop.invariant.lines);
       value = λ config starts script is. comes_bytes config script (g.R.Read.remaining c.loop.reader) (g.R.Read.remaining c.read_some.new.reader)
           c.loop.self.begun.text (take c.in-Some.n c.read_some.new.buffer) c.take_bytes.new.self.begun.text c.loop.self.lines c.take_bytes.new.self.lines
-          c.loop.self.runner.core.state c.take_bytes.new.self.runner.core.state
+          c.loop.self.runner.core.state c.take_bytes.new.self.runner.core.state c.loop.self.runner.sent c.take_bytes.new.self.runner.sent
           (g.W.Write.contents c.args.writer.now) (g.W.Write.contents c.loop.writer) (g.W.Write.contents c.take_bytes.new.writer)
           (c.loop.invariant.value config starts script is) read.1 c.in_ok-take_bytes.ensures.value;
     }
 
 pub returns : goal.returns
-returns g c = record { value = λ config starts script is. let come = c.loop.invariant.value config starts script is in progress_unread config script (g.R.Read.remaining c.loop.reader) c.loop.self.begun.text c.loop.self.lines come.0 (g.W.Write.contents c.args.writer.now) (g.W.Write.contents c.loop.writer) come.1 }
+returns g c = record { value = λ config starts script is. let come = c.loop.invariant.value config starts script is in progress_unread config script (g.R.Read.remaining c.loop.reader) c.loop.self.begun.text c.loop.self.lines come.0 c.loop.self.runner.sent (g.W.Write.contents c.args.writer.now) (g.W.Write.contents c.loop.writer) come.1 }

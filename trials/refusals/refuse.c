@@ -1,0 +1,126 @@
+/* A library that is loaded before a program's own, and refuses one of its calls.
+ *
+ * REFUSE       what is refused: memory, read, write, receive or send
+ * REFUSE_AT    the number of the call of that kind that is refused, from 1 on; 0 or absent refuses none
+ * REFUSE_TOLD  a file that is made when a call is refused
+ * REFUSE_PIECE the most bytes that a read or a write takes at once; 0 or absent sets no limit
+ *
+ * A request for memory that is refused is answered by none, every other call by EIO. */
+#define _GNU_SOURCE
+#include <dlfcn.h>
+#include <errno.h>
+#include <fcntl.h>
+#include <stdlib.h>
+#include <string.h>
+#include <sys/socket.h>
+#include <sys/syscall.h>
+#include <sys/uio.h>
+#include <unistd.h>
+
+extern void *__libc_malloc(size_t);
+extern void *__libc_calloc(size_t, size_t);
+extern void *__libc_realloc(void *, size_t);
+extern void *__libc_memalign(size_t, size_t);
+
+static const char *kind;
+static const char *told;
+static unsigned long at;
+static size_t piece;
+static unsigned long calls;
+
+static unsigned long number(const char *name)
+{
+    const char *text = getenv(name);
+    return text ? strtoul(text, 0, 10) : 0;
+}
+
+__attribute__((constructor)) static void start(void)
+{
+    at = number("REFUSE_AT");
+    piece = number("REFUSE_PIECE");
+    told = getenv("REFUSE_TOLD");
+    kind = getenv("REFUSE");
+}
+
+/* Whether this call, one of such a kind, is the one that is refused. */
+static int is_refused(const char *of)
+{
+    if (!kind || strcmp(kind, of) != 0 || ++calls != at)
+        return 0;
+    if (told)
+        syscall(SYS_close, syscall(SYS_openat, AT_FDCWD, told, O_CREAT | O_WRONLY, 0600));
+    return 1;
+}
+
+static int is_memory_refused(void)
+{
+    if (!is_refused("memory"))
+        return 0;
+    errno = ENOMEM;
+    return 1;
+}
+
+static int is_call_refused(const char *of)
+{
+    if (!is_refused(of))
+        return 0;
+    errno = EIO;
+    return 1;
+}
+
+void *malloc(size_t n) { return is_memory_refused() ? 0 : __libc_malloc(n); }
+
+void *calloc(size_t n, size_t size) { return is_memory_refused() ? 0 : __libc_calloc(n, size); }
+
+void *realloc(void *p, size_t n) { return is_memory_refused() ? 0 : __libc_realloc(p, n); }
+
+void *aligned_alloc(size_t a, size_t n) { return is_memory_refused() ? 0 : __libc_memalign(a, n); }
+
+int posix_memalign(void **p, size_t a, size_t n)
+{
+    if (is_memory_refused())
+        return ENOMEM;
+    *p = __libc_memalign(a, n);
+    return *p ? 0 : ENOMEM;
+}
+
+/* The call of this name in the libraries behind this one. */
+#define NEXT(name) __typeof__(name) *next = (__typeof__(name) *)dlsym(RTLD_NEXT, #name)
+
+static size_t in_piece(int fd, size_t n) { return piece && fd <= 1 && n > piece ? piece : n; }
+
+ssize_t read(int fd, void *bytes, size_t n)
+{
+    NEXT(read);
+    return is_call_refused("read") ? -1 : next(fd, bytes, in_piece(fd, n));
+}
+
+ssize_t write(int fd, const void *bytes, size_t n)
+{
+    NEXT(write);
+    return is_call_refused("write") ? -1 : next(fd, bytes, in_piece(fd, n));
+}
+
+ssize_t recvfrom(int fd, void *bytes, size_t n, int flags, struct sockaddr *from, socklen_t *length)
+{
+    NEXT(recvfrom);
+    return is_call_refused("receive") ? -1 : next(fd, bytes, n, flags, from, length);
+}
+
+ssize_t recvmsg(int fd, struct msghdr *message, int flags)
+{
+    NEXT(recvmsg);
+    return is_call_refused("receive") ? -1 : next(fd, message, flags);
+}
+
+ssize_t sendto(int fd, const void *bytes, size_t n, int flags, const struct sockaddr *to, socklen_t length)
+{
+    NEXT(sendto);
+    return is_call_refused("send") ? -1 : next(fd, bytes, n, flags, to, length);
+}
+
+ssize_t sendmsg(int fd, const struct msghdr *message, int flags)
+{
+    NEXT(sendmsg);
+    return is_call_refused("send") ? -1 : next(fd, message, flags);
+}

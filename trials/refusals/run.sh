@@ -1,0 +1,156 @@
+#!/bin/sh
+# Refuses each request for memory, each read, write, receive and send of the gateway in turn, one in a run, up to a run that has
+# no such call any more, and looks at what follows each. Prints how many runs there were, and ends with 1 at the first that is wrong.
+# usage: run.sh
+# It needs gcc, python3 and rt. `mg_bridge` is the one that `rt run` leaves in crates/mg_bridge/out; what isn't built yet is
+# proved and built first, which takes some minutes. The runs take less than one.
+set -eu
+here=$(CDPATH= cd -- "$(dirname -- "$0")" && pwd)
+root=$here/../..
+bridge=$root/crates/mg_bridge/out/mg_bridge
+script=$root/examples/speech.txt
+output=$root/examples/speech.out
+work=$(mktemp -d)
+trap 'rm -rf "$work"' EXIT
+[ -x "$bridge" ] || (cd "$root/crates/mg_bridge" && rt run -- --help > /dev/null)
+gcc -O2 -Wall -Wextra -shared -fPIC -o "$work/refuse.so" "$here/refuse.c"
+
+# Tells what was seen in this run, and ends the trial.
+wrong() {
+    echo "wrong: $name, $kind $at refused: $1" >&2
+    echo "status $status, on standard error:" >&2
+    head -c 2000 "$work/errors" >&2
+    echo "on standard output:" >&2
+    tail -c 2000 "$work/out" >&2
+    exit 1
+}
+
+# Runs a program while a call of a kind is refused, each read and write being of so many bytes at most.
+# usage: refused KIND AT PIECE INPUT PROGRAM WORD ..
+refused() {
+    kind=$1 at=$2 piece=$3 input=$4
+    shift 4
+    rm -f "$work/told"
+    status=0
+    LD_PRELOAD=$work/refuse.so REFUSE=$kind REFUSE_AT=$at REFUSE_PIECE=$piece REFUSE_TOLD=$work/told \
+        "$@" < "$input" > "$work/out" 2> "$work/errors" || status=$?
+}
+
+was_refused() {
+    [ -e "$work/told" ]
+}
+
+# A run that ended with a status and its text.
+ended() {
+    [ "$status" = "$1" ] || wrong "not status $1"
+    [ "$(cat "$work/errors")" = "$2" ] || wrong "not '$2'"
+}
+
+# What was written is the front of what is stored.
+is_front() {
+    head -c "$(wc -c < "$work/out")" "$output" | cmp -s - "$work/out" || wrong 'what was written is no front of the output'
+}
+
+# What was written ends at the end of a line.
+is_whole_lines() {
+    [ -z "$(tail -c 1 "$work/out")" ] || wrong 'what was written ends within a line'
+}
+
+# What was written is what the lines write that stand whole in so many bytes of the script.
+is_of_bytes() {
+    head -c "$1" "$script" > "$work/bytes"
+    head -n "$(wc -l < "$work/bytes")" "$work/bytes" > "$work/lines"
+    "$bridge" replay < "$work/lines" > "$work/wanted"
+    cmp -s "$work/out" "$work/wanted" || wrong 'what was written is not what the lines that were read write'
+}
+
+# A run in which nothing is missing.
+is_whole() {
+    ended 0 ''
+    cmp -s "$work/out" "$1" || wrong 'the output is not as stored'
+}
+
+# The run in which nothing is refused any more, after at least one in which something was.
+is_last() {
+    [ "$at" -gt 1 ] || wrong 'nothing was refused'
+    is_whole "$1"
+    echo "$name, each $kind refused: $((at - 1)) runs"
+}
+
+# A script of control messages and speech. Reads and writes take 40 bytes at most, so that there are many.
+name=replay
+replay() {
+    refused "$1" "$2" 40 "$script" "$bridge" replay
+}
+spared=0
+k=1
+while replay memory "$k"; was_refused; do
+    if [ "$status" = 0 ]; then
+        # Room for all words at once is asked for first, and then room for one.
+        spared=$((spared + 1))
+        [ "$spared" = 1 ] || wrong 'not status 4'
+        is_whole "$output"
+    else
+        ended 4 'no memory'
+        is_front
+        is_whole_lines
+    fi
+    k=$((k + 1))
+done
+is_last "$output"
+k=1
+while replay read "$k"; was_refused; do
+    ended 3 'read failed'
+    is_front
+    is_of_bytes $(((k - 1) * 40))
+    k=$((k + 1))
+done
+is_last "$output"
+k=1
+while replay write "$k"; was_refused; do
+    ended 3 'write failed'
+    is_front
+    [ "$(wc -c < "$work/out")" -le $(((k - 1) * 40)) ] || wrong 'more was written than was taken'
+    k=$((k + 1))
+done
+is_last "$output"
+
+# Sessions of the gateway over loopback.
+for kind in memory read write receive send; do
+    python3 "$here/serve.py" "$bridge" "$work/refuse.so" "$kind"
+done
+
+# A core alone: what it answers to who looks at it, before and after a message that found no memory. Its program is built anew
+# where it or the crates have changed.
+name=control
+sources() {
+    find "$root"/crates/*/src "$here/control.rt.in" -type f | LC_ALL=C sort | while read -r file; do cat "$file"; done | cksum
+}
+if [ ! -x "$here/out/control" ] || [ "$(sources)" != "$(cat "$here/out/sources")" ]; then
+    mkdir -p "$work/program" "$here/out"
+    cp "$here/control.rt.in" "$work/program/main.rt.in"
+    printf '#!/bin/sh\ncp out/bench "%s"\n' "$here/out/control" > "$work/keep"
+    chmod +x "$work/keep"
+    BESIDE=$work/keep "$root/benches/program.sh" "$work/program" mg_core > /dev/null
+    sources > "$here/out/sources"
+fi
+refused none 0 0 /dev/null "$here/out/control"
+ended 0 ''
+cp "$work/out" "$work/answered"
+[ "$(grep -c ': answered$' "$work/answered")" = 2 ] || wrong 'the messages are not answered'
+starts=0
+k=1
+while refused memory "$k" 0 /dev/null "$here/out/control"; was_refused; do
+    ended 0 ''
+    if [ "$(cat "$work/out")" = 'no memory at the start' ]; then
+        starts=$((starts + 1))
+    else
+        # One of the two messages was answered again, and nothing else differs.
+        [ "$(grep -c ': as before, and answered again$' "$work/out")" = 1 ] || wrong 'no message was answered again'
+        sed 's/: as before, and answered again$/: answered/' "$work/out" | cmp -s - "$work/answered" || wrong 'another outcome'
+    fi
+    k=$((k + 1))
+done
+is_last "$work/answered"
+[ "$starts" -gt 0 ] && [ "$starts" -lt $((k - 1)) ] || wrong 'none at the start, or none afterwards'
+echo "$name: $starts of them at the start"

@@ -237,10 +237,91 @@ fn counts_events(rt: HostRuntime) -> Result<(), Fail> {
     Ok(())
 }
 
-/// A reader that fails at its k-th call.
+/// Lines of RTP datagrams that are dropped, one for each cause, in the order of the counts.
+const DROPPED: [&[u8]; 6] = [
+    b"rtp 30008 127.0.0.1:5004 80\n",
+    b"rtp 30000 127.0.0.2:5004 80\n",
+    b"rtp 30006 127.0.0.1:5004 80\n",
+    b"rtp 30000 127.0.0.1:5004 80\n",
+    b"rtp 30000 127.0.0.1:5004 800800010000000000000063\n",
+    b"rtp 30000 127.0.0.1:5004 800000010000000000000063\n",
+];
+
+/// Makes a termination without a Local, at port 30006.
+const NO_LOCAL: &[u8] = b"say 127.0.0.1:2945 !/1 [127.0.0.1]:2945 T=2{C=1{A=$}}\n";
+
+/// Appends a frame of the first caller with a sequence number, in hexadecimal, so many times.
+fn push_frames(script: &mut Vec<u8>, sequence: &[u8], times: usize) -> Result<(), Fail> {
+    for _ in 0..times {
+        script.extend_from_slice(b"rtp 30000 127.0.0.1:5004 8000")?;
+        script.extend_from_slice(sequence)?;
+        push_line(script, b"0000000000000063", b"80")?;
+    }
+    Ok(())
+}
+
+#[test]
+fn counts_each_answer_and_each_cause(rt: HostRuntime) -> Result<(), Fail> {
+    let mut script = Vec::from_slice(rt.alloc(), CALLERS)?;
+    script.extend_from_slice(NO_LOCAL)?;
+    for (place, line) in DROPPED.into_iter().enumerate() {
+        for _ in 0..=place {
+            script.extend_from_slice(line)?;
+        }
+    }
+    // It starts; places; finds a number again; is pushed on; and finds a number late.
+    push_frames(&mut script, b"0064", 1)?;
+    push_frames(&mut script, b"0065", 1)?;
+    push_frames(&mut script, b"0066", 5)?;
+    for sequence in [b"0068", b"0069", b"006a"] {
+        push_frames(&mut script, sequence, 1)?;
+    }
+    push_frames(&mut script, b"0064", 5)?;
+    let wanted = Counts {
+        lines: 38,
+        control: 2,
+        media: 36,
+        ticks: 0,
+        sent: 2,
+        failed: 0,
+        placed: [1, 2, 3, 4, 5],
+        dropped: [1, 2, 3, 4, 5, 6],
+    };
+    assert_eq!(rt; counted(rt.alloc(), script.as_slice())?, wanted);
+    Ok(())
+}
+
+#[test]
+fn counts_each_packet_of_a_tick(rt: HostRuntime) -> Result<(), Fail> {
+    let mut script = Vec::from_slice(rt.alloc(), CALLERS)?;
+    script.extend_from_slice(b"say 127.0.0.1:2945 !/1 [127.0.0.1]:2945 K{1}\n")?;
+    script.extend_from_slice(CALLERS)?;
+    // The last line has no line feed.
+    script.extend_from_slice(b"tick\ntick")?;
+    let counts = counted(rt.alloc(), script.as_slice())?;
+    assert_eq!(rt; counts.lines, 5);
+    assert_eq!(rt; counts.ticks, 2);
+    assert_eq!(rt; counts.sent, 14);
+    Ok(())
+}
+
+#[test]
+fn names_a_long_line_within_a_script(rt: HostRuntime) -> Result<(), Fail> {
+    let mut script = Vec::from_slice(rt.alloc(), b"tick\n")?;
+    script.resize(5 + 140003, b'#')?;
+    script.extend_from_slice(b"\ntick\n")?;
+    assert_eq!(rt;
+        played(rt.alloc(), script.as_slice()).1,
+        Some(RunFault::Script(2))
+    );
+    Ok(())
+}
+
+/// A reader that gives so many bytes a call at most, and fails after so many calls.
 #[derive(Drop)]
 struct FailingReader<'a> {
     inner: Cursor<&'a [u8]>,
+    piece: usize,
     calls: usize,
 }
 
@@ -250,7 +331,8 @@ impl Read for FailingReader<'_> {
             return Err(Error::from(ErrorKind::Other));
         }
         self.calls -= 1;
-        self.inner.read(buf)
+        let taken = buf.len().min(self.piece);
+        self.inner.read(&mut buf[..taken])
     }
 }
 
@@ -277,28 +359,81 @@ impl Write for FailingWriter {
     }
 }
 
+/// A text so many times.
+fn times(alloc: Global, text: &[u8], count: usize) -> Result<Vec<u8>, Fail> {
+    let mut whole = Vec::new(alloc);
+    for _ in 0..count {
+        whole.extend_from_slice(text)?;
+    }
+    Ok(whole)
+}
+
+/// What a run wrote whose reader fails, and how it ended.
+fn read_in_pieces(
+    alloc: Global,
+    script: &[u8],
+    piece: usize,
+    calls: usize,
+) -> (Vec<u8>, Result<Counts, RunFault>) {
+    let mut reader = FailingReader {
+        inner: Cursor::new(script),
+        piece,
+        calls,
+    };
+    let mut written = Vec::new(alloc);
+    let outcome = run(alloc, Config::default(), &mut reader, &mut written);
+    (written, outcome)
+}
+
+/// What a run wrote whose writer fails, and how it ended.
+fn write_in_pieces(alloc: Global, script: &[u8], calls: usize) -> (Vec<u8>, Option<RunFault>) {
+    let mut reader = Cursor::new(script);
+    let mut writer = FailingWriter {
+        written: Vec::new(alloc),
+        calls,
+    };
+    let outcome = run(alloc, Config::default(), &mut reader, &mut writer);
+    (writer.written, outcome.err())
+}
+
 #[test]
-fn tells_a_failed_read_or_write(rt: HostRuntime) -> Result<(), Fail> {
-    let alloc = rt.alloc();
-    for calls in 0..2usize {
-        let mut reader = FailingReader {
-            inner: Cursor::new(LINE),
-            calls,
-        };
-        let mut written = Vec::new(alloc);
-        let outcome = run(alloc, Config::default(), &mut reader, &mut written);
+fn tells_each_failed_read(rt: HostRuntime) -> Result<(), Fail> {
+    let script = times(rt.alloc(), LINE, 3)?;
+    for calls in 0..100usize {
+        let (written, outcome) = read_in_pieces(rt.alloc(), script.as_slice(), 50, calls);
+        let read = calls.saturating_mul(50).min(script.len());
+        let wanted = times(rt.alloc(), REPLY_LINE, read / LINE.len())?;
+        assert!(rt; written.as_slice() == wanted.as_slice());
+        if outcome.is_ok() {
+            assert_eq!(rt; calls, 7);
+            return Ok(());
+        }
         assert_eq!(rt; outcome.err(), Some(RunFault::Read));
-        assert_eq!(rt; written.is_empty(), calls == 0);
     }
-    for calls in 0..2usize {
-        let mut reader = Cursor::new(LINE);
-        let mut writer = FailingWriter {
-            written: Vec::new(alloc),
-            calls,
-        };
-        let outcome = run(alloc, Config::default(), &mut reader, &mut writer);
-        assert_eq!(rt; outcome.err(), Some(RunFault::Write));
-        assert!(rt; REPLY_LINE.starts_with(writer.written.as_slice()));
+    Err("no run read to the end".into())
+}
+
+#[test]
+fn tells_each_failed_write(rt: HostRuntime) -> Result<(), Fail> {
+    let script = times(rt.alloc(), LINE, 3)?;
+    let wanted = times(rt.alloc(), REPLY_LINE, 3)?;
+    for calls in 0..100usize {
+        let (written, fault) = write_in_pieces(rt.alloc(), script.as_slice(), calls);
+        assert!(rt; wanted.as_slice().starts_with(written.as_slice()));
+        if fault.is_none() {
+            assert!(rt; calls >= 6 && written.as_slice() == wanted.as_slice());
+            return Ok(());
+        }
+        assert_eq!(rt; fault, Some(RunFault::Write));
     }
+    Err("no run wrote to the end".into())
+}
+
+#[test]
+fn reads_a_byte_at_a_time(rt: HostRuntime) -> Result<(), Fail> {
+    let script = times(rt.alloc(), b"tick\n", 1000)?;
+    let (_, outcome) = read_in_pieces(rt.alloc(), script.as_slice(), 1, 5001);
+    let ticks = outcome.ok().map(|counts| counts.ticks);
+    assert_eq!(rt; ticks, Some(1000));
     Ok(())
 }

@@ -24,8 +24,8 @@ abbrev pub key_of : KeptReply → List ℕ × ℕ
 key_of reply = (reply.sender, reply.number)
 
 -- Two worlds agree outside some terminations where their gateways do, and the same requests are
--- answered by kept replies. The texts of these may differ, in the packets received that they tell;
--- and nothing is said of how many events came.
+-- answered by kept replies. Nothing is said of the texts of these, which may tell packets received,
+-- nor of how many events came.
 pub record AgreeOutside (some : List ℕ) (a b : World) : Type 0 where
   pub gateway : engine.AgreeOutside some a.gateway b.gateway
   pub replies : map key_of a.replies ≡ map key_of b.replies

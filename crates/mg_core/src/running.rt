@@ -14,9 +14,9 @@ use std::io::{Read, Write};
 /// `Read`.
 ///
 /// `Ok` says that all of the input is a script, that what was written is the lines of the datagrams that its events have
-/// sent and nothing else, and that its lines, these events and these datagrams were counted. At a fault the first lines of the input were run; at `Script`
-/// these are all lines before the bad one, and what they write was written whole. `BadConfig` comes exactly where the
-/// configuration isn't sound.
+/// sent and nothing else, and that its lines, these events and these datagrams were counted. At a fault the first lines of
+/// the input were run; at `Script` these are all lines before the bad one, and what they write was written whole.
+/// `BadConfig` comes exactly where the configuration isn't sound.
 pub fn run<R: Read, W: Write>(
     alloc: Global,
     config: Config,

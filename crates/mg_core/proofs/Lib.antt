@@ -10,3 +10,4 @@ pub mod ConsistentLaws
 pub mod InterleavingLaws
 pub mod ApartLaws
 pub mod CountingLaws
+pub mod RepeatLaws

@@ -8,7 +8,7 @@ ghost use Rattle.mg_core.specs.Counting.{EventsAreCounted, RunsTake};
 ghost use Rattle.mg_core.specs.Headline.{EventsLeadToOneWorld, OneGatewayOneFuture};
 ghost use Rattle.mg_engine.specs.Isolation.{NobodyHearsHimself, IsolatedAreNotHeard, UnheardChangesNoPacket, PayloadsAreMixes};
 ghost use Rattle.mg_core.specs.Interleaving.{OrderOfPortsIsNothing, HistoriesAreOne, ScriptsAreOne};
-ghost use Rattle.mg_core.specs.Repeats.{KeptRepliesAreSent, RepetitionsAreAnsweredAlike, OthersAreRun};
+ghost use Rattle.mg_core.specs.Repeats.{KeptRepliesAreSent, RepetitionsAreAnsweredAlike, OthersAreRun, RepliesLast, NoneIsNewer, AcknowledgedAreGone, PushedOutAreGone, GoneAreRun, RepliesAreKept};
 ghost use Rattle.mg_core.specs.Step.{Sent, Step, Run};
 ghost use Rattle.mg_core.specs.World.{World};
 
@@ -52,6 +52,21 @@ pub fn repetitions_are_answered_alike()
     ensures others { OthersAreRun }
 {
     mg_kept::laws::kept_reply_is_found();
+}
+
+/// How long a request that comes again is answered alike: until an acknowledgement names its reply, or 32 other replies were
+/// kept. After that it is run again. The replies that are kept answer different requests.
+pub fn replies_last()
+    ensures last { RepliesLast }
+    ensures newest { NoneIsNewer }
+    ensures acknowledged { AcknowledgedAreGone }
+    ensures pushed { PushedOutAreGone }
+    ensures gone { GoneAreRun }
+    ensures kept { RepliesAreKept }
+{
+    mg_kept::laws::kept_reply_is_found();
+    mg_kept::laws::acknowledged_alone_is_gone();
+    mg_kept::laws::replies_stay_while_few_are_newer();
 }
 
 /// In which order the packets of different callers came makes no difference: two lists of events with the same control

@@ -29,7 +29,7 @@ find_agree p q e (x ∷ xs) = rw (e x, find_agree p q e xs) refl
 pub same_sender : (a b : List ℕ) (number : ℕ) → str_eq_ignore_ascii_case a b ≡ true → (r : KeptReply) → is_reply_to a number r ≡ is_reply_to b number r
 same_sender a b number e r = rw (same_letters a b e) refl
 
-later_none : (b : Bool) (x : KeptReply) (o : Option KeptReply) → cond b (Some x) o ≡ None → o ≡ None
+pub later_none : (b : Bool) (x : KeptReply) (o : Option KeptReply) → cond b (Some x) o ≡ None → o ≡ None
 later_none true x o h = cc
 later_none false x o h = h
 

@@ -1,19 +1,19 @@
 -- What is found where one more reply is kept.
-use Rattle.std.proofs.Common.{◌≡◌, ℕ, ◌+◌, ◌-◌, ◌≤◌, List, [], ◌∷◌, ◌++◌, Bool, true, false, ◌&&◌, eqb, None, length, drop, refl, sym, ◌∙◌, All, arith, length-append}
+use Rattle.std.proofs.Common.{◌≡◌, ℕ, ◌+◌, ◌-◌, ◌≤◌, List, [], ◌∷◌, ◌++◌, Bool, true, false, ◌&&◌, eqb, None, length, drop, refl, sym, ap, ◌∙◌, option_map, All, arith, length-append}
 use Rattle.std.proofs.lemmas.Bool.{false≢true, false_from_ne_true, eq-eqb, eqb-true}
 use Rattle.std.proofs.lemmas.List.{drop-append-le}
 use Rattle.std.proofs.lemmas.List.Elements.{All-weaker}
 use Rattle.std.specs.List.{find}
 use Rattle.mg_words.specs.Limits.{kept_limit}
 use Rattle.mg_kept.specs.KeptReplies.{KeptReply, is_from, is_reply_to, with_reply}
-use Rattle.mg_kept.specs.Theorems.{KeptIsFound, OthersStay, OldestAloneGoes, OldestIsGone}
+use Rattle.mg_kept.specs.Theorems.{KeptIsFound, LettersAreOne, OthersStay, OldestAloneGoes, OldestIsGone}
 use Rattle.mg_kept.proofs.FindLaws.{none_found, find_agree, same_sender, none_in_drop, find_before, find_last, none_from_all, same_letters, letters_same, first_differs}
 
-both : (p q : Bool) → (p && q) ≡ true → (p ≡ true) × (q ≡ true)
+pub both : (p q : Bool) → (p && q) ≡ true → (p ≡ true) × (q ≡ true)
 both true q h = (refl, h)
 both false q h = absurd (false≢true h)
 
-both_true : (p q : Bool) → p ≡ true → q ≡ true → (p && q) ≡ true
+pub both_true : (p q : Bool) → p ≡ true → q ≡ true → (p && q) ≡ true
 both_true p q h k = rw h k
 
 -- The new reply stands last, whatever made room.
@@ -29,6 +29,10 @@ kept_is_found replies reply sender none from =
     sym (find_agree (is_reply_to reply.sender reply.number) (is_reply_to sender reply.number) (same_sender reply.sender sender reply.number from) replies)
     ∙ none_found replies reply.sender reply.number none in
     rw (kept_is_last reply replies, find_last (is_reply_to sender reply.number) (drop (length replies + 1 - kept_limit) replies) reply (none_in_drop (is_reply_to sender reply.number) (length replies + 1 - kept_limit) replies before) (both_true (eqb reply.number reply.number) _ (eq-eqb reply.number reply.number refl) from)) refl
+
+pub letters_are_one : LettersAreOne
+letters_are_one replies sender same number one =
+    ap (option_map (λ (r : KeptReply). r.text)) (sym (find_agree (is_reply_to sender number) (is_reply_to same number) (same_sender sender same number one) replies))
 
 pub others_stay : OthersStay
 others_stay replies reply sender number room not_this =

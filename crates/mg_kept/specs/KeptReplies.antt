@@ -1,7 +1,7 @@
 -- The replies that are kept, so that a request that comes again is answered and not run twice
 -- (RFC 3525, section 8.2 and annex D.1). They stand oldest first.
 use Rattle.std.specs.Prelude.{◌≡◌, ℕ, ◌-◌, ◌≤◌, Bool, false, not, ◌&&◌, ◌==◌, nat_le, List, [], ◌∷◌}
-use Rattle.std.specs.Prelude.{◌++◌, length, drop, filter, find, Option, option_map}
+use Rattle.std.specs.Prelude.{◌++◌, length, drop, filter, find, Option, option_map, if◌then◌else◌}
 use Rattle.std.specs.List.{AllPairs}
 use Rattle.std.specs.Str.{str_eq_ignore_ascii_case}
 use Rattle.mg_words.specs.Limits.{kept_limit}
@@ -30,6 +30,12 @@ is_in_range sender first last reply =
 abbrev pub kept_text : List KeptReply → List ℕ → ℕ → Option (List ℕ)
 kept_text replies sender number =
     option_map (λ reply. reply.text) (find (is_reply_to sender number) replies)
+
+-- the replies that were kept after the one that answers a request
+abbrev pub newer_than : List KeptReply → List ℕ → ℕ → List KeptReply
+newer_than [] sender number = []
+newer_than (reply ∷ replies) sender number =
+    if is_reply_to sender number reply then replies else newer_than replies sender number
 
 -- the last so many of some replies
 abbrev pub newest : ℕ → List KeptReply → List KeptReply

@@ -1,9 +1,10 @@
 -- What holds of the replies that are kept.
-use Rattle.std.specs.Prelude.{◌≡◌, ℕ, ◌<◌, ◌≤◌, ◌⊎◌, true, false, List, ◌∷◌, length, Some, None}
+use Rattle.std.specs.Prelude.{◌≡◌, ℕ, ◌+◌, ◌<◌, ◌≤◌, ◌⊎◌, ◌&&◌, nat_le, true, false, List, [], ◌∷◌}
+use Rattle.std.specs.Prelude.{length, Some, None}
 use Rattle.std.specs.Str.{str_eq_ignore_ascii_case}
 use Rattle.mg_words.specs.Limits.{kept_limit}
 use Rattle.mg_kept.specs.KeptReplies.{KeptReply, AreKept, is_from, is_reply_to, kept_text}
-use Rattle.mg_kept.specs.KeptReplies.{with_reply, without_range}
+use Rattle.mg_kept.specs.KeptReplies.{newer_than, with_reply, without_range}
 
 -- A reply that was kept is found by its sender, in letters of any case.
 abbrev pub KeptIsFound : Type 0
@@ -11,6 +12,13 @@ KeptIsFound =
     (replies : List KeptReply) (reply : KeptReply) (sender : List ℕ)
     → kept_text replies reply.sender reply.number ≡ None → is_from sender reply ≡ true
     → kept_text (with_reply reply replies) sender reply.number ≡ Some reply.text
+
+-- What is found for a sender is found for it in letters of any case.
+abbrev pub LettersAreOne : Type 0
+LettersAreOne =
+    (replies : List KeptReply) (sender same : List ℕ) (number : ℕ)
+    → str_eq_ignore_ascii_case sender same ≡ true
+    → kept_text replies same number ≡ kept_text replies sender number
 
 -- Where there is room for one more reply, what is found for other requests stays.
 abbrev pub OthersStay : Type 0
@@ -58,3 +66,58 @@ OtherNumbersStay =
     → ((number < first) ⊎ (last < number))
     → kept_text (without_range sender first last replies) other number
     ≡ kept_text replies other number
+
+-- ## From one change to the next
+
+-- A reply stays as long as fewer than 32 are newer: keeping one more makes one more newer than it.
+abbrev pub FewNewerStay : Type 0
+FewNewerStay =
+    (replies : List KeptReply) (reply : KeptReply) (sender text : List ℕ) (number : ℕ)
+    → kept_text replies sender number ≡ Some text
+    → length (newer_than replies sender number) + 1 < kept_limit
+    → (kept_text (with_reply reply replies) sender number ≡ Some text)
+    × (length (newer_than (with_reply reply replies) sender number)
+    ≡ length (newer_than replies sender number) + 1)
+
+-- Where as many are newer as may be, one more pushes it out.
+abbrev pub AsManyNewerPushOut : Type 0
+AsManyNewerPushOut =
+    (replies : List KeptReply) (reply : KeptReply) (sender : List ℕ) (number : ℕ)
+    → AreKept replies → length (newer_than replies sender number) + 1 ≡ kept_limit
+    → is_reply_to sender number reply ≡ false
+    → kept_text (with_reply reply replies) sender number ≡ None
+
+-- None is newer than the last that was kept.
+abbrev pub LastIsNewest : Type 0
+LastIsNewest =
+    (replies : List KeptReply) (reply : KeptReply) (sender : List ℕ)
+    → kept_text replies reply.sender reply.number ≡ None → is_from sender reply ≡ true
+    → newer_than (with_reply reply replies) sender reply.number ≡ []
+
+-- An acknowledgement that doesn't name a reply leaves it, and makes none newer than it.
+abbrev pub UnnamedStay : Type 0
+UnnamedStay =
+    (replies : List KeptReply) (sender from : List ℕ) (number first last : ℕ)
+    → (nat_le first number && nat_le number last && str_eq_ignore_ascii_case sender from) ≡ false
+    → (kept_text (without_range from first last replies) sender number
+    ≡ kept_text replies sender number)
+    × (length (newer_than (without_range from first last replies) sender number)
+    ≤ length (newer_than replies sender number))
+
+-- What isn't found comes back by its own request alone.
+abbrev pub GoneStayGone : Type 0
+GoneStayGone =
+    (replies : List KeptReply) (sender : List ℕ) (number : ℕ)
+    → kept_text replies sender number ≡ None
+    → ((reply : KeptReply) → is_reply_to sender number reply ≡ false
+    → kept_text (with_reply reply replies) sender number ≡ None)
+    × ((from : List ℕ) (first last : ℕ)
+    → kept_text (without_range from first last replies) sender number ≡ None)
+
+-- What holds of kept replies holds of them after a new one, and after an acknowledgement.
+abbrev pub KeptStayDistinct : Type 0
+KeptStayDistinct =
+    (replies : List KeptReply) → AreKept replies
+    → ((reply : KeptReply) → kept_text replies reply.sender reply.number ≡ None
+    → AreKept (with_reply reply replies))
+    × ((sender : List ℕ) (first last : ℕ) → AreKept (without_range sender first last replies))

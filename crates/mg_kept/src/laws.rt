@@ -3,7 +3,7 @@
 //! The functions here do nothing: their contracts are the laws, in the words of `specs/Theorems.antt`.
 
 ghost use Rattle.mg_kept.specs.KeptReplies.{AreKept};
-ghost use Rattle.mg_kept.specs.Theorems.{KeptIsFound, OthersStay, OldestAloneGoes, OldestIsGone, AcknowledgedIsGone, OtherSendersStay, OtherNumbersStay};
+ghost use Rattle.mg_kept.specs.Theorems.{KeptIsFound, LettersAreOne, OthersStay, OldestAloneGoes, OldestIsGone, AcknowledgedIsGone, OtherSendersStay, OtherNumbersStay, FewNewerStay, AsManyNewerPushOut, LastIsNewest, UnnamedStay, GoneStayGone, KeptStayDistinct};
 
 use crate::kept::Kept;
 
@@ -17,9 +17,10 @@ pub fn kept_replies_are_distinct(kept: &Kept)
 }
 
 /// A reply that was kept is found by its sender, in letters of any case.
-#[tactic(auto, using(crate::proofs::KeepLaws::kept_is_found))]
+#[tactic(auto, using(crate::proofs::KeepLaws::kept_is_found, crate::proofs::KeepLaws::letters_are_one))]
 pub fn kept_reply_is_found()
     ensures law { KeptIsFound }
+    ensures letters { LettersAreOne }
 {}
 
 /// Keeping one more reply changes nothing that is found for other requests. Where it pushes out the oldest, that one
@@ -37,4 +38,15 @@ pub fn acknowledged_alone_is_gone()
     ensures named { AcknowledgedIsGone }
     ensures senders { OtherSendersStay }
     ensures numbers { OtherNumbersStay }
+{}
+
+/// How long a reply is kept: until as many newer ones are kept as may be, or an acknowledgement names it. Then it comes back by
+/// its own request alone.
+pub fn replies_stay_while_few_are_newer()
+    ensures few { FewNewerStay }
+    ensures many { AsManyNewerPushOut }
+    ensures last { LastIsNewest }
+    ensures unnamed { UnnamedStay }
+    ensures gone { GoneStayGone }
+    ensures distinct { KeptStayDistinct }
 {}

@@ -24,5 +24,5 @@ pub returns : goal.returns
 returns c = record {
   kept = λ source sender request w text is. sent_again source sender request w (Some text) is;
   again = alike c.kept_reply_is_found.ensures.law;
-  others = λ source sender request w none. ap (λ (p : List ℕ × World). p.1.gateway) (sent_again source sender request w None none);
+  others = λ source sender request w none. sent_again source sender request w None none;
 }

@@ -16,7 +16,7 @@ use Rattle.mg_text.specs.MessageReading.{MessageReading, Read, TooMany, OtherVer
 use Rattle.mg_core.specs.declared.event.Event.{Event}
 use Rattle.mg_core.specs.declared.event.Event.TheVariants.{Control, Media, Tick}
 use Rattle.mg_core.specs.Answer.{answer_head, answered, has_requests, if_asked, item_replied, mark_after, replied_to, to_message, unless_kept}
-use Rattle.mg_core.specs.Step.{Sent, Step}
+use Rattle.mg_core.specs.Step.{Run, Sent, Step}
 use Rattle.mg_core.specs.World.{World, with_control}
 
 abbrev pub IsConsistentWorld : World → Type 0
@@ -60,3 +60,7 @@ module _ (requests : RequestsAreConsistent) (arrivals : ArrivalsAreConsistent) w
   step_keeps w (Media port source bytes) sent next h (taken, (g, takes, is), told) =
       subst IsConsistentWorld (sym is) (arrivals w.gateway g port source.address bytes taken h takes)
   step_keeps w Tick sent next h (told, is) = subst IsConsistentWorld (sym is) h
+
+  pub run_keeps : (w last : World) (events : List Event) (sent : List Sent) → IsConsistentWorld w → Run w events sent last → IsConsistentWorld last
+  run_keeps w last [] sent h (none, is) = subst IsConsistentWorld (sym is) h
+  run_keeps w last (event ∷ events) sent h (first, others, next, step, run, are) = run_keeps next last events others (step_keeps w event first next h step) run

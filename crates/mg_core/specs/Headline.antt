@@ -1,8 +1,10 @@
 -- What carries the project: the flows, totals and packets of a gateway after any list of events,
 -- and what follows for who isn't to be heard.
-use Rattle.std.specs.Prelude.{◌≡◌, ℕ, ℤ, Bool, true, false, List, [], ◌∷◌, ◌++◌, Option}
+use Rattle.std.specs.Prelude.{◌≡◌, ℕ, ◌<◌, ◌^◌, ℤ, Bool, true, false, List, [], ◌∷◌, ◌++◌, Option}
 use Rattle.std.specs.List.{list_all}
+use Rattle.mg_rooms.specs.Consistent.{IsConsistent}
 use Rattle.mg_engine.specs.declared.config.Config.{Config}
+use Rattle.mg_engine.specs.Config.{IsValidConfig}
 use Rattle.mg_engine.specs.declared.datagram.Datagram.{Datagram}
 use Rattle.mg_engine.specs.Flow.{flow}
 use Rattle.mg_engine.specs.Mix.{total_at}
@@ -68,3 +70,16 @@ OneGatewayOneFuture =
     (a b : World) (events : List Event) (s t : List Sent) (x y : World)
     → a.gateway ≡ b.gateway → list_all is_of_media events ≡ true
     → Run a events s x → Run b events t y → (s ≡ t) × (x.gateway ≡ y.gateway)
+
+-- ## The order of terminations
+
+-- a gateway can be started with the configuration, whose first number is one of 32 bits
+abbrev pub IsStart : Config → Type 0
+IsStart config = IsValidConfig config × (config.first_termination < 2 ^ 32)
+
+-- After any events terminations and contexts are consistent. So the numbers of terminations rise in
+-- their list, and the packets of a tick, which are in its order, are sent by rising numbers.
+abbrev pub WorldsAreConsistent : Type 0
+WorldsAreConsistent =
+    (config : Config) (events : List Event) (sent : List Sent) (w : World)
+    → IsStart config → Run (start_of config) events sent w → IsConsistent w.gateway.rooms

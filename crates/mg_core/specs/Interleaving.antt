@@ -1,12 +1,11 @@
 -- In which order the packets of different callers came makes no difference.
 use Rattle.std.specs.Prelude.{◌≡◌, ◌<◌, ◌^◌, ◌==◌, not, ℕ, Bool, false, List, Option, filter}
 use Rattle.mg_engine.specs.declared.config.Config.{Config}
-use Rattle.mg_engine.specs.Config.{IsValidConfig}
 use Rattle.mg_core.specs.declared.counts.Counts.{Counts}
 use Rattle.mg_core.specs.declared.event.Event.{Event}
 use Rattle.mg_core.specs.declared.event.Event.TheVariants.{Control, Media, Tick}
 use Rattle.mg_core.specs.declared.state.CoreState.{CoreState}
-use Rattle.mg_core.specs.Headline.{CameTo}
+use Rattle.mg_core.specs.Headline.{CameTo, IsStart}
 use Rattle.mg_core.specs.Run.{RanToEnd}
 use Rattle.mg_core.specs.Step.{Sent, Run}
 use Rattle.mg_core.specs.World.{World, start_of}
@@ -25,10 +24,6 @@ seen_at port events = filter (λ e. not (is_elsewhere port e)) events
 -- first and after the last, each port has the same RTP datagrams in the same order.
 abbrev pub AreSameToEachPort : List Event → List Event → Type 0
 AreSameToEachPort a b = (port : ℕ) → seen_at port a ≡ seen_at port b
-
--- a gateway can be started with the configuration, whose first number is one of 32 bits
-abbrev pub IsStart : Config → Type 0
-IsStart config = IsValidConfig config × (config.first_termination < 2 ^ 32)
 
 -- Two lists of events that are the same to each port have the same datagrams sent, byte for byte
 -- and in the same order, and lead to one world.

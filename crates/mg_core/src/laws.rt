@@ -5,7 +5,7 @@ ghost use Rattle.mg_core.specs.declared.event.Event.{Event};
 ghost use Rattle.mg_commands.specs.Theorems.{RefusedNamesChangeNothing, RefusedCommandsChangeNothing, RefusedActionsChangeNothing, RefusedTopologiesChangeNothing, OthersAreTried};
 ghost use Rattle.mg_core.specs.Apart.{SameEventKeepsAgreement, OneArrivalKeepsAgreement, SamePackets, UnheardChangesNothing, UnheardInHistories, UnheardInScripts};
 ghost use Rattle.mg_core.specs.Counting.{EventsAreCounted, RunsTake};
-ghost use Rattle.mg_core.specs.Headline.{EventsLeadToOneWorld, OneGatewayOneFuture};
+ghost use Rattle.mg_core.specs.Headline.{EventsLeadToOneWorld, OneGatewayOneFuture, WorldsAreConsistent};
 ghost use Rattle.mg_engine.specs.Isolation.{NobodyHearsHimself, IsolatedAreNotHeard, UnheardChangesNoPacket, PayloadsAreMixes};
 ghost use Rattle.mg_core.specs.Interleaving.{OrderOfPortsIsNothing, HistoriesAreOne, ScriptsAreOne};
 ghost use Rattle.mg_core.specs.Repeats.{KeptRepliesAreSent, RepetitionsAreAnsweredAlike, OthersAreRun, RepliesLast, NoneIsNewer, AcknowledgedAreGone, PushedOutAreGone, GoneAreRun, RepliesAreKept};
@@ -67,6 +67,15 @@ pub fn replies_last()
     mg_kept::laws::kept_reply_is_found();
     mg_kept::laws::acknowledged_alone_is_gone();
     mg_kept::laws::replies_stay_while_few_are_newer();
+}
+
+/// After any events the terminations and contexts are consistent: within the limits, none with the number, slot or seat of
+/// another, members and records that agree. Their numbers rise in their lists, so a tick sends its packets by rising numbers.
+pub fn worlds_are_consistent()
+    ensures law { WorldsAreConsistent }
+{
+    mg_engine::laws::worlds_are_consistent();
+    mg_commands::laws::requests_are_consistent();
 }
 
 /// In which order the packets of different callers came makes no difference: two lists of events with the same control

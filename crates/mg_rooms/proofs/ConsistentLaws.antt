@@ -24,6 +24,7 @@ use Rattle.mg_rooms.specs.Registry.{Registry, start_of, record_at, context_at, m
 use Rattle.mg_rooms.specs.Outcome.{named, may_enter, may_have_members, is_number, member, new_slot, new_seat, new_context, new_place, add, modify, move_to, subtract}
 use Rattle.mg_rooms.specs.Consistent.{IsTermination, AreTerminations, IsContext, AreContexts, Agree, IsConsistent}
 use Rattle.mg_rooms.proofs.OrderLaws.{found_key}
+use Rattle.mg_rooms.proofs.RisingLaws.{rising-none}
 use Rattle.mg_rooms.proofs.TableLaws.{find_in_range}
 use Rattle.mg_rooms.proofs.CountLaws.{one, one-false, one-le, count-push, count-none, count-weaker, count-found, count-change_some, count-change_none, all-found, find-none}
 use Rattle.mg_rooms.proofs.AgreeLaws.{length-without-le, Counted, counted-entered, counted-left}
@@ -256,8 +257,8 @@ counted w h = record { same = h.agree.same; as_many = h.agree.as_many }
 pub start_sound : (limits : Limits) → limits.first_termination ≤ LAST_TERMINATION → AreValidLimits limits → IsConsistent (start_of limits)
 start_sound limits last h = record {
   limits = h;
-  terminations = record { each = tt; one_number = λ n. omega arith; one_slot = λ n. omega arith; one_seat = λ c n. omega arith };
-  contexts = record { each = tt; one_number = λ n. omega arith; one_room = λ n. omega arith };
+  terminations = record { each = tt; rising = rising-none (λ x. x.number); one_number = λ n. omega arith; one_slot = λ n. omega arith; one_seat = λ c n. omega arith };
+  contexts = record { each = tt; rising = rising-none (λ x. x.number); one_number = λ n. omega arith; one_room = λ n. omega arith };
   agree = record { same = λ c n. refl; as_many = λ c. refl };
   next_termination = omega arith;
   last_termination = omega arith;

@@ -8,6 +8,7 @@ pub mod SeatLaws
 pub mod SettingsLaws
 pub mod CountLaws
 pub mod AgreeLaws
+pub mod RisingLaws
 pub mod ListsLaws
 pub mod LastLaws
 pub mod StateLaws

@@ -1,5 +1,5 @@
 -- How the terminations and the contexts of a gateway stay sound when one is made, changes or ends.
-use Rattle.std.proofs.Common.{◌≡◌, ℕ, ◌+◌, ◌≤◌, ◌&&◌, true, false, cond, List, [], ◌∷◌, ◌++◌, Option, Some, None, refl, sym, ◌∙◌, ap, subst, arith, inl, inr, ◌==◌, find, option_to_list, option_and_then, IfSome}
+use Rattle.std.proofs.Common.{◌≡◌, ℕ, ◌+◌, ◌<◌, ◌≤◌, ◌&&◌, true, false, cond, List, [], ◌∷◌, ◌++◌, Option, Some, None, refl, sym, ◌∙◌, ap, subst, arith, inl, inr, ◌==◌, find, option_to_list, option_and_then, IfSome}
 use Rattle.std.specs.List.{count_by}
 use Rattle.std.proofs.lemmas.Bool.{cases_Bool, eqb-true, ne_eqb}
 use Rattle.mg_rooms.specs.declared.record.Record.{Record}
@@ -9,6 +9,7 @@ use Rattle.mg_rooms.specs.Changes.{change}
 use Rattle.mg_rooms.specs.Registry.{members_of}
 use Rattle.mg_rooms.specs.Consistent.{IsTermination, AreTerminations, IsContext, AreContexts}
 use Rattle.mg_rooms.proofs.OrderLaws.{found_key, KeepsKey, change_none}
+use Rattle.mg_rooms.proofs.RisingLaws.{rising-push, rising-change}
 use Rattle.mg_rooms.proofs.CountLaws.{one, one-false, one-le, count-cons, count-push, count-zero, count-change, count-change_some, count-change_none, all-push, all-map, all-change, all-found, find-push_some, find-push_none, find-change_other, find-change_same}
 
 -- ## Terminations
@@ -22,6 +23,7 @@ pub terminations-push : (limits : Limits) (next : ℕ) (rs : List Record) (r : R
     → AreTerminations limits (next + 1) (rs ++ (r ∷ []))
 terminations-push limits next rs r h is number slot seat = record {
   each = all-push (IsTermination limits (next + 1)) rs r (all-map (IsTermination limits next) (IsTermination limits (next + 1)) rs (later_termination limits next) h.each) is;
+  rising = rising-push (λ x. x.number) next rs r (all-map (IsTermination limits next) (λ x. x.number < next) rs (λ x t. t.below) h.each) number h.rising;
   one_number = λ n.
       let parts = count-push (λ x. x.number == n) rs r in
       elim (cases_Bool (r.number == n)) [
@@ -79,6 +81,7 @@ terminations-changed limits next rs old r h found is slot seats =
     let number : old.number ≡ r.number = eqb-true old.number r.number (found_key (λ x. x.number == r.number) rs old found) in
     record {
       each = all-change (λ x. x.number) (IsTermination limits next) r.number (λ _. Some r) rs old found (λ t. is) h.each;
+      rising = rising-change (λ x. x.number) r.number (λ _. Some r) rs (λ x e. sym (eqb-true x.number r.number e)) h.rising;
       one_number = λ n.
           let parts = count-change_some (λ x. x.number) (λ x. x.number == n) r.number r rs old found in
           let bits : one (old.number == n) ≡ one (r.number == n) = ap (λ (k : ℕ). one (k == n)) number in
@@ -98,6 +101,7 @@ terminations-changed limits next rs old r h found is slot seats =
 pub terminations-removed : (limits : Limits) (next n : ℕ) (rs : List Record) (old : Record) → AreTerminations limits next rs → find (λ x. x.number == n) rs ≡ Some old → AreTerminations limits next (change (λ x. x.number) n (λ _. None) rs)
 terminations-removed limits next n rs old h found = record {
   each = all-change (λ x. x.number) (IsTermination limits next) n (λ _. None) rs old found (λ t. tt) h.each;
+  rising = rising-change (λ x. x.number) n (λ _. None) rs (λ x e. tt) h.rising;
   one_number = λ k. let parts = count-change_none (λ x. x.number) (λ x. x.number == k) n rs old found in let was = h.one_number k in omega arith;
   one_slot = λ s. let parts = count-change_none (λ x. x.number) (λ x. x.slot == s) n rs old found in let was = h.one_slot s in omega arith;
   one_seat = λ c s. let parts = count-change_none (λ x. x.number) (λ x. (x.context == c) && (x.seat == s)) n rs old found in let was = h.one_seat c s in omega arith;
@@ -115,6 +119,7 @@ no_next_context limits next xs h = count-zero (IsContext limits next) (λ x. x.n
 pub contexts-push : (limits : Limits) (next : ℕ) (xs : List Context) (x : Context) → AreContexts limits next xs → IsContext limits (next + 1) x → x.number ≡ next → count_by (λ y. y.room == x.room) xs ≡ 0 → AreContexts limits (next + 1) (xs ++ (x ∷ []))
 contexts-push limits next xs x h is number room = record {
   each = all-push (IsContext limits (next + 1)) xs x (all-map (IsContext limits next) (IsContext limits (next + 1)) xs (later_context limits next) h.each) is;
+  rising = rising-push (λ y. y.number) next xs x (all-map (IsContext limits next) (λ y. y.number < next) xs (λ y t. t.below) h.each) number h.rising;
   one_number = λ c.
       let parts = count-push (λ y. y.number == c) xs x in
       elim (cases_Bool (x.number == c)) [
@@ -163,6 +168,7 @@ contexts-changed_at : (limits : Limits) (next c : ℕ) (f : Context → Option C
 contexts-changed_at limits next c f xs None keeps is h found = rw (change_none (λ x. x.number) c f xs (sym found)) h
 contexts-changed_at limits next c f xs (Some old) keeps is h found = record {
   each = all-change (λ x. x.number) (IsContext limits next) c f xs old found (is old found) h.each;
+  rising = rising-change (λ x. x.number) c f xs (λ x e. keeps-number x (f x) (keeps x)) h.rising;
   one_number = λ d. let parts = count-change (λ x. x.number) (λ x. x.number == d) c f xs old found in let fewer = fewer_number d old (f old) (keeps old) in let was = h.one_number d in omega arith;
   one_room = λ k. let parts = count-change (λ x. x.number) (λ x. x.room == k) c f xs old found in let fewer = fewer_room k old (f old) (keeps old) in let was = h.one_room k in omega arith;
 }

@@ -1,6 +1,6 @@
 -- What holds of the terminations and contexts of a gateway after any commands (this project's own).
 use Rattle.std.specs.Prelude.{◌≡◌, ℕ, ◌<◌, ◌≤◌, ◌+◌, ◌&&◌, ◌==◌, List, length}
-use Rattle.std.specs.List.{AllByRecursion, count_by}
+use Rattle.std.specs.List.{AllByRecursion, AllPairs, count_by}
 use Rattle.mg_rooms.specs.declared.record.Record.{Record}
 use Rattle.mg_rooms.specs.declared.context.Context.{Context}
 use Rattle.mg_rooms.specs.declared.limits.Limits.{Limits}
@@ -18,10 +18,11 @@ pub record IsTermination (limits : Limits) (next : ℕ) (r : Record) : Type 0 wh
   pub min_depth : least_depth ≤ r.depth
   pub max_depth : r.depth ≤ greatest_depth
 
--- each is within the limits; a number, a slot, and a seat of a context is that of one termination
--- at most
+-- each is within the limits; their numbers rise; a number, a slot, and a seat of a context is that
+-- of one termination at most
 pub record AreTerminations (limits : Limits) (next : ℕ) (rs : List Record) : Type 0 where
   pub each : AllByRecursion (IsTermination limits next) rs
+  pub rising : AllPairs (λ r later. r.number < later.number) rs
   pub one_number : (n : ℕ) → count_by (λ r. r.number == n) rs ≤ 1
   pub one_slot : (slot : ℕ) → count_by (λ r. r.slot == slot) rs ≤ 1
   pub one_seat : (c seat : ℕ) → count_by (λ r. (r.context == c) && (r.seat == seat)) rs ≤ 1
@@ -34,9 +35,10 @@ pub record IsContext (limits : Limits) (next : ℕ) (x : Context) : Type 0 where
   pub some : 0 < length x.members
   pub few : length x.members ≤ member_limit
 
--- each is within the limits; a number and a room is that of one context at most
+-- each is within the limits; their numbers rise; a number and a room is that of one context at most
 pub record AreContexts (limits : Limits) (next : ℕ) (xs : List Context) : Type 0 where
   pub each : AllByRecursion (IsContext limits next) xs
+  pub rising : AllPairs (λ x later. x.number < later.number) xs
   pub one_number : (c : ℕ) → count_by (λ x. x.number == c) xs ≤ 1
   pub one_room : (room : ℕ) → count_by (λ x. x.room == room) xs ≤ 1
 

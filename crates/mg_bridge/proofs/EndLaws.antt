@@ -1,14 +1,11 @@
 -- How the program ends where its words led to no run.
-use Rattle.std.proofs.Common.{◌≡◌, ℕ, List, [], Option, Some, None, Result, Ok, Err, true, refl, sym, subst, arith, append-nil, inr}
-use Rattle.std.specs.Io.KnownBytes.{Appends}
+use Rattle.std.proofs.Common.{◌≡◌, ℕ, List, Option, Result, Ok, Err, refl, sym, subst, arith, inl, inr}
+use Rattle.std.proofs.KnownBytes.{Keeps-refl}
 use Rattle.clap.specs.declared.error.kind.ErrorKind.{ErrorKind}
 use Rattle.clap.specs.Kinds.{Kinds}
 use Rattle.mg_engine.specs.declared.config.Config.{Config}
-use Rattle.mg_core.specs.World.{start_of}
 use Rattle.mg_core.specs.declared.fault.RunFault.{RunFault}
 use Rattle.mg_core.specs.declared.fault.RunFault.TheVariants as faults
-use Rattle.mg_lines.specs.Lines.{lines_of}
-use Rattle.mg_core.specs.Script.{events_of}
 use Rattle.mg_core.specs.declared.counts.Counts.{Counts}
 use Rattle.mg_engine.specs.Config.{IsValidConfig}
 use Rattle.mg_bridge.specs.declared.invocation.Invocation.{Invocation}
@@ -21,32 +18,15 @@ use Rattle.mg_bridge.specs.Replay.{Replays}
 use Rattle.mg_bridge.specs.Serve.{IsNotBegun}
 use Rattle.mg_bridge.specs.Program.{Ends, Tells}
 
-appends_nothing : (old : Option (List ℕ)) → Appends old old []
-appends_nothing None = tt
-appends_nothing (Some held) = sym (append-nil held)
-
 abbrev no_memory : Result Counts RunFault
 no_memory = Err faults.NoMemory
 
 not_bad : (config : Config) → no_memory ≡ Err faults.BadConfig → IsValidConfig config → ⊥
 not_bad config e h = cc e
 
-not_begun : (config : Config) (input old : Option (List ℕ)) → Replays config input old old NoMemory
-unfolding status_of events_of
-not_begun config None old = record { outcome = no_memory; is = refl; ran = tt; bad = not_bad config; unsound = λ h. inr refl }
-not_begun config (Some script) old = record {
-  outcome = no_memory;
-  is = refl;
-  ran = record {
-    lines = [];
-    others = lines_of true script;
-    script_is = refl;
-    last = start_of config;
-    ran = record { events = []; sent = []; are = refl; run = (refl, refl); written = appends_nothing old };
-  };
-  bad = not_bad config;
-  unsound = λ h. inr refl;
-}
+not_begun : (config : Config) (input old : Option (List ℕ)) → Replays config input input old old NoMemory
+unfolding status_of
+not_begun config input old = record { outcome = no_memory; is = refl; ran = inl (Keeps-refl input, Keeps-refl old); bad = not_bad config; unsound = λ h. inr refl }
 
 -- a fault of the words was told, and their input was left alone
 pub ends_told : {R W : Type 0} (remaining : R → Option (List ℕ)) (contents : W → Option (List ℕ)) (asked : Result Invocation Kinds) (kind : ErrorKind)
@@ -54,7 +34,7 @@ pub ends_told : {R W : Type 0} (remaining : R → Option (List ℕ)) (contents :
     → Ends remaining contents asked input rest old new status
 ends_told remaining contents (Ok (Replay config)) kind input rest old new status memory told left =
     let ended = subst (λ k. Tells k old new status) memory told in
-    rw (ended.0, ended.1) (not_begun config (remaining input) (contents old))
+    rw (ended.0, ended.1, left) (not_begun config (remaining input) (contents old))
 ends_told remaining contents (Ok (Serve config)) kind input rest old new status memory told left =
     let ended = subst (λ k. Tells k old new status) memory told in
     inr (subst (IsNotBegun config) (sym ended.0) tt, left, ended.1)

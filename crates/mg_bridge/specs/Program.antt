@@ -31,7 +31,7 @@ pub record TellsOne {W : Type 0} (kinds : Kinds) (old new : W) (status : Status)
 abbrev pub Ends : {R W : Type 0} → (R → Option (List ℕ)) → (W → Option (List ℕ))
     → Result Invocation Kinds → R → R → W → W → Status → Type 0
 Ends remaining contents (Ok (Replay config)) input rest old new status =
-    Replays config (remaining input) (contents old) (contents new) status
+    Replays config (remaining input) (remaining rest) (contents old) (contents new) status
 Ends remaining contents (Ok (Serve config)) input rest old new status =
     Serves remaining config input rest old new status
 Ends remaining contents (Err kinds) input rest old new status =

@@ -1,5 +1,5 @@
 -- What the program does with a script.
-use Rattle.std.specs.Prelude.{◌≡◌, ◌⊎◌, ℕ, List, Option, Result, Err, IfSome}
+use Rattle.std.specs.Prelude.{◌≡◌, ◌⊎◌, ℕ, List, Option, Result, Err}
 use Rattle.mg_engine.specs.declared.config.Config.{Config}
 use Rattle.mg_core.specs.declared.counts.Counts.{Counts}
 use Rattle.mg_core.specs.declared.fault.RunFault.{RunFault}
@@ -10,11 +10,11 @@ use Rattle.mg_bridge.specs.declared.status.Status.{Status}
 use Rattle.mg_bridge.specs.Status.{status_of}
 
 -- a script was run as far as the status says
-pub record Replays (config : Config) (input old new : Option (List ℕ))
+pub record Replays (config : Config) (input rest old new : Option (List ℕ))
     (status : Status) : Type 0 where
   pub outcome : Result Counts RunFault
   pub is : status ≡ status_of outcome
-  pub ran : IfSome input (λ script. ScriptRan config script old new outcome)
+  pub ran : ScriptRan config input rest old new outcome
   pub bad : outcome ≡ Err faults.BadConfig → IsValidConfig config → ⊥
   pub unsound : (IsValidConfig config → ⊥) → (outcome ≡ Err faults.BadConfig)
       ⊎ (outcome ≡ Err faults.NoMemory)

@@ -15,7 +15,8 @@ pub fn replay<R: Read, W: Write, E: Write>(
     output: &mut W,
     errors: &mut E,
 ) -> Status
-    ensures value { Replays config (R.remaining input.old) (W.contents output.old) (W.contents output.new) result }
+    ensures value { Replays config (R.remaining input.old) (R.remaining input.new) (W.contents output.old)
+        (W.contents output.new) result }
     ensures quiet { result ≡ Status.Done → errors.new ≡ errors.old }
 {
     let outcome = run(alloc, config, input, output);

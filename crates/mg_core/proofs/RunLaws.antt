@@ -5,6 +5,7 @@ use Rattle.std.proofs.lemmas.List.{append-nil, take-append-drop, take_more, drop
 use Rattle.std.proofs.lemmas.Bool.{ne_eqb, lt-ltb}
 use Rattle.std.specs.Prelude.{slice_index, OnOk}
 use Rattle.mg_words.specs.OptionSteps.{◌>>=◌}
+use Rattle.std.proofs.KnownBytes.{Consumes-nil, Consumes-trans, Consumes-kept}
 use Rattle.std.specs.Io.KnownBytes.{Appends, Keeps, Consumes, IsAtEnd}
 use Rattle.mg_engine.specs.declared.config.Config.{Config}
 use Rattle.mg_words.specs.Leads.{Leads}
@@ -17,7 +18,7 @@ use Rattle.mg_core.specs.declared.fault.ScriptFault.{ScriptFault}
 use Rattle.mg_lines.specs.Lines.{without_return, lines_after, lines_of}
 use Rattle.mg_core.specs.Script.{event_of, events_of, then_all}
 use Rattle.mg_core.specs.Step.{Sent, Run}
-use Rattle.mg_core.specs.Run.{Ran, RanInPart, RanFirst, lines_for, line_of}
+use Rattle.mg_core.specs.Run.{Ran, RanInPart, HasRead, RanBeforeMore, HasBadAfter, RanAllRead, lines_for, line_of}
 use Rattle.mg_core.specs.aids.Steps.{AllRan, LineRan, BytesRan, Finishes, RanCounted, after_sent, script_fault_of}
 use Rattle.mg_lines.proofs.WriterLaws.{appends_then, appends_keeps}
 use Rattle.mg_core.proofs.LineLaws.{same_appends, sent_both}
@@ -101,15 +102,15 @@ counted_nothing w s t a same = record { ran = record { events = []; sent = []; a
 
 -- no bytes yet
 pub bytes_start : (n : ℕ) (begun : List ℕ) (w : World) (s : ℕ) (a : Option (List ℕ)) → BytesRan n n begun [] begun w w s s a a (Ok tt)
-bytes_start n begun w s a = ([], λ rest. refl, omega arith, counted_nothing w s s a refl)
+bytes_start n begun w s a = ([], λ ended more. refl, omega arith, counted_nothing w s s a refl)
 
-one_byte : (x : ℕ) (begun bytes : List ℕ) → x ≢ 10 → lines_after true begun (x ∷ bytes) ≡ lines_after true (begun ++ x ∷ []) bytes
+one_byte : (ended : Bool) (x : ℕ) (begun bytes : List ℕ) → x ≢ 10 → lines_after ended begun (x ∷ bytes) ≡ lines_after ended (begun ++ x ∷ []) bytes
 unfolding lines_after
-one_byte x begun bytes ne = rw (ne_eqb x 10 ne) refl
+one_byte ended x begun bytes ne = rw (ne_eqb x 10 ne) refl
 
-line_feed : (begun bytes : List ℕ) → lines_after true begun (10 ∷ bytes) ≡ without_return begun ∷ lines_after true [] bytes
+line_feed : (ended : Bool) (begun bytes : List ℕ) → lines_after ended begun (10 ∷ bytes) ≡ without_return begun ∷ lines_after ended [] bytes
 unfolding lines_after
-line_feed begun bytes = refl
+line_feed ended begun bytes = refl
 
 regroup : (front : List ℕ) (x : ℕ) (rest : List ℕ) → (front ++ x ∷ []) ++ rest ≡ front ++ (x ∷ rest)
 regroup front x rest = append_assoc front (x ∷ []) rest
@@ -117,30 +118,34 @@ regroup front x rest = append_assoc front (x ∷ []) rest
 -- a byte that ends no line
 pub bytes_plain : (n m : ℕ) (begun front left : List ℕ) (w v : World) (s t : ℕ) (a b : Option (List ℕ)) (x : ℕ) → x ≢ 10 → BytesRan n m begun front left w v s t a b (Ok tt) → BytesRan n m begun (front ++ x ∷ []) (left ++ x ∷ []) w v s t a b (Ok tt)
 bytes_plain n m begun front left w v s t a b x ne h =
-    (h.0, λ rest. ap (lines_after true begun) (regroup front x rest) ∙ h.1 (x ∷ rest) ∙ ap (λ (l : List (List ℕ)). h.0 ++ l) (one_byte x left rest ne), h.2, h.3)
+    (h.0, λ ended more. ap (lines_after ended begun) (regroup front x more) ∙ h.1 ended (x ∷ more) ∙ ap (λ (l : List (List ℕ)). h.0 ++ l) (one_byte ended x left more ne), h.2, h.3)
 
 -- a byte that ends a line, which was run
 pub bytes_line : (n m : ℕ) (begun front left : List ℕ) (w v u : World) (s t z : ℕ) (a b c : Option (List ℕ)) (number : ℕ) → BytesRan n m begun front left w v s t a b (Ok tt) → LineRan number (without_return left) v u t z b c (Ok tt) → BytesRan n (m + 1) begun (front ++ 10 ∷ []) [] w u s z a c (Ok tt)
 bytes_line n m begun front left w v u s t z a b c number h k =
     let line = without_return left in
-    let next : (rest : List ℕ) → lines_after true begun ((front ++ 10 ∷ []) ++ rest) ≡ (h.0 ++ line ∷ []) ++ lines_after true [] rest =
-    λ rest. ap (lines_after true begun) (regroup front 10 rest) ∙ h.1 (10 ∷ rest) ∙ ap (λ (l : List (List ℕ)). h.0 ++ l) (line_feed left rest) ∙ sym (append_assoc h.0 (line ∷ []) (lines_after true [] rest)) in
+    let next : (ended : Bool) (more : List ℕ) → lines_after ended begun ((front ++ 10 ∷ []) ++ more) ≡ (h.0 ++ line ∷ []) ++ lines_after ended [] more =
+    λ ended more. ap (lines_after ended begun) (regroup front 10 more) ∙ h.1 ended (10 ∷ more) ∙ ap (λ (l : List (List ℕ)). h.0 ++ l) (line_feed ended left more) ∙ sym (append_assoc h.0 (line ∷ []) (lines_after ended [] more)) in
     (h.0 ++ line ∷ [], next, omega (arith, length-append h.0 (line ∷ []), h.2), counted_both w v u h.0 (line ∷ []) s t z a b c h.3 k)
 
 -- the lines after some bytes, where a line feed stands after the first of them
-at_feed : (begun front left back rest : List ℕ) (lines : List (List ℕ)) → ((rest : List ℕ) → lines_after true begun (front ++ rest) ≡ lines ++ lines_after true left rest) → lines_after true begun ((front ++ (10 ∷ back)) ++ rest) ≡ lines ++ without_return left ∷ lines_after true [] (back ++ rest)
-at_feed begun front left back rest lines h =
-    ap (lines_after true begun) (append_assoc front (10 ∷ back) rest) ∙ h (10 ∷ (back ++ rest)) ∙ ap (λ (l : List (List ℕ)). lines ++ l) (line_feed left (back ++ rest))
+at_feed : (ended : Bool) (begun front left back more : List ℕ) (lines : List (List ℕ)) → ((ended : Bool) (more : List ℕ) → lines_after ended begun (front ++ more) ≡ lines ++ lines_after ended left more) → lines_after ended begun ((front ++ (10 ∷ back)) ++ more) ≡ lines ++ without_return left ∷ lines_after ended [] (back ++ more)
+at_feed ended begun front left back more lines h =
+    ap (lines_after ended begun) (append_assoc front (10 ∷ back) more) ∙ h ended (10 ∷ (back ++ more)) ∙ ap (λ (l : List (List ℕ)). lines ++ l) (line_feed ended left (back ++ more))
+
+-- the same where nothing stands after them
+at_last_feed : (begun front left back : List ℕ) (lines : List (List ℕ)) → ((ended : Bool) (more : List ℕ) → lines_after ended begun (front ++ more) ≡ lines ++ lines_after ended left more) → lines_after false begun (front ++ (10 ∷ back)) ≡ lines ++ without_return left ∷ lines_after false [] back
+at_last_feed begun front left back lines h =
+    h false (10 ∷ back) ∙ ap (λ (l : List (List ℕ)). lines ++ l) (line_feed false left back)
 
 -- a line that was not run
 pub bytes_stop : (n m p : ℕ) (begun front left back other : List ℕ) (w v u : World) (s t z : ℕ) (a b c : Option (List ℕ)) (e : LineFault) → BytesRan n m begun front left w v s t a b (Ok tt) → LineRan (m + 1) (without_return left) v u t z b c (Err e) → BytesRan n p begun (front ++ (10 ∷ back)) other w u s z a c (Err e)
 bytes_stop n m p begun front left back other w v u s t z a b c (faults.Bad k) h l =
-    (h.0, λ rest. (without_return left, lines_after true [] (back ++ rest), at_feed begun front left back rest h.0 h.1, l.1), omega (arith, l.0, h.2), ran_kept w v u h.0 a b c h.3.ran l.2 l.3)
+    (h.0, λ more. record { bad = without_return left; others = lines_after true [] (back ++ more); parts = at_feed true begun front left back more h.0 h.1; is_bad = l.1 }, omega (arith, l.0, h.2), ran_kept w v u h.0 a b c h.3.ran l.2 l.3)
 bytes_stop n m p begun front left back other w v u s t z a b c faults.Write h l =
-    let line = without_return left in
-    (h.0 ++ line ∷ [], λ rest. (lines_after true [] (back ++ rest), at_feed begun front left back rest h.0 h.1 ∙ sym (append_assoc h.0 (line ∷ []) (lines_after true [] (back ++ rest)))), ran_part w v u h.0 (line ∷ []) a b c h.3.ran l)
+    (h.0, without_return left, lines_after false [] back, at_last_feed begun front left back h.0 h.1, v, b, h.3.ran, l)
 bytes_stop n m p begun front left back other w v u s t z a b c faults.NoMemory h l =
-    (h.0, λ rest. (without_return left ∷ lines_after true [] (back ++ rest), at_feed begun front left back rest h.0 h.1), ran_kept w v u h.0 a b c h.3.ran l.0 l.1)
+    (h.0, without_return left, lines_after false [] back, at_last_feed begun front left back h.0 h.1, ran_kept w v u h.0 a b c h.3.ran l.0 l.1)
 
 -- a line that is too long is bad, wherever it ends
 long_bad : (line : List ℕ) → 140001 ≤ length line → event_of line ≡ None
@@ -151,109 +156,147 @@ return_long : (t : Bool) (line : List ℕ) (n : ℕ) → n + 1 ≤ length line �
 return_long true line n le = omega (arith, length-take (length line - 1) line)
 return_long false line n le = omega arith
 
-pub record HasLongLine (lines : List (List ℕ)) : Type 0 where
-  pub bad : List ℕ
-  pub others : List (List ℕ)
-  pub parts : lines ≡ bad ∷ others
-  pub is : event_of bad ≡ None
-
-long_step : (t : Bool) (begun : List ℕ) (x : ℕ) (bytes : List ℕ) → eqb x 10 ≡ t → 140002 ≤ length begun → HasLongLine (lines_after true (begun ++ x ∷ []) bytes) → HasLongLine (lines_after true begun (x ∷ bytes))
+long_step : (t : Bool) (begun : List ℕ) (x : ℕ) (bytes : List ℕ) → eqb x 10 ≡ t → 140002 ≤ length begun → HasBadAfter [] (lines_after true (begun ++ x ∷ []) bytes) → HasBadAfter [] (lines_after true begun (x ∷ bytes))
 unfolding lines_after
 long_step true begun x bytes e le h =
-    rw e (record { bad = without_return begun; others = lines_after true [] bytes; parts = refl; is = long_bad (without_return begun) (return_long (eqb (slice_index begun (length begun - 1)) 13) begun 140001 (omega arith)) })
+    rw e (record { bad = without_return begun; others = lines_after true [] bytes; parts = refl; is_bad = long_bad (without_return begun) (return_long (eqb (slice_index begun (length begun - 1)) 13) begun 140001 (omega arith)) })
 long_step false begun x bytes e le h = rw e h
 
-long_line : (begun bytes : List ℕ) → 140002 ≤ length begun → HasLongLine (lines_after true begun bytes)
+long_line : (begun bytes : List ℕ) → 140002 ≤ length begun → HasBadAfter [] (lines_after true begun bytes)
 unfolding lines_after
-long_line begun [] le = rw (ne_eqb (length begun) 0 (λ e. absurd (omega arith))) (record { bad = begun; others = []; parts = refl; is = long_bad begun (omega arith) })
+long_line begun [] le = rw (ne_eqb (length begun) 0 (λ e. absurd (omega arith))) (record { bad = begun; others = []; parts = refl; is_bad = long_bad begun (omega arith) })
 long_line begun (x ∷ bytes) le = long_step (eqb x 10) begun x bytes refl le (long_line (begun ++ x ∷ []) bytes (omega (arith, length-append begun (x ∷ []))))
+
+-- a bad line after some lines stands after those before them too
+bad_later : (before lines others all : List (List ℕ)) → all ≡ before ++ others → HasBadAfter lines others → HasBadAfter (before ++ lines) all
+bad_later before lines others all is h = record {
+  bad = h.bad;
+  others = h.others;
+  parts = is ∙ ap (λ (l : List (List ℕ)). before ++ l) h.parts ∙ sym (append_assoc before lines (h.bad ∷ h.others));
+  is_bad = h.is_bad;
+}
 
 -- a byte that makes a line too long
 pub bytes_long : (n m p : ℕ) (begun front left back other : List ℕ) (w v : World) (s t z : ℕ) (a b : Option (List ℕ)) (x : ℕ) → x ≢ 10 → 140001 ≤ length left → BytesRan n m begun front left w v s t a b (Ok tt) → BytesRan n p begun (front ++ (x ∷ back)) other w v s z a b (Err (faults.Bad (m + 1)))
 bytes_long n m p begun front left back other w v s t z a b x ne le h =
-    let long : (rest : List ℕ) → HasLongLine (lines_after true (left ++ x ∷ []) (back ++ rest)) = λ rest. long_line (left ++ x ∷ []) (back ++ rest) (omega (arith, length-append left (x ∷ []))) in (
+    let long : (more : List ℕ) → HasBadAfter [] (lines_after true (left ++ x ∷ []) (back ++ more)) = λ more. long_line (left ++ x ∷ []) (back ++ more) (omega (arith, length-append left (x ∷ []))) in
+    let split : (more : List ℕ) → lines_after true begun ((front ++ (x ∷ back)) ++ more) ≡ h.0 ++ lines_after true (left ++ x ∷ []) (back ++ more) =
+    λ more. ap (lines_after true begun) (append_assoc front (x ∷ back) more) ∙ h.1 true (x ∷ (back ++ more)) ∙ ap (λ (l : List (List ℕ)). h.0 ++ l) (one_byte true x left (back ++ more) ne) in (
       h.0,
-      λ rest. (
-        (long rest).bad,
-        (long rest).others,
-        ap (lines_after true begun) (append_assoc front (x ∷ back) rest) ∙ h.1 (x ∷ (back ++ rest)) ∙ ap (λ (l : List (List ℕ)). h.0 ++ l) (one_byte x left (back ++ rest) ne ∙ (long rest).parts),
-        (long rest).is,
-      ),
+      λ more. record { bad = (long more).bad; others = (long more).others; parts = split more ∙ ap (λ (l : List (List ℕ)). h.0 ++ l) (long more).parts; is_bad = (long more).is_bad },
       omega (arith, h.2),
       h.3.ran,
     )
 
--- How far a run of a script has come: its first lines were run on a new gateway, and the line after them is begun.
-pub record Progress (config : Config) (script : List ℕ) (remaining : Option (List ℕ)) (begun : List ℕ) (count : ℕ) (now : World) (sent : ℕ) (old new : Option (List ℕ)) : Type 0 where
-  pub rest : List ℕ
-  pub left : remaining ≡ Some rest
+-- How far a run of a script has come: a text was read, the lines that end in it were run on a new gateway, and the line
+-- after them is begun.
+pub record Progress (config : Config) (input remaining : Option (List ℕ)) (begun : List ℕ) (count : ℕ) (now : World) (sent : ℕ) (old new : Option (List ℕ)) : Type 0 where
+  pub text : List ℕ
+  pub consumed : Consumes input remaining text
   pub lines : List (List ℕ)
-  pub split : lines_of true script ≡ lines ++ lines_after true begun rest
+  pub split : (ended : Bool) (more : List ℕ) → lines_of ended (text ++ more) ≡ lines ++ lines_after ended begun more
   pub counted : count ≡ length lines
   pub ran : RanCounted (start_of config) lines now 0 sent old new
 
-pub progress_start : (config : Config) (script : List ℕ) (remaining : Option (List ℕ)) (begun : List ℕ) (count s : ℕ) (a : Option (List ℕ)) → remaining ≡ Some script → begun ≡ [] → count ≡ 0 → s ≡ 0 → Progress config script remaining begun count (start_of config) s a a
-progress_start config script remaining begun count s a is none zero_is unsent = record { rest = script; left = is; lines = []; split = ap (λ (l : List ℕ). lines_after true l script) (sym none); counted = zero_is; ran = counted_nothing (start_of config) 0 s a unsent }
+pub progress_start : (config : Config) (input : Option (List ℕ)) (begun : List ℕ) (count s : ℕ) (a : Option (List ℕ)) → begun ≡ [] → count ≡ 0 → s ≡ 0 → Progress config input input begun count (start_of config) s a a
+progress_start config input begun count s a none zero_is unsent = record { text = []; consumed = Consumes-nil input; lines = []; split = λ ended more. ap (λ (l : List ℕ). lines_after ended l more) (sym none); counted = zero_is; ran = counted_nothing (start_of config) 0 s a unsent }
 
-consumed : (x y : Option (List ℕ)) (rest bytes : List ℕ) → x ≡ Some rest → Consumes x y bytes → (more : List ℕ) × (y ≡ Some more) × (rest ≡ bytes ++ more)
-consumed None y rest bytes e h = absurd cc
-consumed (Some xs) None rest bytes e h = absurd h
-consumed (Some xs) (Some ys) rest bytes e h = let same : xs ≡ rest = cc in (ys, refl, sym same ∙ h)
+pub progress_bytes : (config : Config) (i x y : Option (List ℕ)) (begun bytes left : List ℕ) (n m : ℕ) (v u : World) (s t : ℕ) (a b c : Option (List ℕ)) → Progress config i x begun n v s a b → Consumes x y bytes → BytesRan n m begun bytes left v u s t b c (Ok tt) → Progress config i y left m u t a c
+progress_bytes config i x y begun bytes left n m v u s t a b c p eaten h = record {
+  text = p.text ++ bytes;
+  consumed = Consumes-trans i x y p.text bytes p.consumed eaten;
+  lines = p.lines ++ h.0;
+  split = λ ended more. ap (lines_after ended []) (append_assoc p.text bytes more) ∙ p.split ended (bytes ++ more) ∙ ap (λ (l : List (List ℕ)). p.lines ++ l) (h.1 ended more) ∙ sym (append_assoc p.lines h.0 (lines_after ended left more));
+  counted = omega (arith, h.2, p.counted, length-append p.lines h.0);
+  ran = counted_both (start_of config) v u p.lines h.0 0 s t a b c p.ran h.3;
+}
 
-pub progress_bytes : (config : Config) (script : List ℕ) (x y : Option (List ℕ)) (begun bytes left : List ℕ) (n m : ℕ) (v u : World) (s t : ℕ) (a b c : Option (List ℕ)) → Progress config script x begun n v s a b → Consumes x y bytes → BytesRan n m begun bytes left v u s t b c (Ok tt) → Progress config script y left m u t a c
-progress_bytes config script x y begun bytes left n m v u s t a b c p eaten h =
-    let more = consumed x y p.rest bytes p.left eaten in
-    record {
-      rest = more.0;
-      left = more.1;
-      lines = p.lines ++ h.0;
-      split = p.split ∙ ap (λ (l : List ℕ). p.lines ++ lines_after true begun l) more.2 ∙ ap (λ (l : List (List ℕ)). p.lines ++ l) (h.1 more.0) ∙ sym (append_assoc p.lines h.0 (lines_after true left more.0));
-      counted = omega (arith, h.2, p.counted, length-append p.lines h.0);
-      ran = counted_both (start_of config) v u p.lines h.0 0 s t a b c p.ran h.3;
-    }
+unfinished : (begun : List ℕ) → lines_after false begun [] ≡ []
+unfolding lines_after
+unfinished [] = refl
+unfinished (b ∷ bs) = rw (ne_eqb (length (b ∷ bs)) 0 (λ e. absurd (omega (arith, e)))) refl
 
-pub progress_fault : (config : Config) (script : List ℕ) (x y : Option (List ℕ)) (begun bytes left : List ℕ) (n m : ℕ) (state : CoreState) (v u : World) (s t : ℕ) (a b c : Option (List ℕ)) (e : LineFault) → Progress config script x begun n v s a b → Consumes x y bytes → BytesRan n m begun bytes left v u s t b c (Err e) → AllRan config script state m t a c (Err (script_fault_of e))
-progress_fault config script x y begun bytes left n m state v u s t a b c (faults.Bad k) p eaten h =
-    let more = consumed x y p.rest bytes p.left eaten in
-    let bad = h.1 more.0 in record {
-      lines = p.lines ++ h.0;
-      bad = bad.0;
-      others = bad.1;
-      script_is = p.split ∙ ap (λ (l : List ℕ). p.lines ++ lines_after true begun l) more.2 ∙ ap (λ (l : List (List ℕ)). p.lines ++ l) bad.2 ∙ sym (append_assoc p.lines h.0 (bad.0 ∷ bad.1));
-      is_bad = bad.3;
-      number_is = omega (arith, h.2, p.counted, length-append p.lines h.0);
-      last = u;
-      ran = ran_both (start_of config) v u p.lines h.0 a b c p.ran.ran h.3;
-    }
-progress_fault config script x y begun bytes left n m state v u s t a b c faults.Write p eaten h =
-    let more = consumed x y p.rest bytes p.left eaten in
-    let others = h.1 more.0 in record {
-      lines = p.lines ++ h.0;
-      others = others.0;
-      script_is = p.split ∙ ap (λ (l : List ℕ). p.lines ++ lines_after true begun l) more.2 ∙ ap (λ (l : List (List ℕ)). p.lines ++ l) others.1 ∙ sym (append_assoc p.lines h.0 others.0);
-      last = u;
-      ran = ran_part (start_of config) v u p.lines h.0 a b c p.ran.ran h.2;
-    }
-progress_fault config script x y begun bytes left n m state v u s t a b c faults.NoMemory p eaten h =
-    let more = consumed x y p.rest bytes p.left eaten in
-    let others = h.1 more.0 in record {
-      lines = p.lines ++ h.0;
-      others = others.0;
-      script_is = p.split ∙ ap (λ (l : List ℕ). p.lines ++ lines_after true begun l) more.2 ∙ ap (λ (l : List (List ℕ)). p.lines ++ l) others.1 ∙ sym (append_assoc p.lines h.0 others.0);
-      last = u;
-      ran = ran_both (start_of config) v u p.lines h.0 a b c p.ran.ran h.2;
-    }
+-- what was read, where nothing follows it
+split_at_end : (config : Config) (i x : Option (List ℕ)) (begun : List ℕ) (n : ℕ) (v : World) (s : ℕ) (a b : Option (List ℕ)) (ended : Bool) (p : Progress config i x begun n v s a b) → lines_of ended p.text ≡ p.lines ++ lines_after ended begun []
+split_at_end config i x begun n v s a b ended p = ap (lines_after ended []) (sym (append-nil p.text)) ∙ p.split ended []
+
+-- the lines that were run are those that end in what was read
+all_run : (config : Config) (i x : Option (List ℕ)) (begun : List ℕ) (n : ℕ) (v : World) (s : ℕ) (a b : Option (List ℕ)) (p : Progress config i x begun n v s a b) → lines_of false p.text ≡ p.lines
+all_run config i x begun n v s a b p = split_at_end config i x begun n v s a b false p ∙ ap (λ (l : List (List ℕ)). p.lines ++ l) (unfinished begun) ∙ append-nil p.lines
+
+not_ended : {A : Type 0} → false ≡ true → A
+not_ended e = absurd (cc e)
+
+-- the lines that were run before and in the last bytes
+run_in_bytes : (config : Config) (i x : Option (List ℕ)) (begun bytes : List ℕ) (n : ℕ) (v : World) (s : ℕ) (a b : Option (List ℕ)) (lines : List (List ℕ)) → length bytes ≤ 4096 → (p : Progress config i x begun n v s a b) → RanBeforeMore (p.text ++ bytes) false (p.lines ++ lines)
+run_in_bytes config i x begun bytes n v s a b lines few p = record {
+  before = p.text;
+  given = bytes;
+  parts = refl;
+  size = few;
+  end_alone = not_ended;
+  later = lines;
+  lines_are = ap (λ (l : List (List ℕ)). l ++ lines) (sym (all_run config i x begun n v s a b p));
+}
+
+-- the line after those that were run, where it is among the last bytes
+line_in_bytes : (config : Config) (i x : Option (List ℕ)) (begun bytes line : List ℕ) (n : ℕ) (v : World) (s : ℕ) (a b : Option (List ℕ)) (lines others : List (List ℕ)) → lines_after false begun bytes ≡ lines ++ line ∷ others → (p : Progress config i x begun n v s a b) → lines_of false (p.text ++ bytes) ≡ (p.lines ++ lines) ++ line ∷ others
+line_in_bytes config i x begun bytes line n v s a b lines others is p = p.split false bytes ∙ ap (λ (l : List (List ℕ)). p.lines ++ l) is ∙ sym (append_assoc p.lines lines (line ∷ others))
+
+pub progress_fault : (config : Config) (i x y : Option (List ℕ)) (begun bytes left : List ℕ) (n m : ℕ) (state : CoreState) (v u : World) (s t : ℕ) (a b c : Option (List ℕ)) (e : LineFault) → Progress config i x begun n v s a b → Consumes x y bytes → length bytes ≤ 4096 → BytesRan n m begun bytes left v u s t b c (Err e) → AllRan config i y state m t a c (Err (script_fault_of e))
+progress_fault config i x y begun bytes left n m state v u s t a b c (faults.Bad k) p eaten few h = record {
+  text = p.text ++ bytes;
+  ended = false;
+  read = record { consumed = Consumes-trans i x y p.text bytes p.consumed eaten; at_end = not_ended };
+  lines = p.lines ++ h.0;
+  before_more = run_in_bytes config i x begun bytes n v s a b h.0 few p;
+  bad = λ more none. bad_later p.lines h.0 (lines_after true begun (bytes ++ more)) (lines_of true ((p.text ++ bytes) ++ more)) (ap (lines_after true []) (append_assoc p.text bytes more) ∙ p.split true (bytes ++ more)) (h.1 more);
+  number_is = omega (arith, h.2, p.counted, length-append p.lines h.0);
+  last = u;
+  ran = ran_both (start_of config) v u p.lines h.0 a b c p.ran.ran h.3;
+}
+progress_fault config i x y begun bytes left n m state v u s t a b c faults.Write p eaten few h = record {
+  line = h.1;
+  now = h.4;
+  held = h.5;
+  up_to = record {
+    text = p.text ++ bytes;
+    ended = false;
+    read = record { consumed = Consumes-trans i x y p.text bytes p.consumed eaten; at_end = not_ended };
+    lines = p.lines ++ h.0;
+    before_more = run_in_bytes config i x begun bytes n v s a b h.0 few p;
+    others = h.2;
+    line_is = line_in_bytes config i x begun bytes h.1 n v s a b h.0 h.2 h.3 p;
+    ran = ran_both (start_of config) v h.4 p.lines h.0 a b h.5 p.ran.ran h.6;
+  };
+  last = u;
+  cut = h.7;
+}
+progress_fault config i x y begun bytes left n m state v u s t a b c faults.NoMemory p eaten few h = record {
+  line = h.1;
+  now = u;
+  up_to = record {
+    text = p.text ++ bytes;
+    ended = false;
+    read = record { consumed = Consumes-trans i x y p.text bytes p.consumed eaten; at_end = not_ended };
+    lines = p.lines ++ h.0;
+    before_more = run_in_bytes config i x begun bytes n v s a b h.0 few p;
+    others = h.2;
+    line_is = line_in_bytes config i x begun bytes h.1 n v s a b h.0 h.2 h.3 p;
+    ran = ran_both (start_of config) v u p.lines h.0 a b c p.ran.ran h.4;
+  };
+}
 
 -- reading failed
-pub progress_unread : (config : Config) (script : List ℕ) (x : Option (List ℕ)) (begun : List ℕ) (n : ℕ) (v : World) (s : ℕ) (a b : Option (List ℕ)) → Progress config script x begun n v s a b → RanFirst config script a b
-progress_unread config script x begun n v s a b p = record { lines = p.lines; others = lines_after true begun p.rest; script_is = p.split; last = v; ran = p.ran.ran }
+pub progress_unread : (config : Config) (i x y : Option (List ℕ)) (begun : List ℕ) (n : ℕ) (v : World) (s : ℕ) (a b : Option (List ℕ)) → Progress config i x begun n v s a b → Keeps x y → RanAllRead config i y a b
+progress_unread config i x y begun n v s a b p same = record {
+  text = p.text;
+  read = record { consumed = Consumes-kept i x y p.text p.consumed same; at_end = not_ended };
+  last = v;
+  ran = subst (λ (l : List (List ℕ)). Ran (start_of config) l v a b) (sym (all_run config i x begun n v s a b p)) p.ran.ran;
+}
 
 -- the end of the script
-at_end : (x y : Option (List ℕ)) (rest : List ℕ) → x ≡ Some rest → Keeps x y → IsAtEnd y → rest ≡ []
-at_end None y rest e k h = absurd cc
-at_end (Some xs) None rest e k h = absurd k
-at_end (Some xs) (Some ys) rest e k h = let same : xs ≡ rest = cc in sym same ∙ sym k ∙ h
-
 last_line : (b : ℕ) (bs : List ℕ) → lines_after true (b ∷ bs) [] ≡ (b ∷ bs) ∷ []
 unfolding lines_after
 last_line b bs = rw (ne_eqb (length (b ∷ bs)) 0 (λ e. absurd (omega arith))) refl
@@ -267,42 +310,100 @@ abbrev pub script_result : Result (Unit {0}) LineFault → Result (Unit {0}) Scr
 script_result (Ok done) = Ok tt
 script_result (Err fault) = Err (script_fault_of fault)
 
-line_end : (config : Config) (script : List ℕ) (lines : List (List ℕ)) (line : List ℕ) (n m : ℕ) (state : CoreState) (v u : World) (s t : ℕ) (a b c : Option (List ℕ)) (r : Result (Unit {0}) LineFault) → lines_of true script ≡ lines ++ line ∷ [] → n ≡ length lines → StandsFor state u → RanCounted (start_of config) lines v 0 s a b → LineRan (n + 1) line v u s t b c r → OnOk r (m ≡ n + 1) → AllRan config script state m t a c (script_result r)
-line_end config script lines line n m state v u s t a b c (Ok done) split counted stands ran h more = (u, subst (λ (l : List (List ℕ)). RanCounted (start_of config) l u 0 t a c) (sym split) (counted_both (start_of config) v u lines (line ∷ []) 0 s t a b c ran h), stands, omega (arith, more, counted, length-append lines (line ∷ [])) ∙ ap length (sym split))
-line_end config script lines line n m state v u s t a b c (Err (faults.Bad k)) split counted stands ran h more = record {
-  lines = lines;
-  bad = line;
-  others = [];
-  script_is = split;
-  is_bad = h.1;
-  number_is = omega (arith, h.0, counted);
-  last = u;
-  ran = ran_kept (start_of config) v u lines a b c ran.ran h.2 h.3;
-}
-line_end config script lines line n m state v u s t a b c (Err faults.Write) split counted stands ran h more = record {
-  lines = lines ++ line ∷ [];
-  others = [];
-  script_is = split ∙ sym (append-nil (lines ++ line ∷ []));
-  last = u;
-  ran = ran_part (start_of config) v u lines (line ∷ []) a b c ran.ran h;
-}
-line_end config script lines line n m state v u s t a b c (Err faults.NoMemory) split counted stands ran h more = record {
-  lines = lines;
-  others = line ∷ [];
-  script_is = split;
-  last = u;
-  ran = ran_kept (start_of config) v u lines a b c ran.ran h.0 h.1;
+abbrev AtEnd : Option (List ℕ) → Option (List ℕ) → Type 0
+AtEnd x y = Keeps x y × IsAtEnd y
+
+read_to_end : (config : Config) (i x y : Option (List ℕ)) (begun : List ℕ) (n : ℕ) (v : World) (s : ℕ) (a b : Option (List ℕ)) → AtEnd x y → (p : Progress config i x begun n v s a b) → HasRead i y p.text true
+read_to_end config i x y begun n v s a b end p = record { consumed = Consumes-kept i x y p.text p.consumed end.0; at_end = λ e. end.1 }
+
+run_to_end : (config : Config) (i x : Option (List ℕ)) (begun : List ℕ) (n : ℕ) (v : World) (s : ℕ) (a b : Option (List ℕ)) (p : Progress config i x begun n v s a b) → RanBeforeMore p.text true p.lines
+run_to_end config i x begun n v s a b p = record {
+  before = p.text;
+  given = [];
+  parts = sym (append-nil p.text);
+  size = omega arith;
+  end_alone = λ e. refl;
+  later = [];
+  lines_are = sym (append-nil (lines_of false p.text) ∙ all_run config i x begun n v s a b p);
 }
 
-pub progress_end : (config : Config) (script : List ℕ) (x y : Option (List ℕ)) (begun : List ℕ) (n m : ℕ) (state : CoreState) (v u : World) (s t : ℕ) (a b c : Option (List ℕ)) (r : Result (Unit {0}) LineFault) → Progress config script x begun n v s a b → Keeps x y × IsAtEnd y → StandsFor state u → Finishes n m begun v u s t b c r → AllRan config script state m t a c (script_result r)
-progress_end config script x y [] n m state v u s t a b c r p ended stands h =
-    let empty = at_end x y p.rest p.left ended.0 ended.1 in
-    let all = p.split ∙ ap (λ (l : List ℕ). p.lines ++ lines_after true [] l) empty ∙ ap (λ (l : List (List ℕ)). p.lines ++ l) no_line ∙ append-nil p.lines in
-    rw h.0 (u, subst (λ (n : ℕ). RanCounted (start_of config) (lines_of true script) u 0 n a c) (sym h.4) (subst (λ (l : List (List ℕ)). RanCounted (start_of config) l u 0 s a c) (sym all) (counted_kept (start_of config) v u p.lines 0 s a b c p.ran h.1 h.2)), stands, h.3 ∙ p.counted ∙ ap length (sym all))
-progress_end config script x y (k ∷ ks) n m state v u s t a b c r p ended stands h =
-    let empty = at_end x y p.rest p.left ended.0 ended.1 in
-    let all = p.split ∙ ap (λ (l : List ℕ). p.lines ++ lines_after true (k ∷ ks) l) empty ∙ ap (λ (l : List (List ℕ)). p.lines ++ l) (last_line k ks) in
-    line_end config script p.lines (k ∷ ks) n m state v u s t a b c r all p.counted stands p.ran h.0 h.1
+last_of : (config : Config) (i x : Option (List ℕ)) (k : ℕ) (ks : List ℕ) (n : ℕ) (v : World) (s : ℕ) (a b : Option (List ℕ)) (p : Progress config i x (k ∷ ks) n v s a b) → lines_of true p.text ≡ p.lines ++ (k ∷ ks) ∷ []
+last_of config i x k ks n v s a b p = split_at_end config i x (k ∷ ks) n v s a b true p ∙ ap (λ (l : List (List ℕ)). p.lines ++ l) (last_line k ks)
+
+line_end : (config : Config) (i x y : Option (List ℕ)) (k : ℕ) (ks : List ℕ) (n m : ℕ) (state : CoreState) (v u : World) (s t : ℕ) (a b c : Option (List ℕ)) (r : Result (Unit {0}) LineFault) → Progress config i x (k ∷ ks) n v s a b → AtEnd x y → StandsFor state u → LineRan (n + 1) (k ∷ ks) v u s t b c r → OnOk r (m ≡ n + 1) → AllRan config i y state m t a c (script_result r)
+line_end config i x y k ks n m state v u s t a b c (Ok done) p end stands h more =
+    let split = last_of config i x k ks n v s a b p in (
+      p.text,
+      read_to_end config i x y (k ∷ ks) n v s a b end p,
+      record {
+        last = u;
+        ran = subst (λ (l : List (List ℕ)). RanCounted (start_of config) l u 0 t a c) (sym split) (counted_both (start_of config) v u p.lines ((k ∷ ks) ∷ []) 0 s t a b c p.ran h);
+        stands = stands;
+        lines = omega (arith, more, p.counted, length-append p.lines ((k ∷ ks) ∷ [])) ∙ ap length (sym split);
+      },
+    )
+line_end config i x y k ks n m state v u s t a b c (Err (faults.Bad number)) p end stands h more = record {
+  text = p.text;
+  ended = true;
+  read = read_to_end config i x y (k ∷ ks) n v s a b end p;
+  lines = p.lines;
+  before_more = run_to_end config i x (k ∷ ks) n v s a b p;
+  bad = λ more none. record {
+    bad = k ∷ ks;
+    others = [];
+    parts = ap (λ (l : List ℕ). lines_of true (p.text ++ l)) (none refl) ∙ p.split true [] ∙ ap (λ (l : List (List ℕ)). p.lines ++ l) (last_line k ks);
+    is_bad = h.1;
+  };
+  number_is = omega (arith, h.0, p.counted);
+  last = u;
+  ran = ran_kept (start_of config) v u p.lines a b c p.ran.ran h.2 h.3;
+}
+line_end config i x y k ks n m state v u s t a b c (Err faults.Write) p end stands h more = record {
+  line = k ∷ ks;
+  now = v;
+  held = b;
+  up_to = record {
+    text = p.text;
+    ended = true;
+    read = read_to_end config i x y (k ∷ ks) n v s a b end p;
+    lines = p.lines;
+    before_more = run_to_end config i x (k ∷ ks) n v s a b p;
+    others = [];
+    line_is = last_of config i x k ks n v s a b p;
+    ran = p.ran.ran;
+  };
+  last = u;
+  cut = h;
+}
+line_end config i x y k ks n m state v u s t a b c (Err faults.NoMemory) p end stands h more = record {
+  line = k ∷ ks;
+  now = u;
+  up_to = record {
+    text = p.text;
+    ended = true;
+    read = read_to_end config i x y (k ∷ ks) n v s a b end p;
+    lines = p.lines;
+    before_more = run_to_end config i x (k ∷ ks) n v s a b p;
+    others = [];
+    line_is = last_of config i x k ks n v s a b p;
+    ran = ran_kept (start_of config) v u p.lines a b c p.ran.ran h.0 h.1;
+  };
+}
+
+pub progress_end : (config : Config) (i x y : Option (List ℕ)) (begun : List ℕ) (n m : ℕ) (state : CoreState) (v u : World) (s t : ℕ) (a b c : Option (List ℕ)) (r : Result (Unit {0}) LineFault) → Progress config i x begun n v s a b → AtEnd x y → StandsFor state u → Finishes n m begun v u s t b c r → AllRan config i y state m t a c (script_result r)
+progress_end config i x y [] n m state v u s t a b c r p end stands h =
+    let all = split_at_end config i x [] n v s a b true p ∙ ap (λ (l : List (List ℕ)). p.lines ++ l) no_line ∙ append-nil p.lines in
+    rw h.0 (
+      p.text,
+      read_to_end config i x y [] n v s a b end p,
+      record {
+        last = u;
+        ran = subst (λ (n : ℕ). RanCounted (start_of config) (lines_of true p.text) u 0 n a c) (sym h.4) (subst (λ (l : List (List ℕ)). RanCounted (start_of config) l u 0 s a c) (sym all) (counted_kept (start_of config) v u p.lines 0 s a b c p.ran h.1 h.2));
+        stands = stands;
+        lines = h.3 ∙ p.counted ∙ ap length (sym all);
+      },
+    )
+progress_end config i x y (k ∷ ks) n m state v u s t a b c r p end stands h = line_end config i x y k ks n m state v u s t a b c r p end stands h.0 h.1
 
 -- the same steps by the index of a byte
 around : (bytes : List ℕ) (i : ℕ) → i < length bytes → take i bytes ++ (get_or bytes i 0 ∷ drop (i + 1) bytes) ≡ bytes
@@ -340,26 +441,31 @@ index_long n m p begun bytes left other entered kept s t z a b i lt ne long insi
 -- ## How far a run has come, by an engine
 
 -- a run of the script came this far, and the engine stands for the world that it came to
-abbrev pub Comes : Config → List ℕ → Option (List ℕ) → List ℕ → ℕ → CoreState → ℕ → Option (List ℕ) → Option (List ℕ) → Type 0
-Comes config script remaining begun count kept s old new = (now : World) × Progress config script remaining begun count now s old new × StandsFor kept now
+abbrev pub Comes : Config → Option (List ℕ) → Option (List ℕ) → List ℕ → ℕ → CoreState → ℕ → Option (List ℕ) → Option (List ℕ) → Type 0
+Comes config input remaining begun count kept s old new = (now : World) × Progress config input remaining begun count now s old new × StandsFor kept now
 
-pub comes_start : (config : Config) (script : List ℕ) (remaining : Option (List ℕ)) (begun : List ℕ) (count : ℕ) (kept : CoreState) (s : ℕ) (a : Option (List ℕ)) → remaining ≡ Some script → begun ≡ [] → count ≡ 0 → s ≡ 0 → StandsFor kept (start_of config) → Comes config script remaining begun count kept s a a
-comes_start config script remaining begun count kept s a is none zero_is unsent stands = (start_of config, progress_start config script remaining begun count s a is none zero_is unsent, stands)
+pub comes_start : (config : Config) (input : Option (List ℕ)) (begun : List ℕ) (count : ℕ) (kept : CoreState) (s : ℕ) (a : Option (List ℕ)) → begun ≡ [] → count ≡ 0 → s ≡ 0 → StandsFor kept (start_of config) → Comes config input input begun count kept s a a
+comes_start config input begun count kept s a none zero_is unsent stands = (start_of config, progress_start config input begun count s a none zero_is unsent, stands)
 
-pub comes_bytes : (config : Config) (script : List ℕ) (x y : Option (List ℕ)) (begun bytes left : List ℕ) (n m : ℕ) (kept new : CoreState) (s t : ℕ) (a b c : Option (List ℕ)) → Comes config script x begun n kept s a b → Consumes x y bytes → HasRun n m begun bytes left kept new s t b c (Ok tt) → Comes config script y left m new t a c
-comes_bytes config script x y begun bytes left n m kept new s t a b c come eaten step =
+pub comes_bytes : (config : Config) (i x y : Option (List ℕ)) (begun bytes left : List ℕ) (n m : ℕ) (kept new : CoreState) (s t : ℕ) (a b c : Option (List ℕ)) → Comes config i x begun n kept s a b → Consumes x y bytes → HasRun n m begun bytes left kept new s t b c (Ok tt) → Comes config i y left m new t a c
+comes_bytes config i x y begun bytes left n m kept new s t a b c come eaten step =
     let (now, p, stands) = come in
     let (after, h, last) = step now stands in
-    (after, progress_bytes config script x y begun bytes left n m now after s t a b c p eaten h, last)
+    (after, progress_bytes config i x y begun bytes left n m now after s t a b c p eaten h, last)
 
-pub comes_fault : (config : Config) (script : List ℕ) (x y : Option (List ℕ)) (begun bytes left : List ℕ) (n m : ℕ) (kept new : CoreState) (s t : ℕ) (a b c : Option (List ℕ)) (e : LineFault) → Comes config script x begun n kept s a b → Consumes x y bytes → HasRun n m begun bytes left kept new s t b c (Err e) → AllRan config script new m t a c (Err (script_fault_of e))
-comes_fault config script x y begun bytes left n m kept new s t a b c e come eaten step =
+pub comes_unread : (config : Config) (i x y : Option (List ℕ)) (begun : List ℕ) (n : ℕ) (kept : CoreState) (s : ℕ) (a b : Option (List ℕ)) → Comes config i x begun n kept s a b → Keeps x y → RanAllRead config i y a b
+comes_unread config i x y begun n kept s a b come same =
+    let (now, p, stands) = come in
+    progress_unread config i x y begun n now s a b p same
+
+pub comes_fault : (config : Config) (i x y : Option (List ℕ)) (begun bytes left : List ℕ) (n m : ℕ) (kept new : CoreState) (s t : ℕ) (a b c : Option (List ℕ)) (e : LineFault) → Comes config i x begun n kept s a b → Consumes x y bytes → length bytes ≤ 4096 → HasRun n m begun bytes left kept new s t b c (Err e) → AllRan config i y new m t a c (Err (script_fault_of e))
+comes_fault config i x y begun bytes left n m kept new s t a b c e come eaten few step =
     let (now, p, stands) = come in
     let (next, h, last) = step now stands in
-    progress_fault config script x y begun bytes left n m new now next s t a b c e p eaten h
+    progress_fault config i x y begun bytes left n m new now next s t a b c e p eaten few h
 
-pub comes_end : (config : Config) (script : List ℕ) (x y : Option (List ℕ)) (begun : List ℕ) (n m : ℕ) (kept new : CoreState) (s t : ℕ) (a b c : Option (List ℕ)) (r : Result (Unit {0}) LineFault) → Comes config script x begun n kept s a b → Keeps x y × IsAtEnd y → Leads StandsFor kept new (λ w next. Finishes n m begun w next s t b c r) → AllRan config script new m t a c (script_result r)
-comes_end config script x y begun n m kept new s t a b c r come ended step =
+pub comes_end : (config : Config) (i x y : Option (List ℕ)) (begun : List ℕ) (n m : ℕ) (kept new : CoreState) (s t : ℕ) (a b c : Option (List ℕ)) (r : Result (Unit {0}) LineFault) → Comes config i x begun n kept s a b → Keeps x y × IsAtEnd y → Leads StandsFor kept new (λ w next. Finishes n m begun w next s t b c r) → AllRan config i y new m t a c (script_result r)
+comes_end config i x y begun n m kept new s t a b c r come end step =
     let (now, p, stands) = come in
     let (next, h, last) = step now stands in
-    progress_end config script x y begun n m new now next s t a b c r p ended last h
+    progress_end config i x y begun n m new now next s t a b c r p end last h

@@ -1,7 +1,8 @@
 -- What a run of a script writes.
-use Rattle.std.specs.Prelude.{◌≡◌, ℕ, ◌+◌, List, ◌∷◌, ◌++◌, length, flat_map, Option, Some, None}
-use Rattle.std.specs.Prelude.{true, Result, Ok, Err, codes, decimal}
-use Rattle.std.specs.Io.KnownBytes.{Keeps, Appends}
+use Rattle.std.specs.Prelude.{◌≡◌, ◌⊎◌, ℕ, ◌+◌, ◌≤◌, Bool, true, false, List, [], ◌∷◌, ◌++◌}
+use Rattle.std.specs.Prelude.{length, flat_map, Option, Some, None, Result, Ok, Err, codes}
+use Rattle.std.specs.Prelude.{decimal}
+use Rattle.std.specs.Io.KnownBytes.{Keeps, Appends, Consumes, IsAtEnd}
 use Rattle.hex.specs.Hex.{encode_lower}
 use Rattle.mg_engine.specs.declared.config.Config.{Config}
 use Rattle.mg_engine.specs.declared.datagram.Datagram.{Datagram}
@@ -60,6 +61,24 @@ pub record RanInPart (w : World) (lines : List (List ℕ)) (last : World)
   pub parts : lines_for sent ≡ front ++ rest
   pub written : Appends old new front
 
+-- ## How far a script was read
+
+-- This text was read of an input, and the end after it where it has ended.
+pub record HasRead (input rest : Option (List ℕ)) (text : List ℕ) (ended : Bool) : Type 0 where
+  pub consumed : Consumes input rest text
+  pub at_end : ended ≡ true → IsAtEnd rest
+
+-- These lines of a text were run before more of it was read: they are all that end before what the
+-- last read gave, which is 4,096 bytes at most, or the end alone, and perhaps some that end in it.
+pub record RanBeforeMore (text : List ℕ) (ended : Bool) (lines : List (List ℕ)) : Type 0 where
+  pub before : List ℕ
+  pub given : List ℕ
+  pub parts : text ≡ before ++ given
+  pub size : length given ≤ 4096
+  pub end_alone : ended ≡ true → given ≡ []
+  pub later : List (List ℕ)
+  pub lines_are : lines ≡ lines_of false before ++ later
+
 -- ## The outcome of a run over a script on a new gateway
 
 -- all of the script was run, and its lines, its events and what they have sent were counted
@@ -71,40 +90,76 @@ pub record RanToEnd (config : Config) (script : List ℕ) (counts : Counts)
   pub sent : counts.sent ≡ capped (length ran.sent)
   pub counted : record counts { lines = 0; sent = 0; failed = 0 } ≡ counts_of last.tally
 
--- the lines before the first bad one were run, which has this number
-pub record RanToBadLine (config : Config) (script : List ℕ) (number : ℕ)
-    (old new : Option (List ℕ)) : Type 0 where
-  pub lines : List (List ℕ)
+-- after these lines stands a bad one
+pub record HasBadAfter (lines all : List (List ℕ)) : Type 0 where
   pub bad : List ℕ
   pub others : List (List ℕ)
-  pub script_is : lines_of true script ≡ lines ++ bad ∷ others
+  pub parts : all ≡ lines ++ bad ∷ others
   pub is_bad : event_of bad ≡ None
+
+-- The lines before the first bad one were run, which has this number. It is bad whatever may
+-- follow what was read: after the end nothing does.
+pub record RanToBadLine (config : Config) (input rest : Option (List ℕ)) (number : ℕ)
+    (old new : Option (List ℕ)) : Type 0 where
+  pub text : List ℕ
+  pub ended : Bool
+  pub read : HasRead input rest text ended
+  pub lines : List (List ℕ)
+  pub before_more : RanBeforeMore text ended lines
+  pub bad : (more : List ℕ) → (ended ≡ true → more ≡ [])
+      → HasBadAfter lines (lines_of true (text ++ more))
   pub number_is : number ≡ length lines + 1
   pub last : World
   pub ran : Ran (start_of config) lines last old new
 
--- the first lines of the script were run
-pub record RanFirst (config : Config) (script : List ℕ) (old new : Option (List ℕ)) : Type 0 where
-  pub lines : List (List ℕ)
-  pub others : List (List ℕ)
-  pub script_is : lines_of true script ≡ lines ++ others
+-- all lines that end in what was read were run, no more and no fewer
+pub record RanAllRead (config : Config) (input rest old new : Option (List ℕ)) : Type 0 where
+  pub text : List ℕ
+  pub read : HasRead input rest text false
   pub last : World
-  pub ran : Ran (start_of config) lines last old new
+  pub ran : Ran (start_of config) (lines_of false text) last old new
 
--- they were, but for what was not written
-pub record RanFirstInPart (config : Config) (script : List ℕ)
+-- Of the lines of what was read, those before this one were run and led to this world.
+pub record RanUpTo (config : Config) (input rest : Option (List ℕ)) (line : List ℕ) (now : World)
     (old new : Option (List ℕ)) : Type 0 where
+  pub text : List ℕ
+  pub ended : Bool
+  pub read : HasRead input rest text ended
   pub lines : List (List ℕ)
+  pub before_more : RanBeforeMore text ended lines
   pub others : List (List ℕ)
-  pub script_is : lines_of true script ≡ lines ++ others
-  pub last : World
-  pub ran : RanInPart (start_of config) lines last old new
+  pub line_is : lines_of ended text ≡ lines ++ line ∷ others
+  pub ran : Ran (start_of config) lines now old new
 
-abbrev pub ScriptRan : Config → List ℕ → Option (List ℕ) → Option (List ℕ) → Result Counts RunFault
+-- the lines before one were run, and that one too, but for what was not written of it
+pub record RanToCutLine (config : Config) (input rest old new : Option (List ℕ)) : Type 0 where
+  pub line : List ℕ
+  pub now : World
+  pub held : Option (List ℕ)
+  pub up_to : RanUpTo config input rest line now old held
+  pub last : World
+  pub cut : RanInPart now (line ∷ []) last held new
+
+-- the lines before one were run, and that one had no effect
+pub record RanToUnrunLine (config : Config) (input rest old new : Option (List ℕ)) : Type 0 where
+  pub line : List ℕ
+  pub now : World
+  pub up_to : RanUpTo config input rest line now old new
+
+-- nothing was read, and nothing was written
+abbrev pub NothingRan : (input rest old new : Option (List ℕ)) → Type 0
+NothingRan input rest old new = Keeps input rest × Keeps old new
+
+-- what a run came to, by its result: how far it has read, which lines of that it has run, and what
+-- was written of them
+abbrev pub ScriptRan : Config → (input rest old new : Option (List ℕ)) → Result Counts RunFault
     → Type 0
-ScriptRan config script old new (Ok counts) = RanToEnd config script counts old new
-ScriptRan config script old new (Err (faults.Script n)) = RanToBadLine config script n old new
-ScriptRan config script old new (Err faults.Read) = RanFirst config script old new
-ScriptRan config script old new (Err faults.Write) = RanFirstInPart config script old new
-ScriptRan config script old new (Err faults.NoMemory) = RanFirst config script old new
-ScriptRan config script old new (Err faults.BadConfig) = Keeps old new
+ScriptRan config input rest old new (Ok counts) =
+    (script : List ℕ) × HasRead input rest script true × RanToEnd config script counts old new
+ScriptRan config input rest old new (Err (faults.Script number)) =
+    RanToBadLine config input rest number old new
+ScriptRan config input rest old new (Err faults.Read) = RanAllRead config input rest old new
+ScriptRan config input rest old new (Err faults.Write) = RanToCutLine config input rest old new
+ScriptRan config input rest old new (Err faults.NoMemory) =
+    NothingRan input rest old new ⊎ RanToUnrunLine config input rest old new
+ScriptRan config input rest old new (Err faults.BadConfig) = NothingRan input rest old new

@@ -1,4 +1,4 @@
-ghost use Rattle.std.specs.Prelude.{◌≡◌, ◌↔◌, Some, Err, IfSome, OnOk};
+ghost use Rattle.std.specs.Prelude.{◌≡◌, ◌↔◌, Err, OnOk};
 ghost use Rattle.mg_engine.specs.Config.{IsValidConfig};
 ghost use Rattle.mg_core.specs.Run.{ScriptRan};
 
@@ -14,17 +14,20 @@ use std::io::{Read, Write};
 /// `Read`.
 ///
 /// `Ok` says that all of the input is a script, that what was written is the lines of the datagrams that its events have
-/// sent and nothing else, and that its lines, these events and these datagrams were counted. At a fault the first lines of
-/// the input were run; at `Script` these are all lines before the bad one, and what they write was written whole.
-/// `BadConfig` comes exactly where the configuration isn't sound.
+/// sent and nothing else, and that its lines, these events and these datagrams were counted. A fault speaks of what was read
+/// so far, which is the input without what the reader still has. At `Read` all lines that end in it were run, no more and no
+/// fewer. At the others all lines before one of it were run: before the first bad one, which has its number, at `Script`;
+/// before the one for which there was no memory, and which had no effect, at `NoMemory`, unless nothing was read; before the
+/// one whose own answers were written in part at `Write`. What the lines before it write was written whole, and they were run
+/// before more was read. `BadConfig` comes exactly where the configuration isn't sound, and nothing is read then.
 pub fn run<R: Read, W: Write>(
     alloc: Global,
     config: Config,
     reader: &mut R,
     writer: &mut W,
 ) -> Result<Counts, RunFault>
-    ensures script { IfSome (R.remaining reader.old) (λ script.
-        ScriptRan config script (W.contents writer.old) (W.contents writer.new) result) }
+    ensures script { ScriptRan config (R.remaining reader.old) (R.remaining reader.new) (W.contents writer.old)
+        (W.contents writer.new) result }
     ensures bad { (result ≡ Err RunFault.BadConfig) ↔ ¬ IsValidConfig config }
     ensures sound { OnOk result (IsValidConfig config) }
 {

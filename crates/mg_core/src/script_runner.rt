@@ -115,8 +115,8 @@ impl ScriptRunner {
         requires lines { self.old.lines ≡ 0 }
         requires begun { self.old.begun.text ≡ [] }
         requires sent { self.old.runner.sent ≡ 0 }
-        ensures value { (config : Config) → StandsFor self.old.runner.core.state (start_of config) → (script : List ℕ) →
-            R.remaining reader.old ≡ Some script → AllRan config script self.new.runner.core.state
+        ensures value { (config : Config) → StandsFor self.old.runner.core.state (start_of config) →
+            AllRan config (R.remaining reader.old) (R.remaining reader.new) self.new.runner.core.state
             self.new.lines self.new.runner.sent (W.contents writer.old) (W.contents writer.new) result }
     {
         let mut buffer = [0; READ_SIZE];

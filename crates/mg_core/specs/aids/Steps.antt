@@ -1,7 +1,6 @@
 -- The steps of a run: one event, one line, and the bytes of one read.
 use Rattle.std.specs.Prelude.{if◌then◌else◌, ◌≡◌, ℕ, ◌+◌, List, [], ◌∷◌, ◌++◌, length}
-use Rattle.std.specs.Prelude.{true, Option, Some}
-use Rattle.std.specs.Prelude.{None, Result, Ok, Err, OnOk}
+use Rattle.std.specs.Prelude.{Bool, true, false, Option, Some, None, Result, Ok, Err, OnOk}
 use Rattle.std.specs.Io.KnownBytes.{Keeps, Appends}
 use Rattle.mg_engine.specs.declared.config.Config.{Config}
 use Rattle.mg_engine.specs.declared.fault.StartFault.{StartFault}
@@ -30,7 +29,8 @@ use Rattle.mg_lines.specs.Lines.{lines_after, lines_of}
 use Rattle.mg_lines.specs.Streams.{WritesFront}
 use Rattle.mg_core.specs.Script.{event_of}
 use Rattle.mg_core.specs.Step.{Sent, Step}
-use Rattle.mg_core.specs.Run.{Ran, RanInPart, RanToBadLine, RanFirst, RanFirstInPart, lines_for}
+use Rattle.mg_core.specs.Run.{Ran, RanInPart, HasRead, HasBadAfter, RanToBadLine, RanAllRead}
+use Rattle.mg_core.specs.Run.{RanToCutLine, RanToUnrunLine, lines_for}
 
 -- a text grew by what was written
 abbrev pub Puts : CoreState → CoreState → List ℕ → List ℕ → (World → List ℕ × World) → Type 0
@@ -91,26 +91,27 @@ LineRan number line w next n m old new (Err (stops.Bad bad)) =
 LineRan number line w next n m old new (Err stops.Write) = RanInPart w (line ∷ []) next old new
 LineRan number line w next n m old new (Err stops.NoMemory) = Keeps old new × (next ≡ w)
 
--- The lines that end in some bytes were run, and the line after them is begun; or why they were
--- not, whatever stands after the bytes.
+-- The lines that end in some bytes were run, and the line after them is begun, whatever stands
+-- after the bytes; or why they were not.
 abbrev pub BytesRan : ℕ → ℕ → List ℕ → List ℕ → List ℕ → World → World → ℕ → ℕ
     → Option (List ℕ) → Option (List ℕ) → Result (Unit {0}) LineFault → Type 0
 BytesRan count counted begun bytes left w next n m old new (Ok done) =
-    (lines : List (List ℕ)) × ((rest : List ℕ) → lines_after true begun (bytes ++ rest) ≡ lines
-    ++ lines_after true left rest)
+    (lines : List (List ℕ))
+    × ((ended : Bool) (more : List ℕ) → lines_after ended begun (bytes ++ more) ≡ lines
+    ++ lines_after ended left more)
     × (counted ≡ count + length lines) × RanCounted w lines next n m old new
 BytesRan count counted begun bytes left w next n m old new (Err (stops.Bad number)) =
-    (lines : List (List ℕ)) × ((rest : List ℕ) → (bad : List ℕ) × (others : List (List ℕ))
-    × (lines_after true begun (bytes ++ rest) ≡ lines ++ bad ∷ others) × (event_of bad ≡ None))
+    (lines : List (List ℕ))
+    × ((more : List ℕ) → HasBadAfter lines (lines_after true begun (bytes ++ more)))
     × (number ≡ count + length lines + 1) × Ran w lines next old new
 BytesRan count counted begun bytes left w next n m old new (Err stops.Write) =
-    (lines : List (List ℕ)) × ((rest : List ℕ) → (others : List (List ℕ))
-    × (lines_after true begun (bytes ++ rest) ≡ lines ++ others))
-    × RanInPart w lines next old new
+    (lines : List (List ℕ)) × (line : List ℕ) × (others : List (List ℕ))
+    × (lines_after false begun bytes ≡ lines ++ line ∷ others)
+    × (mid : World) × (held : Option (List ℕ)) × Ran w lines mid old held
+    × RanInPart mid (line ∷ []) next held new
 BytesRan count counted begun bytes left w next n m old new (Err stops.NoMemory) =
-    (lines : List (List ℕ)) × ((rest : List ℕ) → (others : List (List ℕ))
-    × (lines_after true begun (bytes ++ rest) ≡ lines ++ others))
-    × Ran w lines next old new
+    (lines : List (List ℕ)) × (line : List ℕ) × (others : List (List ℕ))
+    × (lines_after false begun bytes ≡ lines ++ line ∷ others) × Ran w lines next old new
 
 -- the line that was begun is the last, if there is one, and is counted
 abbrev pub Finishes : ℕ → ℕ → List ℕ → World → World → ℕ → ℕ → Option (List ℕ)
@@ -121,18 +122,28 @@ Finishes count counted (b ∷ bs) w next n m old new result =
     LineRan (count + 1) (b ∷ bs) w next n m old new result × OnOk result (counted ≡ count + 1)
 
 -- the whole of a script was run, the state stands for the world that it came to, and the lines
--- and what was sent were counted; or how far it was run
-abbrev pub AllRan : Config → List ℕ → CoreState → ℕ → ℕ → Option (List ℕ) → Option (List ℕ)
-    → Result (Unit {0}) ScriptFault → Type 0
-AllRan config script state count n old new (Ok done) =
-    (last : World) × RanCounted (start_of config) (lines_of true script) last 0 n old new
-    × StandsFor state last × (count ≡ length (lines_of true script))
-AllRan config script state count n old new (Err (scripts.Bad number)) =
-    RanToBadLine config script number old new
-AllRan config script state count n old new (Err scripts.Read) = RanFirst config script old new
-AllRan config script state count n old new (Err scripts.Write) =
-    RanFirstInPart config script old new
-AllRan config script state count n old new (Err scripts.NoMemory) = RanFirst config script old new
+-- and what was sent were counted
+pub record AllRanCounted (config : Config) (script : List ℕ) (state : CoreState) (count n : ℕ)
+    (old new : Option (List ℕ)) : Type 0 where
+  pub last : World
+  pub ran : RanCounted (start_of config) (lines_of true script) last 0 n old new
+  pub stands : StandsFor state last
+  pub lines : count ≡ length (lines_of true script)
+
+-- so it was of all of an input, or how far it was run
+abbrev pub AllRan : Config → (input rest : Option (List ℕ)) → CoreState → ℕ → ℕ
+    → (old new : Option (List ℕ)) → Result (Unit {0}) ScriptFault → Type 0
+AllRan config input rest state count n old new (Ok done) =
+    (script : List ℕ) × HasRead input rest script true
+    × AllRanCounted config script state count n old new
+AllRan config input rest state count n old new (Err (scripts.Bad number)) =
+    RanToBadLine config input rest number old new
+AllRan config input rest state count n old new (Err scripts.Read) =
+    RanAllRead config input rest old new
+AllRan config input rest state count n old new (Err scripts.Write) =
+    RanToCutLine config input rest old new
+AllRan config input rest state count n old new (Err scripts.NoMemory) =
+    RanToUnrunLine config input rest old new
 
 -- ## Faults as others
 

@@ -12,7 +12,7 @@ returns-clause-ends g c =
       status = c.match-asked_run.status;
       told = c.code.ensures.value;
       ends = elim c.match-asked_run.branch [
-        | in-Ok-Replay w ↦ rw (w.status-is, w.output-is, w.in-Ok-Replay.ensures.run, w.in-Ok-Replay.field-0-is) w.replay-status.ensures.value
+        | in-Ok-Replay w ↦ rw (w.status-is, w.input-is, w.output-is, w.in-Ok-Replay.ensures.run, w.in-Ok-Replay.field-0-is) w.replay-status.ensures.value
         | in-Ok-Serve w ↦ rw (w.status-is, w.input-is, w.output-is, w.in-Ok-Serve.ensures.run, w.in-Ok-Serve.field-0-is) w.serve-status.ensures.value
         | in-Err+in-Some-1 w ↦ rw (w.status-is, w.output-is) (ends_told g.R.Read.remaining g.W.Write.contents (asked words) (kind_of w.in-Err.error) c.args.input.now _
             c.args.output.now w.tell-status.new.output w.tell-status.result w.in-Err.ensures.refused w.tell-status.ensures.told w.input-is)

@@ -1,38 +1,40 @@
 use Rattle.std.proofs.Common.{Ok, Err, take, length-take, arith}
+use Rattle.std.proofs.KnownBytes.{Keeps-refl}
 use Rattle.std.proofs.lemmas.Result.{err_from_is_err_and}
-use Rattle.mg_core.proofs.RunLaws.{comes_start, comes_bytes, comes_fault, comes_end, progress_unread}
+use Rattle.mg_core.proofs.RunLaws.{comes_start, comes_bytes, comes_fault, comes_end, comes_unread}
 use Rattle.mg_core.proofs.script_runner.ScriptRunner.take_all.Goals as goal
 
 pub loop-init : goal.loop-init
 loop-init g c = record {
   lines = omega (arith, c.requires.lines);
-  value = λ config starts script is. comes_start config script (g.R.Read.remaining c.args.reader.now) c.args.self.now.begun.text c.args.self.now.lines c.args.self.now.runner.core.state c.args.self.now.runner.sent (g.W.Write.contents c.args.writer.now) is c.requires.begun c.requires.lines c.requires.sent starts;
+  value = λ config starts. comes_start config (g.R.Read.remaining c.args.reader.now) c.args.self.now.begun.text c.args.self.now.lines c.args.self.now.runner.core.state c.args.self.now.runner.sent (g.W.Write.contents c.args.writer.now) c.requires.begun c.requires.lines c.requires.sent starts;
 }
 
 pub returns-in_err-n : goal.returns-in_err-n
 returns-in_err-n g c =
     let p = err_from_is_err_and c.from_residual.result c.from_residual.ensures.1 in
     rw (p.1, p.2) (record {
-      value = λ config starts script is. let come = c.loop.invariant.value config starts script is in
-          progress_unread config script (g.R.Read.remaining c.loop.reader) c.loop.self.begun.text c.loop.self.lines come.0 c.loop.self.runner.sent (g.W.Write.contents c.args.writer.now) (g.W.Write.contents c.loop.writer) come.1;
+      value = λ config starts. comes_unread config (g.R.Read.remaining c.args.reader.now) (g.R.Read.remaining c.loop.reader) (g.R.Read.remaining c.read_some.new.reader)
+          c.loop.self.begun.text c.loop.self.lines c.loop.self.runner.core.state c.loop.self.runner.sent (g.W.Write.contents c.args.writer.now) (g.W.Write.contents c.loop.writer)
+          (c.loop.invariant.value config starts) c.in_err-n.ensures.value;
     })
 
 pub returns-in_err-finish : goal.returns-in_err-finish
 returns-in_err-finish g c =
     let p = err_from_is_err_and c.from_residual-in_err-finish.result c.from_residual-in_err-finish.ensures.1 in
     rw (p.1, p.2) (record {
-      value = λ config starts script is.
-          comes_end config script (g.R.Read.remaining c.loop.reader) (g.R.Read.remaining c.read_some.new.reader)
+      value = λ config starts.
+          comes_end config (g.R.Read.remaining c.args.reader.now) (g.R.Read.remaining c.loop.reader) (g.R.Read.remaining c.read_some.new.reader)
           c.loop.self.begun.text c.loop.self.lines c.finish.new.self.lines c.loop.self.runner.core.state c.finish.new.self.runner.core.state c.loop.self.runner.sent c.finish.new.self.runner.sent (g.W.Write.contents c.args.writer.now) (g.W.Write.contents c.loop.writer) (g.W.Write.contents c.finish.new.writer) (Err c.in_err-finish.field-0.0)
-          (c.loop.invariant.value config starts script is) (rw c.in_default.is at c.in_ok-n.ensures.value) c.in_err-finish.ensures.value;
+          (c.loop.invariant.value config starts) (rw c.in_default.is at c.in_ok-n.ensures.value) c.in_err-finish.ensures.value;
     })
 
 pub returns-in_default : goal.returns-in_default
 returns-in_default g c = record {
-  value = λ config starts script is.
-      comes_end config script (g.R.Read.remaining c.loop.reader) (g.R.Read.remaining c.read_some.new.reader)
+  value = λ config starts.
+      comes_end config (g.R.Read.remaining c.args.reader.now) (g.R.Read.remaining c.loop.reader) (g.R.Read.remaining c.read_some.new.reader)
       c.loop.self.begun.text c.loop.self.lines c.finish.new.self.lines c.loop.self.runner.core.state c.finish.new.self.runner.core.state c.loop.self.runner.sent c.finish.new.self.runner.sent (g.W.Write.contents c.args.writer.now) (g.W.Write.contents c.loop.writer) (g.W.Write.contents c.finish.new.writer) (Ok tt)
-      (c.loop.invariant.value config starts script is) (rw c.in_default.is at c.in_ok-n.ensures.value) c.in_ok-finish.ensures.value;
+      (c.loop.invariant.value config starts) (rw c.in_default.is at c.in_ok-n.ensures.value) c.in_ok-finish.ensures.value;
 }
 
 pub returns-in_err-take_bytes : goal.returns-in_err-take_bytes
@@ -40,11 +42,11 @@ returns-in_err-take_bytes g c =
     let p = err_from_is_err_and c.from_residual-in_err-take_bytes.result c.from_residual-in_err-take_bytes.ensures.1 in
     let read = rw c.in-Some.is at c.in_ok-n.ensures.value in
     rw (p.1, p.2) (record {
-      value = λ config starts script is. comes_fault config script (g.R.Read.remaining c.loop.reader) (g.R.Read.remaining c.read_some.new.reader)
+      value = λ config starts. comes_fault config (g.R.Read.remaining c.args.reader.now) (g.R.Read.remaining c.loop.reader) (g.R.Read.remaining c.read_some.new.reader)
           c.loop.self.begun.text (take c.in-Some.n c.read_some.new.buffer) c.take_bytes.new.self.begun.text c.loop.self.lines c.take_bytes.new.self.lines
           c.loop.self.runner.core.state c.take_bytes.new.self.runner.core.state c.loop.self.runner.sent c.take_bytes.new.self.runner.sent
           (g.W.Write.contents c.args.writer.now) (g.W.Write.contents c.loop.writer) (g.W.Write.contents c.take_bytes.new.writer) c.in_err-take_bytes.field-0.0
-          (c.loop.invariant.value config starts script is) read.1 c.in_err-take_bytes.ensures.value;
+          (c.loop.invariant.value config starts) read.1 (omega (arith, length-take c.in-Some.n c.read_some.new.buffer, read.0, c.read_some.array_long)) c.in_err-take_bytes.ensures.value;
     })
 
 pub loop-preserved : goal.loop-preserved
@@ -52,12 +54,16 @@ loop-preserved g c =
     let read = rw c.in-Some.is at c.in_ok-n.ensures.value in
     record {
       lines = omega (arith, c.in_ok-take_bytes.ensures.lines, length-take c.in-Some.n c.read_some.new.buffer, read.0, c.read_some.array_long, c.loop.invariant.lines);
-      value = λ config starts script is. comes_bytes config script (g.R.Read.remaining c.loop.reader) (g.R.Read.remaining c.read_some.new.reader)
+      value = λ config starts. comes_bytes config (g.R.Read.remaining c.args.reader.now) (g.R.Read.remaining c.loop.reader) (g.R.Read.remaining c.read_some.new.reader)
           c.loop.self.begun.text (take c.in-Some.n c.read_some.new.buffer) c.take_bytes.new.self.begun.text c.loop.self.lines c.take_bytes.new.self.lines
           c.loop.self.runner.core.state c.take_bytes.new.self.runner.core.state c.loop.self.runner.sent c.take_bytes.new.self.runner.sent
           (g.W.Write.contents c.args.writer.now) (g.W.Write.contents c.loop.writer) (g.W.Write.contents c.take_bytes.new.writer)
-          (c.loop.invariant.value config starts script is) read.1 c.in_ok-take_bytes.ensures.value;
+          (c.loop.invariant.value config starts) read.1 c.in_ok-take_bytes.ensures.value;
     }
 
 pub returns : goal.returns
-returns g c = record { value = λ config starts script is. let come = c.loop.invariant.value config starts script is in progress_unread config script (g.R.Read.remaining c.loop.reader) c.loop.self.begun.text c.loop.self.lines come.0 c.loop.self.runner.sent (g.W.Write.contents c.args.writer.now) (g.W.Write.contents c.loop.writer) come.1 }
+returns g c = record {
+  value = λ config starts. comes_unread config (g.R.Read.remaining c.args.reader.now) (g.R.Read.remaining c.loop.reader) (g.R.Read.remaining c.loop.reader)
+      c.loop.self.begun.text c.loop.self.lines c.loop.self.runner.core.state c.loop.self.runner.sent (g.W.Write.contents c.args.writer.now) (g.W.Write.contents c.loop.writer)
+      (c.loop.invariant.value config starts) (Keeps-refl (g.R.Read.remaining c.loop.reader));
+}

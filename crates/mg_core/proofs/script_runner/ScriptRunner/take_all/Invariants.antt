@@ -1,4 +1,4 @@
-use Rattle.std.proofs.Common.{◌≡◌, ◌*◌, ◌≤◌, ℕ, List, Some}
+use Rattle.std.proofs.Common.{◌*◌, ◌≤◌}
 use Rattle.mg_engine.specs.declared.config.Config.{Config}
 use Rattle.mg_core.specs.World.{StandsFor, start_of}
 use Rattle.mg_core.proofs.RunLaws.{Comes}
@@ -7,5 +7,5 @@ use Rattle.mg_core.proofs.script_runner.ScriptRunner.take_all.Given as goal
 abbrev pub invariant-loop : goal.invariant-loop
 invariant-loop g l = record {
   lines : l.self.lines ≤ 4096 * l.counter;
-  value : (config : Config) → StandsFor l.initial.self.runner.core.state (start_of config) → (script : List ℕ) → g.R.Read.remaining l.initial.reader ≡ Some script → Comes config script (g.R.Read.remaining l.reader) l.self.begun.text l.self.lines l.self.runner.core.state l.self.runner.sent (g.W.Write.contents l.initial.writer) (g.W.Write.contents l.writer);
+  value : (config : Config) → StandsFor l.initial.self.runner.core.state (start_of config) → Comes config (g.R.Read.remaining l.initial.reader) (g.R.Read.remaining l.reader) l.self.begun.text l.self.lines l.self.runner.core.state l.self.runner.sent (g.W.Write.contents l.initial.writer) (g.W.Write.contents l.writer);
 }

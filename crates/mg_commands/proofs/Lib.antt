@@ -3,6 +3,7 @@ pub mod SearchSteps
 pub mod LevelLaws
 pub mod ParameterLaws
 pub mod PutLaws
+pub mod WorkLaws
 pub mod PropertySteps
 pub mod RunLaws
 pub mod WideLaws

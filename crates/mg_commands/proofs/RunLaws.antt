@@ -1,5 +1,5 @@
 -- What comes of the commands and actions of a request, step by step.
-use Rattle.std.proofs.Common.{◌≡◌, ℕ, ◌+◌, ◌<◌, ◌≤◌, Bool, true, false, ◌&&◌, ◌||◌, List, [], ◌∷◌, ◌++◌, length, map, get_or, drop, Option, Some, None, Result, Ok, Err, refl, sym, ap, subst, ◌∙◌, append_assoc}
+use Rattle.std.proofs.Common.{if◌then◌else◌, ◌≡◌, ℕ, ◌+◌, ◌*◌, ◌<◌, ◌≤◌, Bool, true, false, ◌&&◌, ◌||◌, List, [], ◌∷◌, ◌++◌, length, map, get_or, drop, Option, Some, None, Result, Ok, Err, refl, sym, ap, subst, ◌∙◌, append_assoc}
 use Rattle.std.specs.List.{list_all}
 use Rattle.std.specs.Option.{option_or}
 use Rattle.std.proofs.lemmas.List.{drop_more, drop_all}
@@ -15,6 +15,7 @@ use Rattle.mg_reply.specs.Reply.{Answered, new_reply, after_put, after_all}
 use Rattle.mg_rooms.specs.declared.target.Target.{Target}
 use Rattle.mg_engine.specs.Gateway.{Gateway}
 use Rattle.mg_engine.specs.Stands.{EngineState, StandsFor, IsOutcome}
+use Rattle.mg_engine.specs.Work.{RisesAtMost}
 use Rattle.mg_text.specs.declared.command.Command.{Command}
 use Rattle.mg_text.specs.declared.request.Action.{Action}
 use Rattle.mg_text.specs.declared.request.Request.{Request}
@@ -28,8 +29,10 @@ use Rattle.mg_commands.specs.ContextProperties.{action_fault, context_outcome}
 use Rattle.mg_commands.specs.Name.{name_of, written_as, written_name}
 use Rattle.mg_commands.specs.Outcome.{Trial, outcome, check_command, all_names, names_for}
 use Rattle.mg_commands.specs.Transaction.{ActionState, TransactionState, after_outcome, with_name, and_then, with_names, with_trial, with_command, unless_optional, go_on, with_commands, action_start, id_of, target_of, end_of_action, after_properties, after_commands, action_unless, with_action, with_actions, replied}
-use Rattle.mg_commands.specs.aids.Runs.{ActionKept, action_kept, IsAction, with_all, TransactionKept, transaction_kept, IsTransaction, Tells}
+use Rattle.mg_commands.specs.aids.Runs.{Base, IsPaid, ActionKept, action_kept, IsAction, with_all, TransactionKept, transaction_kept, IsTransaction, Tells}
+use Rattle.mg_commands.specs.Work.{is_edit, edits_in}
 use Rattle.mg_commands.proofs.PutLaws.{put_next, put_more}
+use Rattle.mg_commands.proofs.WorkLaws.{paid_one, paid_still, paid_nothing}
 
 value_cases : (b : Bool) → (b ≡ false → true ≡ false) → b ≡ true
 value_cases true h = refl
@@ -62,23 +65,35 @@ made_first : (a b made : Option ℕ) (told : Option ℕ) → a ≡ b → told �
 made_first a (Some n) made told h e = ap (λ (o : Option ℕ). option_or o made) h ∙ sym e
 made_first a None made told h e = ap (λ (o : Option ℕ). option_or o made) h ∙ sym e
 
-pub name_done : (source : List ℕ) (c : Command) (parameters : CommandParameters) (name : Name) (old new : EngineState) (progress : Progress) (before told : Answered) (s : Served) (made : Option ℕ) → ((w : Gateway) → StandsFor old w → IsOutcome new (Ok s) (outcome c.word w progress.target name parameters)) → made ≡ option_or progress.made s.made → told ≡ after_put before (item_done c s)
-    → (base : Answered) → Leads (IsAction base) (action_kept old progress before) (action_kept new (record { target = s.target; made = made }) told) (λ run next. with_name source c parameters name run ≡ (next, true))
-name_done source c parameters name old new progress before told s made came is put base run h =
+pub name_done : (source : List ℕ) (c : Command) (parameters : CommandParameters) (name : Name) (old new : EngineState) (progress : Progress) (before told : Answered) (s : Served) (made : Option ℕ) → ((w : Gateway) → StandsFor old w → IsOutcome new (Ok s) (outcome c.word w progress.target name parameters)) → RisesAtMost (if is_edit c.word then 4 else 0) old.sums.work new.sums.work → made ≡ option_or progress.made s.made → told ≡ after_put before (item_done c s)
+    → (base : Base) → Leads (IsAction base) (action_kept old progress before) (action_kept new (record { target = s.target; made = made }) told) (λ run next. with_name source c parameters name run ≡ (next, true))
+name_done source c parameters name old new progress before told s made came cost is put base run h =
     let (w, did, stands) = came run.gateway h.gateway in (
       record { gateway = w; target = s.target; made = option_or run.made s.made; items = run.items ++ item_done c s ∷ [] },
       with_outcome source c parameters name run progress.target h.target ∙ ap (after_outcome c.word (name_told source c name) run) did,
-      record { gateway = stands; target = refl; made = made_first run.made progress.made s.made made h.made is; reply = put ∙ put_next base before run.items (item_done c s) h.reply },
+      record {
+        gateway = stands;
+        target = refl;
+        made = made_first run.made progress.made s.made made h.made is;
+        reply = put ∙ put_next base.reply before run.items (item_done c s) h.reply;
+        work = paid_one base run.items c.word s.term s.parts old new h.work cost;
+      },
     )
 
 -- an action after one more item that tells an error stands where it stood
 failed_stands : (c : Command) (term : List ℕ) (old new : EngineState) (progress : Progress) (before told : Answered) (e : ErrorNumber) → new ≡ old → told ≡ after_put before (item_failed c term e)
-    → (base : Answered) (run : ActionState) → IsAction base (action_kept old progress before) run → IsAction base (action_kept new progress told) (record run { items = run.items ++ item_failed c term e ∷ [] })
+    → (base : Base) (run : ActionState) → IsAction base (action_kept old progress before) run → IsAction base (action_kept new progress told) (record run { items = run.items ++ item_failed c term e ∷ [] })
 failed_stands c term old new progress before told e same put base run h =
-    record { gateway = rw same h.gateway; target = h.target; made = h.made; reply = put ∙ put_next base before run.items (item_failed c term e) h.reply }
+    record {
+      gateway = rw same h.gateway;
+      target = h.target;
+      made = h.made;
+      reply = put ∙ put_next base.reply before run.items (item_failed c term e) h.reply;
+      work = paid_still base run.items (item_failed c term e ∷ []) old new h.work (ap (λ (k : EngineState). k.sums.work) same);
+    }
 
 pub name_failed : (source : List ℕ) (c : Command) (parameters : CommandParameters) (name : Name) (old new : EngineState) (progress : Progress) (before told : Answered) (e : ErrorNumber) → ((w : Gateway) → StandsFor old w → IsOutcome new (Err e) (outcome c.word w progress.target name parameters)) → new ≡ old → told ≡ after_put before (item_failed c (name_told source c name) e)
-    → (base : Answered) → Leads (IsAction base) (action_kept old progress before) (action_kept new progress told) (λ run next. with_name source c parameters name run ≡ (next, false))
+    → (base : Base) → Leads (IsAction base) (action_kept old progress before) (action_kept new progress told) (λ run next. with_name source c parameters name run ≡ (next, false))
 name_failed source c parameters name old new progress before told e came same put base run h = (
   record run { items = run.items ++ item_failed c (name_told source c name) e ∷ [] },
   with_outcome source c parameters name run progress.target h.target ∙ ap (after_outcome c.word (name_told source c name) run) (came run.gateway h.gateway),
@@ -107,7 +122,7 @@ was_done run false = refl
 
 -- The loop over members, at the member i. What it was entered with stood for actions; each came to one of those for
 -- which what it has now stands.
-module _ (source : List ℕ) (c : Command) (parameters : CommandParameters) (members : List ℕ) (base : Answered) (entered kept : ActionKept) (i : ℕ) (were_done : Bool)
+module _ (source : List ℕ) (c : Command) (parameters : CommandParameters) (members : List ℕ) (base : Base) (entered kept : ActionKept) (i : ℕ) (were_done : Bool)
     (inside : Leads (IsAction base) entered kept (λ run now. with_names source c parameters (map names.Number members) run ≡ and_then (with_names source c parameters (map names.Number (drop i members))) (now, were_done))) where
   pub members_go_on : (n d : ℕ) (new : ActionKept) (is_done are_done : Bool) → i < length members → n ≡ get_or members i d → are_done ≡ (were_done && is_done) → Leads (IsAction base) kept new (λ run next. with_name source c parameters (names.Number n) run ≡ (next, is_done)) → Leads (IsAction base) entered new (λ run now. with_names source c parameters (map names.Number members) run ≡ and_then (with_names source c parameters (map names.Number (drop (i + 1) members))) (now, are_done))
   members_go_on n d new is_done are_done lt is all step run h =
@@ -136,7 +151,7 @@ with_matches : (source : List ℕ) (c : Command) (parameters : CommandParameters
 with_matches source c parameters run target r h is = ap (λ (t : Target). with_trial source c run (tried_on parameters (all_names run.gateway t c.word))) h ∙ ap (λ (r : Result (List Name) ErrorNumber). with_trial source c run (tried_on parameters r)) is
 
 pub all_refused : (source : List ℕ) (c : Command) (parameters : CommandParameters) (kept : EngineState) (progress : Progress) (before told : Answered) (e : ErrorNumber) → ((w : Gateway) → StandsFor kept w → all_names w progress.target c.word ≡ Err e) → told ≡ after_put before (item_failed c (written_name (text_of source c.term)) e)
-    → (base : Answered) → Leads (IsAction base) (action_kept kept progress before) (action_kept kept progress told) (λ run next. with_all source c parameters run ≡ (next, false))
+    → (base : Base) → Leads (IsAction base) (action_kept kept progress before) (action_kept kept progress told) (λ run next. with_all source c parameters run ≡ (next, false))
 all_refused source c parameters kept progress before told e found put base run h =
     let term = written_name (text_of source c.term) in (
       record run { items = run.items ++ item_failed c term e ∷ [] },
@@ -171,14 +186,14 @@ one_tried source c parameters (names.Number n) run h = for_one source c paramete
 one_tried source c parameters names.Other run h = for_one source c parameters names.Other run
 
 pub command_for_one : (source : List ℕ) (c : Command) (parameters : CommandParameters) (name : Name) (kept new : ActionKept) (is_done : Bool) → check_command source c ≡ Ok parameters → name_of (text_of source c.term) ≡ name → (name ≡ names.All → ⊥)
-    → ((base : Answered) → Leads (IsAction base) kept new (λ run next. with_name source c parameters name run ≡ (next, is_done)))
-    → (base : Answered) → Leads (IsAction base) kept new (λ run next. with_command source c run ≡ (next, is_done))
+    → ((base : Base) → Leads (IsAction base) kept new (λ run next. with_name source c parameters name run ≡ (next, is_done)))
+    → (base : Base) → Leads (IsAction base) kept new (λ run next. with_command source c run ≡ (next, is_done))
 command_for_one source c parameters name kept new is_done checked is not_all ran base run h =
     let (next, did, stands) = ran base run h in
     (next, with_checked source c run name (Ok parameters) checked is ∙ one_tried source c parameters name run not_all ∙ did, stands)
 
 pub command_refused : (source : List ℕ) (c : Command) (kept : EngineState) (progress : Progress) (before told : Answered) (e : ErrorNumber) → check_command source c ≡ Err e → told ≡ after_put before (item_failed c (written_name (text_of source c.term)) e)
-    → (base : Answered) → Leads (IsAction base) (action_kept kept progress before) (action_kept kept progress told) (λ run next. with_command source c run ≡ (next, false))
+    → (base : Base) → Leads (IsAction base) (action_kept kept progress before) (action_kept kept progress told) (λ run next. with_command source c run ≡ (next, false))
 command_refused source c kept progress before told e checked put base run h =
     let term = written_name (text_of source c.term) in (
       record run { items = run.items ++ item_failed c term e ∷ [] },
@@ -208,7 +223,7 @@ commands_end source cs i run le = rw (drop_all i cs le) refl
 
 -- The loop over commands, at the command i. What it was entered with stood for actions; each came to one of those for
 -- which what it has now stands.
-module _ (source : List ℕ) (cs : List Command) (base : Answered) (entered kept : ActionKept) (i : ℕ)
+module _ (source : List ℕ) (cs : List Command) (base : Base) (entered kept : ActionKept) (i : ℕ)
     (inside : Leads (IsAction base) entered kept (λ run now. with_commands source cs run ≡ with_commands source (drop i cs) now)) where
   pub commands_go_on : (c d : Command) (new : ActionKept) (is_done : Bool) → i < length cs → c ≡ get_or cs i d → (c.is_optional || is_done) ≡ true → Leads (IsAction base) kept new (λ run next. with_command source c run ≡ (next, is_done)) → Leads (IsAction base) entered new (λ run now. with_commands source cs run ≡ with_commands source (drop (i + 1) cs) now)
   commands_go_on c d new is_done lt is goes_on step run h =
@@ -233,43 +248,45 @@ abbrev pub first_progress : Action → Progress
 first_progress a = record { target = target_of a.context; made = None }
 
 pub action_refused : (source : List ℕ) (a : Action) (kept : EngineState) (before fault told : Answered) (e : ErrorNumber) → action_fault a ≡ Some e → fault ≡ after_put before (replies.Fault e) → told ≡ after_put fault (replies.Action a.context)
-    → (base : Answered) → Leads (IsTransaction base) (transaction_kept kept before) (transaction_kept kept told) (λ s next. with_action source a s ≡ (next, false))
+    → (base : Base) → Leads (IsTransaction base) (transaction_kept kept before) (transaction_kept kept told) (λ s next. with_action source a s ≡ (next, false))
 unfolding with_action
 action_refused source a kept before fault told e why first last base s h = (
   record { gateway = s.gateway; items = s.items ++ replies.Fault e ∷ replies.Action a.context ∷ [] },
   ap (λ (o : Option ErrorNumber). action_unless o source a s) why,
   record {
     gateway = h.gateway;
-    reply = last ∙ put_next base fault (s.items ++ replies.Fault e ∷ []) (replies.Action a.context) (first ∙ put_next base before s.items (replies.Fault e) h.reply)
-        ∙ ap (after_all base) (append_assoc s.items (replies.Fault e ∷ []) (replies.Action a.context ∷ []));
+    reply = last ∙ put_next base.reply fault (s.items ++ replies.Fault e ∷ []) (replies.Action a.context) (first ∙ put_next base.reply before s.items (replies.Fault e) h.reply)
+        ∙ ap (after_all base.reply) (append_assoc s.items (replies.Fault e ∷ []) (replies.Action a.context ∷ []));
+    work = paid_still base s.items (replies.Fault e ∷ replies.Action a.context ∷ []) kept kept h.work refl;
   },
 )
 
--- the end of an action, by what was told of its context
-close : (base before told closed : Answered) (new : EngineState) (run : ActionState) (w : Gateway) (items : List Item) → StandsFor new w → before ≡ after_all base run.items → told ≡ after_all before items → closed ≡ after_put told (replies.Action (id_of run.target)) → IsTransaction base (transaction_kept new closed) (end_of_action run w items)
-close base before told closed new run w items stands h put last = record {
-  gateway = stands;
-  reply = last ∙ put_next base told (run.items ++ items) (replies.Action (id_of run.target)) (put_more base before told run.items items h put);
-}
+-- the end of an action, by what was told of its context, for which no row was touched
+module _ (base : Base) (before told closed : Answered) (kept new : EngineState) (run : ActionState) (h : before ≡ after_all base.reply run.items) (paid : IsPaid base run.items kept) (same : new.sums.work ≡ kept.sums.work) (last : closed ≡ after_put told (replies.Action (id_of run.target))) where
+  close : (w : Gateway) (items : List Item) → StandsFor new w → told ≡ after_all before items → IsTransaction base (transaction_kept new closed) (end_of_action run w items)
+  close w items stands put = record {
+    gateway = stands;
+    reply = last ∙ put_next base.reply told (run.items ++ items) (replies.Action (id_of run.target)) (put_more base.reply before told run.items items h put);
+    work = paid_still base (run.items ++ items) (replies.Action (id_of run.target) ∷ []) new new (paid_still base run.items items kept new paid same) refl;
+  }
 
-module _ (base before told closed : Answered) (new : EngineState) (run : ActionState) (is_done : Bool) (h : before ≡ after_all base run.items) (last : closed ≡ after_put told (replies.Action (id_of run.target))) where
-  properties_ended : (r : Result (Gateway × List Item) ErrorNumber) → Tells new before told is_done run.gateway r → (next : TransactionState) × (after_properties run r ≡ (next, is_done)) × IsTransaction base (transaction_kept new closed) next
-  properties_ended (Ok p) t = (
+  properties_ended : (is_done : Bool) (r : Result (Gateway × List Item) ErrorNumber) → Tells new before told is_done run.gateway r → (next : TransactionState) × (after_properties run r ≡ (next, is_done)) × IsTransaction base (transaction_kept new closed) next
+  properties_ended is_done (Ok p) t = (
     end_of_action run p.0 p.1,
     ap (λ (b : Bool). (end_of_action run p.0 p.1, b)) (sym t.0),
-    close base before told closed new run p.0 p.1 t.2 h t.1 last,
+    close p.0 p.1 t.2 t.1,
   )
-  properties_ended (Err e) t = (
+  properties_ended is_done (Err e) t = (
     end_of_action run run.gateway (replies.Fault e ∷ []),
     ap (λ (b : Bool). (end_of_action run run.gateway (replies.Fault e ∷ []), b)) (sym t.0),
-    close base before told closed new run run.gateway (replies.Fault e ∷ []) t.2 h t.1 last,
+    close run.gateway (replies.Fault e ∷ []) t.2 t.1,
   )
 
 -- An action whose commands were tried.
 module _ (source : List ℕ) (a : Action) (old middle : EngineState) (before said : Answered) (progress : Progress) (were_done : Bool) (none : action_fault a ≡ None)
-    (ran : (base : Answered) → Leads (IsAction base) (action_kept old (first_progress a) before) (action_kept middle progress said) (λ run next. with_commands source a.commands run ≡ (next, were_done))) where
-  as_started : (base : Answered) (s : TransactionState) → IsTransaction base (transaction_kept old before) s → IsAction base (action_kept old (first_progress a) before) (action_start a s)
-  as_started base s h = record { gateway = h.gateway; target = refl; made = refl; reply = h.reply }
+    (ran : (base : Base) → Leads (IsAction base) (action_kept old (first_progress a) before) (action_kept middle progress said) (λ run next. with_commands source a.commands run ≡ (next, were_done))) where
+  as_started : (base : Base) (s : TransactionState) → IsTransaction base (transaction_kept old before) s → IsAction base (action_kept old (first_progress a) before) (action_start a s)
+  as_started base s h = record { gateway = h.gateway; target = refl; made = refl; reply = h.reply; work = h.work }
 
   goes_on : (s : TransactionState) (run : ActionState) → with_commands source a.commands (action_start a s) ≡ (run, were_done) → with_action source a s ≡ after_commands source a.properties (run, were_done)
   unfolding with_action
@@ -277,22 +294,22 @@ module _ (source : List ℕ) (a : Action) (old middle : EngineState) (before sai
 
   -- one failed, so nothing more was done
   pub action_stopped : (new : EngineState) (told closed : Answered) (is_done : Bool) → were_done ≡ false → is_done ≡ were_done → new ≡ middle → told ≡ said → closed ≡ after_put told (replies.Action (id_of progress.target))
-      → (base : Answered) → Leads (IsTransaction base) (transaction_kept old before) (transaction_kept new closed) (λ s next. with_action source a s ≡ (next, is_done))
+      → (base : Base) → Leads (IsTransaction base) (transaction_kept old before) (transaction_kept new closed) (λ s next. with_action source a s ≡ (next, is_done))
   action_stopped new told closed is_done failed done kept said_so last base s h =
       let (run, did, stands) = ran base (action_start a s) (as_started base s h) in (
         end_of_action run run.gateway [],
         goes_on s run did ∙ ap (λ (b : Bool). after_commands source a.properties (run, b)) failed ∙ ap (λ (b : Bool). (end_of_action run run.gateway [], b)) (sym (done ∙ failed)),
-        close base said told closed new run run.gateway [] (rw kept stands.gateway) stands.reply said_so (rw stands.target last),
+        close base said told closed middle new run stands.reply stands.work (ap (λ (k : EngineState). k.sums.work) kept) (rw stands.target last) run.gateway [] (rw kept stands.gateway) said_so,
       )
 
   -- all were done
-  pub action_finished : (new : EngineState) (told closed : Answered) (is_done : Bool) → were_done ≡ true → ((w : Gateway) → StandsFor middle w → Tells new said told is_done w (context_outcome source progress.made a.properties w progress.target)) → closed ≡ after_put told (replies.Action (id_of progress.target))
-      → (base : Answered) → Leads (IsTransaction base) (transaction_kept old before) (transaction_kept new closed) (λ s next. with_action source a s ≡ (next, is_done))
-  action_finished new told closed is_done all tells last base s h =
+  pub action_finished : (new : EngineState) (told closed : Answered) (is_done : Bool) → were_done ≡ true → ((w : Gateway) → StandsFor middle w → Tells new said told is_done w (context_outcome source progress.made a.properties w progress.target)) → new.sums.work ≡ middle.sums.work → closed ≡ after_put told (replies.Action (id_of progress.target))
+      → (base : Base) → Leads (IsTransaction base) (transaction_kept old before) (transaction_kept new closed) (λ s next. with_action source a s ≡ (next, is_done))
+  action_finished new told closed is_done all tells same last base s h =
       let (run, did, stands) = ran base (action_start a s) (as_started base s h) in
       let came = ap (λ (made : Option ℕ). context_outcome source made a.properties run.gateway run.target) stands.made ∙ ap (λ (t : Target). context_outcome source progress.made a.properties run.gateway t) stands.target in
       let told_so = subst (λ (r : Result (Gateway × List Item) ErrorNumber). Tells new said told is_done run.gateway r) (sym came) (tells run.gateway stands.gateway) in
-      let (next, is, left) = properties_ended base said told closed new run is_done stands.reply (rw stands.target last) (context_outcome source run.made a.properties run.gateway run.target) told_so in
+      let (next, is, left) = properties_ended base said told closed middle new run stands.reply stands.work same (rw stands.target last) is_done (context_outcome source run.made a.properties run.gateway run.target) told_so in
       (next, goes_on s run did ∙ ap (λ (b : Bool). after_commands source a.properties (run, b)) all ∙ is, left)
 
 -- ## Actions
@@ -309,7 +326,7 @@ actions_end : (source : List ℕ) (xs : List Action) (i : ℕ) (s : TransactionS
 unfolding with_actions
 actions_end source xs i s le = rw (drop_all i xs le) refl
 
-module _ (source : List ℕ) (xs : List Action) (base : Answered) (entered kept : TransactionKept) (i : ℕ)
+module _ (source : List ℕ) (xs : List Action) (base : Base) (entered kept : TransactionKept) (i : ℕ)
     (inside : Leads (IsTransaction base) entered kept (λ s now. with_actions source xs s ≡ with_actions source (drop i xs) now)) where
   pub actions_go_on : (a d : Action) (new : TransactionKept) → i < length xs → a ≡ get_or xs i d → Leads (IsTransaction base) kept new (λ s next. with_action source a s ≡ (next, true)) → Leads (IsTransaction base) entered new (λ s now. with_actions source xs s ≡ with_actions source (drop (i + 1) xs) now)
   actions_go_on a d new lt is step s h =
@@ -333,9 +350,23 @@ module _ (source : List ℕ) (xs : List Action) (base : Answered) (entered kept 
 abbrev Answers : List ℕ → Request → Answered → Gateway → Gateway → Type 0
 Answers source request told w next = ((replied source request w).gateway ≡ next) × (told ≡ after_all (new_reply request.number) (replied source request w).items)
 
-pub request_ran : (source : List ℕ) (request : Request) (old new : EngineState) (before told : Answered) → before ≡ new_reply request.number
-    → ((base : Answered) → Leads (IsTransaction base) (transaction_kept old before) (transaction_kept new told) (λ s next. with_actions source request.actions s ≡ next))
-    → Leads StandsFor old new (Answers source request told)
-request_ran source request old new before told e ran w h =
-    let (next, did, stands) = ran (new_reply request.number) (record { gateway = w; items = [] }) (record { gateway = h; reply = e }) in
-    (next.gateway, (ap (λ (s : TransactionState). s.gateway) did, stands.reply ∙ ap (λ (s : TransactionState). after_all (new_reply request.number) s.items) (sym did)), stands.gateway)
+module _ (source : List ℕ) (request : Request) (old new : EngineState) (before told : Answered) (begun : before ≡ new_reply request.number)
+    (ran : (base : Base) → Leads (IsTransaction base) (transaction_kept old before) (transaction_kept new told) (λ s next. with_actions source request.actions s ≡ next)) where
+  abbrev first : Base
+  first = record { reply = new_reply request.number; work = old.sums.work }
+
+  abbrev at_first : Gateway → TransactionState
+  at_first w = record { gateway = w; items = [] }
+
+  came : (w : Gateway) → StandsFor old w → (next : TransactionState) × (with_actions source request.actions (at_first w) ≡ next) × IsTransaction first (transaction_kept new told) next
+  came w h = ran first (at_first w) (record { gateway = h; reply = begun; work = paid_nothing first old refl })
+
+  pub request_ran : Leads StandsFor old new (Answers source request told)
+  request_ran w h =
+      let (next, did, stands) = came w h in
+      (next.gateway, (ap (λ (s : TransactionState). s.gateway) did, stands.reply ∙ ap (λ (s : TransactionState). after_all (new_reply request.number) s.items) (sym did)), stands.gateway)
+
+  pub request_paid : (w : Gateway) → StandsFor old w → RisesAtMost (4 * edits_in (replied source request w).items) old.sums.work new.sums.work
+  request_paid w h =
+      let (next, did, stands) = came w h in
+      subst (λ (s : TransactionState). RisesAtMost (4 * edits_in s.items) old.sums.work new.sums.work) (sym did) stands.work

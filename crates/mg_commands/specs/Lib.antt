@@ -9,5 +9,6 @@ pub mod ReplyDescriptors
 pub mod Outcome
 pub mod Transaction
 pub mod Theorems
+pub mod Work
 pub mod Agreement
 pub mod aids

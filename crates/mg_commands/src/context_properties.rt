@@ -73,6 +73,7 @@ fn apply_topology(
     requires few { length (triples_or_none (first_of triples_in properties.now)) ≤ triple_limit }
     ensures came { (w : Gateway) → StandsFor engine.old w → IsOutcome engine.new result (apply_triples w progress.target (triples_of source.now progress.made properties.now)) }
     ensures refused { OnErr result (engine.new ≡ engine.old) }
+    ensures work { engine.new.sums.work ≡ engine.old.sums.work }
 {
     let triples = topology_in(properties);
     if triples.is_empty() {
@@ -103,6 +104,7 @@ pub fn try_properties(
     requires few { length (triples_or_none (first_of triples_in properties.now)) ≤ triple_limit }
     ensures came { (w : Gateway) → StandsFor engine.old w → Tells engine.new reply.old reply.new result w
         (context_outcome source.now progress.made properties.now w progress.target) }
+    ensures work { engine.new.sums.work ≡ engine.old.sums.work }
 {
     if properties.is_empty() {
         return true;

@@ -1,9 +1,11 @@
 //! What commands come to.
 
-ghost use Rattle.std.specs.Prelude.{◌≡◌, OnErr};
+ghost use Rattle.std.specs.Prelude.{◌≡◌, OnErr, if◌then◌else◌};
 ghost use Rattle.mg_engine.specs.Gateway.{Gateway};
 ghost use Rattle.mg_engine.specs.Stands.{StandsFor, IsOutcome};
+ghost use Rattle.mg_engine.specs.Work.{RisesAtMost};
 ghost use Rattle.mg_commands.specs.Outcome.{served_at, made_at, add_outcome, modify_outcome, move_outcome, subtract_outcome, audit_termination, audit_root, audit_outcome, outcome};
+ghost use Rattle.mg_commands.specs.Work.{is_edit};
 
 use crate::checks::{check_new_name, number_in};
 use crate::command_parameters::CommandParameters;
@@ -47,6 +49,7 @@ fn add_outcome(
 ) -> Result<Served, ErrorNumber>
     ensures came { (w : Gateway) → StandsFor engine.old w → IsOutcome engine.new result (add_outcome w target name parameters.now) }
     ensures refused { OnErr result (engine.new ≡ engine.old) }
+    ensures work { RisesAtMost 4 engine.old.sums.work engine.new.sums.work }
 {
     check_new_name(engine, name)?;
     let descriptors = ReplyDescriptors::after(parameters);
@@ -64,6 +67,7 @@ fn modify_outcome(
 ) -> Result<Served, ErrorNumber>
     ensures came { (w : Gateway) → StandsFor engine.old w → IsOutcome engine.new result (modify_outcome w target name parameters.now) }
     ensures refused { OnErr result (engine.new ≡ engine.old) }
+    ensures work { RisesAtMost 4 engine.old.sums.work engine.new.sums.work }
 {
     let number = number_in(name)?;
     let descriptors = ReplyDescriptors::after(parameters);
@@ -81,6 +85,7 @@ fn move_outcome(
 ) -> Result<Served, ErrorNumber>
     ensures came { (w : Gateway) → StandsFor engine.old w → IsOutcome engine.new result (move_outcome w target name parameters.now) }
     ensures refused { OnErr result (engine.new ≡ engine.old) }
+    ensures work { RisesAtMost 4 engine.old.sums.work engine.new.sums.work }
 {
     let number = number_in(name)?;
     let descriptors = ReplyDescriptors::after(parameters);
@@ -98,6 +103,7 @@ fn subtract_outcome(
 ) -> Result<Served, ErrorNumber>
     ensures came { (w : Gateway) → StandsFor engine.old w → IsOutcome engine.new result (subtract_outcome w target name parameters.now) }
     ensures refused { OnErr result (engine.new ≡ engine.old) }
+    ensures work { RisesAtMost 4 engine.old.sums.work engine.new.sums.work }
 {
     let number = number_in(name)?;
     let before = reply_parts(engine, number, ReplyDescriptors::before(parameters));
@@ -166,6 +172,7 @@ pub fn outcome(
 ) -> Result<Served, ErrorNumber>
     ensures came { (w : Gateway) → StandsFor engine.old w → IsOutcome engine.new result (outcome word w target name parameters.now) }
     ensures refused { OnErr result (engine.new ≡ engine.old) }
+    ensures work { RisesAtMost (if is_edit word then 4 else 0) engine.old.sums.work engine.new.sums.work }
 {
     match word {
         CommandWord::Add => add_outcome(engine, target, name, parameters),

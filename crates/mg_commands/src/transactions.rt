@@ -1,15 +1,17 @@
-ghost use Rattle.std.specs.Prelude.{◌≡◌, ◌⊎◌, ◌||◌, ◌<◌, length, map, true, false, None};
+ghost use Rattle.std.specs.Prelude.{◌≡◌, ◌⊎◌, ◌||◌, ◌<◌, ◌*◌, length, map, true, false, None};
 ghost use Rattle.std.specs.List.{list_all};
 ghost use Rattle.mg_words.specs.Leads.{Leads};
-ghost use Rattle.mg_reply.specs.Reply.{Answered, IsWhole, new_reply, after_put, after_all, is_refusal, last_is_action};
+ghost use Rattle.mg_reply.specs.Reply.{IsWhole, new_reply, after_put, after_all, is_refusal, last_is_action};
 ghost use Rattle.mg_reply.specs.Theorems.{is_wide};
 ghost use Rattle.mg_engine.specs.Gateway.{Gateway};
 ghost use Rattle.mg_engine.specs.Stands.{StandsFor};
+ghost use Rattle.mg_engine.specs.Work.{RisesAtMost};
 ghost use Rattle.mg_scan.specs.Span.{text_of};
 ghost use Rattle.mg_text.specs.Proper.{command_is_proper, action_is_proper, request_is_proper};
 ghost use Rattle.mg_commands.specs.Name.{written_name};
 ghost use Rattle.mg_commands.specs.Transaction.{target_of, id_of, with_name, with_names, with_command, with_commands, with_action, with_actions, replied};
-ghost use Rattle.mg_commands.specs.aids.Runs.{IsAction, action_kept, with_all, IsTransaction, transaction_kept};
+ghost use Rattle.mg_commands.specs.Work.{edits_in};
+ghost use Rattle.mg_commands.specs.aids.Runs.{Base, IsAction, action_kept, with_all, IsTransaction, transaction_kept};
 
 use crate::action_fault::action_fault;
 use crate::checks::check_command;
@@ -34,7 +36,7 @@ fn try_name(
     reply: &mut Reply,
 ) -> (Progress, bool)
     requires proper { command_is_proper source.now command.now ≡ true }
-    ensures ran { (base : Answered) → Leads (IsAction base) (action_kept engine.old progress reply.old)
+    ensures ran { (base : Base) → Leads (IsAction base) (action_kept engine.old progress reply.old)
         (action_kept engine.new result.0 reply.new)
         (λ run next. with_name source.now command.now parameters.now name run ≡ (next, result.1)) }
 {
@@ -68,7 +70,7 @@ fn try_members(
     reply: &mut Reply,
 ) -> (Progress, bool)
     requires proper { command_is_proper source.now command.now ≡ true }
-    ensures ran { (base : Answered) → Leads (IsAction base) (action_kept engine.old progress reply.old)
+    ensures ran { (base : Base) → Leads (IsAction base) (action_kept engine.old progress reply.old)
         (action_kept engine.new result.0 reply.new)
         (λ run next. with_names source.now command.now parameters.now (map Name.Number members.now) run ≡ (next, result.1)) }
 {
@@ -103,7 +105,7 @@ fn try_all(
     reply: &mut Reply,
 ) -> (Progress, bool)
     requires proper { command_is_proper source.now command.now ≡ true }
-    ensures ran { (base : Answered) → Leads (IsAction base) (action_kept engine.old progress reply.old)
+    ensures ran { (base : Base) → Leads (IsAction base) (action_kept engine.old progress reply.old)
         (action_kept engine.new result.0 reply.new)
         (λ run next. with_all source.now command.now parameters.now run ≡ (next, result.1)) }
 {
@@ -132,7 +134,7 @@ fn try_command(
     reply: &mut Reply,
 ) -> (Progress, bool)
     requires proper { command_is_proper source.now command.now ≡ true }
-    ensures ran { (base : Answered) → Leads (IsAction base) (action_kept engine.old progress reply.old)
+    ensures ran { (base : Base) → Leads (IsAction base) (action_kept engine.old progress reply.old)
         (action_kept engine.new result.0 reply.new) (λ run next. with_command source.now command.now run ≡ (next, result.1)) }
 {
     match check_command(source, command) {
@@ -158,7 +160,7 @@ fn try_commands(
     reply: &mut Reply,
 ) -> (Progress, bool)
     requires proper { list_all (command_is_proper source.now) commands.now ≡ true }
-    ensures ran { (base : Answered) → Leads (IsAction base) (action_kept engine.old progress reply.old)
+    ensures ran { (base : Base) → Leads (IsAction base) (action_kept engine.old progress reply.old)
         (action_kept engine.new result.0 reply.new) (λ run next. with_commands source.now commands.now run ≡ (next, result.1)) }
 {
     let mut progress = progress;
@@ -200,7 +202,7 @@ fn id_of(target: Target) -> ContextId
 #[tactic(auto, unfolding(crate::specs::Transaction::with_action))]
 fn try_action(engine: &mut Engine, source: &[u8], action: &Action, reply: &mut Reply) -> bool
     requires proper { action_is_proper source.now action.now ≡ true }
-    ensures ran { (base : Answered) → Leads (IsTransaction base) (transaction_kept engine.old reply.old)
+    ensures ran { (base : Base) → Leads (IsTransaction base) (transaction_kept engine.old reply.old)
         (transaction_kept engine.new reply.new) (λ s next. with_action source.now action.now s ≡ (next, result)) }
     ensures whole { IsWhole reply.new }
 {
@@ -225,7 +227,7 @@ fn try_action(engine: &mut Engine, source: &[u8], action: &Action, reply: &mut R
 #[tactic(auto, using(crate::proofs::RunLaws::propers))]
 fn try_actions(engine: &mut Engine, source: &[u8], actions: &[Action], reply: &mut Reply)
     requires proper { list_all (action_is_proper source.now) actions.now ≡ true }
-    ensures ran { (base : Answered) → Leads (IsTransaction base) (transaction_kept engine.old reply.old)
+    ensures ran { (base : Base) → Leads (IsTransaction base) (transaction_kept engine.old reply.old)
         (transaction_kept engine.new reply.new) (λ s next. with_actions source.now actions.now s ≡ next) }
     ensures whole { IsWhole reply.old ⊎ (0 < length actions.now) → IsWhole reply.new }
 {
@@ -252,6 +254,11 @@ pub fn transaction(engine: &mut Engine, source: &[u8], request: &Request, reply:
     ensures wide { (w : Gateway) → list_all is_wide (replied source.now request.now w).items ≡ true }
     ensures ended { (w : Gateway) → (is_refusal (replied source.now request.now w).items
         || last_is_action false (replied source.now request.now w).items) ≡ true }
+
+    // At most four rows for each edit that was done: none for a command that is refused or that audits, and none for
+    // triples.
+    ensures work { (w : Gateway) → StandsFor engine.old w →
+        RisesAtMost (4 * edits_in (replied source.now request.now w).items) engine.old.sums.work engine.new.sums.work }
 {
     reply.start(request.number);
     try_actions(engine, source, request.actions.as_slice(), reply);

@@ -293,7 +293,7 @@ impl Engine {
         ensures refused { OnErr result (self.new ≡ self.old) }
         ensures others { (w next : Gateway) (context c : ℕ) → StandsFor self.old w → apply_triples w target triples.now.items ≡ Ok (next, context) →
             is_number target c ≡ false → IsLeftAlone w next c }
-        ensures work { RisesAtMost 4 self.old.sums.work self.new.sums.work }
+        ensures work { self.new.sums.work ≡ self.old.sums.work }
     {
         let at = topology_room(&self.rooms, target)?;
         let by_seats = triples_of(&self.rooms, &self.flows, at, triples.as_slice())?;

@@ -1,6 +1,6 @@
 -- What the program has of an action and of a transaction under way, and which of those it stands
 -- for: the engine for the gateway, the reply for the items, put into it one after another.
-use Rattle.std.specs.Prelude.{◌≡◌, ℕ, Bool, true, false, List, Result, Ok, Err}
+use Rattle.std.specs.Prelude.{◌≡◌, ℕ, ◌*◌, Bool, true, false, List, Result, Ok, Err}
 use Rattle.mg_words.specs.ResultSteps.{◌>>=◌}
 use Rattle.mg_words.specs.declared.error_number.ErrorNumber.{ErrorNumber}
 use Rattle.mg_reply.specs.declared.item.Item.{Item}
@@ -8,11 +8,22 @@ use Rattle.mg_reply.specs.declared.item.Item.TheVariants.{Fault}
 use Rattle.mg_reply.specs.Reply.{Answered, after_put, after_all}
 use Rattle.mg_engine.specs.Gateway.{Gateway}
 use Rattle.mg_engine.specs.Stands.{EngineState, StandsFor}
+use Rattle.mg_engine.specs.Work.{RisesAtMost}
 use Rattle.mg_text.specs.declared.command.Command.{Command}
 use Rattle.mg_commands.specs.declared.command_parameters.CommandParameters.{CommandParameters}
 use Rattle.mg_commands.specs.declared.progress.Progress.{Progress}
 use Rattle.mg_commands.specs.Outcome.{all_names}
 use Rattle.mg_commands.specs.Transaction.{ActionState, TransactionState, with_trial}
+use Rattle.mg_commands.specs.Work.{edits_in}
+
+-- what there was before a request: the reply that was begun, and the engine's work
+pub record Base : Type 0 where
+  pub reply : Answered
+  pub work : ℕ
+
+-- the work rose by at most four for each edit that the items tell of
+abbrev pub IsPaid : Base → List Item → EngineState → Type 0
+IsPaid base items engine = RisesAtMost (4 * edits_in items) base.work engine.sums.work
 
 pub record ActionKept : Type 0 where
   pub engine : EngineState
@@ -23,11 +34,12 @@ abbrev pub action_kept : EngineState → Progress → Answered → ActionKept
 action_kept engine progress reply =
     record { engine = engine; progress = progress; reply = reply }
 
-pub record IsAction (base : Answered) (kept : ActionKept) (run : ActionState) : Type 0 where
+pub record IsAction (base : Base) (kept : ActionKept) (run : ActionState) : Type 0 where
   pub gateway : StandsFor kept.engine run.gateway
   pub target : run.target ≡ kept.progress.target
   pub made : run.made ≡ kept.progress.made
-  pub reply : kept.reply ≡ after_all base run.items
+  pub reply : kept.reply ≡ after_all base.reply run.items
+  pub work : IsPaid base run.items kept.engine
 
 -- an action after a command for all members, its text having been checked
 abbrev pub with_all : List ℕ → Command → CommandParameters → ActionState → ActionState × Bool
@@ -43,10 +55,11 @@ pub record TransactionKept : Type 0 where
 abbrev pub transaction_kept : EngineState → Answered → TransactionKept
 transaction_kept engine reply = record { engine = engine; reply = reply }
 
-pub record IsTransaction (base : Answered) (kept : TransactionKept) (s : TransactionState)
+pub record IsTransaction (base : Base) (kept : TransactionKept) (s : TransactionState)
     : Type 0 where
   pub gateway : StandsFor kept.engine s.gateway
-  pub reply : kept.reply ≡ after_all base s.items
+  pub reply : kept.reply ≡ after_all base.reply s.items
+  pub work : IsPaid base s.items kept.engine
 
 -- what was told of the properties of an action, and the engine stands for the world after it, by
 -- what came of them in a world

@@ -20,8 +20,9 @@ returns-clause-ran c =
     elim c.if-were_done.branch [
       | then-were_done w ↦
           let tells = rw (c.as_slice-properties.ensures.value, sym w.engine-is, sym w.reply-is, sym w.is_done-is) at w.try_properties-is_done.ensures.came in
+          let still = rw (sym w.engine-is) at w.try_properties-is_done.ensures.work in
           action_finished source action c.args.engine.now tried.new.engine c.args.reply.now tried.new.reply tried.result.0 tried.result.1 none ran
-          c.if-were_done.engine c.if-were_done.reply c.put-2.new.self c.if-were_done.is_done w.if-were_done.true tells last
+          c.if-were_done.engine c.if-were_done.reply c.put-2.new.self c.if-were_done.is_done w.if-were_done.true tells still last
       | else-were_done w ↦
           action_stopped source action c.args.engine.now tried.new.engine c.args.reply.now tried.new.reply tried.result.0 tried.result.1 none ran
           c.if-were_done.engine c.if-were_done.reply c.put-2.new.self c.if-were_done.is_done w.if-were_done.false w.is_done-is w.engine-is w.reply-is last

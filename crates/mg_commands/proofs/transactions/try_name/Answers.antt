@@ -8,7 +8,7 @@ use Rattle.mg_commands.proofs.transactions.try_name.Goals as goal
 
 pub returns-in-Ok : goal.returns-in-Ok
 returns-in-Ok c = record {
-  ran = name_done c.args.source.now c.args.command.now c.args.parameters.now c.args.name c.args.engine.now c.outcome.new.engine c.args.progress c.args.reply.now c.put.new.self c.in-Ok.served c.or.result c.in-Ok.ensures.came c.or.ensures c.put.ensures.value;
+  ran = name_done c.args.source.now c.args.command.now c.args.parameters.now c.args.name c.args.engine.now c.outcome.new.engine c.args.progress c.args.reply.now c.put.new.self c.in-Ok.served c.or.result c.in-Ok.ensures.came c.outcome.ensures.work c.or.ensures c.put.ensures.value;
 }
 
 pub returns-in-Err : goal.returns-in-Err

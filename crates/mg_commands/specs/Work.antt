@@ -1,0 +1,22 @@
+-- How many edits a request had done, by the items of the reply to it: each costs rows of samples
+-- (this project's own).
+use Rattle.std.specs.Prelude.{ℕ, Bool, true, false, List, count_by}
+use Rattle.mg_words.specs.declared.command_word.CommandWord.{CommandWord}
+use Rattle.mg_words.specs.declared.command_word.CommandWord.TheVariants.{AuditValue}
+use Rattle.mg_reply.specs.declared.item.Item.{Item}
+use Rattle.mg_reply.specs.declared.item.Item.TheVariants.{Command}
+use Rattle.mg_reply.specs.declared.outcome.Outcome.TheVariants.{Done}
+
+-- a command that is done edits, but for an AuditValue, which only tells
+abbrev pub is_edit : CommandWord → Bool
+is_edit AuditValue = false
+is_edit word = true
+
+-- whether an item tells of an edit that was done
+abbrev pub tells_edit : Item → Bool
+tells_edit (Command word term (Done parts)) = is_edit word
+tells_edit item = false
+
+-- how many items do
+abbrev pub edits_in : List Item → ℕ
+edits_in items = count_by tells_edit items

@@ -1,5 +1,6 @@
 pub mod AnswerLaws
 pub mod ReplyLaws
+pub mod WorkLaws
 pub mod EscapeSteps
 pub mod OutputLaws
 pub mod LineLaws

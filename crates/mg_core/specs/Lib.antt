@@ -3,6 +3,7 @@ pub mod CoreView
 pub mod World
 pub mod Answer
 pub mod Step
+pub mod Work
 pub mod Script
 pub mod Run
 pub mod Headline

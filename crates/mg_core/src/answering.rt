@@ -1,5 +1,7 @@
 ghost use Rattle.std.specs.Prelude.{◌≡◌, ◌≤◌, ◌+◌, ◌*◌, ◌++◌, [], ◌∷◌, true, length, None};
 ghost use Rattle.mg_commands.specs.Transaction.{replied};
+ghost use Rattle.mg_commands.specs.Work.{edits_in};
+ghost use Rattle.mg_engine.specs.Work.{RisesAtMost};
 ghost use Rattle.mg_kept.specs.KeptReplies.{kept_text};
 ghost use Rattle.mg_reply.specs.Bytes.{appended};
 ghost use Rattle.mg_words.specs.ErrorNumber.{error_text};
@@ -8,6 +10,8 @@ ghost use Rattle.mg_reply.specs.Written.{head_text};
 ghost use Rattle.mg_text.specs.Message.{items_of, requests_in};
 ghost use Rattle.mg_text.specs.Proper.{are_proper, item_is_proper, request_is_proper};
 ghost use Rattle.mg_core.specs.Answer.{has_requests, item_replied, mark_after, replied_to, request_replied, run_and_kept, without_ranges};
+ghost use Rattle.mg_core.specs.World.{World, StandsFor};
+ghost use Rattle.mg_core.specs.Work.{edits_by_item, edits_by_items};
 ghost use Rattle.mg_core.specs.aids.Steps.{Puts, put_text, refusal_of};
 
 use crate::state::CoreState;
@@ -95,6 +99,8 @@ fn run_request(
     requires new { kept_text state.old.kept sender.now request.now.number ≡ None }
     ensures ran { Puts state.old state.new answer.old.text answer.new.text (λ w.
         run_and_kept sender.now request.now.number w (replied source.now request.now w.gateway)) }
+    ensures work { (w : World) → StandsFor state.old w →
+        RisesAtMost (4 * edits_in (replied source.now request.now w.gateway).items) state.old.engine.sums.work state.new.engine.sums.work }
     ensures total { answer.new.room + length answer.new.text ≡ answer.old.room + length answer.old.text }
     ensures short { length answer.new.text ≤ length answer.old.text + REPLY_LIMIT }
 {
@@ -119,6 +125,8 @@ fn put_request(
     requires sender { length sender.now ≤ SENDER_LIMIT }
     requires room { REPLY_LIMIT ≤ answer.old.room }
     ensures ran { Puts state.old state.new answer.old.text answer.new.text (request_replied source.now sender.now request.now) }
+    ensures work { (w : World) → StandsFor state.old w →
+        RisesAtMost (4 * edits_by_item source.now sender.now (MessageItem.Request request.now) w) state.old.engine.sums.work state.new.engine.sums.work }
     ensures total { answer.new.room + length answer.new.text ≡ answer.old.room + length answer.old.text }
     ensures short { length answer.new.text ≤ length answer.old.text + REPLY_LIMIT }
 {
@@ -154,6 +162,8 @@ fn put_item<'m>(
     requires room { 16001 * requests_in (item.now ∷ []) + length mark.now ≤ 1 + answer.old.room }
     ensures ran { Puts state.old state.new answer.old.text answer.new.text
         (item_replied source.now sender.now mark.now item.now) }
+    ensures work { (w : World) → StandsFor state.old w →
+        RisesAtMost (4 * edits_by_item source.now sender.now item.now w) state.old.engine.sums.work state.new.engine.sums.work }
     ensures mark { result.now ≡ mark_after mark.now item.now }
     ensures total { answer.new.room + length answer.new.text ≡ answer.old.room + length answer.old.text }
     ensures short { length answer.new.text + length result.now
@@ -188,6 +198,8 @@ pub fn put_replies(
     requires room { 16001 * requests_in items.now ≤ 1 + answer.old.room }
     ensures ran { Puts state.old state.new answer.old.text answer.new.text
         (replied_to source.now sender.now [] items.now) }
+    ensures work { (w : World) → StandsFor state.old w →
+        RisesAtMost (4 * edits_by_items source.now sender.now items.now w) state.old.engine.sums.work state.new.engine.sums.work }
     ensures total { answer.new.room + length answer.new.text ≡ answer.old.room + length answer.old.text }
 {
     let mut mark: &[u8] = b"";

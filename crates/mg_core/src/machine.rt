@@ -1,4 +1,4 @@
-ghost use Rattle.std.specs.Prelude.{◌≡◌, ◌≤◌, ◌+◌, ◌↔◌, [], true, length, IfOk, OnOk, OnErr, Option, List, map, ℕ};
+ghost use Rattle.std.specs.Prelude.{◌≡◌, ◌≤◌, ◌+◌, ◌*◌, ◌↔◌, [], true, length, IfOk, OnOk, OnErr, Option, List, map, ℕ};
 ghost use Rattle.mg_engine.specs.Config.{IsValidConfig};
 ghost use Rattle.mg_engine.specs.Flow.{flow};
 ghost use Rattle.mg_engine.specs.Mix.{total_at};
@@ -13,6 +13,7 @@ ghost use Rattle.mg_core.specs.Answer.{to_message, refused};
 ghost use Rattle.mg_core.specs.Headline.{CameTo, GoesOn, FlowIsAnew, TotalIsAnew, PacketsAreAnew};
 ghost use Rattle.mg_core.specs.Step.{Step, Packet, answer_to, told};
 ghost use Rattle.mg_words.specs.Leads.{Leads};
+ghost use Rattle.mg_core.specs.Work.{HasDone, edits_by_items};
 ghost use Rattle.mg_core.specs.World.{World, StandsFor, Took, counts_of, packets_of, start_of, ticked, with_control};
 
 use crate::answer::Answer;
@@ -82,6 +83,9 @@ impl Core {
             Step w (events.Control source bytes.now) (answer_to source (told answer self.new.answer)) next)) }
         ensures headline { IfOk result (λ answer. GoesOn self.old.state self.new.state
             (events.Control source bytes.now) (answer_to source (told answer self.new.answer))) }
+        ensures work { IfOk result (λ _. (w : World) → StandsFor self.old.state w → (edits : ℕ)
+            × HasDone bytes.now (with_control w) edits
+            × RisesAtMost (4 * edits) self.old.state.engine.sums.work self.new.state.engine.sums.work) }
         ensures silent { result ≡ Ok Answer.Silent → self.new.answer ≡ [] }
         ensures no_memory { OnErr result (self.new ≡ record self.old { answer = [] }) }
         ensures outbox { self.new.outbox ≡ self.old.outbox }
@@ -113,6 +117,9 @@ impl Core {
         requires empty { self.old.answer ≡ [] }
         ensures replied { Leads StandsFor self.old.state self.new.state (λ w next.
             to_message source.now message.now w ≡ (told result self.new.answer, next)) }
+        ensures work { (w : World) → StandsFor self.old.state w →
+            RisesAtMost (4 * edits_by_items source.now (text_of source.now message.now.sender) (items_of message.now.body) w)
+            self.old.state.engine.sums.work self.new.state.engine.sums.work }
         ensures silent { result ≡ Answer.Silent → self.new.answer ≡ [] }
         ensures outbox { self.new.outbox ≡ self.old.outbox }
         ensures short { length self.new.answer ≤ ANSWER_LIMIT }

@@ -18,3 +18,6 @@ returns-clause-ran c =
     ∙ ap (λ (l : List ℕ). drop (length l) (before ++ sent)) c.as_slice-start.ensures.value ∙ drop-append_seam before sent in
     let kept = c.keep.ensures.value ∙ ap (λ (l : List ℕ). with_reply (record { sender = c.args.sender.now; number = c.args.request.now.number; text = l }) c.args.state.now.kept) last in
     request_run c.too_long_by_text_alone.ensures.law c.too_long_by_text_alone.ensures.kept c.args.source.now c.args.sender.now c.args.request.now c.args.state.now state c.transaction.new.reply before c.put_reply.new.answer.text c.transaction.ensures.wide c.transaction.ensures.ended refl c.transaction.ensures.ran kept text
+
+pub returns-clause-work : goal.returns-clause-work
+returns-clause-work c w h = c.transaction.ensures.work w.gateway h.gateway

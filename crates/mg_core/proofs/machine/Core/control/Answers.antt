@@ -1,9 +1,13 @@
-use Rattle.std.proofs.Common.{refl, sym, subst, ◌∙◌}
+use Rattle.std.proofs.Common.{ℕ, ◌*◌, refl, sym, ap, subst, ◌∙◌}
 use Rattle.mg_text.specs.MessageReading.{Read}
+use Rattle.mg_engine.specs.Stands.{EngineState}
+use Rattle.mg_engine.specs.Work.{RisesAtMost}
+use Rattle.mg_engine.proofs.WorkLaws.{stays}
 use Rattle.mg_core.specs.CoreView.{CoreView}
 use Rattle.mg_core.specs.declared.answer.Answer.TheVariants.{Send}
 use Rattle.mg_core.specs.declared.state.CoreState.{CoreState}
 use Rattle.mg_core.specs.Step.{told}
+use Rattle.mg_core.specs.Work.{edits_by}
 use Rattle.mg_core.specs.World.{StandsFor, with_control}
 use Rattle.mg_core.proofs.AnswerLaws.{is_refused}
 use Rattle.mg_core.proofs.HeadlineLaws.{goes_on}
@@ -29,3 +33,20 @@ returns-in-Ok-clause-headline c = goes_on _ _ _ _ (returns-in-Ok-clause-answered
 
 pub returns-in-Some-clause-headline : goal.returns-in-Some-clause-headline
 returns-in-Some-clause-headline c = goes_on _ _ _ _ (returns-in-Some-clause-answered c)
+
+pub returns-in-Ok-clause-work : goal.returns-in-Ok-clause-work
+returns-in-Ok-clause-work c w h =
+    let held = subst (λ (x : CoreView). StandsFor x.state w) (sym c.self.view_is) h in
+    let found = rw c.in-Ok.is at c.read.ensures.found in
+    let rises = c.reply_to.ensures.work (with_control w) (c.count_control.ensures.counted w held) in
+    let edits = edits_by c.args.bytes.now (Read c.in-Ok.message) (with_control w) in
+    let before = ap (λ (e : EngineState). e.sums.work) c.count_control.ensures.engine ∙ ap (λ (x : CoreView). x.state.engine.sums.work) c.self.view_is in
+    (edits, (Read c.in-Ok.message, found, refl), subst (λ (n : ℕ). RisesAtMost (4 * edits) n c.reply_to.new.self.state.engine.sums.work) before rises)
+
+pub returns-in-Some-clause-work : goal.returns-in-Some-clause-work
+returns-in-Some-clause-work c w h =
+    let read = rw c.in-Err.is at c.read.ensures in
+    let (reading, is, refused) = is_refused c.args.bytes.now c.in-Err.fault c.in-Some.number (sym c.refusal_of.ensures.value ∙ c.in-Some.is) read.long read.long_only read.version read.version_only read.syntax (with_control w) in
+    let edits = edits_by c.args.bytes.now reading (with_control w) in
+    let same = ap (λ (s : CoreState). s.engine.sums.work) c.refuse.ensures.state ∙ ap (λ (e : EngineState). e.sums.work) c.count_control-in-Some.ensures.engine ∙ ap (λ (x : CoreView). x.state.engine.sums.work) c.self.view_is in
+    (edits, (reading, is, refl), stays (4 * edits) c.args.self.now.state.engine.sums.work c.refuse.new.self.state.engine.sums.work same)

@@ -1,0 +1,45 @@
+-- How many edits a control datagram had done: each costs rows of samples (this project's own).
+use Rattle.std.specs.Prelude.{◌≡◌, ℕ, ◌+◌, List, [], ◌∷◌, Option, Some, None}
+use Rattle.mg_scan.specs.Span.{text_of}
+use Rattle.mg_kept.specs.KeptReplies.{kept_text}
+use Rattle.mg_text.specs.declared.body.MessageItem.{MessageItem}
+use Rattle.mg_text.specs.declared.body.MessageItem.TheVariants as items
+use Rattle.mg_text.specs.Message.{items_of}
+use Rattle.mg_text.specs.MessageReading.{MessageReading, Read, TooMany, OtherVersion, NoMessage}
+use Rattle.mg_text.specs.MessageReading.{IsReading}
+use Rattle.mg_reply.specs.declared.item.Item.{Item}
+use Rattle.mg_commands.specs.Transaction.{replied}
+use Rattle.mg_commands.specs.Work.{edits_in}
+use Rattle.mg_core.specs.Answer.{item_replied}
+use Rattle.mg_core.specs.World.{World}
+
+-- a request that is answered by a kept reply has none done
+abbrev pub edits_unless_kept : Option (List ℕ) → List Item → ℕ
+edits_unless_kept (Some text) told = 0
+edits_unless_kept None told = edits_in told
+
+-- the edits that an item of a message has done, which came from a sender in the world w
+abbrev pub edits_by_item : List ℕ → List ℕ → MessageItem → World → ℕ
+edits_by_item source sender (items.Request request) w =
+    edits_unless_kept (kept_text w.replies sender request.number)
+    (replied source request w.gateway).items
+edits_by_item source sender (items.Acknowledgement ranges) w = 0
+
+-- those of items, each in the world that the one before it left
+unfoldable pub edits_by_items : List ℕ → List ℕ → List MessageItem → World → ℕ
+edits_by_items source sender [] w = 0
+edits_by_items source sender (x ∷ xs) w =
+    edits_by_item source sender x w
+    + edits_by_items source sender xs (item_replied source sender [] x w).1
+
+-- a datagram that is refused as a whole has none done
+abbrev pub edits_by : List ℕ → MessageReading → World → ℕ
+edits_by source (Read m) w = edits_by_items source (text_of source m.sender) (items_of m.body) w
+edits_by source TooMany w = 0
+edits_by source (OtherVersion n) w = 0
+edits_by source NoMessage w = 0
+
+-- a datagram that comes in the world w has so many edits done, by what it reads as
+abbrev pub HasDone : List ℕ → World → ℕ → Type 0
+HasDone source w edits =
+    (reading : MessageReading) × IsReading source reading × (edits ≡ edits_by source reading w)

@@ -5,15 +5,15 @@ ghost use Rattle.mg_topology.specs.Mask.{has_seat};
 ghost use Rattle.mg_flow.specs.aids.Room.{flows_to, is_kept_from};
 
 use mg_topology::Topology;
-use mg_topology::mask::{self, MEMBERS, Mask};
+use mg_topology::mask::{self, Mask, SEATS};
 
 /// For each listener of a room, by its seat, two sets of talkers.
 #[derive(Debug, Drop)]
 pub(crate) struct Masks {
     /// Those whose speech goes to the listener.
-    pub(crate) open: [Mask; MEMBERS],
+    pub(crate) open: [Mask; SEATS],
     /// Those whom the last word keeps from the listener.
-    pub(crate) silenced: [Mask; MEMBERS],
+    pub(crate) silenced: [Mask; SEATS],
 }
 
 impl Masks {
@@ -26,9 +26,9 @@ impl Masks {
             record { topology = topology.now; talks = talks; listens = listens } in
             AreMasks room result.open result.silenced }
     {
-        let mut open = [mask::EMPTY; MEMBERS];
-        let mut silenced = [mask::EMPTY; MEMBERS];
-        for listener in 0..MEMBERS {
+        let mut open = [mask::EMPTY; SEATS];
+        let mut silenced = [mask::EMPTY; SEATS];
+        for listener in 0..SEATS {
             open[listener] = open_row(topology, talks, listens, listener);
             silenced[listener] = silenced_row(topology, talks, listener);
         }
@@ -38,7 +38,7 @@ impl Masks {
 
 /// The talkers whose speech goes to the listener.
 fn open_row(topology: &Topology, talks: Mask, listens: Mask, listener: usize) -> Mask
-    requires { listener < MEMBERS }
+    requires { listener < SEATS }
     ensures { (talker : ℕ) →
         has_seat result talker ≡ flows_to topology.now talks listens talker listener }
 {
@@ -51,7 +51,7 @@ fn open_row(topology: &Topology, talks: Mask, listens: Mask, listener: usize) ->
 
 /// The talking members other than the listener whom the last word keeps from it.
 fn silenced_row(topology: &Topology, talks: Mask, listener: usize) -> Mask
-    requires { listener < MEMBERS }
+    requires { listener < SEATS }
     ensures { (talker : ℕ) →
         has_seat result talker ≡ is_kept_from topology.now talks talker listener }
 {

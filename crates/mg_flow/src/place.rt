@@ -6,6 +6,6 @@
 pub struct Place {
     /// The room, below [`CONTEXTS`](crate::CONTEXTS).
     pub room: u8,
-    /// The seat, below [`MEMBERS`](mg_topology::MEMBERS).
+    /// The seat, below [`SEATS`](mg_topology::SEATS).
     pub seat: u8,
 }

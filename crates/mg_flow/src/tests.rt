@@ -23,7 +23,7 @@ fn triple(first: Mask, second: Mask, association: Association) -> Triple {
 }
 
 fn enter(rt: &impl Abort, table: &mut FlowTable, place: Place, talks: bool, listens: bool) {
-    assert!(rt; place.room < 64 && place.seat < 32);
+    assert!(rt; place.room < 64 && place.seat < 64);
     assert!(rt; !table.holds(place));
     table.on_enter(place, talks, listens);
 }
@@ -137,12 +137,12 @@ fn last_of_two_triples_wins(rt: HostRuntime) -> Result<(), Fail> {
 #[test]
 fn places_end_at_the_limits(rt: HostRuntime) -> Result<(), Fail> {
     let mut table = FlowTable::new(rt.alloc())?;
-    let last = Place { room: 63, seat: 31 };
+    let last = Place { room: 63, seat: 63 };
     enter(&rt, &mut table, last, true, true);
     assert!(rt; table.holds(last));
-    assert!(rt; !table.holds(Place { room: 64, seat: 31 }));
-    assert!(rt; !table.holds(Place { room: 63, seat: 32 }));
+    assert!(rt; !table.holds(Place { room: 64, seat: 63 }));
+    assert!(rt; !table.holds(Place { room: 63, seat: 64 }));
     assert_eq!(rt; table.held(64), mask::EMPTY);
-    assert!(rt; !table.hears(last, Place { room: 64, seat: 31 }));
+    assert!(rt; !table.hears(last, Place { room: 64, seat: 63 }));
     Ok(())
 }

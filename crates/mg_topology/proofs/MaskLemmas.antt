@@ -1,16 +1,16 @@
 -- What the bits of a mask say of its seats. Only these lemmas see the bits.
-use Rattle.std.proofs.Common.{◌≡◌, ℕ, ◌-◌, ◌*◌, ◌/◌, ◌%◌, ◌^◌, ◌<◌, ◌≤◌, Bool, true, false, not, ◌||◌, ◌&&◌, ◌==◌, nat_eq, nat_lt, zero, suc, min, max, bit_and, bit_or, w32, refl, sym, ap, ◌∙◌, arith, inl, inr}
+use Rattle.std.proofs.Common.{◌≡◌, ℕ, ◌-◌, ◌*◌, ◌/◌, ◌%◌, ◌^◌, ◌<◌, ◌≤◌, Bool, true, false, not, ◌||◌, ◌&&◌, ◌==◌, nat_eq, nat_lt, zero, suc, min, max, bit_and, bit_or, w64, refl, sym, ap, ◌∙◌, arith, inl, inr}
 use Rattle.std.specs.Int.{bit_at, trailing_zeros, Width}
 use Rattle.std.proofs.lemmas.Nat.Bits.{bit_at_or, bit_at_and, bit_at_not, bit_at-lt, bit_at_above, shr_and_one, bit_at-pow_same, bit_at-pow_other, bit_at-zero, bit_at-suc, bit_at_lowest, bit_at_ones, bit_at-trailing_zeros, same_from_bits}
 use Rattle.std.proofs.lemmas.Nat.{one_shl}
 use Rattle.std.proofs.lemmas.Bool.Decides.{nat_tests}
 use Rattle.std.proofs.lemmas.Bool.{cases_lt, false≢true, ne_eqb, and_from, and_parts}
 use Rattle.mg_topology.specs.Mask.{has_seat, is_disjoint, HaveCommonSeat, IsLowest}
-use Rattle.mg_topology.specs.declared.mask.TheConstants.{MEMBERS}
+use Rattle.mg_topology.specs.declared.mask.TheConstants.{SEATS}
 
--- the width of a mask: MEMBERS bits
+-- the width of a mask: SEATS bits
 abbrev pub mask_width : Width
-mask_width = w32
+mask_width = w64
 
 -- ---- a bit as a test
 or_test : (x y : ℕ) → x < 2 → y < 2 → (max x y == 1) ≡ ((x == 1) || (y == 1))
@@ -35,7 +35,7 @@ unfolding has_seat
 has_seat-and a b s = ap (λ n. n == 1) (bit_at_and a b s) ∙ and_test _ _ (bit_at-lt a s) (bit_at-lt b s)
 
 -- in `!b`, a seat below the limit is in exactly where it isn't in b
-pub has_seat-not : (b s : ℕ) → b < 2 ^ MEMBERS → s < MEMBERS → has_seat (2 ^ MEMBERS - 1 - b) s ≡ not (has_seat b s)
+pub has_seat-not : (b s : ℕ) → b < 2 ^ SEATS → s < SEATS → has_seat (2 ^ SEATS - 1 - b) s ≡ not (has_seat b s)
 unfolding has_seat
 has_seat-not b s p q = ap (λ n. n == 1) (bit_at_not mask_width b s p q) ∙ not_test _ (bit_at-lt b s)
 
@@ -45,33 +45,33 @@ unfolding has_seat
 has_seat-shr a s = ap (λ n. n == 1) (shr_and_one a s)
 
 -- the mask `1 << k`
-pub has_seat-shl : (k s : ℕ) → k < MEMBERS → has_seat (1 * 2 ^ k % 2 ^ MEMBERS) s ≡ (s == k)
+pub has_seat-shl : (k s : ℕ) → k < SEATS → has_seat (1 * 2 ^ k % 2 ^ SEATS) s ≡ (s == k)
 unfolding has_seat
-has_seat-shl k s p = ap (λ n. bit_at n s == 1) (one_shl k MEMBERS p) ∙ one_test k s
+has_seat-shl k s p = ap (λ n. bit_at n s == 1) (one_shl k SEATS p) ∙ one_test k s
 
 -- ---- which seats a mask can have
 -- no seat from the limit on is in it
-pub has_seat-above : (a s : ℕ) → a < 2 ^ MEMBERS → MEMBERS ≤ s → has_seat a s ≡ false
+pub has_seat-above : (a s : ℕ) → a < 2 ^ SEATS → SEATS ≤ s → has_seat a s ≡ false
 unfolding has_seat
-has_seat-above a s p q = ap (λ n. n == 1) (bit_at_above a MEMBERS s p q)
+has_seat-above a s p q = ap (λ n. n == 1) (bit_at_above a SEATS s p q)
 
 -- the same as one test, which `holds` makes
-pub has_seat-inside : (a s : ℕ) → a < 2 ^ MEMBERS → has_seat a s ≡ (nat_lt s MEMBERS && has_seat a s)
+pub has_seat-inside : (a s : ℕ) → a < 2 ^ SEATS → has_seat a s ≡ (nat_lt s SEATS && has_seat a s)
 has_seat-inside a s p = grind (arith, nat_tests, has_seat-above a s p)
 
 -- so a seat of it is below the limit
-pub below_limit : (a s : ℕ) → a < 2 ^ MEMBERS → has_seat a s ≡ true → s < MEMBERS
+pub below_limit : (a s : ℕ) → a < 2 ^ SEATS → has_seat a s ≡ true → s < SEATS
 below_limit a s p h =
-    elim (cases_lt s MEMBERS) [ inl below ↦ below | inr above ↦ absurd (false≢true (sym (has_seat-above a s p above) ∙ h)) ]
+    elim (cases_lt s SEATS) [ inl below ↦ below | inr above ↦ absurd (false≢true (sym (has_seat-above a s p above) ∙ h)) ]
 
 -- the empty mask and the full one
 pub has_seat-empty : (s : ℕ) → has_seat 0 s ≡ false
 unfolding has_seat
 has_seat-empty s = ap (λ n. n == 1) (bit_at-zero s)
 
-pub has_seat-full : (s : ℕ) → s < MEMBERS → has_seat (2 ^ MEMBERS - 1) s ≡ true
+pub has_seat-full : (s : ℕ) → s < SEATS → has_seat (2 ^ SEATS - 1) s ≡ true
 unfolding has_seat
-has_seat-full s p = ap (λ n. n == 1) (bit_at_ones MEMBERS s p)
+has_seat-full s p = ap (λ n. n == 1) (bit_at_ones SEATS s p)
 
 -- ---- the seats of one set without those of another
 outside : (x y z : Bool) → x ≡ false → (x && y) ≡ (x && z)
@@ -79,9 +79,9 @@ outside true y z e = cc
 outside false y z e = refl
 
 -- the mask `a & !b`
-pub has_seat-less : (a b s : ℕ) → a < 2 ^ MEMBERS → b < 2 ^ MEMBERS → has_seat (bit_and a (2 ^ MEMBERS - 1 - b)) s ≡ (has_seat a s && not (has_seat b s))
+pub has_seat-less : (a b s : ℕ) → a < 2 ^ SEATS → b < 2 ^ SEATS → has_seat (bit_and a (2 ^ SEATS - 1 - b)) s ≡ (has_seat a s && not (has_seat b s))
 has_seat-less a b s p q =
-    has_seat-and a (2 ^ MEMBERS - 1 - b) s ∙ elim (cases_lt s MEMBERS) [
+    has_seat-and a (2 ^ SEATS - 1 - b) s ∙ elim (cases_lt s SEATS) [
       | inl below ↦ ap (λ x. has_seat a s && x) (has_seat-not b s q below)
       | inr above ↦ outside (has_seat a s) _ _ (has_seat-above a s p above)
     ]
@@ -116,7 +116,7 @@ is_disjoint-common a b h =
 
 -- ---- masks as numbers
 -- a set that is not 0 has a lowest seat, the number of its trailing zeros
-pub lowest_of : (a : ℕ) → 0 < a → a < 2 ^ MEMBERS → IsLowest a (trailing_zeros mask_width a)
+pub lowest_of : (a : ℕ) → 0 < a → a < 2 ^ SEATS → IsLowest a (trailing_zeros mask_width a)
 unfolding has_seat
 lowest_of a p q =
     let z = bit_at-trailing_zeros mask_width a p q in

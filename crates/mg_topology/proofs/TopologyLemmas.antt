@@ -2,7 +2,7 @@
 use Rattle.std.proofs.Common.{◌≡◌, ◌≢◌, ℕ, ◌<◌, Bool, true, false, not, ◌&&◌, ◌==◌, nat_lt, cond, Option, Some, List, [], ◌∷◌, ◌++◌, slice_index, length, get_or, take, ◌+◌, ◌^◌, refl, sym, ap, ◌∙◌, arith}
 use Rattle.std.proofs.lemmas.List.{take_more}
 use Rattle.std.proofs.lemmas.Bool.Decides.{nat_tests}
-use Rattle.mg_topology.specs.declared.mask.TheConstants.{MEMBERS}
+use Rattle.mg_topology.specs.declared.mask.TheConstants.{SEATS}
 use Rattle.mg_topology.specs.declared.triple.Triple.{Triple}
 use Rattle.mg_topology.specs.Mask.{has_seat}
 use Rattle.mg_topology.specs.Triple.{speaks_of, word_of}
@@ -37,12 +37,12 @@ row_from k es t l h p q d =
     row_of_pair (is_held es t) (is_held es l) (t == l) _ _ p q d
     (sym (same_pair (holds k t) (holds k l) _ _ (t == l) _ (has_seat (slice_index k.rows l) t) (h.seats t) (h.seats l) (λ _ _ _. refl)) ∙ h.pairs t l)
 
-pub held_below : (k : TopologyState) (es : List Edit) (s : ℕ) → StandsFor k es → is_held es s ≡ true → s < MEMBERS
+pub held_below : (k : TopologyState) (es : List Edit) (s : ℕ) → StandsFor k es → is_held es s ≡ true → s < SEATS
 held_below k es s h p = grind (arith, nat_tests, h.seats s)
 
 -- ---- the edits, one by one
 
-entered_seat : (k k' : TopologyState) (n s : ℕ) (b : Bool) → n < MEMBERS → has_seat k'.held s ≡ cond (s == n) true (has_seat k.held s) → holds k s ≡ b → holds k' s ≡ cond (s == n) true b
+entered_seat : (k k' : TopologyState) (n s : ℕ) (b : Bool) → n < SEATS → has_seat k'.held s ≡ cond (s == n) true (has_seat k.held s) → holds k s ≡ b → holds k' s ≡ cond (s == n) true b
 entered_seat k k' n s b p e h = grind (arith, nat_tests)
 
 entered_pair : (k k' : TopologyState) (n : ℕ) (es : List Edit) (t l : ℕ) → (l ≡ n → has_seat (slice_index k'.rows l) t ≡ true)
@@ -51,13 +51,13 @@ entered_pair : (k k' : TopologyState) (n : ℕ) (es : List Edit) (t l : ℕ) →
     → is_held (Enter n ∷ es) t ≡ true → is_held (Enter n ∷ es) l ≡ true → has_seat (slice_index k'.rows l) t ≡ lets_hear (Enter n ∷ es) t l
 entered_pair k k' n es t l own row h p q = grind (arith, nat_tests)
 
-entered_below : (k : TopologyState) (n : ℕ) (es : List Edit) (s : ℕ) → n < MEMBERS → StandsFor k es → is_held (Enter n ∷ es) s ≡ true → s < MEMBERS
+entered_below : (k : TopologyState) (n : ℕ) (es : List Edit) (s : ℕ) → n < SEATS → StandsFor k es → is_held (Enter n ∷ es) s ≡ true → s < SEATS
 entered_below k n es s p h q = grind (arith, nat_tests, h.seats s)
 
-pub enter_stands : (k k' : TopologyState) (n : ℕ) (es : List Edit) → n < MEMBERS
+pub enter_stands : (k k' : TopologyState) (n : ℕ) (es : List Edit) → n < SEATS
     → ((s : ℕ) → has_seat k'.held s ≡ cond (s == n) true (has_seat k.held s))
-    → ((t : ℕ) → t < MEMBERS → has_seat (slice_index k'.rows n) t ≡ true)
-    → ((t l : ℕ) → l < MEMBERS → l ≢ n → has_seat (slice_index k'.rows l) t ≡ cond (t == n) true (has_seat (slice_index k.rows l) t))
+    → ((t : ℕ) → t < SEATS → has_seat (slice_index k'.rows n) t ≡ true)
+    → ((t l : ℕ) → l < SEATS → l ≢ n → has_seat (slice_index k'.rows l) t ≡ cond (t == n) true (has_seat (slice_index k.rows l) t))
     → StandsFor k es → StandsFor k' (Enter n ∷ es)
 enter_stands k k' n es inside held own row h =
     stands_from k' (Enter n ∷ es)
@@ -86,11 +86,11 @@ applied_word triple o t l true = refl
 applied_word triple o t l false = refl
 
 pub apply_stands : (k k' : TopologyState) (triple : Triple) (es : List Edit) → k'.held ≡ k.held
-    → ((t l : ℕ) → l < MEMBERS → has_seat (slice_index k'.rows l) t ≡ word_after triple t l (has_seat (slice_index k.rows l) t))
+    → ((t l : ℕ) → l < SEATS → has_seat (slice_index k'.rows l) t ≡ word_after triple t l (has_seat (slice_index k.rows l) t))
     → StandsFor k es → StandsFor k' (Apply triple ∷ es)
 apply_stands k k' triple es held row h =
     stands_from k' (Apply triple ∷ es)
-    (λ s. ap (λ m. nat_lt s MEMBERS && has_seat m s) held ∙ h.seats s)
+    (λ s. ap (λ m. nat_lt s SEATS && has_seat m s) held ∙ h.seats s)
     (λ t l p q d. row t l (held_below k es l h q) ∙ ap (word_after triple t l) (row_from k es t l h p q d)
     ∙ applied_word triple (last_word es t l) t l (speaks_of triple t l))
 
@@ -110,6 +110,6 @@ apply_all-more triples i triple es p e =
 -- ---- what a topology tells
 
 -- the row of a held listener, without itself and the seats that nobody holds
-pub row_tells : (k : TopologyState) (t l : ℕ) (b : Bool) → k.held < 2 ^ MEMBERS → holds k l ≡ true
+pub row_tells : (k : TopologyState) (t l : ℕ) (b : Bool) → k.held < 2 ^ SEATS → holds k l ≡ true
     → b ≡ cond (t == l) false (has_seat (slice_index k.rows l) t && has_seat k.held t) → b ≡ hears k t l
 row_tells k t l b p q e = grind (arith, nat_tests, has_seat-inside k.held t p)

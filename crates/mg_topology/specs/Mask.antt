@@ -1,12 +1,12 @@
 -- A set of seats as the bits of a number (this project's own).
 use Rattle.std.specs.Prelude.{ℕ, ◌<◌, Bool, ◌==◌, bit_and, List, length, IsTrue, IsFalse}
-use Rattle.mg_words.specs.Limits.{member_limit}
 use Rattle.std.specs.Int.{bit_at}
 use Rattle.std.specs.List.{filter, range_with_len}
 
--- Seats are the numbers below it: a context has at most so many members, and a mask so many bits.
+-- Seats are the numbers below it: a mask has so many bits, and a context no more members
+-- (`each_member_has_a_seat` in src/laws.rt).
 abbrev pub seat_limit : ℕ
-seat_limit = member_limit
+seat_limit = 64
 
 -- whether the seat is in the set: bit s stands for seat s
 unfoldable pub has_seat : ℕ → ℕ → Bool

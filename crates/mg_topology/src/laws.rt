@@ -6,9 +6,10 @@
 ghost use Rattle.std.specs.Prelude.{◌≡◌, ◌≢◌, ℕ, ◌<◌, ◌≤◌, ◌^◌, [], ◌∷◌, ◌++◌, ◌==◌, ◌||◌, ◌↔◌, Bool, List, Some, IsTrue, IsFalse, Any, Contains};
 ghost use Rattle.std.specs.List.{list_any, filter, range_with_len};
 ghost use Rattle.std.specs.List.Sorted.{IsStrictlyIncreasing};
+ghost use Rattle.mg_words.specs.Limits.{member_limit};
 ghost use Rattle.mg_topology.specs.declared.triple.Triple.{Triple};
 ghost use Rattle.mg_words.specs.declared.association.Association.TheVariants.{Isolate, Oneway, Bothway};
-ghost use Rattle.mg_topology.specs.declared.mask.TheConstants.{EMPTY, FULL, MEMBERS};
+ghost use Rattle.mg_topology.specs.declared.mask.TheConstants.{EMPTY, FULL, SEATS};
 ghost use Rattle.mg_topology.specs.Mask.{seat_limit, has_seat, seats_of, seat_count, IsEmpty};
 ghost use Rattle.mg_topology.specs.Triple.{leads, speaks_of, overlaps, Overlaps};
 ghost use Rattle.mg_topology.specs.Edits.{Edit, Enter, Leave, Apply, is_held, last_word, lets_hear, hears_in, touches};
@@ -82,14 +83,20 @@ pub fn overlap_is_a_common_seat()
         IsTrue (list_any overlaps triples) ↔ Any Overlaps triples }
 {}
 
-/// The empty mask has no seat, the full one has each, and no mask has a seat from the member limit
-/// on. Masks with the same seats are equal.
+/// The empty mask has no seat, the full one has each, and no mask has a seat from their number on.
+/// Masks with the same seats are equal.
 pub fn masks_are_sets()
     ensures empty { IsEmpty EMPTY }
-    ensures full { (seat : ℕ) → seat < MEMBERS → IsTrue (has_seat FULL seat) }
-    ensures above { (mask seat : ℕ) → mask < 2 ^ MEMBERS → MEMBERS ≤ seat →
+    ensures full { (seat : ℕ) → seat < SEATS → IsTrue (has_seat FULL seat) }
+    ensures above { (mask seat : ℕ) → mask < 2 ^ SEATS → SEATS ≤ seat →
         IsFalse (has_seat mask seat) }
     ensures same { (a b : ℕ) → ((seat : ℕ) → has_seat a seat ≡ has_seat b seat) → a ≡ b }
+{}
+
+/// There is a seat for each member of a context. A member limit for which there isn't is refused
+/// here.
+pub fn each_member_has_a_seat()
+    ensures { member_limit ≤ seat_limit }
 {}
 
 /// The list of a mask's seats has each of them and no other, in rising order, so it has at most as

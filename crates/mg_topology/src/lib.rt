@@ -1,6 +1,6 @@
 //! Who hears whom among the members of one context.
 //!
-//! Each member of a context has a seat, a number below [`MEMBERS`]. A [`Topology`] keeps which
+//! Each member of a context has a seat, a number below [`SEATS`]. A [`Topology`] keeps which
 //! seats are held and, for each pair of them, what the last word on the pair says. That is the
 //! last [`Triple`] of a topology descriptor (RFC 3525, section 7.1.18) that spoke of the pair
 //! since both entered, and where there was none the two hear each other. So a newcomer hears all
@@ -36,7 +36,7 @@ mod tests;
 mod topology;
 mod triple;
 
-pub use mask::{MEMBERS, Mask};
+pub use mask::{Mask, SEATS};
 pub use mg_words::Association;
 pub use overlap::Overlap;
 pub use seats::Seats;

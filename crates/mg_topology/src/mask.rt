@@ -10,12 +10,11 @@ ghost use Rattle.mg_topology.specs.Mask.{seat_limit, has_seat, seats_of, seat_co
 
 use crate::seats::Seats;
 
-/// A set of seats, one bit for each of [`MEMBERS`]. This line alone sets its width.
-pub type Mask = u32;
+/// A set of seats, one bit for each of [`SEATS`].
+pub type Mask = u64;
 
-/// How many members a context has at most, which is as many as a mask has bits: a seat is a number
-/// below it.
-pub const MEMBERS: usize = Mask::BITS as usize;
+/// How many seats there are, which is as many as a mask has bits: a seat is a number below it.
+pub const SEATS: usize = Mask::BITS as usize;
 
 /// The set without a seat.
 pub const EMPTY: Mask = 0;
@@ -25,7 +24,7 @@ pub const FULL: Mask = Mask::MAX;
 
 /// Whether the seat is in the set.
 pub fn has_seat(mask: Mask, seat: usize) -> bool
-    requires { seat < MEMBERS }
+    requires { seat < SEATS }
     ensures { result ≡ has_seat mask seat }
 {
     mask >> seat & 1 == 1
@@ -33,7 +32,7 @@ pub fn has_seat(mask: Mask, seat: usize) -> bool
 
 /// The set of this seat alone.
 pub fn of_seat(seat: usize) -> Mask
-    requires { seat < MEMBERS }
+    requires { seat < SEATS }
     ensures { (s : ℕ) → has_seat result s ≡ (s == seat) }
 {
     1 << seat
@@ -41,7 +40,7 @@ pub fn of_seat(seat: usize) -> Mask
 
 /// The set with the seat.
 pub fn with_seat(mask: Mask, seat: usize) -> Mask
-    requires { seat < MEMBERS }
+    requires { seat < SEATS }
     ensures { (s : ℕ) → has_seat result s ≡ (if s == seat then true else has_seat mask s) }
 {
     union(mask, of_seat(seat))
@@ -49,7 +48,7 @@ pub fn with_seat(mask: Mask, seat: usize) -> Mask
 
 /// The set without the seat.
 pub fn without_seat(mask: Mask, seat: usize) -> Mask
-    requires { seat < MEMBERS }
+    requires { seat < SEATS }
     ensures seats { (s : ℕ) → has_seat result s ≡ (if s == seat then false else has_seat mask s) }
 
     // So a walk that takes seat after seat away ends, after as many steps as the set has seats.
@@ -62,7 +61,7 @@ pub fn without_seat(mask: Mask, seat: usize) -> Mask
 
 /// The set with the seat if `is_in`, and else without it. The other seats stay.
 pub fn set_seat(mask: Mask, seat: usize, is_in: bool) -> Mask
-    requires { seat < MEMBERS }
+    requires { seat < SEATS }
     ensures { (s : ℕ) → has_seat result s ≡ (if s == seat then is_in else has_seat mask s) }
 {
     if is_in {

@@ -1,5 +1,5 @@
 use crate::mask::{self, Mask};
-use crate::{Association, MEMBERS, Overlap, Topology, Triple};
+use crate::{Association, Overlap, SEATS, Topology, Triple};
 
 fn triple(first: Mask, second: Mask, association: Association) -> Triple {
     Triple {
@@ -78,14 +78,14 @@ fn newcomer_on_a_used_seat_hears_all(rt: HostRuntime) {
 }
 
 #[test]
-fn seats_end_at_the_member_limit(rt: HostRuntime) {
+fn seats_end_with_the_bits_of_a_mask(rt: HostRuntime) {
     let mut topology = Topology::default();
-    topology.enter(MEMBERS - 1);
-    assert!(rt; topology.holds(MEMBERS - 1));
-    assert!(rt; !topology.holds(MEMBERS));
-    assert!(rt; !topology.hears(MEMBERS - 1, MEMBERS));
-    assert!(rt; !topology.hears(MEMBERS, MEMBERS - 1));
-    assert_eq!(rt; topology.talkers(MEMBERS), mask::EMPTY);
+    topology.enter(SEATS - 1);
+    assert!(rt; topology.holds(SEATS - 1));
+    assert!(rt; !topology.holds(SEATS));
+    assert!(rt; !topology.hears(SEATS - 1, SEATS));
+    assert!(rt; !topology.hears(SEATS, SEATS - 1));
+    assert_eq!(rt; topology.talkers(SEATS), mask::EMPTY);
 }
 
 #[test]
@@ -110,6 +110,6 @@ fn walk_gives_each_seat_in_rising_order(rt: HostRuntime) {
     assert_eq!(rt; seats.next(), Some(2));
     assert_eq!(rt; seats.next(), Some(7));
     assert_eq!(rt; seats.next(), None);
-    assert_eq!(rt; mask::seats(mask::FULL).count(), 32);
+    assert_eq!(rt; mask::seats(mask::FULL).count(), 64);
     assert_eq!(rt; mask::seats(mask::EMPTY).count(), 0);
 }

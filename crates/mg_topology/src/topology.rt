@@ -4,7 +4,7 @@ ghost use Rattle.mg_topology.specs.Mask.{has_seat};
 ghost use Rattle.mg_topology.specs.Triple.{overlaps, Overlaps};
 ghost use Rattle.mg_topology.specs.aids.Word.{word_after};
 
-use crate::mask::{self, MEMBERS, Mask};
+use crate::mask::{self, Mask, SEATS};
 use crate::{Overlap, Triple};
 use std::marker::Model;
 
@@ -16,7 +16,7 @@ use std::marker::Model;
 #[derive(Debug, Drop)]
 pub struct Topology {
     held: Mask,
-    rows: [Mask; MEMBERS],
+    rows: [Mask; SEATS],
 }
 
 impl Model for Topology {
@@ -37,16 +37,16 @@ impl Topology {
     {
         Topology {
             held: mask::EMPTY,
-            rows: [mask::EMPTY; MEMBERS],
+            rows: [mask::EMPTY; SEATS],
         }
     }
 
-    /// Whether the seat is held, which no seat from [`MEMBERS`] on is.
+    /// Whether the seat is held, which no seat from [`SEATS`] on is.
     pub fn holds(&self, seat: usize) -> bool
         ensures kept { result ≡ holds self.now seat }
         ensures edits { (es : List Edit) → StandsFor self.now es → result ≡ is_held es seat }
     {
-        seat < MEMBERS && mask::has_seat(self.held, seat)
+        seat < SEATS && mask::has_seat(self.held, seat)
     }
 
     /// The seats that are held.
@@ -60,7 +60,7 @@ impl Topology {
 
     /// A member takes the free seat. It hears all others and is heard by them.
     pub fn enter(&mut self, seat: usize)
-        requires below_limit { seat < MEMBERS }
+        requires below_limit { seat < SEATS }
         requires free { IsFalse (holds self.old seat) }
         ensures edits { (es : List Edit) → StandsFor self.old es →
             StandsFor self.new (Enter seat ∷ es) }
@@ -130,7 +130,7 @@ impl Topology {
         ensures edits { (es : List Edit) → StandsFor self.now es →
             result ≡ hears_in es talker listener }
     {
-        talker < MEMBERS && mask::has_seat(self.talkers(listener), talker)
+        talker < SEATS && mask::has_seat(self.talkers(listener), talker)
     }
 }
 
@@ -152,9 +152,9 @@ fn any_overlaps(triples: &[Triple]) -> bool
 }
 
 /// Lets each listener hear the seat.
-fn let_all_hear(rows: &mut [Mask; MEMBERS], seat: usize)
-    requires { seat < MEMBERS }
-    ensures { (talker listener : ℕ) → listener < MEMBERS →
+fn let_all_hear(rows: &mut [Mask; SEATS], seat: usize)
+    requires { seat < SEATS }
+    ensures { (talker listener : ℕ) → listener < SEATS →
         has_seat (slice_index rows.new listener) talker ≡
         (if talker == seat then true else has_seat (slice_index rows.old listener) talker) }
 {
@@ -164,8 +164,8 @@ fn let_all_hear(rows: &mut [Mask; MEMBERS], seat: usize)
 }
 
 /// Writes into each listener's row what the triple says of it.
-fn apply_to_rows(rows: &mut [Mask; MEMBERS], triple: &Triple)
-    ensures { (talker listener : ℕ) → listener < MEMBERS →
+fn apply_to_rows(rows: &mut [Mask; SEATS], triple: &Triple)
+    ensures { (talker listener : ℕ) → listener < SEATS →
         has_seat (slice_index rows.new listener) talker ≡
         word_after triple.now talker listener (has_seat (slice_index rows.old listener) talker) }
 {

@@ -2,7 +2,7 @@ ghost use Rattle.std.specs.Prelude.{◌≡◌, ℕ, ◌<◌, ◌&&◌, ◌↔◌
 ghost use Rattle.mg_topology.specs.Mask.{has_seat};
 
 use crate::Association;
-use crate::mask::{self, MEMBERS, Mask};
+use crate::mask::{self, Mask, SEATS};
 
 /// One triple of a topology descriptor: two sets of seats, and which of them hears the other
 /// (RFC 3525, section 7.1.18).
@@ -52,7 +52,7 @@ impl Triple {
 
     /// The listener's row of talkers after the triple, by its row before.
     pub(crate) fn row_after(&self, row: Mask, listener: usize) -> Mask
-        requires { listener < MEMBERS }
+        requires { listener < SEATS }
         ensures { (talker : ℕ) →
             has_seat result talker ≡ word_after self.now talker listener (has_seat row talker) }
     {
@@ -69,7 +69,7 @@ impl Triple {
 /// The other set, if the seat is in the one.
 #[tactic(auto, using(crate::proofs::MaskLemmas::seat_rules))]
 fn across(one: Mask, seat: usize, other: Mask) -> Mask
-    requires { seat < MEMBERS }
+    requires { seat < SEATS }
     ensures { (s : ℕ) → has_seat result s ≡ (has_seat one seat && has_seat other s) }
 {
     if mask::has_seat(one, seat) {

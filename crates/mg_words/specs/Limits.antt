@@ -4,14 +4,14 @@ use Rattle.std.specs.Prelude.{ℕ}
 
 -- members of a context
 abbrev pub member_limit : ℕ
-member_limit = 32
+member_limit = 64
 
 -- contexts, and terminations in all of them
 abbrev pub context_limit : ℕ
 context_limit = 64
 
 abbrev pub termination_limit : ℕ
-termination_limit = 128
+termination_limit = 256
 
 -- frames that a play list has places for: the fewest, the most, and what it begins with
 abbrev pub least_depth : ℕ

@@ -35,7 +35,7 @@ pub use crate::error_number::{ERROR_LIMIT, ErrorNumber};
 pub use crate::limits::{
     ALTERNATIVE_LIMIT, COMMAND_LIMIT, CONTEXTS, FIRST_DEPTH, KEPT_REPLIES, LAST_CONTEXT,
     LAST_TERMINATION, MAX_DEPTH, MEMBERS, MESSAGE_LIMIT, MIN_DEPTH, REPLY_LIMIT, REQUEST_LIMIT,
-    SAMPLES, SENDER_LIMIT, TERM_LIMIT, TERMINATIONS, constants_are_limits,
+    SAMPLES, SENDER_LIMIT, TERM_LIMIT, TERMINATIONS, constants_are_limits, limits_fit,
 };
 pub use crate::mode::{Mode, mode_listens, mode_talks};
 pub use crate::number::{number_of, port_of, uint16_of, version_in_digits};

@@ -1,14 +1,14 @@
-ghost use Rattle.std.specs.Prelude.{◌≡◌};
+ghost use Rattle.std.specs.Prelude.{◌≡◌, ◌≤◌, ◌^◌};
 ghost use Rattle.mg_words.specs.Limits.{member_limit, context_limit, termination_limit, least_depth, greatest_depth, first_depth, frame_samples, message_limit, request_limit, command_limit, name_limit, sender_limit, alternative_limit, reply_limit, kept_limit, last_termination, last_context};
 
 /// The most members of a context.
-pub const MEMBERS: usize = 32;
+pub const MEMBERS: usize = 64;
 
 /// The most contexts of a gateway.
 pub const CONTEXTS: usize = 64;
 
 /// The most terminations of a gateway.
-pub const TERMINATIONS: usize = 128;
+pub const TERMINATIONS: usize = 256;
 
 /// The fewest frames that a play list has places for.
 pub const MIN_DEPTH: usize = 2;
@@ -69,4 +69,11 @@ pub fn constants_are_limits()
     ensures reply { REPLY_LIMIT ≡ reply_limit }
     ensures kept { KEPT_REPLIES ≡ kept_limit }
     ensures numbers { (LAST_TERMINATION ≡ last_termination) × (LAST_CONTEXT ≡ last_context) }
+{}
+
+/// What the crates above take for granted of limits, so that one that is set too high is refused here: rooms and
+/// slots are numbers of 8 bits.
+pub fn limits_fit()
+    ensures rooms { context_limit ≤ 2 ^ 8 }
+    ensures slots { termination_limit ≤ 2 ^ 8 }
 {}

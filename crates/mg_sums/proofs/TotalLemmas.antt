@@ -1,5 +1,5 @@
 -- What becomes of the totals when a row changes.
-use Rattle.std.proofs.Common.{◌≡◌, ◌≢◌, ℕ, ◌^◌, ◌<◌, ◌≤◌, inl, inr, Bool, true, false, ◌==◌, cond, Option, Some, None, ℤ, pos, ◌+ℤ◌, ◌-ℤ◌, List, [], length, get_or, set, slice_index_or, refl, sym, ap, subst, ◌∙◌, arith, FitsSigned, replicate, get_or-set_same, get_or-set_other}
+use Rattle.std.proofs.Common.{◌≡◌, ◌≢◌, ℕ, ◌<◌, ◌≤◌, inl, inr, Bool, true, false, ◌==◌, cond, Option, Some, None, ℤ, pos, ◌+ℤ◌, ◌-ℤ◌, List, [], length, get_or, set, slice_index_or, refl, sym, ap, subst, ◌∙◌, arith, FitsSigned, replicate, get_or-set_same, get_or-set_other}
 use Rattle.std.specs.Int.{w16}
 use Rattle.std.specs.Prelude.{All, IfSome, unsigned_abs}
 use Rattle.std.specs.List.{range_with_len}
@@ -10,11 +10,12 @@ use Rattle.std.proofs.lemmas.List.{get_or_past, length-replicate, get_or-replica
 use Rattle.std.proofs.lemmas.List.FromFn.{length-range_with_len}
 use Rattle.std.proofs.lemmas.List.Elements.{All-replicate, All-set}
 use Rattle.std.proofs.Math.ListN.{length-set}
+use Rattle.mg_words.specs.Limits.{context_limit, termination_limit}
 use Rattle.mg_g711.specs.Frame.{IsFrame}
 use Rattle.mg_g711.proofs.Frames.{sample_fits, silence_is_frame}
 use Rattle.mg_sums.specs.Samples.{sample, sum_of, silence}
 use Rattle.mg_sums.specs.Sums.{SumsState, AreValidSums, first_state, frame_of, is_room, is_joined, room_of, sample_in, joined_rows, total_of}
-use Rattle.mg_sums.specs.aids.Totals.{AreTotals}
+use Rattle.mg_sums.specs.aids.Totals.{total_limit, AreTotals}
 use Rattle.mg_sums.proofs.SumLemmas.{sum_of-filter, sum_of-near, sum_of-changed, sum_of-same, sum_of-none}
 
 -- What a row adds to sample i of a room's total.
@@ -40,7 +41,7 @@ cond_near : (b : Bool) (v : ℤ) (n : ℕ) → unsigned_abs v ≤ n → unsigned
 cond_near true v n h = h
 cond_near false v n h = omega arith
 
-pub total_near : (kept : SumsState) (room i : ℕ) → AreValidSums kept → unsigned_abs (total_of kept room i) ≤ 2 ^ 22
+pub total_near : (kept : SumsState) (room i : ℕ) → AreValidSums kept → unsigned_abs (total_of kept room i) ≤ total_limit
 total_near kept room i valid =
     let near = sum_of-near (share kept room i) 32768 (range_with_len 0 (length kept.rooms)) (λ row. cond_near (is_joined kept.rooms room row) (sample_in kept.frames i row) 32768 (sample_near kept.frames i row valid.whole)) in
     let count = length-range_with_len 0 (length kept.rooms) in
@@ -54,7 +55,7 @@ module _ (kept kept' : SumsState) (row : ℕ) (long : length kept'.rooms ≡ len
       let after : total_of kept' r i ≡ sum_of (share kept' r i) (range_with_len 0 (length kept.rooms)) = total_is kept' r i ∙ ap (λ (n : ℕ). sum_of (share kept' r i) (range_with_len 0 n)) long in
       omega (arith, ints, step, after, total_is kept r i)
 
-  pub changed_totals : (totals : List (List ℤ)) (room : ℕ) (total : List ℤ) → AreValidSums kept' → room < 64
+  pub changed_totals : (totals : List (List ℤ)) (room : ℕ) (total : List ℤ) → AreValidSums kept' → room < context_limit
       → ((r i : ℕ) → r ≢ room → share kept' r i row ≡ share kept r i row)
       → ((i : ℕ) → i < 160 → sample total i +ℤ share kept room i row ≡ sample (slice_index_or totals room []) i +ℤ share kept' room i row)
       → AreTotals kept totals → AreTotals kept' (set totals room total)
@@ -102,13 +103,13 @@ reframed_others : (frames : List (List ℤ)) (rooms : List (Option ℕ)) (w w' r
 reframed_others frames rooms w w' row frame r i k ne =
     ap (λ (xs : List ℤ). cond (is_room (get_or rooms k None) r) (sample xs i) (pos 0)) (let same : get_or (set frames row frame) k [] ≡ get_or frames k [] = rw get_or-set_other refl in same)
 
-valid_moved : (frames : List (List ℤ)) (rooms : List (Option ℕ)) (w w' row : ℕ) (home : Option ℕ) → IfSome home (λ number. number < 64)
+valid_moved : (frames : List (List ℤ)) (rooms : List (Option ℕ)) (w w' row : ℕ) (home : Option ℕ) → IfSome home (λ number. number < context_limit)
     → AreValidSums (record { frames = frames; rooms = rooms; work = w }) → AreValidSums (record { frames = frames; rooms = set rooms row home; work = w' })
 valid_moved frames rooms w w' row home small h = record {
   frames = h.frames;
   rooms = length-set rooms row home ∙ h.rooms;
   whole = h.whole;
-  below = All-set (λ (o : Option ℕ). IfSome o (λ number. number < 64)) rooms row home small h.below;
+  below = All-set (λ (o : Option ℕ). IfSome o (λ number. number < context_limit)) rooms row home small h.below;
 }
 
 valid_reframed : (frames : List (List ℤ)) (rooms : List (Option ℕ)) (w w' row : ℕ) (frame : List ℤ) → IsFrame frame
@@ -121,7 +122,7 @@ valid_reframed frames rooms w w' row frame whole h = record {
 }
 
 module _ (frames : List (List ℤ)) (rooms : List (Option ℕ)) (w w' : ℕ) (totals : List (List ℤ)) (h : AreTotals (record { frames = frames; rooms = rooms; work = w }) totals) where
-  pub joined_totals : (row room : ℕ) (total : List ℤ) → row < 128 → room < 64 → get_or rooms row None ≡ None
+  pub joined_totals : (row room : ℕ) (total : List ℤ) → row < termination_limit → room < context_limit → get_or rooms row None ≡ None
       → ((i : ℕ) → i < 160 → sample total i ≡ sample (slice_index_or totals room []) i +ℤ sample_in frames i row)
       → AreTotals (record { frames = frames; rooms = set rooms row (Some room); work = w' }) (set totals room total)
   joined_totals row room total p q free sum =
@@ -135,7 +136,7 @@ module _ (frames : List (List ℤ)) (rooms : List (Option ℕ)) (w w' : ℕ) (to
       (λ i l. let a = share-here new room i row home in let b = share-none old room i row free in let e = sum i l in omega (arith, ints, a, b, e))
       h
 
-  pub left_totals : (row room : ℕ) (total : List ℤ) → row < 128 → room < 64 → get_or rooms row None ≡ Some room
+  pub left_totals : (row room : ℕ) (total : List ℤ) → row < termination_limit → room < context_limit → get_or rooms row None ≡ Some room
       → ((i : ℕ) → i < 160 → sample total i ≡ sample (slice_index_or totals room []) i -ℤ sample_in frames i row)
       → AreTotals (record { frames = frames; rooms = set rooms row None; work = w' }) (set totals room total)
   left_totals row room total p q home sum =
@@ -149,7 +150,7 @@ module _ (frames : List (List ℤ)) (rooms : List (Option ℕ)) (w w' : ℕ) (to
       (λ i l. let a = share-none new room i row free in let b = share-here old room i row home in let e = sum i l in omega (arith, ints, a, b, e))
       h
 
-  pub reframed_totals : (row room : ℕ) (frame total : List ℤ) → row < 128 → room < 64 → IsFrame frame → get_or rooms row None ≡ Some room
+  pub reframed_totals : (row room : ℕ) (frame total : List ℤ) → row < termination_limit → room < context_limit → IsFrame frame → get_or rooms row None ≡ Some room
       → ((i : ℕ) → i < 160 → sample total i ≡ sample (slice_index_or totals room []) i -ℤ sample_in frames i row +ℤ sample frame i)
       → AreTotals (record { frames = set frames row frame; rooms = rooms; work = w' }) (set totals room total)
   reframed_totals row room frame total p q whole home sum =
@@ -168,7 +169,7 @@ module _ (frames : List (List ℤ)) (rooms : List (Option ℕ)) (w w' : ℕ) (to
       omega (arith, ints, a, b, e, now))
       h
 
-  pub framed_totals : (row : ℕ) (frame : List ℤ) → row < 128 → IsFrame frame → get_or rooms row None ≡ None
+  pub framed_totals : (row : ℕ) (frame : List ℤ) → row < termination_limit → IsFrame frame → get_or rooms row None ≡ None
       → AreTotals (record { frames = set frames row frame; rooms = rooms; work = w' }) totals
   framed_totals row frame p whole free =
       let old : SumsState = record { frames = frames; rooms = rooms; work = w } in
@@ -192,29 +193,29 @@ joined_nowhere n row = elim (cases_lt row n) [
   | inr past ↦ let short : length (replicate {A = Option ℕ} n None) ≤ row = omega (arith, length-replicate {A = Option ℕ} n None) in get_or_past (replicate {A = Option ℕ} n None) row None short
 ]
 
-pub first_totals : (frames : List (List ℤ)) (rooms : List (Option ℕ)) (totals : List (List ℤ)) → frames ≡ replicate 128 silence → rooms ≡ replicate 128 None → totals ≡ replicate 64 silence
+pub first_totals : (frames : List (List ℤ)) (rooms : List (Option ℕ)) (totals : List (List ℤ)) → frames ≡ replicate termination_limit silence → rooms ≡ replicate termination_limit None → totals ≡ replicate context_limit silence
     → AreTotals (record { frames = frames; rooms = rooms; work = 0 }) totals
 first_totals frames rooms totals f r t =
     let kept : SumsState = record { frames = frames; rooms = rooms; work = 0 } in
-    let nowhere : (row : ℕ) → room_of kept row ≡ None = λ row. ap (λ (os : List (Option ℕ)). get_or os row None) r ∙ joined_nowhere 128 row in
+    let nowhere : (row : ℕ) → room_of kept row ≡ None = λ row. ap (λ (os : List (Option ℕ)). get_or os row None) r ∙ joined_nowhere termination_limit row in
     record {
       valid = record {
-        frames = ap length f ∙ length-replicate 128 silence;
-        rooms = ap length r ∙ length-replicate {A = Option ℕ} 128 None;
-        whole = subst (λ (xs : List (List ℤ)). All IsFrame xs) (sym f) (All-replicate IsFrame 128 silence silence_is_frame);
-        below = subst (λ (os : List (Option ℕ)). All (λ (o : Option ℕ). IfSome o (λ number. number < 64)) os) (sym r) (All-replicate (λ (o : Option ℕ). IfSome o (λ number. number < 64)) 128 None tt);
+        frames = ap length f ∙ length-replicate termination_limit silence;
+        rooms = ap length r ∙ length-replicate {A = Option ℕ} termination_limit None;
+        whole = subst (λ (xs : List (List ℤ)). All IsFrame xs) (sym f) (All-replicate IsFrame termination_limit silence silence_is_frame);
+        below = subst (λ (os : List (Option ℕ)). All (λ (o : Option ℕ). IfSome o (λ number. number < context_limit)) os) (sym r) (All-replicate (λ (o : Option ℕ). IfSome o (λ number. number < context_limit)) termination_limit None tt);
       };
-      rooms = ap length t ∙ length-replicate 64 silence;
+      rooms = ap length t ∙ length-replicate context_limit silence;
       sums = λ room i m l.
           ap (λ (xs : List (List ℤ)). sample (get_or xs room []) i) t
-          ∙ (ap (λ (xs : List ℤ). sample xs i) (get_or-replicate 64 room silence [] m)
+          ∙ (ap (λ (xs : List ℤ). sample xs i) (get_or-replicate context_limit room silence [] m)
           ∙ (get_or-replicate 160 i (pos 0) (pos 0) l
           ∙ (sym (sum_of-none (share kept room i) (range_with_len 0 (length rooms)) (λ row. share-none kept room i row (nowhere row))) ∙ sym (total_is kept room i))));
     }
 
 -- A kept total that was read.
-pub read_near : (kept : SumsState) (totals : List (List ℤ)) (room : ℕ) (total : List ℤ) → AreTotals kept totals → room < 64 → total ≡ slice_index_or totals room []
-    → (i : ℕ) → i < 160 → unsigned_abs (sample total i) ≤ 2 ^ 22
+pub read_near : (kept : SumsState) (totals : List (List ℤ)) (room : ℕ) (total : List ℤ) → AreTotals kept totals → room < context_limit → total ≡ slice_index_or totals room []
+    → (i : ℕ) → i < 160 → unsigned_abs (sample total i) ≤ total_limit
 read_near kept totals room total h small read i l =
     let sum : sample total i ≡ total_of kept room i = ap (λ (xs : List ℤ). sample xs i) read ∙ h.sums room i small l in
     omega (arith, total_near kept room i h.valid, ap unsigned_abs sum)
@@ -228,11 +229,11 @@ silent i = elim (cases_lt i 160) [
 -- The first state.
 pub first_rooms : (row : ℕ) → room_of first_state row ≡ None
 unfolding first_state
-first_rooms row = joined_nowhere 128 row
+first_rooms row = joined_nowhere termination_limit row
 
-pub first_frames : (row : ℕ) → row < 128 → frame_of first_state row ≡ silence
+pub first_frames : (row : ℕ) → row < termination_limit → frame_of first_state row ≡ silence
 unfolding first_state
-first_frames row l = get_or-replicate 128 row silence [] l
+first_frames row l = get_or-replicate termination_limit row silence [] l
 
 pub first_total : (room i : ℕ) → total_of first_state room i ≡ pos 0
 first_total room i = total_is first_state room i ∙ sum_of-none (share first_state room i) (range_with_len 0 (length first_state.rooms)) (λ row. share-none first_state room i row (first_rooms row))

@@ -3,8 +3,8 @@
 //! Each termination has a row, by the number of its slot, and each context a room. A [`Sums`]
 //! keeps the frame of each [`Row`] and the room that it is joined to, if any; it is joined while
 //! its termination talks. For each [`Room`] it keeps the sum of the frames that are joined to it,
-//! sample by sample, as 160 numbers of 32 bits. These totals are never limited: at most 128
-//! samples of 16 bits come together.
+//! sample by sample, as 160 numbers of 32 bits. These totals are never limited: at most
+//! [`TERMINATIONS`] samples of 16 bits come together.
 //!
 //! So the mix of a listener costs no sum over all talkers: it is the total of the room less the
 //! rows that the listener isn't to hear, its own (the base) and those that are silenced for it.

@@ -5,7 +5,7 @@ ghost use Rattle.mg_g711.specs.Frame.{IsFrame};
 ghost use Rattle.mg_g711.specs.Law.{byte_of};
 ghost use Rattle.mg_sums.specs.Samples.{sample, sum_of, silence, frame_or_silence};
 ghost use Rattle.mg_sums.specs.Sums.{sample_in, left_out_by, work_after, frame_calls};
-ghost use Rattle.mg_sums.specs.aids.Totals.{AreNear};
+ghost use Rattle.mg_sums.specs.aids.Totals.{total_limit, AreNear};
 
 use crate::room::Room;
 use crate::row::Row;
@@ -135,8 +135,8 @@ impl Sums {
         encode_frame(law, self.mix.frame())
     }
 
-    /// Sample `i` of a room's total, which is not limited. No total is farther from zero than 128
-    /// times 32768.
+    /// Sample `i` of a room's total, which is not limited. No total is farther from zero than 32768 times
+    /// the terminations that there can be.
     pub fn total(&self, room: Room, i: usize) -> &i32
         requires { i < 160 }
         ensures value { result.now ≡ total_of self.now room i }
@@ -185,7 +185,7 @@ fn write_rest(
     minus: &[Row],
     work: &mut u32,
 )
-    requires near { AreNear (2 ^ 22) total.now }
+    requires near { AreNear total_limit total.now }
     requires frames { (length frames.now ≡ termination_limit) × All IsFrame frames.now }
     requires few { length minus.now ≤ termination_limit }
     ensures sums { (i : ℕ) → i < 160 →
@@ -207,12 +207,12 @@ fn write_without(
     base: Option<Row>,
     work: &mut u32,
 )
-    requires near { AreNear (2 ^ 22) total.now }
+    requires near { AreNear total_limit total.now }
     requires frames { (length frames.now ≡ termination_limit) × All IsFrame frames.now }
     ensures sums { (i : ℕ) → i < 160 →
         sample rest.new i
         ≡ sample total.now i -ℤ sum_of (sample_in frames.now i) (left_out_by base []) }
-    ensures near { AreNear (2 ^ 22 + 2 ^ 15) rest.new }
+    ensures near { AreNear (total_limit + 32768) rest.new }
     ensures work { work.new ≡ work_after 1 work.old }
 {
     match base {

@@ -3,7 +3,7 @@ ghost use Rattle.mg_sums.specs.Samples.{sample};
 ghost use Rattle.mg_sums.specs.Sums.{AreOfRoom, is_joined, left_out_by};
 
 use crate::ranges::know_samples;
-use crate::{Room, Row, Sums, kernels};
+use crate::{Room, Row, Sums, TERMINATIONS, kernels};
 use mg_g711::{Frame, Law, decode_frame};
 use std::test::Fail;
 
@@ -235,7 +235,7 @@ fn totals_are_not_limited(rt: HostRuntime) -> Result<(), Fail> {
 
 #[test]
 fn no_total_knows_a_row_that_is_joined_nowhere(rt: HostRuntime) -> Result<(), Fail> {
-    let row = Row::new(127);
+    let row = Row::new((TERMINATIONS - 1) as u8);
     let mut sums = Sums::new(rt.alloc())?;
     sums.set_frame(row, Some(&[5; 160]));
     assert_eq!(rt; sums.room(row), None);

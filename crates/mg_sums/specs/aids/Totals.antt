@@ -1,8 +1,12 @@
 -- What holds of the totals that are kept.
-use Rattle.std.specs.Prelude.{◌≡◌, ℕ, ◌<◌, ◌≤◌, ℤ, List, [], length, slice_index_or, unsigned_abs}
-use Rattle.mg_words.specs.Limits.{context_limit}
+use Rattle.std.specs.Prelude.{◌≡◌, ℕ, ◌*◌, ◌<◌, ◌≤◌, ℤ, List, [], length, slice_index_or, unsigned_abs}
+use Rattle.mg_words.specs.Limits.{context_limit, termination_limit}
 use Rattle.mg_sums.specs.Samples.{sample}
 use Rattle.mg_sums.specs.Sums.{SumsState, AreValidSums, total_of}
+
+-- no total is farther from zero: it is a sum of so many samples, none of them farther than 32768
+abbrev pub total_limit : ℕ
+total_limit = termination_limit * 32768
 
 -- no number of a row is farther from zero
 abbrev pub AreNear : ℕ → List ℤ → Type 0

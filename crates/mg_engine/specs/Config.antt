@@ -1,5 +1,6 @@
 -- What a gateway is started with.
 use Rattle.std.specs.Prelude.{◌≢◌, ℕ, ◌+◌, ◌*◌, ◌<◌, [], ◌∷◌}
+use Rattle.mg_words.specs.Limits.{termination_limit}
 use Rattle.mg_rooms.specs.declared.limits.Limits.{Limits}
 use Rattle.mg_rooms.specs.Limits.{AreValidLimits}
 use Rattle.mg_engine.specs.declared.config.Config.{Config}
@@ -10,7 +11,7 @@ standard = record {
   address = 127 ∷ 0 ∷ 0 ∷ 1 ∷ [];
   control_port = 2944;
   base_port = 30000;
-  slots = 128;
+  slots = termination_limit;
   first_termination = 1;
   first_context = 1;
   ssrc = 0;

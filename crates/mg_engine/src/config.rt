@@ -1,6 +1,6 @@
 ghost use Rattle.std.specs.Prelude.{◌≡◌, ◌↔◌, IsTrue};
 
-use mg_rooms::Limits;
+use mg_rooms::{Limits, TERMINATIONS};
 
 /// What a gateway is started with. Its media ports are the pool of even ports `base_port`, `base_port + 2`,
 /// .. up to `base_port + 2 * (slots - 1)`.
@@ -12,7 +12,7 @@ pub struct Config {
     pub control_port: u16,
     /// The first UDP port for media.
     pub base_port: u16,
-    /// How many media ports there are, from 1 to 128.
+    /// How many media ports there are, from 1 to [`TERMINATIONS`].
     pub slots: u16,
     /// The number of the first termination.
     pub first_termination: u32,
@@ -37,7 +37,7 @@ impl Default for Config {
             address: [127, 0, 0, 1],
             control_port: 2944,
             base_port: 30000,
-            slots: 128,
+            slots: TERMINATIONS as u16,
             first_termination: 1,
             first_context: 1,
             ssrc: 0,

@@ -1,7 +1,7 @@
 //! What a mix is made of: the rows that are taken away from a total.
 
 ghost use Rattle.std.specs.Prelude.{◌≡◌, ℕ, ◌<◌, ◌≤◌, length, map, IsTrue, Some, None, if◌then◌else◌};
-ghost use Rattle.mg_words.specs.Limits.{context_limit, termination_limit, member_limit};
+ghost use Rattle.mg_words.specs.Limits.{context_limit, termination_limit};
 ghost use Rattle.mg_words.specs.Mode.{talks};
 ghost use Rattle.mg_topology.specs.Mask.{has_seat, seats_of};
 ghost use Rattle.mg_engine.specs.aids.Seating.{slot_at};
@@ -9,8 +9,9 @@ ghost use Rattle.mg_engine.specs.aids.Seating.{slot_at};
 use crate::seating::Seating;
 use arrayvec::ArrayVec;
 use mg_flow::Place;
-use mg_rooms::{MEMBERS, Record, mode_talks};
+use mg_rooms::{Record, mode_talks};
 use mg_sums::Row;
+use mg_topology::SEATS;
 use mg_topology::mask::{self, Mask};
 
 /// The row of a listener that talks, which isn't to hear itself.
@@ -26,7 +27,7 @@ pub fn own_row(listener: &Record) -> Option<Row>
 }
 
 /// The rows of those on some seats of a room.
-pub fn rows_on(seating: &Seating, room: u8, seats: Mask) -> ArrayVec<Row, MEMBERS>
+pub fn rows_on(seating: &Seating, room: u8, seats: Mask) -> ArrayVec<Row, SEATS>
     requires room { room < context_limit }
     requires slots { (seat : ℕ) → IsTrue (has_seat seats seat) → slot_at seating.now (record { room = room; seat = seat }) < termination_limit }
     ensures value { result.items ≡ map (λ seat. slot_at seating.now (record { room = room; seat = seat })) (seats_of seats) }

@@ -3,7 +3,8 @@ ghost use Rattle.mg_flow.specs.Place.{IsWithinLimits};
 ghost use Rattle.mg_engine.specs.aids.Seating.{slot_at, index_of, place_count};
 
 use mg_flow::Place;
-use mg_words::{CONTEXTS, MEMBERS};
+use mg_topology::SEATS;
+use mg_words::CONTEXTS;
 use std::alloc::{AllocError, Global};
 use std::marker::Model;
 
@@ -30,7 +31,7 @@ fn index_of(place: Place) -> usize
     ensures value { result ≡ index_of place }
     ensures within { result < place_count }
 {
-    usize::from(place.room) * MEMBERS + usize::from(place.seat)
+    usize::from(place.room) * SEATS + usize::from(place.seat)
 }
 
 impl Seating {
@@ -39,7 +40,7 @@ impl Seating {
         ensures value { IfOk result (λ seating. seating ≡ replicate place_count 0) }
     {
         let mut slots = Vec::new(alloc);
-        for _ in 0..CONTEXTS * MEMBERS {
+        for _ in 0..CONTEXTS * SEATS {
             slots.push(0)?;
         }
         Ok(Seating { slots })

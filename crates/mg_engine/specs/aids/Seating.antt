@@ -1,6 +1,7 @@
 -- The slots of the members by their places.
 use Rattle.std.specs.Prelude.{◌≡◌, ℕ, ◌+◌, ◌*◌, List, slice_index_or}
-use Rattle.mg_words.specs.Limits.{context_limit, member_limit}
+use Rattle.mg_words.specs.Limits.{context_limit}
+use Rattle.mg_topology.specs.Mask.{seat_limit}
 use Rattle.mg_rooms.specs.declared.record.Record.{Record}
 use Rattle.mg_rooms.specs.Registry.{Registry}
 use Rattle.mg_flow.specs.declared.place.Place.{Place}
@@ -8,11 +9,11 @@ use Rattle.mg_engine.specs.Place.{IsOnPlace}
 
 -- how many places all rooms have
 abbrev pub place_count : ℕ
-place_count = context_limit * member_limit
+place_count = context_limit * seat_limit
 
 -- where a place stands among those of all rooms
 abbrev pub index_of : Place → ℕ
-index_of place = place.room * member_limit + place.seat
+index_of place = place.room * seat_limit + place.seat
 
 -- the slot on a place
 abbrev pub slot_at : List ℕ → Place → ℕ

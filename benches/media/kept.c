@@ -8,7 +8,7 @@
 #include <string.h>
 #include <time.h>
 
-enum { FRAME = 160, HEADER = 12, PACKET = HEADER + FRAME, CALLERS = 128, ROOMS = 64, WAITING = 8 };
+enum { FRAME = 160, HEADER = 12, PACKET = HEADER + FRAME, CALLERS = 256, ROOMS = 64, WAITING = 8 };
 enum { BEFORE = 8, TICKS = 400 };
 
 struct caller {
@@ -198,6 +198,7 @@ int main(void) {
     tell(8, 8, 1);
     tell(32, 32, 1);
     tell(64, 64, 2);
+    tell(64, 64, 1);
     tell(32, 1, 1);
     return 0;
 }

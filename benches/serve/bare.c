@@ -19,7 +19,7 @@ static struct sockaddr_in local(int port)
 int main(int argc, char **argv)
 {
     static uint8_t buffer[65535], packet[172];
-    static int s[129];
+    static int s[257];
     char line[64];
     if (argc != 3)
         return 2;

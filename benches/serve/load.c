@@ -11,7 +11,7 @@
 #include <time.h>
 #include <unistd.h>
 
-enum { MOST = 128, PACKET = 172, ANSWER = 65536 };
+enum { MOST = 256, A_REQUEST = 16, PACKET = 172, ANSWER = 65536 };
 
 static struct sockaddr_in local(int port)
 {
@@ -79,14 +79,19 @@ int main(int argc, char **argv)
         int room = 1 << 20;
         setsockopt(socket_of[i], SOL_SOCKET, SO_RCVBUF, &room, sizeof room);
     }
-    for (int first = 0; first < callers; first += members) {
-        int n = sprintf(text, "MEGACO/1 [127.0.0.1]:2945\nTransaction=%d{Context=${", first + 1);
-        for (int i = first; i < first + members && i < callers; i++)
-            n += sprintf(text + n,
-                         "%sAdd=${Media{LocalControl{Mode=SendReceive},"
-                         "Local{v=0\nc=IN IP4 $\nm=audio $ RTP/AVP 0\n},"
-                         "Remote{v=0\nc=IN IP4 127.0.0.1\nm=audio %d RTP/AVP 0\n}}}",
-                         i > first ? "," : "", 40000 + 2 * i);
+    for (int i = 0, n = 0; i < callers; i++) {
+        int at = i % members, is_first = at % A_REQUEST == 0;
+        if (is_first) {
+            n = sprintf(text, "MEGACO/1 [127.0.0.1]:2945\nTransaction=%d{Context=", i + 1);
+            n += at ? sprintf(text + n, "%d{", i / members + 1) : sprintf(text + n, "${");
+        }
+        n += sprintf(text + n,
+                     "%sAdd=${Media{LocalControl{Mode=SendReceive},"
+                     "Local{v=0\nc=IN IP4 $\nm=audio $ RTP/AVP 0\n},"
+                     "Remote{v=0\nc=IN IP4 127.0.0.1\nm=audio %d RTP/AVP 0\n}}}",
+                     is_first ? "" : ",", 40000 + 2 * i);
+        if (i + 1 < callers && (i + 1) % members && (at + 1) % A_REQUEST)
+            continue;
         sprintf(text + n, "}}");
         ask(control, text, answer);
     }

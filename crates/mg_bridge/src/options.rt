@@ -31,7 +31,7 @@ fn with_options<'a>(alloc: Global, command: Command<'a>) -> Result<Command<'a>, 
         ))?
         .arg(short_number(alloc, "control-port").help("The UDP port for control messages"))?
         .arg(short_number(alloc, "base-port").help("The first UDP port for media, an even one"))?
-        .arg(short_number(alloc, "slots").help("How many media ports there are, from 1 to 128"))?
+        .arg(short_number(alloc, "slots").help("How many media ports there are, from 1 to 256"))?
         .arg(long_number(alloc, "ssrc").help("The SSRC of termination n is this plus n"))?
         .arg(short_number(alloc, "sequence").help("The sequence number of a first packet"))?
         .arg(long_number(alloc, "timestamp").help("The timestamp of a first tick"))?;

@@ -7,6 +7,7 @@ use mg_engine::{
 use mg_playout::Placed;
 use mg_rtp::{Header, RtpFault, write};
 use mg_sdp::read_sessions;
+use mg_words::MEMBERS;
 use std::alloc::Global;
 use std::process::Abort;
 use std::test::Fail;
@@ -384,27 +385,45 @@ fn ticks_at_the_price_of_a_few_rows(rt: HostRuntime) -> Result<(), Fail> {
     tick_at_a_price(&rt, &mut engine, &mut Outbox::new())
 }
 
-/// A tick of 32 talkers takes three rows for each.
-fn tick_with_many(rt: &impl Abort, engine: &mut Engine, outbox: &mut Outbox) -> Result<(), Fail> {
-    assert!(rt; tick_rows(engine, outbox) <= 96);
-    assert_eq!(rt; outbox.len(), 32);
+/// A packet of the loudest speech at each port of a full context.
+fn speak_at_each_port(engine: &mut Engine) {
+    for slot in 0..MEMBERS {
+        engine.media(30000 + 2 * slot as u16, CALLER, &packet(0x80));
+    }
+}
+
+/// A tick of a full context takes three rows for each who talks. The total is that of all, and each hears the loudest that
+/// there is.
+fn tick_with_many(
+    rt: &impl Abort,
+    alloc: Global,
+    engine: &mut Engine,
+    outbox: &mut Outbox,
+) -> Result<(), Fail> {
+    speak_at_each_port(engine);
+    tick(engine, outbox, 2);
+    assert!(rt; tick_rows(engine, outbox) <= 3 * MEMBERS as u32);
+    assert_eq!(rt; engine.total(1, 0), Some(32124 * MEMBERS as i32));
+    let payloads = payloads(alloc, outbox)?;
+    assert_eq!(rt; payloads.len(), MEMBERS);
+    assert!(rt; payloads.iter().all(|byte| *byte == 0x80));
     Ok(())
 }
 
 #[test]
 fn ticks_of_many_talkers_cost_three_rows_each(rt: HostRuntime) -> Result<(), Fail> {
-    let mut engine = crowd(rt.alloc(), &[Mode::SendReceive; 32])?;
-    tick_with_many(&rt, &mut engine, &mut Outbox::new())
+    let mut engine = crowd(rt.alloc(), &[Mode::SendReceive; MEMBERS])?;
+    tick_with_many(&rt, rt.alloc(), &mut engine, &mut Outbox::new())
 }
 
-/// One who talks, and 31 who listen.
-fn lecture() -> [Mode; 32] {
-    let mut modes = [Mode::SendOnly; 32];
+/// One who talks, and all others of a full context, who listen.
+fn lecture() -> [Mode; MEMBERS] {
+    let mut modes = [Mode::SendOnly; MEMBERS];
     modes[0] = Mode::SendReceive;
     modes
 }
 
-/// The 31 who hear one talker share a payload.
+/// Those who hear one talker share a payload.
 fn share_a_payload(
     rt: &impl Abort,
     alloc: Global,
@@ -416,7 +435,7 @@ fn share_a_payload(
     assert!(rt; tick_rows(engine, outbox) <= 4);
     let payloads = payloads(alloc, outbox)?;
     let want: &[u8] = &[0xff, 0x80, 0x80];
-    assert_eq!(rt; payloads.len(), 32);
+    assert_eq!(rt; payloads.len(), MEMBERS);
     assert_eq!(rt; payloads.as_slice().split_at(3).0, want);
     assert_eq!(rt; payloads.as_slice().last(), Some(&0x80));
     Ok(())

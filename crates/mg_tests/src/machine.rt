@@ -1,6 +1,8 @@
 //! The machine of events: what no line of a script shows.
 
-use mg_core::{Answer, Config, Core, Counts, NoMemory, Peer, RunFault, StartFault, run};
+use mg_core::{
+    Answer, Config, Core, Counts, NoMemory, Peer, RunFault, StartFault, TERMINATIONS, run,
+};
 use std::alloc::Global;
 use std::io::{self, Cursor, Error, ErrorKind, Read, Write};
 use std::process::Abort;
@@ -94,7 +96,7 @@ fn refuses_bad_configurations(rt: HostRuntime) {
             ..standard
         },
         Config {
-            slots: 129,
+            slots: TERMINATIONS as u16 + 1,
             ..standard
         },
         Config {

@@ -4,8 +4,8 @@ ghost use Rattle.std.specs.Prelude.{◌≡◌};
 
 use mg_g711::Law;
 use mg_rooms::{
-    ErrorNumber, Limits, MediaSetting, Member, Mode, Record, Rooms, Settings, Target, mode_listens,
-    mode_talks,
+    ErrorNumber, Limits, MEMBERS, MediaSetting, Member, Mode, Record, Rooms, Settings,
+    TERMINATIONS, Target, mode_listens, mode_talks,
 };
 use mg_sdp::{Chosen, read_sessions};
 use std::process::Abort;
@@ -14,7 +14,7 @@ use std::test::Fail;
 const LIMITS: Limits = Limits {
     address: [127, 0, 0, 1],
     base_port: 30000,
-    slots: 128,
+    slots: TERMINATIONS as u16,
     first_termination: 1,
     first_context: 1,
 };
@@ -26,11 +26,17 @@ fn numbers(member: Member) -> (u32, u32)
     (member.record.context, member.record.number)
 }
 
+/// As many slots as a full context and one with two members hold.
+const CROWDED: Limits = Limits {
+    slots: MEMBERS as u16 + 2,
+    ..LIMITS
+};
+
 /// Makes a context and fills it.
 fn fill_context(rt: &impl Abort, rooms: &mut Rooms, context: u32) {
     let first = rooms.add(Target::New, &Settings::default());
     assert_eq!(rt; first.map(|member| member.record.context), Ok(context));
-    for _ in 1..32 {
+    for _ in 1..MEMBERS {
         let next = rooms.add(Target::Number(context), &Settings::default());
         assert_eq!(rt; next.map(|member| member.record.context), Ok(context));
     }
@@ -45,29 +51,31 @@ fn local(content: &[u8]) -> MediaSetting {
 
 #[test]
 fn slots_and_contexts_fill_up(rt: HostRuntime) -> Result<(), Fail> {
-    let mut rooms = Rooms::new(rt.alloc(), LIMITS)?;
-    for context in 1..5 {
-        fill_context(&rt, &mut rooms, context);
-    }
+    let mut rooms = Rooms::new(rt.alloc(), CROWDED)?;
     let settings = Settings::default();
+    fill_context(&rt, &mut rooms, 1);
+    assert!(rt; rooms.add(Target::New, &settings).is_ok());
+    assert!(rt; rooms.add(Target::Number(2), &settings).is_ok());
     assert_eq!(rt;
         rooms.add(Target::Number(1), &settings),
         Err(ErrorNumber::NoTerminationLeft)
     );
 
-    let gone = rooms.subtract(Target::Number(2), 40);
-    assert_eq!(rt; gone.map(numbers), Ok((2, 40)));
-    assert_eq!(rt; rooms.at_slot(39), None);
+    let (slot, first) = (MEMBERS as u8, MEMBERS as u32 + 1);
+    let gone = rooms.subtract(Target::Number(2), first);
+    assert_eq!(rt; gone.map(numbers), Ok((2, first)));
+    assert_eq!(rt; rooms.at_slot(slot), None);
     assert_eq!(rt;
         rooms.add(Target::Number(1), &settings),
         Err(ErrorNumber::ContextFull)
     );
 
     let added = rooms.add(Target::Number(2), &settings);
-    assert_eq!(rt; added.map(numbers), Ok((2, 129)));
-    assert_eq!(rt; rooms.at_slot(39), Some(129));
-    assert_eq!(rt; rooms.members(2).last().copied(), Some(129));
-    assert_eq!(rt; LIMITS.slot_port(39), 30078);
+    let last = MEMBERS as u32 + 3;
+    assert_eq!(rt; added.map(numbers), Ok((2, last)));
+    assert_eq!(rt; rooms.at_slot(slot), Some(last));
+    assert_eq!(rt; rooms.members(2).last().copied(), Some(last));
+    assert_eq!(rt; CROWDED.slot_port(slot), 30000 + 2 * MEMBERS as u16);
     Ok(())
 }
 
@@ -231,7 +239,7 @@ fn numbers_end(rt: HostRuntime) -> Result<(), Fail> {
 #[test]
 fn limits_are_told(rt: HostRuntime) -> Result<(), Fail> {
     assert!(rt; LIMITS.is_valid());
-    for slots in [0, 129] {
+    for slots in [0, TERMINATIONS as u16 + 1] {
         assert!(rt; !Limits { slots, ..LIMITS }.is_valid());
     }
     assert!(rt;

@@ -10,7 +10,7 @@ use std::io::Cursor;
 use std::rt::Files;
 
 /// The scripts, each by the name of its file and of the file with its output, without their ends.
-const SCRIPTS: [&str; 53] = [
+const SCRIPTS: [&str; 54] = [
     "conference",
     "speech",
     "coaching",
@@ -18,6 +18,7 @@ const SCRIPTS: [&str; 53] = [
     "rules/a_context_is_made_with_what_is_done",
     "rules/a_full_context",
     "rules/a_full_gateway",
+    "rules/a_gateway_of_64_contexts",
     "rules/a_lecture",
     "rules/a_message_cut_at_every_byte",
     "rules/a_message_of_8192_bytes",

@@ -439,3 +439,68 @@ fn reads_a_byte_at_a_time(rt: HostRuntime) -> Result<(), Fail> {
     assert_eq!(rt; ticks, Some(1000));
     Ok(())
 }
+
+const TWO_ADDS: &[u8] = b"!/1 [127.0.0.1]:2945 T=1{C=${A=$,A=$}}";
+
+const LAST_ADDED: &[u8] = b"MEGACO/1 [127.0.0.1]:2944\nReply=1{Context=1{Add=RTP/4294967295,Add=${Error=432{\"no termination or port left\"}}}}";
+
+/// The last termination has the greatest number of 32 bits.
+#[test]
+fn termination_numbers_end(rt: HostRuntime) -> Result<(), Fail> {
+    let config = Config {
+        first_termination: 4294967295,
+        ..Config::default()
+    };
+    let mut core = Core::new(rt.alloc(), config)?;
+    assert!(rt; is_answered(rt.alloc(), &mut core, TWO_ADDS, LAST_ADDED)?);
+    Ok(())
+}
+
+const LAST_CONTEXT: &[u8] = b"MEGACO/1 [127.0.0.1]:2944\nReply=2{Context=4294967293{Add=RTP/1}}";
+
+const ADD_AGAIN: &[u8] = b"!/1 [127.0.0.1]:2945 T=3{C=${A=$}}";
+
+const NO_CONTEXT: &[u8] =
+    b"MEGACO/1 [127.0.0.1]:2944\nReply=3{Context=${Add=${Error=412{\"no context left\"}}}}";
+
+/// The last context has the number below that of all contexts and that of one to be made.
+#[test]
+fn context_numbers_end(rt: HostRuntime) -> Result<(), Fail> {
+    let config = Config {
+        first_context: 4294967293,
+        ..Config::default()
+    };
+    let mut core = Core::new(rt.alloc(), config)?;
+    assert!(rt; is_answered(rt.alloc(), &mut core, ADD, LAST_CONTEXT)?);
+    assert!(rt; is_answered(rt.alloc(), &mut core, ADD_AGAIN, NO_CONTEXT)?);
+    Ok(())
+}
+
+const CALLER: &[u8] = b"!/1 [127.0.0.1]:2945 T=1{C=${A=${M{O{MO=SR},L{v=0\nc=IN IP4 $\nm=audio $ RTP/AVP 0\n},R{v=0\nc=IN IP4 127.0.0.1\nm=audio 40000 RTP/AVP 0\n}}}}}";
+
+/// The header of the one packet of a tick.
+fn sent_header(core: &mut Core) -> Option<[u8; 12]> {
+    core.tick();
+    match core.outbox() {
+        [packet] => packet.bytes.first_chunk().copied(),
+        _ => None,
+    }
+}
+
+/// Sequence numbers, timestamps and sources begin again at 0.
+#[test]
+fn numbers_of_packets_wrap(rt: HostRuntime) -> Result<(), Fail> {
+    let config = Config {
+        ssrc: 4294967295,
+        sequence: 65535,
+        timestamp: 4294967200,
+        ..Config::default()
+    };
+    let mut core = Core::new(rt.alloc(), config)?;
+    assert!(rt; hand(rt.alloc(), &mut core, CALLER)? == Answer::Send);
+    let first = [128, 128, 255, 255, 255, 255, 255, 160, 0, 0, 0, 0];
+    assert_eq!(rt; sent_header(&mut core), Some(first));
+    let second = [128, 0, 0, 0, 0, 0, 0, 64, 0, 0, 0, 0];
+    assert_eq!(rt; sent_header(&mut core), Some(second));
+    Ok(())
+}

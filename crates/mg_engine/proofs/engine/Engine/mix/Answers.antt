@@ -47,7 +47,7 @@ mix-requires c =
     sound.there
     sound.one_room
     sound.one_seat
-    (λ n r found. (sound.termination n r found).1.seat)
+    (λ n r found. omega (arith, (sound.termination n r found).1.seat))
     (λ i d lt. let (number, limited) = sound.termination (get_or k.rooms.terminations i d).number (get_or k.rooms.terminations i d) (sound.by_number i d lt) in omega (arith, limited.slot, sound.consistent.limits.0.few_slots))
     c.self.invariant.row_count
     sound.one_slot
@@ -74,7 +74,7 @@ returns-clause-value c =
     sound.there
     sound.one_room
     sound.one_seat
-    (λ n r found. (sound.termination n r found).1.seat)
+    (λ n r found. omega (arith, (sound.termination n r found).1.seat))
     (λ i d lt. let (number, limited) = sound.termination (get_or k.rooms.terminations i d).number (get_or k.rooms.terminations i d) (sound.by_number i d lt) in omega (arith, limited.slot, sound.consistent.limits.0.few_slots))
     c.self.invariant.row_count
     sound.one_slot
@@ -87,7 +87,7 @@ returns-clause-value c =
     sound.there
     sound.one_room
     sound.one_seat
-    (λ n r found. (sound.termination n r found).1.seat)
+    (λ n r found. omega (arith, (sound.termination n r found).1.seat))
     (λ i d lt. let (number, limited) = sound.termination (get_or k.rooms.terminations i d).number (get_or k.rooms.terminations i d) (sound.by_number i d lt) in omega (arith, limited.slot, sound.consistent.limits.0.few_slots))
     c.self.invariant.row_count
     sound.one_slot
@@ -116,7 +116,7 @@ returns-clause-work c =
     sound.there
     sound.one_room
     sound.one_seat
-    (λ n r found. (sound.termination n r found).1.seat)
+    (λ n r found. omega (arith, (sound.termination n r found).1.seat))
     (λ i d lt. let (number, limited) = sound.termination (get_or k.rooms.terminations i d).number (get_or k.rooms.terminations i d) (sound.by_number i d lt) in omega (arith, limited.slot, sound.consistent.limits.0.few_slots))
     c.self.invariant.row_count
     sound.one_slot

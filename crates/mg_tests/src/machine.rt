@@ -442,7 +442,8 @@ fn reads_a_byte_at_a_time(rt: HostRuntime) -> Result<(), Fail> {
 
 const TWO_ADDS: &[u8] = b"!/1 [127.0.0.1]:2945 T=1{C=${A=$,A=$}}";
 
-const LAST_ADDED: &[u8] = b"MEGACO/1 [127.0.0.1]:2944\nReply=1{Context=1{Add=RTP/4294967295,Add=${Error=432{\"no termination or port left\"}}}}";
+const LAST_ADDED: &[u8] =
+    b"MEGACO/1 [127.0.0.1]:2944\nReply=1{Context=1{Add=RTP/4294967295,Add=${Error=432{\"no termination or port left\"}}}}";
 
 /// The last termination has the greatest number of 32 bits.
 #[test]
@@ -476,7 +477,8 @@ fn context_numbers_end(rt: HostRuntime) -> Result<(), Fail> {
     Ok(())
 }
 
-const CALLER: &[u8] = b"!/1 [127.0.0.1]:2945 T=1{C=${A=${M{O{MO=SR},L{v=0\nc=IN IP4 $\nm=audio $ RTP/AVP 0\n},R{v=0\nc=IN IP4 127.0.0.1\nm=audio 40000 RTP/AVP 0\n}}}}}";
+const CALLER: &[u8] =
+    b"!/1 [127.0.0.1]:2945 T=1{C=${A=${M{O{MO=SR},L{v=0\nc=IN IP4 $\nm=audio $ RTP/AVP 0\n},R{v=0\nc=IN IP4 127.0.0.1\nm=audio 40000 RTP/AVP 0\n}}}}}";
 
 /// The header of the one packet of a tick.
 fn sent_header(core: &mut Core) -> Option<[u8; 12]> {

@@ -13,6 +13,7 @@ use Rattle.mg_text.specs.MessageReading.{MessageReading, Read, TooMany, OtherVer
 use Rattle.mg_engine.specs.declared.taken.DropCause.TheVariants as causes
 use Rattle.mg_engine.specs.declared.taken.Taken.{Taken}
 use Rattle.mg_engine.specs.declared.taken.Taken.TheVariants.{Placed, Dropped}
+use Rattle.mg_engine.specs.Tick.{concealed_in_tick}
 use Rattle.mg_core.specs.declared.event.Event.{Event}
 use Rattle.mg_core.specs.declared.event.Event.TheVariants.{Control, Media, Tick}
 use Rattle.mg_core.specs.Answer.{answer_head, answered, has_requests, if_asked, item_replied, mark_after, replied_to, unless_kept}
@@ -101,63 +102,73 @@ dropped_numbers (Dropped causes.Length ∷ ts) a b c d e f = let t : Taken = Dro
 
 -- ## Events
 
--- a tally after events of which this became
-tally_after : Tally → List Event → List Taken → Tally
-tally_after t events taken = record {
+-- a tally after events of which this became, with so many frames concealed
+tally_after : Tally → List Event → List Taken → ℕ → Tally
+tally_after t events taken concealed = record {
   control = t.control + count_by is_control events;
   media = t.media + count_by is_media events;
   ticks = t.ticks + count_by is_tick events;
   placed = placed_after t.placed taken;
   dropped = dropped_after t.dropped taken;
+  concealed = t.concealed + concealed;
 }
 
-one_taken : (first : Taken) (others : List Taken) (t : Tally) (port : ℕ) (e : Event) (events : List Event) → is_control e ≡ false → is_media e ≡ true → is_tick e ≡ false → tally_after (with_taken first t) events others ≡ tally_after t (e ∷ events) (first ∷ others)
+one_taken : (first : Taken) (others : List Taken) (concealed : ℕ) (t : Tally) (port : ℕ) (e : Event) (events : List Event) → is_control e ≡ false → is_media e ≡ true → is_tick e ≡ false → tally_after (with_taken first t) events others concealed ≡ tally_after t (e ∷ events) (first ∷ others) concealed
 unfolding tally_after placed_after dropped_after
-one_taken (Placed p) others t port e events c m k = λ i. record {
+one_taken (Placed p) others concealed t port e events c m k = λ i. record {
   control = miss is_control e events t.control c i;
   media = hit is_media e events t.media m i;
   ticks = miss is_tick e events t.ticks k i;
   placed = placed_after (one_more_at (placed_counter p) t.placed) others;
   dropped = dropped_after t.dropped others;
+  concealed = t.concealed + concealed;
 }
-one_taken (Dropped cause) others t port e events c m k = λ i. record {
+one_taken (Dropped cause) others concealed t port e events c m k = λ i. record {
   control = miss is_control e events t.control c i;
   media = hit is_media e events t.media m i;
   ticks = miss is_tick e events t.ticks k i;
   placed = placed_after t.placed others;
   dropped = dropped_after (one_more_at (cause_of cause) t.dropped) others;
+  concealed = t.concealed + concealed;
 }
 
-counted : (w last : World) (events : List Event) (taken : List Taken) → RunTaking w events taken last → last.tally ≡ tally_after w.tally events taken
+counted : (w last : World) (events : List Event) (taken : List Taken) (concealed : ℕ) → RunTaking w events taken concealed last → last.tally ≡ tally_after w.tally events taken concealed
 unfolding tally_after placed_after dropped_after
-counted w last [] taken (none, is) =
-    ap (λ (v : World). v.tally) is ∙ (λ i. let ts : List Taken = sym none i in record { control = zero_more w.tally.control i; media = zero_more w.tally.media i; ticks = zero_more w.tally.ticks i; placed = placed_after w.tally.placed ts; dropped = dropped_after w.tally.dropped ts })
-counted w last (Control source bytes ∷ events) taken (sent, next, (answer, (reading, read, came), told), run) =
+counted w last [] taken concealed (none, clear, is) =
+    ap (λ (v : World). v.tally) is ∙ (λ i. let ts : List Taken = sym none i in record { control = zero_more w.tally.control i; media = zero_more w.tally.media i; ticks = zero_more w.tally.ticks i; placed = placed_after w.tally.placed ts; dropped = dropped_after w.tally.dropped ts; concealed = no_more i })
+  where
+    no_more : w.tally.concealed ≡ w.tally.concealed + concealed
+    no_more = omega (arith, clear)
+counted w last (Control source bytes ∷ events) taken concealed (sent, next, (answer, (reading, read, came), told), run) =
     let e : Event = Control source bytes in
     let same : next.tally ≡ (with_control w).tally = ap (λ (p : Option (List ℕ) × World). p.1.tally) (sym came) ∙ answer_tally bytes reading (with_control w) in
-    counted next last events taken run ∙ ap (λ (t : Tally). tally_after t events taken) same
-    ∙ (λ i. record (tally_after w.tally events taken) {
+    counted next last events taken concealed run ∙ ap (λ (t : Tally). tally_after t events taken concealed) same
+    ∙ (λ i. record (tally_after w.tally events taken concealed) {
       control = hit is_control e events w.tally.control refl i;
       media = miss is_media e events w.tally.media refl i;
       ticks = miss is_tick e events w.tally.ticks refl i;
     })
-counted w last (Media port source bytes ∷ events) taken (first, others, next, (g, takes, is), run, are) =
-    counted next last events others run ∙ ap (λ (v : World). tally_after v.tally events others) is
-    ∙ one_taken first others w.tally port (Media port source bytes) events refl refl refl
-    ∙ ap (tally_after w.tally (Media port source bytes ∷ events)) (sym are)
-counted w last (Tick ∷ events) taken (sent, next, (told, is), run) =
-    counted next last events taken run ∙ ap (λ (v : World). tally_after v.tally events taken) is
-    ∙ (λ i. record (tally_after w.tally events taken) {
+counted w last (Media port source bytes ∷ events) taken concealed (first, others, next, (g, takes, is), run, are) =
+    counted next last events others concealed run ∙ ap (λ (v : World). tally_after v.tally events others concealed) is
+    ∙ one_taken first others concealed w.tally port (Media port source bytes) events refl refl refl
+    ∙ ap (λ (ts : List Taken). tally_after w.tally (Media port source bytes ∷ events) ts concealed) (sym are)
+counted w last (Tick ∷ events) taken concealed (sent, others, next, (told, is), run, sum) =
+    counted next last events taken others run ∙ ap (λ (v : World). tally_after v.tally events taken others) is
+    ∙ (λ i. record (tally_after w.tally events taken concealed) {
       control = miss is_control Tick events w.tally.control refl i;
       media = miss is_media Tick events w.tally.media refl i;
       ticks = hit is_tick Tick events w.tally.ticks refl i;
+      concealed = more i;
     })
+  where
+    more : w.tally.concealed + concealed_in_tick w.gateway + others ≡ w.tally.concealed + concealed
+    more = omega (arith, sum)
 
 pub events_are_counted : EventsAreCounted
 unfolding tally_after
-events_are_counted config events taken last run =
-    counted (start_of config) last events taken run
-    ∙ (λ i. record { control = plus_none (count_by is_control events) i; media = plus_none (count_by is_media events) i; ticks = plus_none (count_by is_tick events) i; placed = all_placed i; dropped = all_dropped i })
+events_are_counted config events taken concealed last run =
+    counted (start_of config) last events taken concealed run
+    ∙ (λ i. record { control = plus_none (count_by is_control events) i; media = plus_none (count_by is_media events) i; ticks = plus_none (count_by is_tick events) i; placed = all_placed i; dropped = all_dropped i; concealed = plus_none concealed i })
   where
     plus_none : (n : ℕ) → 0 + n ≡ n
     plus_none n = omega arith
@@ -170,10 +181,10 @@ events_are_counted config events taken last run =
         ∙ (λ i. six (plus_none (count_by is_to_nobody taken) i) (plus_none (count_by is_stray taken) i) (plus_none (count_by is_without_local taken) i) (plus_none (count_by is_no_packet taken) i) (plus_none (count_by is_of_another_type taken) i) (plus_none (count_by is_of_another_length taken) i))
 
 pub runs_take : RunsTake
-runs_take w last [] sent (none, is) = ([], (refl, is))
+runs_take w last [] sent (none, is) = ([], 0, (refl, refl, is))
 runs_take w last (Control source bytes ∷ events) sent (first, others, next, step, run, is) =
-    let (taken, runs) = runs_take next last events others run in (taken, (first, next, step, runs))
+    let (taken, concealed, runs) = runs_take next last events others run in (taken, concealed, (first, next, step, runs))
 runs_take w last (Media port source bytes ∷ events) sent (first, others, next, (t, took, told), run, is) =
-    let (taken, runs) = runs_take next last events others run in (t ∷ taken, (t, taken, next, took, runs, refl))
+    let (taken, concealed, runs) = runs_take next last events others run in (t ∷ taken, concealed, (t, taken, next, took, runs, refl))
 runs_take w last (Tick ∷ events) sent (first, others, next, step, run, is) =
-    let (taken, runs) = runs_take next last events others run in (taken, (first, next, step, runs))
+    let (taken, concealed, runs) = runs_take next last events others run in (taken, concealed_in_tick w.gateway + concealed, (first, concealed, next, step, runs, refl))

@@ -1,5 +1,6 @@
--- What is counted are the events that came, and what became of each RTP datagram among them.
-use Rattle.std.specs.Prelude.{◌≡◌, Bool, true, false, List, [], ◌∷◌, count_by}
+-- What is counted are the events that came, what became of each RTP datagram among them, and the
+-- frames that stood in for missing ones.
+use Rattle.std.specs.Prelude.{◌≡◌, ℕ, ◌+◌, Bool, true, false, List, [], ◌∷◌, count_by}
 use Rattle.mg_playout.specs.declared.placed.Placed.TheVariants.{Started, Pushed, Again, Late}
 use Rattle.mg_playout.specs.declared.placed.Placed.TheVariants as answers
 use Rattle.mg_engine.specs.declared.config.Config.{Config}
@@ -7,6 +8,7 @@ use Rattle.mg_engine.specs.declared.taken.DropCause.TheVariants.{NoTermination, 
 use Rattle.mg_engine.specs.declared.taken.DropCause.TheVariants.{PayloadType, Length}
 use Rattle.mg_engine.specs.declared.taken.Taken.{Taken}
 use Rattle.mg_engine.specs.declared.taken.Taken.TheVariants.{Placed, Dropped}
+use Rattle.mg_engine.specs.Tick.{concealed_in_tick}
 use Rattle.mg_core.specs.declared.event.Event.{Event}
 use Rattle.mg_core.specs.declared.event.Event.TheVariants.{Control, Media, Tick}
 use Rattle.mg_core.specs.Step.{Sent, Step, Run}
@@ -29,19 +31,21 @@ is_tick (Control source bytes) = false
 is_tick (Media port source bytes) = false
 is_tick Tick = true
 
--- Events are run one after another, and this becomes of the RTP datagrams among them, in order.
-abbrev pub RunTaking : World → List Event → List Taken → World → Type 0
-RunTaking w [] taken last = (taken ≡ []) × (last ≡ w)
-RunTaking w (Control source bytes ∷ events) taken last =
+-- Events are run one after another. This becomes of the RTP datagrams among them, in order, and so
+-- many frames are concealed in the ticks among them.
+abbrev pub RunTaking : World → List Event → List Taken → ℕ → World → Type 0
+RunTaking w [] taken concealed last = (taken ≡ []) × (concealed ≡ 0) × (last ≡ w)
+RunTaking w (Control source bytes ∷ events) taken concealed last =
     (sent : List Sent) × (next : World)
-    × Step w (Control source bytes) sent next × RunTaking next events taken last
-RunTaking w (Media port source bytes ∷ events) taken last =
+    × Step w (Control source bytes) sent next × RunTaking next events taken concealed last
+RunTaking w (Media port source bytes ∷ events) taken concealed last =
     (first : Taken) × (others : List Taken) × (next : World)
-    × Took w port source bytes next first × RunTaking next events others last
+    × Took w port source bytes next first × RunTaking next events others concealed last
     × (taken ≡ first ∷ others)
-RunTaking w (Tick ∷ events) taken last =
-    (sent : List Sent) × (next : World)
-    × Step w Tick sent next × RunTaking next events taken last
+RunTaking w (Tick ∷ events) taken concealed last =
+    (sent : List Sent) × (others : ℕ) × (next : World)
+    × Step w Tick sent next × RunTaking next events taken others last
+    × (concealed ≡ concealed_in_tick w.gateway + others)
 
 -- ## Numbers of each
 
@@ -89,10 +93,10 @@ abbrev pub is_of_another_length : Taken → Bool
 is_of_another_length (Dropped Length) = true
 is_of_another_length _ = false
 
--- how many came of each kind of event, how many were placed in each way, and how many were dropped
--- for each cause
-abbrev pub numbers_of : List Event → List Taken → Tally
-numbers_of events taken =
+-- how many came of each kind of event, how many were placed in each way, how many were dropped for
+-- each cause, and how many frames were concealed
+abbrev pub numbers_of : List Event → List Taken → ℕ → Tally
+numbers_of events taken concealed =
     record {
       control = count_by is_control events;
       media = count_by is_media events;
@@ -104,16 +108,18 @@ numbers_of events taken =
           count_by is_to_nobody taken ∷ count_by is_stray taken
           ∷ count_by is_without_local taken ∷ count_by is_no_packet taken
           ∷ count_by is_of_another_type taken ∷ count_by is_of_another_length taken ∷ [];
+      concealed = concealed;
     }
 
 -- After any list of events the tally is those numbers.
 abbrev pub EventsAreCounted : Type 0
 EventsAreCounted =
-    (config : Config) (events : List Event) (taken : List Taken) (last : World)
-    → RunTaking (start_of config) events taken last → last.tally ≡ numbers_of events taken
+    (config : Config) (events : List Event) (taken : List Taken) (concealed : ℕ) (last : World)
+    → RunTaking (start_of config) events taken concealed last
+    → last.tally ≡ numbers_of events taken concealed
 
--- In each run something became of each RTP datagram.
+-- In each run something became of each RTP datagram, and some number of frames was concealed.
 abbrev pub RunsTake : Type 0
 RunsTake =
     (w last : World) (events : List Event) (sent : List Sent) → Run w events sent last
-    → (taken : List Taken) × RunTaking w events taken last
+    → (taken : List Taken) × (concealed : ℕ) × RunTaking w events taken concealed last

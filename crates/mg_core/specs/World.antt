@@ -12,7 +12,7 @@ use Rattle.mg_engine.specs.declared.taken.DropCause.TheVariants as causes
 use Rattle.mg_engine.specs.declared.taken.Taken.{Taken}
 use Rattle.mg_engine.specs.declared.taken.Taken.TheVariants as takens
 use Rattle.mg_engine.specs.Arrival.{Takes}
-use Rattle.mg_engine.specs.Tick.{after_tick, sent_in_tick}
+use Rattle.mg_engine.specs.Tick.{after_tick, concealed_in_tick, sent_in_tick}
 use Rattle.mg_engine.specs.Gateway as engine
 use Rattle.mg_engine.specs.Stands as engine_stands
 use Rattle.mg_core.specs.declared.counts.Counts.{Counts}
@@ -20,13 +20,15 @@ use Rattle.mg_core.specs.declared.state.CoreState.{CoreState}
 
 -- How many control datagrams, RTP datagrams and ticks came. Of the RTP datagrams, how many a play
 -- list answered Started, Placed, Pushed, Again and Late; and how many were dropped for
--- NoTermination, Stray, NoLocal, Rtp, PayloadType and Length.
+-- NoTermination, Stray, NoLocal, Rtp, PayloadType and Length. And how many frames stood in for a
+-- missing one.
 pub record Tally : Type 0 where
   pub control : ℕ
   pub media : ℕ
   pub ticks : ℕ
   pub placed : List ℕ
   pub dropped : List ℕ
+  pub concealed : ℕ
 
 -- the gateway with its terminations and contexts; the replies that are kept, oldest first; and how
 -- many events came
@@ -37,7 +39,14 @@ pub record World : Type 0 where
 
 abbrev pub no_events : Tally
 no_events =
-    record { control = 0; media = 0; ticks = 0; placed = replicate 5 0; dropped = replicate 6 0 }
+    record {
+      control = 0;
+      media = 0;
+      ticks = 0;
+      placed = replicate 5 0;
+      dropped = replicate 6 0;
+      concealed = 0;
+    }
 
 -- the world that no event came to
 abbrev pub start_of : Config → World
@@ -69,6 +78,10 @@ with_taken (takens.Placed p) t =
 with_taken (takens.Dropped cause) t =
     record t { media = t.media + 1; dropped = one_more_at (cause_of cause) t.dropped }
 
+-- a tick in which so many frames are concealed
+abbrev pub with_tick : ℕ → Tally → Tally
+with_tick concealed t = record t { ticks = t.ticks + 1; concealed = t.concealed + concealed }
+
 -- a count stays at the greatest value of 64 bits
 abbrev pub capped : ℕ → ℕ
 capped n = min n (2 ^ 64 - 1)
@@ -84,6 +97,7 @@ counts_of t = record {
   failed = 0;
   placed = map capped t.placed;
   dropped = map capped t.dropped;
+  concealed = capped t.concealed;
 }
 
 -- ## Events
@@ -103,7 +117,7 @@ abbrev pub ticked : World → World
 ticked w =
     record w {
       gateway = after_tick w.gateway;
-      tally = record w.tally { ticks = w.tally.ticks + 1 };
+      tally = with_tick (concealed_in_tick w.gateway) w.tally;
     }
 
 abbrev pub packets_of : World → List Datagram

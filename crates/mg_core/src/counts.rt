@@ -24,6 +24,8 @@ pub struct Counts {
     /// RTP datagrams that were dropped, by their cause: no termination, stray, no Local, no RTP, payload
     /// type, length.
     pub dropped: [u64; 6],
+    /// Frames that stood in for a missing one.
+    pub concealed: u64,
 }
 
 impl Default for Counts {
@@ -34,7 +36,7 @@ impl Default for Counts {
 
 impl Counts {
     ghost use Rattle.std.specs.Prelude.{◌≡◌, ◌+◌};
-    ghost use Rattle.mg_core.specs.World.{Tally, counts_of, no_events, with_taken};
+    ghost use Rattle.mg_core.specs.World.{Tally, counts_of, no_events, with_taken, with_tick};
 
     /// Nothing was counted yet.
     pub fn new() -> Counts
@@ -49,6 +51,7 @@ impl Counts {
             failed: 0,
             placed: [0; 5],
             dropped: [0; 6],
+            concealed: 0,
         }
     }
 
@@ -77,12 +80,12 @@ impl Counts {
         }
     }
 
-    /// Counts a tick.
-    pub fn count_tick(&mut self)
-        ensures counted { (t : Tally) → self.old ≡ counts_of t →
-            self.new ≡ counts_of (record t { ticks = t.ticks + 1 }) }
+    /// Counts a tick in which so many frames were concealed.
+    pub fn count_tick(&mut self, concealed: usize)
+        ensures counted { (t : Tally) → self.old ≡ counts_of t → self.new ≡ counts_of (with_tick concealed t) }
     {
         self.ticks = self.ticks.saturating_add(1);
+        self.concealed = self.concealed.saturating_add(concealed as u64);
     }
 }
 

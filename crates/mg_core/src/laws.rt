@@ -110,7 +110,7 @@ pub fn unheard_changes_nothing()
 }
 
 /// The counts are the numbers of the events that came: control datagrams, RTP datagrams, those of them that were placed in
-/// each way and dropped for each cause, and ticks.
+/// each way and dropped for each cause, ticks, and the frames that stood in for missing ones in them.
 pub fn events_are_counted()
     ensures law { EventsAreCounted }
     ensures runs { RunsTake }

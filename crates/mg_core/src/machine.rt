@@ -185,8 +185,8 @@ impl Core {
         ensures work { (w : World) → StandsFor self.old.state w → RisesAtMost (tick_work w.gateway) self.old.state.engine.sums.work self.new.state.engine.sums.work }
         ensures answer { self.new.answer ≡ self.old.answer }
     {
-        self.state.engine.tick(&mut self.outbox);
-        self.state.count_tick();
+        let concealed = self.state.engine.tick(&mut self.outbox);
+        self.state.count_tick(concealed);
     }
 
     /// The packets of the last tick, by rising numbers of their terminations.

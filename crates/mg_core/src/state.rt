@@ -1,5 +1,5 @@
 ghost use Rattle.std.specs.Prelude.{◌≡◌, ◌+◌};
-ghost use Rattle.mg_core.specs.World.{World, StandsFor, with_control, with_taken};
+ghost use Rattle.mg_core.specs.World.{World, StandsFor, with_control, with_taken, with_tick};
 
 use crate::counts::Counts;
 use mg_commands::Kept;
@@ -34,13 +34,13 @@ impl CoreState {
         self.counts.count_media(taken);
     }
 
-    /// Counts a tick.
-    pub fn count_tick(&mut self)
+    /// Counts a tick in which so many frames were concealed.
+    pub fn count_tick(&mut self, concealed: usize)
         ensures engine { self.new.engine ≡ self.old.engine }
         ensures kept { self.new.kept ≡ self.old.kept }
         ensures counted { (w : World) → StandsFor self.old w →
-            StandsFor self.new (record w { tally = record w.tally { ticks = w.tally.ticks + 1 } }) }
+            StandsFor self.new (record w { tally = with_tick concealed w.tally }) }
     {
-        self.counts.count_tick();
+        self.counts.count_tick(concealed);
     }
 }

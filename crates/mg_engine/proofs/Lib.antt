@@ -21,6 +21,7 @@ pub mod OutboxLaws
 pub mod FlowLaws
 pub mod SentLaws
 pub mod TickLaws
+pub mod ConcealLaws
 pub mod TotalLaws
 pub mod EditLaws
 pub mod ArrivalLaws

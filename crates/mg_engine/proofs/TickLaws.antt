@@ -4,6 +4,7 @@ use Rattle.std.specs.Prelude.{find}
 use Rattle.std.specs.Option.{option_map}
 use Rattle.std.proofs.lemmas.Option.{same_Some}
 use Rattle.std.proofs.lemmas.Simd.{map-map}
+use Rattle.mg_playout.specs.Played.{sound_of}
 use Rattle.mg_playout.specs.Playout as play_lists
 use Rattle.mg_playout.specs.Playout.{PlayList}
 use Rattle.mg_rooms.specs.declared.record.Record.{Record}
@@ -33,7 +34,7 @@ with_frames k kept frames = record k { media = kept; sums = frames }
 played_is : (config : Config) (m : media.SlotMedia) (row : List ℤ) (s : TerminationMedia) → IsMediaOf config m row s → IsMediaOf config (media.played m) (media.frame_played m) (played s)
 played_is config m row s h = record {
   play = ap (λ (p : PlayList). (play_lists.ticked p).0) h.play;
-  frame = ap (λ (p : PlayList). frame_or_silence ((play_lists.ticked p).1)) h.play;
+  frame = ap (λ (p : PlayList). frame_or_silence (sound_of ((play_lists.ticked p).1))) h.play;
   stats = h.stats;
   timestamp = omega (arith, h.timestamp);
   sequence = h.sequence;

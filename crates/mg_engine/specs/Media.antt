@@ -2,6 +2,7 @@
 use Rattle.std.specs.Prelude.{ℕ, ℤ, ◌+◌, ◌-◌, ◌%◌, ◌^◌, Bool, true, false, not, List, Option}
 use Rattle.mg_rtp.specs.declared.header.Header.{Header}
 use Rattle.mg_playout.specs.declared.placed.Placed.{Placed}
+use Rattle.mg_playout.specs.Played.{is_concealed, sound_of}
 use Rattle.mg_playout.specs.Playout as play_lists
 use Rattle.mg_playout.specs.Playout.{PlayList, first_state}
 use Rattle.mg_engine.specs.declared.config.Config.{Config}
@@ -72,7 +73,11 @@ played m =
 
 -- what it gives is the frame of this tick
 abbrev pub frame_played : SlotMedia → List ℤ
-frame_played m = frame_or_silence ((play_lists.ticked m.play).1)
+frame_played m = frame_or_silence (sound_of ((play_lists.ticked m.play).1))
+
+-- whether that stands in for a missing frame
+abbrev pub is_concealing : SlotMedia → Bool
+is_concealing m = is_concealed ((play_lists.ticked m.play).1)
 
 -- the header of the next packet; the marker is set where the last tick sent none
 abbrev pub header : SlotMedia → ℕ → ℕ → Header

@@ -1,7 +1,7 @@
 -- What becomes of the world by a tick of 20 ms, and the packets that are sent in it (RFC 3550,
 -- section 5.1; RFC 3551, sections 4.1 and 6).
 use Rattle.std.specs.Prelude.{ℕ, ◌+◌, ◌-◌, ◌*◌, ◌%◌, ◌^◌, Bool, true, false, not, List, ◌++◌, map}
-use Rattle.std.specs.Prelude.{filter_map, Option, Some, None, is_some, if◌then◌else◌}
+use Rattle.std.specs.Prelude.{count_by, filter_map, Option, Some, None, is_some, if◌then◌else◌}
 use Rattle.std.specs.Option.{option_map}
 use Rattle.mg_g711.specs.declared.law.Law.{Law}
 use Rattle.mg_g711.specs.declared.law.Law.TheVariants.{Mu, A}
@@ -9,6 +9,7 @@ use Rattle.mg_g711.specs.Law.{byte_of}
 use Rattle.mg_rtp.specs.declared.header.Header.{Header}
 use Rattle.mg_rtp.specs.Header.{header_bytes, plain}
 use Rattle.mg_sdp.specs.declared.chosen.Chosen.{Chosen}
+use Rattle.mg_playout.specs.Played.{is_concealed, sound_of}
 use Rattle.mg_playout.specs.Playout as play_lists
 use Rattle.mg_words.specs.declared.mode.Mode.{Mode}
 use Rattle.mg_words.specs.declared.mode.Mode.TheVariants.{Inactive, SendOnly, ReceiveOnly}
@@ -17,7 +18,7 @@ use Rattle.mg_rooms.specs.declared.record.Record.{Record}
 use Rattle.mg_rooms.specs.Limits.{slot_port}
 use Rattle.mg_rooms.specs.Registry as rooms
 use Rattle.mg_engine.specs.declared.datagram.Datagram.{Datagram}
-use Rattle.mg_engine.specs.Gateway.{Gateway, TerminationMedia, media_of}
+use Rattle.mg_engine.specs.Gateway.{Gateway, TerminationMedia, media_of, numbers_of}
 use Rattle.mg_engine.specs.Steps.{transmitted}
 use Rattle.mg_sums.specs.Samples.{frame_or_silence}
 use Rattle.mg_engine.specs.Mix.{mixed}
@@ -28,10 +29,22 @@ use Rattle.mg_engine.specs.Mix.{mixed}
 abbrev pub played : TerminationMedia → TerminationMedia
 played s =
     let after = play_lists.ticked s.play in
-    record s { play = after.0; frame = frame_or_silence after.1; ticks = s.ticks + 1 }
+    record s { play = after.0; frame = frame_or_silence (sound_of after.1); ticks = s.ticks + 1 }
 
 abbrev pub all_played : Gateway → Gateway
 all_played w = record w { media = map played w.media }
+
+-- whether the play list of a termination gives a frame that stands in for a missing one
+abbrev pub conceals_in : Option TerminationMedia → Bool
+conceals_in None = false
+conceals_in (Some s) = is_concealed ((play_lists.ticked s.play).1)
+
+abbrev pub conceals : Gateway → ℕ → Bool
+conceals w n = conceals_in (media_of w n)
+
+-- how many do in a tick
+abbrev pub concealed_in_tick : Gateway → ℕ
+concealed_in_tick w = count_by (conceals w) (numbers_of w)
 
 -- ## Packets
 

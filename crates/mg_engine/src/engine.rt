@@ -1,4 +1,4 @@
-ghost use Rattle.std.specs.Prelude.{All, ◌≡◌, ◌≢◌, ℕ, List, [], ◌∷◌, ◌<◌, ◌≤◌, ◌+◌, ◌++◌, ◌↔◌, ◌==◌, not, Err, Some, IfOk, IfSome, IsSome, OnOk, OnErr, MatchResult, Ok, EachIndex, length, map, filter, replicate, slice_set, option_map, option_to_list, slice_index_or, IsTrue, false, None, ◌*◌, sum_by};
+ghost use Rattle.std.specs.Prelude.{All, ◌≡◌, ◌≢◌, ℕ, List, [], ◌∷◌, ◌<◌, ◌≤◌, ◌+◌, ◌++◌, ◌↔◌, ◌==◌, not, Err, Some, IfOk, IfSome, IsSome, OnOk, OnErr, MatchResult, Ok, EachIndex, length, map, filter, replicate, slice_set, option_map, option_to_list, slice_index_or, IsTrue, false, None, ◌*◌, sum_by, count_by};
 ghost use Rattle.mg_rooms.specs.declared.record.Record.{Record};
 ghost use Rattle.mg_words.specs.declared.limits.TheConstants.{TERMINATIONS};
 ghost use Rattle.std.specs.List.{range_with_len};
@@ -17,7 +17,7 @@ ghost use Rattle.mg_engine.specs.Totals.{TellsTotals};
 ghost use Rattle.mg_engine.specs.Work.{RisesAtMost, sending_work, tick_work};
 ghost use Rattle.mg_engine.specs.declared.datagram.Datagram.{Datagram};
 ghost use Rattle.mg_engine.specs.Place.{IsOnPlace, IsOnSeat};
-ghost use Rattle.mg_engine.specs.Tick.{sends, sent_to, packets, all_played, all_ended, sent_in_tick, after_tick};
+ghost use Rattle.mg_engine.specs.Tick.{sends, sent_to, packets, all_played, all_ended, sent_in_tick, after_tick, concealed_in_tick};
 ghost use Rattle.mg_g711.specs.Law.{byte_of};
 ghost use Rattle.mg_words.specs.Mode.{listens};
 ghost use Rattle.mg_sums.specs.Sums.{frame_of};
@@ -26,7 +26,7 @@ ghost use Rattle.mg_engine.specs.Arrival.{at_port, arrived, Takes};
 ghost use Rattle.mg_engine.specs.Flow.{flow, hears};
 ghost use Rattle.mg_engine.specs.LeftAlone.{IsLeftAlone, IsElsewhere, IsEditElsewhere, IsPortElsewhere};
 ghost use Rattle.mg_engine.specs.Mix.{total_at};
-ghost use Rattle.mg_engine.specs.Media.{idle, begun, ended, tuned as tuned_media};
+ghost use Rattle.mg_engine.specs.Media.{idle, begun, ended, is_concealing, tuned as tuned_media};
 ghost use Rattle.mg_engine.specs.Config.{IsValidConfig};
 ghost use Rattle.mg_engine.specs.Gateway.{Gateway, start_of, stats_of};
 ghost use Rattle.mg_sums.specs.Samples.{silence};
@@ -448,24 +448,28 @@ impl Engine {
     }
 
     /// Passes on by 20 ms: each play list gives its frame of this tick, and the outbox has the packets of all that
-    /// send, in the order of their numbers.
-    pub fn tick(&mut self, outbox: &mut Outbox)
+    /// send, in the order of their numbers. Says how many of these frames are concealed: each stands in for one that
+    /// is missing.
+    pub fn tick(&mut self, outbox: &mut Outbox) -> usize
+        ensures concealed { (w : Gateway) → StandsFor self.old w → result ≡ concealed_in_tick w }
         ensures sent { (w : Gateway) → StandsFor self.old w → outbox.new.items ≡ sent_in_tick w }
         ensures after { (w : Gateway) → StandsFor self.old w → StandsFor self.new (after_tick w) }
         ensures work { (w : Gateway) → StandsFor self.old w → RisesAtMost (tick_work w) self.old.sums.work self.new.sums.work }
     {
-        self.play_all();
+        let concealed = self.play_all();
         self.send_all(outbox);
         self.end_all();
+        concealed
     }
 
-    /// Has the play lists of all terminations tick.
-    fn play_all(&mut self)
+    /// Has the play lists of all terminations tick, and says how many frames are concealed.
+    fn play_all(&mut self) -> usize
+        ensures concealed { (w : Gateway) → StandsFor self.old w → result ≡ concealed_in_tick w }
         ensures after { (w : Gateway) → StandsFor self.old w → StandsFor self.new (all_played w) }
         ensures rooms { self.new.rooms ≡ self.old.rooms }
         ensures work { RisesAtMost (2 * length self.old.rooms.terminations) self.old.sums.work self.new.sums.work }
     {
-        play_slots(self.held.as_slice(), &mut self.media, &mut self.sums);
+        play_slots(self.held.as_slice(), &mut self.media, &mut self.sums)
     }
 
     /// Fills an outbox with the packets of those who send.
@@ -626,37 +630,43 @@ fn fill(engine: &mut Engine, count: usize, outbox: &mut Outbox)
     }
 }
 
-/// Has the play list of a slot tick, and its frame is in the slot's row from then on.
-fn play(media: &mut Vec<Media>, sums: &mut Sums, slot: u8)
+/// Has the play list of a slot tick, and its frame is in the slot's row from then on. Says whether the frame is
+/// concealed.
+fn play(media: &mut Vec<Media>, sums: &mut Sums, slot: u8) -> bool
     requires slot { (slot < length media.old.items) × (slot < termination_limit) }
     ensures long { length media.new.items ≡ length media.old.items }
     ensures played { IsPlayed media.old.items media.new.items sums.new.frames slot }
+    ensures concealed { result ≡ is_concealing (media_at media.old.items slot) }
     ensures others { (other : ℕ) → other ≢ slot → (media_at media.new.items other ≡ media_at media.old.items other)
         × (frame_of sums.new other ≡ frame_of sums.old other) }
     ensures rooms { sums.new.rooms ≡ sums.old.rooms }
     ensures work { RisesAtMost 2 sums.old.work sums.new.work }
 {
     let row = Row::new(slot);
-    let frame = media[usize::from(slot)].play();
-    if frame.is_none() && sums.is_silent(row) {
-        return;
+    let played = media[usize::from(slot)].play();
+    let sound = played.sound();
+    if sound.is_some() || !sums.is_silent(row) {
+        sums.set_frame(row, sound);
     }
-    sums.set_frame(row, frame.as_ref());
+    played.is_concealed()
 }
 
-/// Has each play list of the slots that are held tick.
-fn play_slots(held: &[u8], media: &mut Vec<Media>, sums: &mut Sums)
+/// Has each play list of the slots that are held tick, and says how many frames are concealed.
+fn play_slots(held: &[u8], media: &mut Vec<Media>, sums: &mut Sums) -> usize
     requires slots { EachIndex held.now (λ i. slice_index_or held.now i 0 < length media.old.items) }
     requires few { length media.old.items ≤ TERMINATIONS }
     requires apart { AreApart held.now }
     ensures long { length media.new.items ≡ length media.old.items }
     ensures each { EachIndex held.now (λ i. IsPlayed media.old.items media.new.items sums.new.frames (slice_index_or held.now i 0)) }
+    ensures concealed { result ≡ count_by (λ slot. is_concealing (media_at media.old.items slot)) held.now }
     ensures rooms { sums.new.rooms ≡ sums.old.rooms }
     ensures work { RisesAtMost (2 * length held.now) sums.old.work sums.new.work }
 {
+    let mut concealed = 0;
     for slot in held {
-        play(media, sums, *slot);
+        concealed += usize::from(play(media, sums, *slot));
     }
+    concealed
 }
 
 /// Whether the termination that holds a slot sends.

@@ -1,7 +1,7 @@
 ghost use Rattle.std.specs.Prelude.{◌≡◌, IfOk};
 
 use mg_g711::Frame;
-use mg_playout::{Placed, Playout};
+use mg_playout::{Placed, Played, Playout};
 use mg_rooms::depth_within;
 use mg_rtp::Header;
 use mg_words::{SAMPLES, Stats};
@@ -30,7 +30,8 @@ impl Model for Media {
 }
 
 impl Media {
-    ghost use Rattle.mg_engine.specs.Media.{idle, begun_at, tuned, placed, played, frame_played, header, ended};
+    ghost use Rattle.mg_engine.specs.Media.{idle, begun_at, tuned, placed, played, frame_played, is_concealing, header, ended};
+    ghost use Rattle.mg_playout.specs.Played.{is_concealed, sound_of};
     ghost use Rattle.mg_sums.specs.Samples.{frame_or_silence};
 
     /// Media of nobody. It takes the memory for a play list.
@@ -77,9 +78,10 @@ impl Media {
     }
 
     /// Passes on by 20 ms. What the play list gives is the frame of this tick, which is silent where it gives none.
-    pub fn play(&mut self) -> Option<Frame>
+    pub fn play(&mut self) -> Played
         ensures value { self.new ≡ played self.old }
-        ensures frame { frame_or_silence result ≡ frame_played self.old }
+        ensures frame { frame_or_silence (sound_of result) ≡ frame_played self.old }
+        ensures concealed { is_concealed result ≡ is_concealing self.old }
     {
         self.timestamp = self.timestamp.wrapping_add(SAMPLES as u32);
         self.play.tick()

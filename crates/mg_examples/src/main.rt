@@ -10,10 +10,11 @@ use std::io::Cursor;
 use std::rt::Files;
 
 /// The scripts, each by the name of its file and of the file with its output, without their ends.
-const SCRIPTS: [&str; 54] = [
+const SCRIPTS: [&str; 55] = [
     "conference",
     "speech",
     "coaching",
+    "lost_packets",
     "repeats",
     "rules/a_context_is_made_with_what_is_done",
     "rules/a_full_context",
@@ -23,7 +24,6 @@ const SCRIPTS: [&str; 54] = [
     "rules/a_message_cut_at_every_byte",
     "rules/a_message_of_8192_bytes",
     "rules/a_message_of_many_lines",
-    "rules/a_missing_frame_is_silence",
     "rules/a_used_slot_is_silent",
     "rules/all_members_refused_at_once",
     "rules/an_action_refused_as_a_whole",
@@ -43,6 +43,7 @@ const SCRIPTS: [&str; 54] = [
     "rules/loopback",
     "rules/one_command_after_another",
     "rules/one_law_to_each",
+    "rules/one_missing_frame_is_concealed",
     "rules/oneway",
     "rules/optional_commands",
     "rules/packets_are_numbered",

@@ -1,6 +1,6 @@
 ghost use Rattle.std.specs.Prelude.{◌≡◌, map};
 ghost use Rattle.mg_g711.specs.Law.{byte_of, sample_of};
-ghost use Rattle.mg_g711.specs.Frame.{IsFrame};
+ghost use Rattle.mg_g711.specs.Frame.{IsFrame, halved};
 
 use crate::decoding::{LANES, decode_chunk};
 use crate::law::Law;
@@ -34,4 +34,16 @@ pub fn encode_frame(law: Law, samples: &Frame) -> [u8; 160]
         bytes[i] = encode(law, samples[i]);
     }
     bytes
+}
+
+/// The frame at half of its level: each sample halved toward zero, so that -1 becomes 0.
+pub fn halve_frame(samples: &Frame) -> Frame
+    ensures each { result ≡ map halved samples.now }
+    ensures frame { IsFrame result }
+{
+    let mut halves = [0; 160];
+    for i in 0..160 {
+        halves[i] = samples[i] / 2;
+    }
+    halves
 }

@@ -2,8 +2,8 @@
 //!
 //! A magnitude from 0 to 32768 lies in one of 128 levels, `16 * exponent + mantissa`. [`encode`] writes
 //! the level and the sign of a sample as one byte, and [`decode`] gives the value that a byte's level
-//! stands for. [`encode_frame`] and [`decode_frame`] do it for the 160 samples of a [`Frame`]. No call
-//! fails, and none allocates.
+//! stands for. [`encode_frame`] and [`decode_frame`] do it for the 160 samples of a [`Frame`], and
+//! [`halve_frame`] gives a frame at half of its level. No call fails, and none allocates.
 //!
 //! The levels are those of ITU-T G.711 (tables 1 and 2), whose values are scaled to 16 bits: by 4 for
 //! mu-law, by 8 for A-law. A magnitude at the border of two levels belongs to the upper one, which is
@@ -30,6 +30,6 @@ mod sample;
 mod tests;
 pub mod theorems;
 
-pub use frame::{Frame, decode_frame, encode_frame};
+pub use frame::{Frame, decode_frame, encode_frame, halve_frame};
 pub use law::Law;
 pub use sample::{decode, encode};

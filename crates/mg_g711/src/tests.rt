@@ -36,3 +36,17 @@ fn known_samples_and_bytes(rt: HostRuntime) {
     assert_eq!(rt; encode_frame(Law::A, &[256; 160]), [0xc5; 160]);
     assert_eq!(rt; decode_frame(Law::Mu, &[0x80; 160]), [32124; 160]);
 }
+
+#[test]
+fn frames_are_halved_toward_zero(rt: HostRuntime) {
+    for (sample, half) in [
+        (-32768, -16384),
+        (-3, -1),
+        (-1, 0),
+        (1, 0),
+        (3, 1),
+        (32767, 16383),
+    ] {
+        assert_eq!(rt; halve_frame(&[sample; 160]), [half; 160], "of {sample}");
+    }
+}

@@ -1,5 +1,5 @@
 -- The frames at the places, after each step.
-use Rattle.std.proofs.Common.{◌≡◌, ℕ, zero, suc, ◌+◌, ◌-◌, min, ℤ, true, List, [], ◌∷◌, length, drop, Option, Some, None, arith, refl, sym, inl, inr, ◌∙◌}
+use Rattle.std.proofs.Common.{◌≡◌, ℕ, zero, suc, ◌+◌, ◌-◌, ◌++◌, ap, min, ℤ, Bool, true, false, List, [], ◌∷◌, length, drop, Option, Some, None, arith, refl, sym, inl, inr, ◌∙◌}
 use Rattle.std.proofs.lemmas.Bool.{cases_lt}
 use Rattle.std.proofs.lemmas.List.{get_or_append_left, get_or-append_right, get_or-drop, get_or-replicate, get_or_past, length-drop, length-replicate}
 use Rattle.mg_playout.specs.Places.{FramePlaces, frame_at, empty_places, fallen, is_empty}
@@ -30,3 +30,33 @@ frame_at-is_empty [] i e = refl
 frame_at-is_empty (None ∷ places) zero e = refl
 frame_at-is_empty (None ∷ places) (suc i) e = frame_at-is_empty places i e
 frame_at-is_empty (Some frame ∷ places) i e = cc
+
+-- places above those that have no frame at all have none either
+pub is_empty-drop : (places : FramePlaces) (count : ℕ) → is_empty places ≡ true → is_empty (drop count places) ≡ true
+is_empty-drop places zero e = e
+is_empty-drop [] (suc count) e = refl
+is_empty-drop (None ∷ places) (suc count) e = is_empty-drop places count e
+is_empty-drop (Some frame ∷ places) (suc count) e = cc
+
+-- the place has no frame, where no place from it on has one
+pub frame_at-none : (places : FramePlaces) (place : ℕ) → is_empty (drop place places) ≡ true → frame_at places place ≡ None
+frame_at-none [] place e = refl
+frame_at-none (None ∷ places) zero e = refl
+frame_at-none (Some frame ∷ places) zero e = cc
+frame_at-none (x ∷ places) (suc place) e = frame_at-none places place e
+
+-- a place without a frame more makes no difference
+pub is_empty-more : (places : FramePlaces) (place : ℕ) → is_empty (drop place (places ++ None ∷ [])) ≡ is_empty (drop place places)
+is_empty-more [] zero = refl
+is_empty-more [] (suc place) = is_empty-drop [] place refl
+is_empty-more (None ∷ places) zero = is_empty-more places zero
+is_empty-more (Some frame ∷ places) zero = refl
+is_empty-more (x ∷ places) (suc place) = is_empty-more places place
+
+-- after a fall by one the places from one on are those from the next one on
+pub is_empty-fallen : (places : FramePlaces) (place : ℕ) → is_empty (drop place (fallen places 1)) ≡ is_empty (drop (suc place) places)
+is_empty-fallen [] zero = refl
+is_empty-fallen [] (suc place) = refl
+is_empty-fallen (x ∷ places) place =
+    let one : min 1 (suc (length places)) ≡ 1 = omega arith in
+    ap (λ n. is_empty (drop place (places ++ empty_places n))) one ∙ is_empty-more places place

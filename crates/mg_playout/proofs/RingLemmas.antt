@@ -1,26 +1,28 @@
 -- The ring that keeps the places.
-use Rattle.std.proofs.Common.{◌≡◌, ℕ, zero, suc, ◌-◌, ◌≤◌, ℤ, List, [], ◌∷◌, get_or, slice_get, length, Option, None, Some, arith, refl, subst, sym}
+use Rattle.std.proofs.Common.{◌≡◌, ℕ, zero, suc, ◌+◌, ◌-◌, ◌≤◌, ℤ, List, [], ◌∷◌, get_or, slice_get, length, Option, None, Some, arith, refl, subst, sym}
 use Rattle.std.specs.Prelude.{IfSome}
 use Rattle.std.specs.Option.{option_flatten}
 use Rattle.std.proofs.lemmas.List.{length-replicate}
 use Rattle.std.proofs.lemmas.List.Elements.{All-cons, All-replicate}
 use Rattle.circular_buffer.specs.Buffer.{Buffer, buffer}
 use Rattle.mg_g711.specs.Frame.{IsFrame}
-use Rattle.mg_playout.specs.Places.{ArePlaces, IsRingOfPlaces, empty_places, started_with}
+use Rattle.mg_playout.specs.Places.{IsRingOfPlaces, empty_places, started_with}
 use Rattle.mg_words.specs.declared.limits.TheConstants.{MIN_DEPTH, MAX_DEPTH}
 
--- places that start with a whole frame
-pub started_is_ring : (ring : Buffer (Option (List ℤ))) (frame : List ℤ) (depth : ℕ) → MIN_DEPTH ≤ depth → depth ≤ MAX_DEPTH → IsFrame frame → ring ≡ buffer (started_with frame depth) MAX_DEPTH → IsRingOfPlaces ring
+-- places that start with a whole frame, after no last one
+pub started_is_ring : (ring : Buffer (Option (List ℤ))) (frame : List ℤ) (depth : ℕ) → MIN_DEPTH ≤ depth → depth ≤ MAX_DEPTH → IsFrame frame → ring ≡ buffer (None ∷ started_with frame depth) (MAX_DEPTH + 1) → IsRingOfPlaces ring
 started_is_ring ring frame depth low high whole is =
     let empty : List (Option (List ℤ)) = empty_places (depth - 1) in
     let long : length (started_with frame depth) ≡ depth = omega (arith, length-replicate {A = Option (List ℤ)} (depth - 1) None) in
-    let places : ArePlaces (started_with frame depth) = record {
+    let items : IsRingOfPlaces (buffer (None ∷ started_with frame depth) (MAX_DEPTH + 1)) = record {
+      capacity = refl;
       at_least = omega arith;
       at_most = omega arith;
-      frames = All-cons (λ place. IfSome place IsFrame) (Some frame) empty whole
-          (All-replicate (λ place. IfSome place IsFrame) (depth - 1) None tt);
+      frames = All-cons (λ item. IfSome item IsFrame) None (started_with frame depth) tt
+          (All-cons (λ item. IfSome item IsFrame) (Some frame) empty whole
+          (All-replicate (λ item. IfSome item IsFrame) (depth - 1) None tt));
     } in
-    subst IsRingOfPlaces (sym is) (record { capacity = refl; items = places })
+    subst IsRingOfPlaces (sym is) items
 
 -- the item at a place of a list of places, as the ring gives it
 pub flatten_of_get : {X : Type 0} (xs : List (Option X)) (i : ℕ) → option_flatten (slice_get xs i) ≡ get_or xs i None

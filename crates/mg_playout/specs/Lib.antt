@@ -1,4 +1,5 @@
 pub mod Order
 pub mod Places
+pub mod Played
 pub mod Playout
 pub mod Sequence

@@ -1,14 +1,20 @@
 -- What a play list has and gives, by sequence numbers (this project's own). No call is defined by
 -- these words: the laws say by them what the steps of a play list come to.
-use Rattle.std.specs.Prelude.{◌≡◌, ℕ, zero, suc, ◌<◌, ℤ, List, Option, Some, None}
-use Rattle.mg_playout.specs.Places.{FramePlaces, frame_at, ArePlaces}
+use Rattle.std.specs.Prelude.{◌≡◌, ℕ, zero, suc, ◌<◌, ℤ, List, drop, Option, Some, None, IfSome}
+use Rattle.std.specs.Prelude.{if◌then◌else◌}
+use Rattle.mg_g711.specs.Frame.{IsFrame}
+use Rattle.mg_playout.specs.Places.{FramePlaces, frame_at, is_empty, ArePlaces}
+use Rattle.mg_playout.specs.Played.{given}
 use Rattle.mg_playout.specs.Playout.{PlayList, HasTicksLeft, ticked}
 use Rattle.mg_playout.specs.Sequence.{steps_between}
+use Rattle.mg_playout.specs.declared.played.Played.{Played}
+use Rattle.mg_playout.specs.declared.played.Played.TheVariants.{Silence}
 use Rattle.mg_playout.specs.declared.source.Source.{Source}
 
 -- what holds of every play list
 pub record IsValidList (list : PlayList) : Type 0 where
   pub phase : HasTicksLeft list.phase
+  pub last : IfSome list.last IsFrame
   pub places : ArePlaces list.places
   pub source : (source : Source) → list.source ≡ Some source → source.next < 65536
 
@@ -21,6 +27,18 @@ abbrev pub frame_under : PlayList → ℕ → Option (List ℤ)
 frame_under list sequence = frame_from list.source list.places sequence
 
 -- what the next tick gives after so many others, if no frame comes in between
-abbrev pub given_after : ℕ → PlayList → Option (List ℤ)
+abbrev pub given_after : ℕ → PlayList → Played
 given_after zero list = (ticked list).1
 given_after (suc ticks) list = given_after ticks (ticked list).0
+
+-- the frame whose turn comes right before that of the place, if there is one
+abbrev pub frame_before : FramePlaces → Option (List ℤ) → ℕ → Option (List ℤ)
+frame_before places last zero = last
+frame_before places last (suc place) = frame_at places place
+
+-- what the turn of the place gives. There is no turn where neither this place nor one above has a
+-- frame.
+abbrev pub given_at : FramePlaces → Option (List ℤ) → ℕ → Played
+given_at places last place =
+    if is_empty (drop place places) then Silence
+    else given (frame_at places place) (frame_before places last place)

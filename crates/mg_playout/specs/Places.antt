@@ -1,5 +1,5 @@
 -- The places of a play list, of which each may have a frame (this project's own).
-use Rattle.std.specs.Prelude.{◌≡◌, ℕ, ◌-◌, ◌≤◌, min, ℤ, Bool, List, ◌∷◌, ◌++◌, length, take, drop}
+use Rattle.std.specs.Prelude.{◌≡◌, ℕ, ◌+◌, ◌-◌, ◌≤◌, min, ℤ, Bool, List, ◌∷◌, ◌++◌, length, take, drop}
 use Rattle.std.specs.Prelude.{replicate, slice_index_or, Option, Some, None, is_none, All, IfSome}
 use Rattle.std.specs.List.{list_all}
 use Rattle.mg_words.specs.Limits.{least_depth, greatest_depth}
@@ -40,7 +40,18 @@ pub record ArePlaces (places : FramePlaces) : Type 0 where
   pub at_most : length places ≤ greatest_depth
   pub frames : All (λ place. IfSome place IsFrame) places
 
+-- the frames that a play list keeps: that of the turn before, if there was one, and those that wait
+pub record KeptFrames : Type 0 where
+  pub last : Option (List ℤ)
+  pub places : FramePlaces
+
+-- the frames of a ring, whose first item is the last frame
+abbrev pub kept_in : List (Option (List ℤ)) → KeptFrames
+kept_in items = record { last = slice_index_or items 0 None; places = drop 1 items }
+
 -- what holds of the ring that keeps them
 pub record IsRingOfPlaces (ring : Buffer (Option (List ℤ))) : Type 0 where
-  pub capacity : ring.capacity ≡ greatest_depth
-  pub items : ArePlaces ring.items
+  pub capacity : ring.capacity ≡ greatest_depth + 1
+  pub at_least : least_depth + 1 ≤ length ring.items
+  pub at_most : length ring.items ≤ greatest_depth + 1
+  pub frames : All (λ item. IfSome item IsFrame) ring.items

@@ -6,20 +6,24 @@ use Rattle.std.specs.Option.{option_map}
 use Rattle.mg_words.specs.Limits.{first_depth}
 use Rattle.mg_playout.specs.Places.{FramePlaces, empty_places, started_with, frame_at, is_empty}
 use Rattle.mg_playout.specs.Places.{fallen, resized}
+use Rattle.mg_playout.specs.Played.{given}
 use Rattle.mg_playout.specs.Sequence.{distance_of}
 use Rattle.mg_playout.specs.declared.phase.Phase.{Phase}
 use Rattle.mg_playout.specs.declared.phase.Phase.TheVariants.{Idle, Wait, Run}
 use Rattle.mg_playout.specs.declared.placed.Placed.{Placed}
 use Rattle.mg_playout.specs.declared.placed.Placed.TheVariants as answer
+use Rattle.mg_playout.specs.declared.played.Played.{Played}
+use Rattle.mg_playout.specs.declared.played.Played.TheVariants.{Silence}
 use Rattle.mg_playout.specs.declared.source.Source.{Source}
 use Rattle.mg_playout.specs.declared.turn.Turn.{Turn}
 use Rattle.mg_playout.specs.declared.turn.Turn.TheVariants.{Start, Late, Again, At, Push}
 
--- a play list: whether it gives frames, whose, and the places of those that wait. Place i is that
--- of the source's next sequence number plus i, modulo 65536.
+-- a play list: whether it gives frames, whose, the one of the turn before, and the places of those
+-- that wait. Place i is that of the source's next sequence number plus i, modulo 65536.
 pub record PlayList : Type 0 where
   pub phase : Phase
   pub source : Option Source
+  pub last : Option (List ℤ)
   pub places : FramePlaces
 
 -- a wait lasts for at least one more tick
@@ -33,13 +37,14 @@ depth_of list = length list.places
 
 -- what a play list begins as
 abbrev pub first_state : PlayList
-first_state = record { phase = Idle; source = None; places = empty_places first_depth }
+first_state = record { phase = Idle; source = None; last = None; places = empty_places first_depth }
 
 -- a start: the frame's sequence number is the next one, and the wait is half of the depth in ticks
 abbrev pub started : PlayList → ℕ → ℕ → List ℤ → PlayList
 started list ssrc sequence frame = record {
   phase = Wait (depth_of list / 2);
   source = Some (record { ssrc = ssrc; next = sequence });
+  last = None;
   places = started_with frame (depth_of list);
 }
 
@@ -95,16 +100,18 @@ placed_at (Push count) list ssrc sequence frame =
 abbrev pub placed : PlayList → ℕ → ℕ → List ℤ → PlayList × Placed
 placed list ssrc sequence frame = placed_at (turn_of list ssrc sequence) list ssrc sequence frame
 
--- a tick: the play list after it, and the frame that it gives
-abbrev pub ticked_in : Phase → PlayList → PlayList × Option (List ℤ)
-ticked_in Idle list = (list, None)
+-- a tick: the play list after it, and what it gives. The frame of this turn, or that it is missing,
+-- is what the next turn finds. An empty list has no turn, and forgets the last frame.
+abbrev pub ticked_in : Phase → PlayList → PlayList × Played
+ticked_in Idle list = (list, Silence)
 ticked_in (Wait ticks) list =
-    (record list { phase = if ticks == 1 then Run else Wait (ticks - 1) }, None)
+    (record list { phase = if ticks == 1 then Run else Wait (ticks - 1) }, Silence)
 ticked_in Run list =
-    if is_empty list.places then (record list { phase = Idle }, None)
-    else (shifted list 1, frame_at list.places 0)
+    if is_empty list.places then (record list { phase = Idle; last = None }, Silence)
+    else
+    (record (shifted list 1) { last = frame_at list.places 0 }, given (frame_at list.places 0) list.last)
 
-abbrev pub ticked : PlayList → PlayList × Option (List ℤ)
+abbrev pub ticked : PlayList → PlayList × Played
 ticked list = ticked_in list.phase list
 
 -- the play list at another depth. Its phase stays, so how long it waits changes with its next

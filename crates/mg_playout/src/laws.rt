@@ -2,15 +2,18 @@
 //!
 //! The functions here do nothing: their contracts are the laws, in the words of `specs/Order.antt`.
 
-ghost use Rattle.std.specs.Prelude.{◌≡◌, ◌≢◌, ℕ, ◌+◌, ◌%◌, ◌<◌, ◌≤◌, ℤ, ◌+ℤ◌, pos, List, length, FitsSigned};
+ghost use Rattle.std.specs.Prelude.{◌≡◌, ◌≢◌, ℕ, ◌+◌, ◌%◌, ◌<◌, ◌≤◌, ℤ, ◌+ℤ◌, pos, List, length, map, Option, Some, None, FitsSigned};
 ghost use Rattle.std.specs.Int.{w16, int_rem_euclid};
-ghost use Rattle.mg_playout.specs.Order.{IsValidList, frame_under, given_after};
-ghost use Rattle.mg_playout.specs.Places.{frame_at};
+ghost use Rattle.mg_g711.specs.Frame.{halved};
+ghost use Rattle.mg_playout.specs.Order.{IsValidList, frame_under, given_after, given_at};
+ghost use Rattle.mg_playout.specs.Places.{FramePlaces, frame_at};
+ghost use Rattle.mg_playout.specs.Played.{frame_of};
 ghost use Rattle.mg_playout.specs.Playout.{PlayList, depth_of, placed};
 ghost use Rattle.mg_playout.specs.Sequence.{distance_of, steps_between};
 
 use crate::phase::Phase;
 use crate::placed::Placed;
+use crate::played::Played;
 use crate::playout::Playout;
 use crate::source::Source;
 
@@ -53,17 +56,32 @@ pub fn other_frames_keep_their_numbers()
 {}
 
 /// While no frame comes, a play list that runs gives the frames in the order of their sequence
-/// numbers, one a tick, and none where one is missing. One that waits does so when its wait is over.
+/// numbers, one a tick, and none that came where one is missing. One that waits does so when its wait
+/// is over.
 pub fn ticks_give_frames_in_order()
     ensures run { (list : PlayList) (ticks : ℕ) → list.phase ≡ Phase.Run →
-        given_after ticks list ≡ frame_at list.places ticks }
+        given_after ticks list ≡ given_at list.places list.last ticks }
     ensures early { (list : PlayList) (wait ticks : ℕ) → list.phase ≡ Phase.Wait wait → ticks < wait →
-        given_after ticks list ≡ None }
+        given_after ticks list ≡ Played.Silence }
     ensures wait { (list : PlayList) (wait ticks : ℕ) → list.phase ≡ Phase.Wait wait → 1 ≤ wait →
-        given_after (wait + ticks) list ≡ frame_at list.places ticks }
+        given_after (wait + ticks) list ≡ given_at list.places list.last ticks }
+    ensures frames { (places : FramePlaces) (last : Option (List ℤ)) (place : ℕ) →
+        frame_of (given_at places last place) ≡ frame_at places place }
 
     // The frame at a place is the one under the next sequence number plus the place.
     ensures numbers { (list : PlayList) (source : Source) (place : ℕ) →
         IsValidList list → list.source ≡ Some source → place < 65536 →
         frame_at list.places place ≡ frame_under list ((source.next + place) % 65536) }
+{}
+
+/// One missing frame between two that came is concealed by the one before it, halved. So is the one
+/// before place 0, if the last turn had a frame.
+pub fn one_missing_frame_is_concealed()
+    ensures next { (places : FramePlaces) (last after : List ℤ) →
+        frame_at places 0 ≡ None → frame_at places 1 ≡ Some after →
+        given_at places (Some last) 0 ≡ Played.Concealed (map halved last) }
+    ensures placed { (places : FramePlaces) (last : Option (List ℤ)) (place : ℕ) (before after : List ℤ) →
+        frame_at places place ≡ Some before → frame_at places (place + 1) ≡ None →
+        frame_at places (place + 2) ≡ Some after →
+        given_at places last (place + 1) ≡ Played.Concealed (map halved before) }
 {}

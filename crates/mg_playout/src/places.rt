@@ -1,32 +1,37 @@
-ghost use Rattle.std.specs.Prelude.{◌≡◌, ◌+◌, ◌<◌, ◌≤◌, ◌++◌, length, slice_set, is_some, IfOk, IfSome};
+ghost use Rattle.std.specs.Prelude.{◌≡◌, ◌+◌, ◌<◌, ◌≤◌, ◌++◌, length, slice_set, is_some, Some, None, IfOk, IfSome};
+ghost use Rattle.std.specs.Option.{option_copied, option_flatten};
 ghost use Rattle.circular_buffer.specs.Buffer.{buffer};
 ghost use Rattle.mg_g711.specs.Frame.{IsFrame};
 ghost use Rattle.mg_playout.specs.Places.{empty_places, frame_at, is_empty, fallen, resized, started_with};
+ghost use Rattle.mg_playout.specs.Played.{given, sound_of};
 
+use crate::played::Played;
 use circular_buffer::HeapCircularBuffer;
-use mg_g711::Frame;
 use mg_g711::theorems::frames_are_whole;
+use mg_g711::{Frame, halve_frame};
 use mg_words::{FIRST_DEPTH, MAX_DEPTH, MIN_DEPTH};
 use std::alloc::{AllocError, Global};
 use std::marker::Model;
 
-/// The frames that wait for their turn, by place. Place 0 is the next one to be played.
+/// The frame of the turn before, and those that wait for their turn, by place. Place 0 is the next
+/// one to be played.
 ///
-/// The ring has an item for each place, so its length is the depth. Contracts see the list of the
-/// places.
+/// The ring's first item is the last frame, and it has an item for each place. So a turn moves no
+/// frame: what was at place 0 becomes the last frame where it lies. Contracts see the record
+/// `KeptFrames` of `specs/Places.antt`.
 #[derive(Drop)]
 pub struct Places {
     ring: HeapCircularBuffer<Option<Frame>>,
 }
 
 impl Model for Places {
-    ghost use Rattle.mg_playout.specs.Places.{FramePlaces};
+    ghost use Rattle.mg_playout.specs.Places.{KeptFrames};
 
-    ghost Value = { FramePlaces };
+    ghost Value = { KeptFrames };
 
-    ghost use Rattle.mg_playout.specs.Places.{IsRingOfPlaces};
+    ghost use Rattle.mg_playout.specs.Places.{IsRingOfPlaces, kept_in};
 
-    ghost view = { λ p. p.ring.items };
+    ghost view = { λ p. kept_in p.ring.items };
 
     ghost invariant = { λ p. IsRingOfPlaces p.ring };
 }
@@ -34,107 +39,145 @@ impl Model for Places {
 impl Places {
     ghost use Rattle.mg_playout.specs.Places.{ArePlaces};
 
-    /// As many empty places as a play list begins with.
+    /// As many empty places as a play list begins with, and no last frame.
     pub(crate) fn new(alloc: Global) -> Result<Self, AllocError>
-        ensures { IfOk result (λ places. places ≡ empty_places FIRST_DEPTH) }
+        ensures last { IfOk result (λ kept. kept.last ≡ None) }
+        ensures places { IfOk result (λ kept. kept.places ≡ empty_places FIRST_DEPTH) }
     {
-        let mut ring = HeapCircularBuffer::with_capacity(alloc, MAX_DEPTH)?;
-        append_empty(&mut ring, FIRST_DEPTH);
+        let mut ring = HeapCircularBuffer::with_capacity(alloc, MAX_DEPTH + 1)?;
+        append_empty(&mut ring, FIRST_DEPTH + 1);
         Ok(Places { ring })
     }
 
-    /// Shows what holds of the places of every play list, and does nothing.
+    /// Shows what holds of the frames of every play list, and does nothing.
     pub(crate) fn know(&self)
-        ensures { ArePlaces self.now }
+        ensures last { IfSome self.now.last IsFrame }
+        ensures places { ArePlaces self.now.places }
     {
         let _ring = &self.ring;
     }
 
     /// How many places there are.
     pub(crate) fn depth(&self) -> usize
-        ensures depth { result ≡ length self.now }
+        ensures depth { result ≡ length self.now.places }
         ensures at_least { MIN_DEPTH ≤ result }
         ensures at_most { result ≤ MAX_DEPTH }
     {
-        self.ring.len()
+        self.ring.len() - 1
     }
 
     /// Whether no place is filled.
     pub(crate) fn is_empty(&self) -> bool
-        ensures { result ≡ is_empty self.now }
+        ensures { result ≡ is_empty self.now.places }
     {
-        self.ring.iter().all(|place| place.is_none())
+        let mut items = self.ring.iter();
+        let _last = items.next();
+        items.all(|place| place.is_none())
     }
 
     /// Whether the place is filled.
     #[tactic(auto, using(crate::proofs::RingLemmas::flatten_of_get))]
     pub(crate) fn is_filled(&self, place: usize) -> bool
-        ensures { result ≡ is_some (frame_at self.now place) }
+        requires { place < length self.now.places }
+        ensures { result ≡ is_some (frame_at self.now.places place) }
     {
-        matches!(self.ring.get(place), Some(Some(_)))
+        matches!(self.ring.get(place + 1), Some(Some(_)))
     }
 
     /// Fills the place.
     pub(crate) fn put(&mut self, place: usize, frame: Frame)
-        requires { place < length self.old }
-        ensures { self.new ≡ slice_set self.old place (Some frame) }
+        requires { place < length self.old.places }
+        ensures last { self.new.last ≡ self.old.last }
+        ensures places { self.new.places ≡ slice_set self.old.places place (Some frame) }
     {
         frames_are_whole(&frame);
-        if let Some(item) = self.ring.get_mut(place) {
+        if let Some(item) = self.ring.get_mut(place + 1) {
             *item = Some(frame);
         }
     }
 
     /// Drops all frames and fills place 0.
     pub(crate) fn start(&mut self, frame: Frame)
-        ensures { self.new ≡ started_with frame (length self.old) }
+        ensures last { self.new.last ≡ None }
+        ensures places { self.new.places ≡ started_with frame (length self.old.places) }
     {
         frames_are_whole(&frame);
-        let depth = self.ring.len();
+        let len = self.ring.len();
         self.ring.clear();
+        self.ring.push_back(None);
         self.ring.push_back(Some(frame));
-        append_empty(&mut self.ring, depth - 1);
+        append_empty(&mut self.ring, len - 2);
     }
 
     /// Moves each frame down by this many places. Those that have none to go to are dropped.
     pub(crate) fn shift(&mut self, count: usize)
-        ensures { self.new ≡ fallen self.old count }
+        ensures last { self.new.last ≡ self.old.last }
+        ensures places { self.new.places ≡ fallen self.old.places count }
     {
-        let depth = self.ring.len();
+        let depth = self.depth();
         let kept = depth.saturating_sub(count);
+        let last = self.ring.pop_front().flatten();
         self.ring.truncate_front(kept);
+        self.ring.push_front(last);
         append_empty(&mut self.ring, depth - kept);
     }
 
-    /// Takes the frame at place 0, and moves the others down by one place.
-    #[tactic(auto, using(crate::proofs::RingLemmas::flatten_of_get))]
-    pub(crate) fn take_first(&mut self) -> Option<Frame>
-        ensures places { self.new ≡ fallen self.old 1 }
-        ensures value { result ≡ frame_at self.old 0 }
-        ensures frame { IfSome result IsFrame }
+    /// Gives what the turn of place 0 gives, and moves the others down by one place.
+    pub(crate) fn give(&mut self) -> Played
+        ensures last { self.new.last ≡ frame_at self.old.places 0 }
+        ensures places { self.new.places ≡ fallen self.old.places 1 }
+        ensures value { result ≡ given (frame_at self.old.places 0) self.old.last }
+        ensures frame { IfSome (sound_of result) IsFrame }
     {
-        let first = self.ring.pop_front();
+        let depth = self.depth();
+        let played = given(self.ring.get(1), self.ring.get(0));
+        self.ring.truncate_front(depth);
         self.ring.push_back(None);
-        first.flatten()
+        played
+    }
+
+    /// Forgets the last frame.
+    pub(crate) fn forget(&mut self)
+        ensures last { self.new.last ≡ None }
+        ensures places { self.new.places ≡ self.old.places }
+    {
+        if let Some(last) = self.ring.get_mut(0) {
+            *last = None;
+        }
     }
 
     /// Drops the frames at the places from the depth on.
     pub(crate) fn set_depth(&mut self, depth: usize)
         requires at_least { MIN_DEPTH ≤ depth }
         requires at_most { depth ≤ MAX_DEPTH }
-        ensures { self.new ≡ resized self.old depth }
+        ensures last { self.new.last ≡ self.old.last }
+        ensures places { self.new.places ≡ resized self.old.places depth }
     {
-        self.ring.truncate_back(depth);
-        let missing = depth - self.ring.len();
+        self.ring.truncate_back(depth + 1);
+        let missing = depth + 1 - self.ring.len();
         append_empty(&mut self.ring, missing);
     }
 
-    /// Goes back to as many empty places as a play list begins with.
+    /// Goes back to as many empty places as a play list begins with, and no last frame.
     pub(crate) fn clear(&mut self)
-        ensures { self.new ≡ empty_places FIRST_DEPTH }
+        ensures last { self.new.last ≡ None }
+        ensures places { self.new.places ≡ empty_places FIRST_DEPTH }
     {
         self.ring.clear();
-        append_empty(&mut self.ring, FIRST_DEPTH);
+        append_empty(&mut self.ring, FIRST_DEPTH + 1);
+    }
+}
+
+/// What is given for the frame of a place, by the last frame.
+fn given(frame: Option<&Option<Frame>>, last: Option<&Option<Frame>>) -> Played
+    ensures value { result ≡ given (option_flatten (option_copied frame.entry)) (option_flatten (option_copied last.entry)) }
+    ensures frame { IfSome (option_flatten (option_copied frame.entry)) IsFrame →
+        IfSome (sound_of result) IsFrame }
+{
+    match (frame, last) {
+        (Some(Some(frame)), _) => Played::Frame(*frame),
+        (_, Some(Some(last))) => Played::Concealed(halve_frame(last)),
+        _ => Played::Silence,
     }
 }
 

@@ -5,6 +5,7 @@ ghost use Rattle.mg_words.specs.declared.limits.TheConstants.{MIN_DEPTH, MAX_DEP
 use crate::phase::Phase;
 use crate::placed::Placed;
 use crate::places::Places;
+use crate::played::Played;
 use crate::sequence::{MAX_DROPOUT, MAX_MISORDER, distance};
 use crate::source::Source;
 use crate::turn::Turn;
@@ -30,7 +31,7 @@ impl Model for Playout {
 
     ghost use Rattle.mg_playout.specs.Playout.{HasTicksLeft};
 
-    ghost view = { λ p. record { phase = p.phase; source = p.source; places = p.places } };
+    ghost view = { λ p. record { phase = p.phase; source = p.source; last = p.places.last; places = p.places.places } };
 
     ghost invariant = { λ p. HasTicksLeft p.phase };
 }
@@ -38,6 +39,7 @@ impl Model for Playout {
 impl Playout {
     ghost use Rattle.mg_playout.specs.Playout.{first_state, placed, ticked, with_depth, turn_of, turn_at, started, shifted};
     ghost use Rattle.mg_playout.specs.Places.{frame_at};
+    ghost use Rattle.mg_playout.specs.Played.{given, sound_of};
     ghost use Rattle.mg_playout.specs.Order.{IsValidList};
 
     /// An idle play list without a source, with a depth of four places.
@@ -77,24 +79,26 @@ impl Playout {
         }
     }
 
-    /// Passes on by 20 ms, and gives the frame whose turn it is, if there is one.
-    pub fn tick(&mut self) -> Option<Frame>
+    /// Passes on by 20 ms, and gives the frame whose turn it is. Where that is missing, the one of the
+    /// turn before is given once more at half of its level.
+    pub fn tick(&mut self) -> Played
         ensures step { ticked self.old ≡ (self.new, result) }
-        ensures frame { IfSome result IsFrame }
+        ensures frame { IfSome (sound_of result) IsFrame }
     {
         match self.phase {
-            Phase::Idle => None,
+            Phase::Idle => Played::Silence,
             Phase::Wait(1) => {
                 self.phase = Phase::Run;
-                None
+                Played::Silence
             }
             Phase::Wait(ticks) => {
                 self.phase = Phase::Wait(ticks - 1);
-                None
+                Played::Silence
             }
             Phase::Run if self.places.is_empty() => {
                 self.phase = Phase::Idle;
-                None
+                self.places.forget();
+                Played::Silence
             }
             Phase::Run => self.advance(),
         }
@@ -184,13 +188,13 @@ impl Playout {
         self.places.shift(usize::from(count));
     }
 
-    /// Gives the frame at place 0, if there is one, and shifts by one.
-    fn advance(&mut self) -> Option<Frame>
-        ensures list { self.new ≡ shifted self.old 1 }
-        ensures value { result ≡ frame_at self.old.places 0 }
-        ensures frame { IfSome result IsFrame }
+    /// Gives what the turn of place 0 gives, and shifts by one.
+    fn advance(&mut self) -> Played
+        ensures list { self.new ≡ record (shifted self.old 1) { last = frame_at self.old.places 0 } }
+        ensures value { result ≡ given (frame_at self.old.places 0) self.old.last }
+        ensures frame { IfSome (sound_of result) IsFrame }
     {
         self.source = self.source.map(|source| source.advanced(1));
-        self.places.take_first()
+        self.places.give()
     }
 }

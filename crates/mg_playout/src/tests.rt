@@ -1,4 +1,4 @@
-use crate::{Placed, Playout};
+use crate::{Placed, Played, Playout};
 use mg_g711::Frame;
 use std::process::Abort;
 use std::test::Fail;
@@ -16,11 +16,16 @@ fn place_all(rt: &impl Abort, playout: &mut Playout, wanted: &[(u16, Placed)]) {
     }
 }
 
-/// Ticks once for each frame that is wanted.
-fn tick_all(rt: &impl Abort, playout: &mut Playout, wanted: &[Option<i16>]) {
-    for (tick, sample) in wanted.iter().enumerate() {
-        assert_eq!(rt; playout.tick(), sample.map(frame), "in tick {tick}");
+/// Ticks once for each answer that is wanted.
+fn tick_all(rt: &impl Abort, playout: &mut Playout, wanted: &[Played]) {
+    for (tick, played) in wanted.iter().enumerate() {
+        assert_eq!(rt; playout.tick(), *played, "in tick {tick}");
     }
+}
+
+/// A frame that came, of one sample 160 times.
+fn given(sample: i16) -> Played {
+    Played::Frame(frame(sample))
 }
 
 #[test]
@@ -39,7 +44,14 @@ fn frames_come_in_order_of_sequence(rt: HostRuntime) -> Result<(), Fail> {
     tick_all(
         &rt,
         &mut playout,
-        &[None, None, Some(-2), Some(-1), Some(0), None],
+        &[
+            Played::Silence,
+            Played::Silence,
+            given(-2),
+            given(-1),
+            given(0),
+            Played::Silence,
+        ],
     );
 
     // The last tick found it empty, so the next frame starts it.
@@ -86,7 +98,15 @@ fn pushed_frames_keep_their_order(rt: HostRuntime) -> Result<(), Fail> {
     tick_all(
         &rt,
         &mut playout,
-        &[None, None, None, Some(103), None, Some(105), None],
+        &[
+            Played::Silence,
+            Played::Silence,
+            Played::Silence,
+            given(103),
+            Played::Concealed(frame(51)),
+            given(105),
+            Played::Silence,
+        ],
     );
     Ok(())
 }
@@ -125,8 +145,8 @@ fn lowered_depth_drops_frames(rt: HostRuntime) -> Result<(), Fail> {
     );
     playout.set_depth(2);
     // It still waits for half of 16 ticks.
-    tick_all(&rt, &mut playout, &[None; 8]);
-    tick_all(&rt, &mut playout, &[Some(0), Some(1), None]);
+    tick_all(&rt, &mut playout, &[Played::Silence; 8]);
+    tick_all(&rt, &mut playout, &[given(0), given(1), Played::Silence]);
     Ok(())
 }
 
@@ -135,14 +155,83 @@ fn another_source_starts_anew(rt: HostRuntime) -> Result<(), Fail> {
     let mut playout = Playout::new(rt.alloc())?;
     assert_eq!(rt; playout.place(1, 7, frame(1)), Placed::Started);
     assert_eq!(rt; playout.place(2, 8, frame(2)), Placed::Started);
-    tick_all(&rt, &mut playout, &[None, None, Some(2), None]);
+    tick_all(
+        &rt,
+        &mut playout,
+        &[Played::Silence, Played::Silence, given(2), Played::Silence],
+    );
 
     // The first state has four places and waits for two ticks.
     playout.set_depth(8);
     assert_eq!(rt; playout.place(2, 9, frame(3)), Placed::Started);
     playout.clear();
-    assert_eq!(rt; playout.tick(), None);
+    assert_eq!(rt; playout.tick(), Played::Silence);
     assert_eq!(rt; playout.place(2, 9, frame(3)), Placed::Started);
     assert_eq!(rt; playout.place(2, 13, frame(4)), Placed::Pushed);
+    Ok(())
+}
+
+#[test]
+fn missing_frame_is_halved(rt: HostRuntime) -> Result<(), Fail> {
+    let mut came = frame(0);
+    came[..4].copy_from_slice(&[-3, -1, 1, 3]);
+    let mut halves = frame(0);
+    halves[..4].copy_from_slice(&[-1, 0, 0, 1]);
+    let mut playout = Playout::new(rt.alloc())?;
+    assert_eq!(rt; playout.place(1, 1, came), Placed::Started);
+    assert_eq!(rt; playout.place(1, 3, frame(3)), Placed::Placed);
+    tick_all(
+        &rt,
+        &mut playout,
+        &[
+            Played::Silence,
+            Played::Silence,
+            Played::Frame(came),
+            Played::Concealed(halves),
+            given(3),
+            Played::Silence,
+        ],
+    );
+    Ok(())
+}
+
+#[test]
+fn second_missing_frame_is_silent(rt: HostRuntime) -> Result<(), Fail> {
+    let mut playout = Playout::new(rt.alloc())?;
+    place_all(
+        &rt,
+        &mut playout,
+        &[(10, Placed::Started), (13, Placed::Placed)],
+    );
+    tick_all(
+        &rt,
+        &mut playout,
+        &[
+            Played::Silence,
+            Played::Silence,
+            given(10),
+            Played::Concealed(frame(5)),
+            Played::Silence,
+            given(13),
+        ],
+    );
+    Ok(())
+}
+
+#[test]
+fn start_forgets_the_last_frame(rt: HostRuntime) -> Result<(), Fail> {
+    let mut playout = Playout::new(rt.alloc())?;
+    assert_eq!(rt; playout.place(1, 1, frame(1)), Placed::Started);
+    assert_eq!(rt; playout.place(1, 3, frame(3)), Placed::Placed);
+    tick_all(
+        &rt,
+        &mut playout,
+        &[Played::Silence, Played::Silence, given(1)],
+    );
+
+    // The frame that starts is pushed out, so the first one of the source is missing.
+    assert_eq!(rt; playout.place(2, 100, frame(100)), Placed::Started);
+    assert_eq!(rt; playout.place(2, 110, frame(110)), Placed::Pushed);
+    tick_all(&rt, &mut playout, &[Played::Silence; 3]);
     Ok(())
 }

@@ -18,7 +18,8 @@ const DATAGRAM_LIMIT: usize = 65535;
 /// - `poll` takes what waits at the control port and then at each media port in rising order, at most 64 datagrams of each.
 ///   A control message is answered at once. A failed receive ends that port's turn.
 /// - `tick` passes on by 20 ms, and sends the packets. A failed send loses that packet alone.
-/// - `stats` prints `control=a media=b ticks=c sent=d failed=e dropped=f,g,h,i,j,k`: [`Counts`] tells what they are.
+/// - `stats` prints `control=a media=b ticks=c sent=d failed=e dropped=f,g,h,i,j,k concealed=l`: [`Counts`] tells what they
+///   are.
 /// - Any other line prints `unknown command`.
 ///
 /// At every exit the lines that were read whole and the calls of the ports are a session of a new gateway. `Read` and `Write`

@@ -117,7 +117,8 @@ fn loses_the_packet_whose_send_fails(rt: HostRuntime) -> Result<(), Fail> {
     let mut printed = Vec::new(alloc);
     let result = serve(alloc, config(), &mut ports, &mut input, &mut printed);
     assert!(rt; result.is_ok());
-    let wanted: &[u8] = b"ready\ncontrol=1 media=0 ticks=2 sent=2 failed=1 dropped=0,0,0,0,0,0\n";
+    let wanted: &[u8] =
+        b"ready\ncontrol=1 media=0 ticks=2 sent=2 failed=1 dropped=0,0,0,0,0,0 concealed=0\n";
     assert_eq!(rt; printed.as_slice(), wanted);
     assert_eq!(rt; told(alloc, &ports)?.as_str(), "c0a0n0n1n2p1p1");
     let head: &[u8] = b"\x80\0\0\x01\0\0\0\xa0\0\0\0\x01";
@@ -130,7 +131,8 @@ fn polls_the_pool_where_the_control_port_fails(rt: HostRuntime) -> Result<(), Fa
     let waiting: [(usize, &[u8]); 3] = [(0, HEARTBEAT), (1, b"x"), (2, b"")];
     let outcome = session(rt.alloc(), &waiting, &[0], b"poll\nstats\n")?;
     assert_eq!(rt; outcome.told.as_str(), "f0c1n1c2n2");
-    let wanted: &[u8] = b"ready\ncontrol=0 media=2 ticks=0 sent=0 failed=1 dropped=2,0,0,0,0,0\n";
+    let wanted: &[u8] =
+        b"ready\ncontrol=0 media=2 ticks=0 sent=0 failed=1 dropped=2,0,0,0,0,0 concealed=0\n";
     assert_eq!(rt; outcome.printed.as_slice(), wanted);
     Ok(())
 }
@@ -139,8 +141,9 @@ fn polls_the_pool_where_the_control_port_fails(rt: HostRuntime) -> Result<(), Fa
 fn takes_64_datagrams_in_a_turn(rt: HostRuntime) -> Result<(), Fail> {
     let waiting: [(usize, &[u8]); 66] = [(1, b"x"); 66];
     let outcome = session(rt.alloc(), &waiting, &[], b"poll\nstats\npoll\nstats\n")?;
-    let wanted: &[u8] = b"ready\ncontrol=0 media=64 ticks=0 sent=0 failed=0 dropped=64,0,0,0,0,0\n\
-        control=0 media=66 ticks=0 sent=0 failed=0 dropped=66,0,0,0,0,0\n";
+    let wanted: &[u8] =
+        b"ready\ncontrol=0 media=64 ticks=0 sent=0 failed=0 dropped=64,0,0,0,0,0 concealed=0\n\
+        control=0 media=66 ticks=0 sent=0 failed=0 dropped=66,0,0,0,0,0 concealed=0\n";
     assert_eq!(rt; outcome.printed.as_slice(), wanted);
     Ok(())
 }
@@ -159,7 +162,7 @@ fn reads_lines(rt: HostRuntime) -> Result<(), Fail> {
         ),
         (
             b"tick\r\nstats",
-            b"ready\ncontrol=0 media=0 ticks=1 sent=0 failed=0 dropped=0,0,0,0,0,0\n",
+            b"ready\ncontrol=0 media=0 ticks=1 sent=0 failed=0 dropped=0,0,0,0,0,0 concealed=0\n",
         ),
         (
             b"stats\r\r\nstats\r",
@@ -243,7 +246,8 @@ fn answers_a_request_again_whose_answer_was_lost(rt: HostRuntime) -> Result<(), 
     let waiting: [(usize, &[u8]); 2] = [(0, ADD), (0, ADD)];
     let outcome = session(rt.alloc(), &waiting, &[1], b"poll\ntick\nstats\n")?;
     assert_eq!(rt; outcome.told.as_str(), "c0a0c0a0n0n1n2p1");
-    let wanted: &[u8] = b"ready\ncontrol=2 media=0 ticks=1 sent=2 failed=1 dropped=0,0,0,0,0,0\n";
+    let wanted: &[u8] =
+        b"ready\ncontrol=2 media=0 ticks=1 sent=2 failed=1 dropped=0,0,0,0,0,0 concealed=0\n";
     assert_eq!(rt; outcome.printed.as_slice(), wanted);
     Ok(())
 }

@@ -125,7 +125,8 @@ fn loses_the_packets_that_cannot_be_sent_alone(rt: HostRuntime) -> Result<(), Fa
     caller.send_to(ONE_UNREACHABLE, local(29600))?;
     let (result, printed) = serve_lines(&rt, config, &mut ports, "poll\ntick\ntick\nstats\n");
     assert!(rt; result.is_ok());
-    let wanted: &[u8] = b"ready\ncontrol=1 media=0 ticks=2 sent=3 failed=2 dropped=0,0,0,0,0,0\n";
+    let wanted: &[u8] =
+        b"ready\ncontrol=1 media=0 ticks=2 sent=3 failed=2 dropped=0,0,0,0,0,0 concealed=0\n";
     assert_eq!(rt; printed.as_slice(), wanted);
     assert!(rt; carries(&caller, 2, &[0xff; 160])?);
     Ok(())

@@ -16,7 +16,7 @@ fn serves_lines(rt: HostRuntime) {
     let done = run_program(&rt, &words, b"poll\ntick\npol\nstats\nquit\nstats\n");
     assert_eq!(rt; done.status, 0);
     let wanted: &[u8] =
-        b"ready\nunknown command\ncontrol=0 media=0 ticks=1 sent=0 failed=0 dropped=0,0,0,0,0,0\n";
+        b"ready\nunknown command\ncontrol=0 media=0 ticks=1 sent=0 failed=0 dropped=0,0,0,0,0,0 concealed=0\n";
     assert_eq!(rt; done.output.as_slice(), wanted);
     assert!(rt; done.errors.is_empty());
 }

@@ -1,6 +1,8 @@
 use Rattle.std.proofs.Common.{◌≢◌, ℕ, ◌<◌, ◌+◌, ◌*◌, get_or, length, inl, inr, refl, ap, ◌∙◌, arith}
+use Rattle.std.specs.Int.{from_bool}
 use Rattle.std.proofs.lemmas.Bool.{cases_eq}
 use Rattle.mg_engine.specs.Media as media
+use Rattle.mg_engine.proofs.ConcealLaws.{counted_more}
 use Rattle.mg_engine.proofs.WorkLaws.{rises_twice, stays}
 use Rattle.mg_engine.proofs.engine.play_slots.Goals as goal
 
@@ -10,6 +12,7 @@ loop-slot-init c = record {
   done = λ j lt. absurd (omega (arith, lt));
   rest = λ j from lt. refl;
   rooms = refl;
+  concealed = refl;
   work = stays 0 c.args.sums.now.work c.args.sums.now.work refl;
 }
 
@@ -38,5 +41,8 @@ loop-slot-preserved c =
       ];
       rest = λ j from lt. (c.play.ensures.others (get_or held j 0) (apart j lt (omega (arith, from)))).0 ∙ c.loop-slot.invariant.rest j (omega (arith, from)) lt;
       rooms = c.play.ensures.rooms ∙ c.loop-slot.invariant.rooms;
+      concealed = ap (λ (n : ℕ). c.loop-slot.concealed + n) c.from-concealed.ensures
+          ∙ ap (λ (n : ℕ). n + from_bool c.play.result) c.loop-slot.invariant.concealed
+          ∙ counted_more first held i c.play.result here (c.play.ensures.concealed ∙ ap media.is_concealing old);
       work = rises_twice (2 * i) 2 (2 * (i + 1)) c.args.sums.now.work c.loop-slot.sums.work c.play.new.sums.work (omega arith) c.loop-slot.invariant.work c.play.ensures.work;
     }

@@ -3,6 +3,7 @@ use Rattle.mg_rooms.specs.declared.limits.Limits.{Limits}
 use Rattle.mg_engine.specs.Stands.{EngineState, StandsFor}
 use Rattle.mg_engine.specs.Work.{RisesAtMost}
 use Rattle.mg_engine.specs.aids.Playing.{IsPlayed}
+use Rattle.mg_engine.proofs.ConcealLaws.{concealed_is}
 use Rattle.mg_engine.proofs.HeldLaws.{many, held_below, held_apart, held_at}
 use Rattle.mg_engine.proofs.TickLaws.{ArePlayed, played_stands}
 use Rattle.mg_engine.proofs.engine.Engine.play_all.Goals as goal
@@ -31,6 +32,13 @@ returns-clause-after c w h =
     let at = held_at k.rooms slots held n r found in
     subst (λ (s : ℕ). IsPlayed k.media c.play_slots.new.media.items c.play_slots.new.sums.frames s) at.is (c.play_slots.ensures.each at.at at.within) in
     played_stands k w c.play_slots.new.media.items c.play_slots.new.sums all stands
+
+pub returns-clause-concealed : goal.returns-clause-concealed
+returns-clause-concealed c w h =
+    let k : EngineState = record { config = c.self.inside.config; rooms = c.self.inside.rooms; media = c.self.inside.media.items; flows = c.self.inside.flows; sums = c.self.inside.sums; shares = c.self.inside.shares } in
+    let held = c.as_slice.ensures.value ∙ c.self.invariant.held in
+    let stands = subst (λ (x : EngineState). StandsFor x w) (sym c.self.view_is) h in
+    c.play_slots.ensures.concealed ∙ concealed_is k w c.as_slice.result.now stands c.self.invariant.sound.by_number held
 
 pub returns-clause-work : goal.returns-clause-work
 returns-clause-work c =

@@ -22,7 +22,15 @@ say() {
         udpsink host=127.0.0.1 port="$2" bind-address=127.0.0.1 bind-port="$3"
 }
 
-# The same by ffmpeg.
+# The same, with packets lost on the way: FILE.wav GATEWAY_PORT FROM_PORT PROBABILITY. 0.1 loses one in ten.
+say_with_loss() {
+    gst-launch-1.0 -q filesrc location="$1" ! wavparse ! audioconvert ! audioresample ! \
+        audio/x-raw,rate=8000,channels=1 ! mulawenc ! \
+        rtppcmupay pt=0 min-ptime=20000000 max-ptime=20000000 ! identity drop-probability="$4" ! \
+        udpsink host=127.0.0.1 port="$2" bind-address=127.0.0.1 bind-port="$3"
+}
+
+# The same as `say` by ffmpeg.
 say_by_ffmpeg() {
     ffmpeg -hide_banner -loglevel error -nostdin -i "$1" \
         -af aresample=8000,asetnsamples=n=160:p=1,arealtime -ac 1 -ar 8000 -c:a pcm_mulaw \
@@ -46,4 +54,14 @@ what() {
         /Maximum amp/ { peak = $3 }
         /Rough/ { frequency = $3 }
         END { if (peak == 0) print "silence"; else print "peak", peak, "frequency", frequency }'
+}
+
+# Tells how often a recording is silent for 20 ms or longer between its first and its last sound: FILE.wav
+holes() {
+    printf '%s: ' "$1"
+    sox "$1" -t dat - | awk '
+        $1 == ";" { next }
+        { n++ }
+        $2 > 0.01 || $2 < -0.01 { if (last && n - last > 150) holes++; last = n }
+        END { print holes + 0, "holes" }'
 }

@@ -1,6 +1,7 @@
 #!/bin/bash
 # Measures the gateway over loopback, and prints its processor time beside that of bare receives and sends.
 # usage: run.sh CALLERS A_CONFERENCE SECONDS [SLOTS]
+# Without callers (0) it measures a gateway on which nothing comes.
 # It needs gcc, and the two programs as `rt run` leaves them in crates/mg_bridge/out and crates/mg_pace/out.
 set -eu
 callers=$1 members=$2 seconds=$3 slots=${4:-$1}
@@ -8,25 +9,32 @@ here=$(CDPATH= cd -- "$(dirname -- "$0")" && pwd)
 bridge=$here/../../crates/mg_bridge/out/mg_bridge
 pace=$here/../../crates/mg_pace/out/mg_pace
 work=$(mktemp -d)
-trap 'rm -rf "$work"' EXIT
+trap 'rm -rf "$work"; kill $(jobs -p) 2> /dev/null || true' EXIT
 for program in load bare; do
     gcc -O2 -Wall -o "$work/$program" "$here/$program.c"
 done
-ticks=$((seconds * 50 + 250))
-TIMEFORMAT='%U %S'
-# Drives a program by the pace while the callers call, and tells what it took of the processor.
+# Calls, and tells what the program of this process took of the processor since it was ready, the memory that it has, and
+# how many packets were too late.
 measure() {
-    name=$1
-    shift
-    mkfifo "$work/lines"
-    "$pace" --ticks "$ticks" > "$work/lines" &
-    { time "$@" < "$work/lines" > "$work/out"; } 2> "$work/time" &
+    name=$1 process=$2
     until grep -q ready "$work/out" 2> /dev/null; do sleep 0.1; done
-    "$work/load" "$callers" "$members" "$seconds"
-    wait
-    rm "$work/lines" "$work/out"
-    tail -n 1 "$work/time" | awk -v n="$callers" -v t="$((ticks / 50))" -v name="$name" \
-        '{printf "%s: %.2f s user, %.2f s system in %d s: %.3f ms a caller and second\n", name, $1, $2, t, ($1 + $2) * 1000 / n / t}'
+    begun=$(date +%s.%N) before=$(cut -d ' ' -f 1 "/proc/$process/schedstat")
+    if [ "$callers" = 0 ]; then sleep "$seconds"; else "$work/load" "$callers" "$members" "$seconds"; fi
+    after=$(cut -d ' ' -f 1 "/proc/$process/schedstat") ended=$(date +%s.%N)
+    awk -v n="$callers" -v s="$(echo "$ended - $begun" | bc)" -v ns="$((after - before))" -v name="$name" 'BEGIN {
+        printf "%s: %.2f s of the processor in %.0f s, %.2f %%", name, ns / 1e9, s, ns / 1e7 / s
+        if (n > 0) printf ", %.3f ms a caller and second", ns / 1e6 / n / s
+        print "" }'
+    sed -n 's/^VmHWM:[ \t]*/  memory at most: /p' "/proc/$process/status"
+    sed 's/^/  /' "$work/errors"
 }
-measure gateway "$bridge" serve --slots "$slots"
-measure 'bare calls' "$work/bare" "$callers" "$slots"
+"$bridge" live --slots "$slots" > "$work/out" 2> "$work/errors" &
+measure gateway $!
+kill $!
+wait $! 2> /dev/null || true
+[ "$callers" -gt 0 ] || exit 0
+: > "$work/out"
+mkfifo "$work/lines"
+"$pace" --polls 2 > "$work/lines" 2> "$work/errors" &
+"$work/bare" "$callers" "$slots" < "$work/lines" > "$work/out" &
+measure 'bare calls' $!

@@ -1,6 +1,6 @@
 /* A library that is loaded before a program's own, and refuses one of its calls.
  *
- * REFUSE       what is refused: memory, read, write, receive or send
+ * REFUSE       what is refused: memory, read, write, receive, send or wait, which is a question which sockets are ready
  * REFUSE_AT    the number of the call of that kind that is refused, from 1 on; 0 or absent refuses none
  * REFUSE_TOLD  a file that is made when a call is refused
  * REFUSE_PIECE the most bytes that a read or a write takes at once; 0 or absent sets no limit
@@ -12,6 +12,7 @@
 #include <fcntl.h>
 #include <stdlib.h>
 #include <string.h>
+#include <sys/epoll.h>
 #include <sys/socket.h>
 #include <sys/syscall.h>
 #include <sys/uio.h>
@@ -123,4 +124,10 @@ ssize_t sendmsg(int fd, const struct msghdr *message, int flags)
 {
     NEXT(sendmsg);
     return is_call_refused("send") ? -1 : next(fd, message, flags);
+}
+
+int epoll_wait(int fd, struct epoll_event *events, int most, int timeout)
+{
+    NEXT(epoll_wait);
+    return is_call_refused("wait") ? -1 : next(fd, events, most, timeout);
 }

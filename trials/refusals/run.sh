@@ -1,5 +1,5 @@
 #!/bin/sh
-# Refuses each request for memory, each read, write, receive and send of the gateway in turn, one in a run, up to a run that has
+# Refuses each request for memory, each read, write, receive, send and wait of the gateway in turn, one in a run, up to a run that has
 # no such call any more, and looks at what follows each. Prints how many runs there were, and ends with 1 at the first that is wrong.
 # usage: run.sh
 # It needs gcc, python3 and rt. `mg_bridge` is the one that `rt run` leaves in crates/mg_bridge/out; what isn't built yet is
@@ -116,7 +116,7 @@ done
 is_last "$output"
 
 # Sessions of the gateway over loopback.
-for kind in memory read write receive send; do
+for kind in memory read write receive send wait; do
     python3 "$here/serve.py" "$bridge" "$work/refuse.so" "$kind"
 done
 

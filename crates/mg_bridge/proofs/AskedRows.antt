@@ -5,7 +5,7 @@ use Rattle.clap.specs.Walk.{Text}
 use Rattle.clap.specs.declared.error.kind.ErrorKind.TheVariants as kind
 use Rattle.mg_words.specs.Address.{address_of}
 use Rattle.mg_engine.specs.Config.{standard}
-use Rattle.mg_bridge.specs.declared.invocation.Invocation.TheVariants.{Replay, Serve}
+use Rattle.mg_bridge.specs.declared.invocation.Invocation.TheVariants.{Replay, Serve, Live}
 use Rattle.mg_bridge.specs.Options.{asked, command_line, config_at, options}
 
 abbrev slots : Text → List Text
@@ -21,6 +21,18 @@ replay_by_itself = refl
 serve_by_itself : asked (codes "serve" ∷ []) ≡ Ok (Serve standard)
 unfolding asked command_line options config_at clap_on_literals
 serve_by_itself = refl
+
+live_by_itself : asked (codes "live" ∷ []) ≡ Ok (Live standard 5)
+unfolding asked command_line options config_at clap_on_literals
+live_by_itself = refl
+
+live_with_both : asked (codes "live" ∷ codes "--slots=4" ∷ codes "--late" ∷ codes "0" ∷ []) ≡ Ok (Live (record standard { slots = 4 }) 0)
+unfolding asked command_line options config_at clap_on_literals
+live_with_both = refl
+
+serve_is_never_late : asked (codes "serve" ∷ codes "--late=5" ∷ []) ≡ Err (kind.UnknownArgument ∷ [])
+unfolding asked command_line options config_at clap_on_literals
+serve_is_never_late = refl
 
 with_slots : asked (slots (codes "4")) ≡ Ok (Replay (record standard { slots = 4 }))
 unfolding asked command_line options config_at clap_on_literals
@@ -94,6 +106,10 @@ help = refl
 help_of_all : asked (codes "--help" ∷ []) ≡ Err (kind.DisplayHelp ∷ [])
 unfolding asked command_line options config_at clap_on_literals
 help_of_all = refl
+
+version : asked (codes "--version" ∷ []) ≡ Err (kind.DisplayVersion ∷ [])
+unfolding asked command_line options config_at clap_on_literals
+version = refl
 
 unknown_word : asked (codes "record" ∷ []) ≡ Err (kind.UnknownArgument ∷ kind.InvalidSubcommand ∷ [])
 unfolding asked command_line options config_at clap_on_literals

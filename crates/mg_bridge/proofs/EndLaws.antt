@@ -9,7 +9,7 @@ use Rattle.mg_core.specs.declared.fault.RunFault.TheVariants as faults
 use Rattle.mg_core.specs.declared.counts.Counts.{Counts}
 use Rattle.mg_engine.specs.Config.{IsValidConfig}
 use Rattle.mg_bridge.specs.declared.invocation.Invocation.{Invocation}
-use Rattle.mg_bridge.specs.declared.invocation.Invocation.TheVariants.{Replay, Serve}
+use Rattle.mg_bridge.specs.declared.invocation.Invocation.TheVariants.{Replay, Serve, Live}
 use Rattle.mg_bridge.specs.declared.status.Status.{Status}
 use Rattle.mg_bridge.specs.declared.status.Status.TheVariants.{Done, BadLine, Usage, Failed, NoMemory, NoPort}
 use Rattle.mg_bridge.specs.Status.{code_of, status_of}
@@ -38,6 +38,9 @@ ends_told remaining contents (Ok (Replay config)) kind input rest old new status
 ends_told remaining contents (Ok (Serve config)) kind input rest old new status memory told left =
     let ended = subst (λ k. Tells k old new status) memory told in
     inr (subst (IsNotBegun config) (sym ended.0) tt, left, ended.1)
+ends_told remaining contents (Ok (Live config late)) kind input rest old new status memory told left =
+    let ended = subst (λ k. Tells k old new status) memory told in
+    (left, inr (inl (subst (IsNotBegun config) (sym ended.0) tt), ended.1))
 ends_told remaining contents (Err kinds) kind input rest old new status why told left = (left, record { kind = kind; among = why; told = told })
 
 -- a run that ended by a fault isn't done

@@ -20,7 +20,7 @@ use Rattle.std.specs.Box.{box_value}
 use Rattle.mg_engine.specs.declared.config.Config.{Config}
 use Rattle.mg_bridge.specs.declared.invocation.Invocation.{Invocation}
 use Rattle.mg_bridge.specs.declared.address.AddressFault.{AddressFault}
-use Rattle.mg_bridge.specs.Options.{IsRefused, address_in, asked, asked_by, command_line, config_at, options, run_at, run_of}
+use Rattle.mg_bridge.specs.Options.{IsRefused, address_in, asked, asked_by, command_line, config_at, late_in, options, run_at, run_of}
 
 abbrev has_kinds : Kinds → Bool
 has_kinds [] = false
@@ -118,9 +118,9 @@ module _ (line : App) (words : List Text) (is : line ≡ command_line) where
   asks_none kind fails = refused_by _ _ kind (subst (λ (l : App). (kind ≡ OutOfMemory) ⊎ IsAmong kind (fault_of l words)) is (fails simple))
 
 -- the run of a subcommand at an address
-pub run_is : (name : Text) (rows : List Row) (address : List ℕ) (config : Config) (run : Invocation) → config ≡ config_at address rows
-    → run ≡ run_of name config → run_at name rows (Ok address) ≡ Ok run
-run_is name rows address config run configured is = rw (is, configured) refl
+pub run_is : (name : Text) (rows : List Row) (address : List ℕ) (config : Config) (late : ℕ) (run : Invocation) → config ≡ config_at address rows
+    → late ≡ late_in rows → run ≡ run_of name config late → run_at name rows (Ok address) ≡ Ok run
+run_is name rows address config late run configured allowed is = rw (is, configured, allowed) refl
 
 -- an error says why there is none at a text that names no address
 pub refuses_address : (asked : Result Invocation Kinds) (name : Text) (rows : List Row) (fault : AddressFault) (kind : ErrorKind)

@@ -2,3 +2,4 @@ pub mod InvocationLaws
 pub mod AskedRows
 pub mod CommandLaws
 pub mod EndLaws
+pub mod ReadinessLaws

@@ -2,5 +2,6 @@ pub mod Status
 pub mod Address
 pub mod Options
 pub mod Replay
+pub mod Readiness
 pub mod Serve
 pub mod Program

@@ -15,7 +15,7 @@ use Rattle.mg_engine.specs.declared.config.Config.{Config}
 use Rattle.mg_engine.specs.Config.{standard}
 use Rattle.mg_bridge.specs.declared.address.AddressFault.{AddressFault}
 use Rattle.mg_bridge.specs.declared.invocation.Invocation.{Invocation}
-use Rattle.mg_bridge.specs.declared.invocation.Invocation.TheVariants.{Replay, Serve}
+use Rattle.mg_bridge.specs.declared.invocation.Invocation.TheVariants.{Replay, Serve, Live}
 use Rattle.mg_bridge.specs.Address.{own_address}
 
 -- ## The command line
@@ -24,7 +24,7 @@ use Rattle.mg_bridge.specs.Address.{own_address}
 abbrev pub text_rule : Text → Rule
 text_rule name = record (new_rule name) { long = Some name; value_names = 1 }
 
--- the options of both subcommands, each of which may be given once
+-- the options of every subcommand, each of which may be given once
 unfoldable pub options : List Rule
 options = text_rule (codes "address") ∷ number_rule (codes "control-port") 0 65535
     ∷ number_rule (codes "base-port") 0 65535 ∷ number_rule (codes "slots") 0 65535
@@ -39,15 +39,21 @@ with_rules app (rule ∷ rules) = with_rules (with_rule app rule) rules
 abbrev pub subcommand_line : Text → App
 subcommand_line name = with_rules (new_app name) options
 
+-- the subcommand that has one option more
+abbrev pub live_line : App
+live_line = with_rule (subcommand_line (codes "live")) (number_rule (codes "late") 0 65535)
+
 -- the command line: words without the program's name, of which one is a subcommand
 unfoldable pub command_line : App
 command_line =
-    with_subcommand (with_subcommand (on_top (λ top. record top {
+    with_subcommand (with_subcommand (with_subcommand (on_top (λ top. record top {
       no_binary_name = true;
       subcommand_required = true;
+      has_version = true;
     }) (new_app (codes "mg_bridge")))
     (subcommand_line (codes "replay")).top)
-    (subcommand_line (codes "serve")).top
+    (subcommand_line (codes "serve")).top)
+    live_line.top
 
 -- ## The values of the options
 
@@ -78,11 +84,17 @@ address_in found = option_map_or own_address (first_of (codes "address") found)
 
 -- ## What words ask of the program
 
-abbrev pub run_of : Text → Config → Invocation
-run_of name config = if bytes_eq name (codes "serve") then Serve config else Replay config
+-- how late a tick may be whose packets are sent, in ticks
+abbrev pub late_in : List Row → ℕ
+late_in found = short_in (codes "late") found 5
+
+abbrev pub run_of : Text → Config → ℕ → Invocation
+run_of name config late =
+    if bytes_eq name (codes "serve") then Serve config
+    else (if bytes_eq name (codes "live") then Live config late else Replay config)
 
 abbrev pub run_at : Text → List Row → Result (List ℕ) AddressFault → Result Invocation Kinds
-run_at name found (Ok address) = Ok (run_of name (config_at address found))
+run_at name found (Ok address) = Ok (run_of name (config_at address found) (late_in found))
 run_at name found (Err fault) = Err (ValueValidation ∷ [])
 
 abbrev pub asked_by : Kinds → Option (Text × List Row) → Result Invocation Kinds

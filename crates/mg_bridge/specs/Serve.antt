@@ -7,7 +7,7 @@ use Rattle.mg_core.specs.declared.fault.RunFault.{RunFault}
 use Rattle.mg_core.specs.declared.fault.RunFault.TheVariants as faults
 use Rattle.mg_serve.specs.Serve.{ServedSession}
 use Rattle.mg_bridge.specs.declared.status.Status.{Status}
-use Rattle.mg_bridge.specs.declared.status.Status.TheVariants.{Usage, NoMemory, NoPort}
+use Rattle.mg_bridge.specs.declared.status.Status.TheVariants.{Usage, Failed, NoMemory, NoPort}
 use Rattle.mg_bridge.specs.Status.{status_of}
 
 -- one of the ports of a gateway: the control port or a media port
@@ -38,3 +38,10 @@ abbrev pub Serves : {R W : Type 0} → (R → Option (List ℕ)) → Config → 
 Serves remaining config input rest old new status =
     ServesOnPorts config (remaining input) (remaining rest) status
     ⊎ (IsNotBegun config status × (rest ≡ input) × (new ≡ old))
+
+-- A gateway was served by the clock, whose lines nobody else gives and which never ends, or nothing
+-- was printed: it didn't begin, or the clock couldn't be read.
+abbrev pub ServesByClock : {W : Type 0} → Config → W → W → Status → Type 0
+ServesByClock config old new status =
+    ServesOnPorts config None None status
+    ⊎ ((IsNotBegun config status ⊎ (status ≡ Failed)) × (new ≡ old))

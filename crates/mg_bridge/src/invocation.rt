@@ -5,6 +5,8 @@ use mg_core::Config;
 pub enum Invocation {
     /// To run a script.
     Replay(Config),
-    /// To serve a gateway on UDP ports.
+    /// To serve a gateway on UDP ports, by the lines that are read.
     Serve(Config),
+    /// To serve a gateway on UDP ports, by the clock. The packets of a tick that is late by more than so many are not sent.
+    Live(Config, u16),
 }

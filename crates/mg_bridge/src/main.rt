@@ -3,9 +3,11 @@
 //! `mg_bridge replay` runs a script of events on standard input, and writes a line for each answer on
 //! standard output.
 //!
-//! `mg_bridge serve` is a gateway on UDP ports, driven by lines on standard input: `poll` takes what came to the
-//! ports, `tick` passes on by 20 ms and sends the packets, `stats` prints what was counted, `quit` ends it. Another
-//! program, `mg_pace`, writes these lines by the clock.
+//! `mg_bridge live` is a gateway on UDP ports in real time.
+//!
+//! `mg_bridge serve` is the same gateway, driven by lines on standard input: `poll` takes what came to the ports, `tick`
+//! passes on by 20 ms and sends the packets, `stats` prints what was counted, `quit` ends it. Another program, `mg_pace`,
+//! writes these lines by the clock.
 #![tactic(auto)]
 
 ghost use Rattle.std.specs.Prelude.{◌≡◌, ◌≢◌};
@@ -13,9 +15,13 @@ ghost use Rattle.std.specs.IoError.{error_kind};
 
 mod address;
 mod bind_fault;
+mod config_fault;
+mod deadline;
 mod invocation;
+mod live;
 mod options;
 mod program;
+mod readiness;
 mod replay;
 mod serve;
 mod status;
@@ -57,6 +63,7 @@ fn main(rt: HostRuntime) -> ExitCode {
     let mut input = rt.stdin();
     let mut output = rt.stdout();
     let code = program(
+        &rt,
         &rt,
         rt.alloc(),
         words.as_slice(),

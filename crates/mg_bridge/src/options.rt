@@ -1,6 +1,6 @@
 ghost use Rattle.std.specs.Prelude.{◌≡◌, IfErr, IfOk, Ok, map};
 ghost use Rattle.clap.specs.Words.{app_of, found_of, kind_of, rows_of, rule_of, with_rule};
-ghost use Rattle.mg_bridge.specs.Options.{IsRefused, address_in, asked, command_line, config_at};
+ghost use Rattle.mg_bridge.specs.Options.{IsRefused, address_in, asked, command_line, config_at, late_in, live_line};
 ghost use Rattle.mg_bridge.specs.Options.{options, run_of, subcommand_line, text_rule};
 ghost use Rattle.mg_bridge.specs.Options.{with_rules};
 
@@ -29,12 +29,24 @@ fn with_options<'a>(alloc: Global, command: Command<'a>) -> Result<Command<'a>, 
         .arg(address_option(alloc, "address").help(
             "The IPv4 address of the gateway, which callers are told; 127.0.0.1 where this isn't given",
         ))?
-        .arg(short_number(alloc, "control-port").help("The UDP port for control messages"))?
-        .arg(short_number(alloc, "base-port").help("The first UDP port for media, an even one"))?
-        .arg(short_number(alloc, "slots").help("How many media ports there are, from 1 to 256"))?
-        .arg(long_number(alloc, "ssrc").help("The SSRC of termination n is this plus n"))?
-        .arg(short_number(alloc, "sequence").help("The sequence number of a first packet"))?
-        .arg(long_number(alloc, "timestamp").help("The timestamp of a first tick"))?;
+        .arg(short_number(alloc, "control-port").help(
+            "The UDP port for control messages; 2944 where this isn't given",
+        ))?
+        .arg(short_number(alloc, "base-port").help(
+            "The first UDP port for media, an even one; 30000 where this isn't given",
+        ))?
+        .arg(short_number(alloc, "slots").help(
+            "How many media ports there are, from 1 to 256, which is also where this isn't given",
+        ))?
+        .arg(long_number(alloc, "ssrc").help(
+            "The SSRC of termination n is this plus n; 0 where this isn't given",
+        ))?
+        .arg(short_number(alloc, "sequence").help(
+            "The sequence number of a first packet; 0 where this isn't given",
+        ))?
+        .arg(long_number(alloc, "timestamp").help(
+            "The timestamp of a first tick; 0 where this isn't given",
+        ))?;
     Ok(command)
 }
 
@@ -44,6 +56,19 @@ fn subcommand<'a>(alloc: Global, name: &'a str, about: &'a str) -> Result<Comman
     ensures memory { IfErr result (λ error. kind_of error ≡ ErrorKind.OutOfMemory) }
 {
     with_options(alloc, Command::new(alloc, name).about(about))
+}
+
+/// The subcommand of a gateway that goes by the clock.
+fn live<'a>(alloc: Global) -> Result<Command<'a>, Error>
+    ensures app { IfOk result (λ command. app_of command ≡ live_line) }
+    ensures memory { IfErr result (λ error. kind_of error ≡ ErrorKind.OutOfMemory) }
+{
+    let command = subcommand(alloc, "live", "Serves a gateway on UDP ports in real time")?.arg(
+        short_number(alloc, "late").help(
+            "Packets aren't sent where their tick is late by more ticks of 20 ms than this; 5 where this isn't given",
+        ),
+    )?;
+    Ok(command)
 }
 
 /// The program's command line.
@@ -63,10 +88,12 @@ fn command<'a>(alloc: Global) -> Result<Command<'a>, Error>
     )?;
     let command = Command::new(alloc, "mg_bridge")
         .about("A conference media gateway under a Megaco controller")
+        .version("0.1.0")
         .no_binary_name(true)
         .subcommand_required(true)
         .subcommand(replay)?
-        .subcommand(serve)?;
+        .subcommand(serve)?
+        .subcommand(live(alloc)?)?;
     Ok(command)
 }
 
@@ -98,12 +125,21 @@ fn config_at(address: [u8; 4], matches: &ArgMatches<'_>) -> Config
     }
 }
 
+/// How late a tick may be whose packets are sent, in ticks.
+fn late_of(matches: &ArgMatches<'_>) -> u16
+    ensures value { result ≡ late_in (rows_of (found_of matches.now)) }
+{
+    short_value(matches, "late").unwrap_or(5)
+}
+
 /// The run of a subcommand.
-fn run_of(name: &str, config: Config) -> Invocation
-    ensures value { result ≡ run_of name.now config }
+fn run_of(name: &str, config: Config, late: u16) -> Invocation
+    ensures value { result ≡ run_of name.now config late }
 {
     if name == "serve" {
         Invocation::Serve(config)
+    } else if name == "live" {
+        Invocation::Live(config, late)
     } else {
         Invocation::Replay(config)
     }
@@ -123,7 +159,7 @@ pub fn asked_run<'a, S: AsStr>(alloc: Global, words: &'a [S]) -> Result<Invocati
         unreachable!();
     };
     match address_of(options) {
-        Ok(address) => Ok(run_of(name, config_at(address, options))),
+        Ok(address) => Ok(run_of(name, config_at(address, options), late_of(options))),
         Err(fault) => Err(command.error(ErrorKind::ValueValidation, fault.message())?),
     }
 }

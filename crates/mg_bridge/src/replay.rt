@@ -20,5 +20,5 @@ pub fn replay<R: Read, W: Write, E: Write>(
     ensures quiet { result ≡ Status.Done → errors.new ≡ errors.old }
 {
     let outcome = run(alloc, config, input, output);
-    Status::after(&outcome, errors)
+    Status::after(&outcome, &config, errors)
 }

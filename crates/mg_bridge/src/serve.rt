@@ -1,12 +1,47 @@
-ghost use Rattle.std.specs.Prelude.{◌≡◌};
-ghost use Rattle.mg_bridge.specs.Serve.{Serves};
+ghost use Rattle.std.specs.Prelude.{◌≡◌, IfErr, OnOk};
+ghost use Rattle.mg_engine.specs.Config.{IsValidConfig};
+ghost use Rattle.mg_bridge.specs.Serve.{IsNotBegun, Serves};
 
+use crate::config_fault::ConfigFault;
+use crate::deadline::NoDeadline;
+use crate::readiness::SOCKETS;
 use crate::status::Status;
-use crate::udp_ports::UdpPorts;
+use crate::udp_ports::{Sockets, UdpPorts};
 use mg_core::{Config, RunFault};
+use mio::Events;
 use std::alloc::Global;
 use std::io::{Read, Write};
 use std::net::Net;
+
+/// The sockets of a gateway, or how the program ends without them: the text of a fault goes to `errors`.
+///
+/// A configuration that can't be used is told before a port is bound.
+pub fn bind<N: Net, E: Write>(
+    net: &N,
+    alloc: Global,
+    config: &Config,
+    errors: &mut E,
+) -> Result<Sockets, Status>
+    ensures sound { OnOk result (IsValidConfig config.now) }
+    ensures ends { IfErr result (IsNotBegun config.now) }
+    ensures quiet { OnOk result (errors.new ≡ errors.old) }
+{
+    if let Some(fault) = ConfigFault::of(config) {
+        let _ = writeln!(errors, "{}: {fault}", RunFault::BadConfig);
+        return Err(Status::Usage);
+    }
+    let Ok(events) = Events::with_capacity(alloc, SOCKETS) else {
+        let _ = writeln!(errors, "{}", RunFault::NoMemory);
+        return Err(Status::NoMemory);
+    };
+    match Sockets::bind(net, config, events) {
+        Ok(sockets) => Ok(sockets),
+        Err(fault) => {
+            let _ = writeln!(errors, "{fault}");
+            Err(Status::NoPort)
+        }
+    }
+}
 
 /// Serves a new gateway on UDP ports by the lines that are read. The text of a fault goes to `errors`.
 ///
@@ -23,17 +58,11 @@ pub fn serve<N: Net, R: Read, W: Write, E: Write>(
     ensures value { Serves R.remaining config input.old input.new output.old output.new result }
     ensures quiet { result ≡ Status.Done → errors.new ≡ errors.old }
 {
-    if !config.is_sound() {
-        let _ = writeln!(errors, "{}", RunFault::BadConfig);
-        return Status::Usage;
-    }
-    let mut ports = match UdpPorts::bind(net, &config) {
-        Ok(ports) => ports,
-        Err(fault) => {
-            let _ = writeln!(errors, "{fault}");
-            return Status::NoPort;
-        }
+    let sockets = match bind(net, alloc, &config, errors) {
+        Ok(sockets) => sockets,
+        Err(status) => return status,
     };
+    let mut ports = UdpPorts::new(sockets, NoDeadline);
     let outcome = mg_serve::serve(alloc, config, &mut ports, input, output);
-    Status::after(&outcome, errors)
+    Status::after(&outcome, &config, errors)
 }

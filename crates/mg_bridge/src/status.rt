@@ -1,7 +1,8 @@
 ghost use Rattle.std.specs.Prelude.{◌≡◌, ◌≤◌};
 ghost use Rattle.mg_bridge.specs.Status.{code_of, status_of};
 
-use mg_core::{Counts, RunFault};
+use crate::config_fault::ConfigFault;
+use mg_core::{Config, Counts, RunFault};
 use std::io::Write;
 
 /// How the program ends.
@@ -52,13 +53,25 @@ impl Status {
     }
 
     /// Tells the fault of a run, if it has one, and answers how the program ends after it.
-    pub fn after<E: Write>(outcome: &Result<Counts, RunFault>, errors: &mut E) -> Self
+    pub fn after<E: Write>(
+        outcome: &Result<Counts, RunFault>,
+        config: &Config,
+        errors: &mut E,
+    ) -> Self
         ensures value { result ≡ status_of outcome.now }
         ensures quiet { result ≡ Status.Done → errors.new ≡ errors.old }
     {
         if let Err(fault) = outcome {
-            let _ = writeln!(errors, "{fault}");
+            tell(fault, config, errors);
         }
         Status::of(outcome)
     }
+}
+
+/// Tells a fault of a run, and of a configuration which option is at fault.
+fn tell<E: Write>(fault: &RunFault, config: &Config, errors: &mut E) {
+    let _ = match ConfigFault::of(config) {
+        Some(why) if *fault == RunFault::BadConfig => writeln!(errors, "{fault}: {why}"),
+        _ => writeln!(errors, "{fault}"),
+    };
 }

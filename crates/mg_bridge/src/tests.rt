@@ -1,5 +1,6 @@
 mod addresses;
 mod conversation;
+mod in_real_time;
 mod replaying;
 mod serving;
 mod words;
@@ -21,7 +22,7 @@ fn run_program(rt: &HostRuntime, words: &[&str], text: &[u8]) -> Outcome {
     let mut input = text;
     let mut output = Vec::new(alloc);
     let mut errors = Vec::new(alloc);
-    let status = program(rt, alloc, words, &mut input, &mut output, &mut errors);
+    let status = program(rt, rt, alloc, words, &mut input, &mut output, &mut errors);
     Outcome {
         status,
         output,

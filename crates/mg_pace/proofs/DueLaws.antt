@@ -4,7 +4,8 @@ use Rattle.std.specs.Prelude.{max}
 use Rattle.std.proofs.lemmas.Bool.{cases_lt}
 use Rattle.std.proofs.lemmas.Nat.{le-div}
 use Rattle.std.proofs.Math.Nat.{div-div-eq-div-mul, div-mul-le_self, add-mul-div_right, mul-div-mul_right}
-use Rattle.mg_pace.specs.Pace.{Pace, Advances, Paces, start, steps_past, steps_due, ticks_due, latest}
+use Rattle.mg_clock.specs.Due.{steps_due, ticks_due}
+use Rattle.mg_pace.specs.Pace.{Pace, Advances, Paces, start, steps_past, latest}
 use Rattle.mg_pace.specs.Laws.{Accounted, Bounded, NeverEarly}
 
 div_grows : (a b n : ℕ) → 0 < n → a ≤ b → a / n ≤ b / n

@@ -3,8 +3,6 @@ pub mod CommandLaws
 pub mod DueLaws
 pub mod InvocationLaws
 pub mod OneLaws
-pub mod PaceLaws
 pub mod ProgramLaws
 pub mod RunLaws
 pub mod StepLaws
-pub mod TextLaws

@@ -8,10 +8,11 @@ use Rattle.mg_lines.proofs.WriterLaws.{appends_then, appends_keeps}
 use Rattle.mg_pace.specs.declared.fault.PaceFault.TheVariants as faults
 use Rattle.mg_pace.specs.declared.options.Options.{Options}
 use Rattle.mg_pace.specs.Pace.{Pace, Advances, Paces, Waits, start}
-use Rattle.mg_pace.specs.Text.{text, text_by}
+use Rattle.mg_clock.specs.Text.{text}
+use Rattle.mg_pace.specs.Text.{text_by}
 use Rattle.mg_pace.specs.Run.{Paced, seen}
 use Rattle.mg_pace.specs.aids.Steps.{Turns}
-use Rattle.mg_pace.proofs.TextLaws.{text_none}
+use Rattle.mg_clock.proofs.TextLaws.{text_none}
 
 -- what a run has done so far: as many readings as were waited after
 pub record SoFar {E : Type 0} (options : Options) (count : ℕ) (r0 r1 w0 w1 old new : Option (List ℕ)) (e0 e1 : E) (p : Pace) : Type 0 where

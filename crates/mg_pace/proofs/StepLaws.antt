@@ -5,9 +5,11 @@ use Rattle.std.specs.Io.KnownBytes.{Appends}
 use Rattle.mg_lines.specs.declared.write_failed.WriteFailed.{WriteFailed}
 use Rattle.mg_lines.specs.Streams.{Writes}
 use Rattle.mg_lines.proofs.WriterLaws.{appends_then}
-use Rattle.mg_pace.specs.Text.{text, quit_line}
-use Rattle.mg_pace.specs.aids.Steps.{WritesLast, WritesSteps, step_lines}
-use Rattle.mg_pace.proofs.TextLaws.{text_more}
+use Rattle.mg_clock.specs.Text.{text}
+use Rattle.mg_pace.specs.Text.{quit_line}
+use Rattle.mg_pace.specs.aids.Steps.{WritesLast, WritesSteps}
+use Rattle.mg_clock.specs.Text.{step_lines}
+use Rattle.mg_clock.proofs.TextLaws.{text_more}
 
 -- a later text begins with an earlier one
 pub text_gap : (polls from n : ℕ) → 0 < polls → (lines : List ℕ) × (text polls (from + n) ≡ text polls from ++ lines)

@@ -1,6 +1,7 @@
 -- What holds of each pace, whatever the clock tells.
 use Rattle.std.specs.Prelude.{◌≡◌, ℕ, ◌+◌, ◌*◌, ◌<◌, ◌≤◌, length, List}
-use Rattle.mg_pace.specs.Pace.{Pace, Advances, Paces, start, period, ticks, ticks_due, latest}
+use Rattle.mg_clock.specs.Due.{period, ticks_due}
+use Rattle.mg_pace.specs.Pace.{Pace, Advances, Paces, start, ticks, latest}
 
 -- The k-th tick is written at or after k * 20 ms by the clock, never before.
 abbrev pub NeverEarly : Type 0

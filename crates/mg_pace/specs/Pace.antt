@@ -1,19 +1,7 @@
--- When polls and ticks are due, which of them are written, and how long the waits are. Times are
+-- Which polls and ticks are written, of those that are due, and how long the waits are. Times are
 -- nanoseconds since the start.
 use Rattle.std.specs.Prelude.{◌≡◌, ℕ, ◌+◌, ◌*◌, ◌/◌, ◌<◌, ◌≤◌, max, List, [], ◌∷◌}
-
--- from one tick to the next: 20 ms
-abbrev pub period : ℕ
-period = 20000000
-
--- The ticks that are due at a time: the k-th tick's point is k * 20 ms after the start.
-abbrev pub ticks_due : ℕ → ℕ
-ticks_due t = t / period
-
--- The steps that are due at a time, with so many polls in 20 ms: the j-th step's point is
--- j * 20 ms / polls, exactly. A step is a poll. The last step of each 20 ms is a poll and a tick.
-abbrev pub steps_due : ℕ → ℕ → ℕ
-steps_due polls t = t * polls / period
+use Rattle.mg_clock.specs.Due.{IsTimeTo, steps_due}
 
 -- how far a run has come
 pub record Pace : Type 0 where
@@ -47,9 +35,8 @@ pub record Advances (old : Pace) (t : ℕ) (new : Pace) : Type 0 where
   pub needed : old.left < new.left → old.steps + 49 * old.polls < new.steps
 
 -- The wait d after a reading t: at its end the next step is due, and before it none is.
-pub record Waits (p : Pace) (t d : ℕ) : Type 0 where
-  pub enough : steps_past p < steps_due p.polls (t + d)
-  pub no_longer : (u : ℕ) → t ≤ u → u < t + d → steps_due p.polls u ≤ steps_past p
+abbrev pub Waits : Pace → ℕ → ℕ → Type 0
+Waits p t d = IsTimeTo p.polls (steps_past p) t d
 
 -- What is done at these readings, the first of them first, with these waits: one after each
 -- reading, and none after a last one at which the run ends.

@@ -7,7 +7,8 @@ use Rattle.mg_pace.specs.declared.fault.PaceFault.{PaceFault}
 use Rattle.mg_pace.specs.declared.fault.PaceFault.TheVariants as faults
 use Rattle.mg_pace.specs.declared.options.Options.{Options}
 use Rattle.mg_pace.specs.Pace.{Pace, Paces, start}
-use Rattle.mg_pace.specs.Text.{text, text_by}
+use Rattle.mg_clock.specs.Text.{text}
+use Rattle.mg_pace.specs.Text.{text_by}
 
 -- what is known of a clock's readings and waits, and of what its run has written
 pub record Seen : Type 0 where

@@ -1,3 +1,4 @@
+use mg_clock::ClockFailed;
 use mg_lines::WriteFailed;
 use thiserror::Error;
 
@@ -19,5 +20,16 @@ impl From<WriteFailed> for PaceFault {
 
     fn from(_failed: WriteFailed) -> Self {
         PaceFault::Closed
+    }
+}
+
+impl From<ClockFailed> for PaceFault {
+    ghost use Rattle.std.specs.Prelude.{◌≡◌};
+    ghost use Rattle.mg_pace.specs.declared.fault.PaceFault.TheVariants as faults;
+
+    ghost from_gives = { λ _ fault. fault ≡ faults.Clock };
+
+    fn from(_failed: ClockFailed) -> Self {
+        PaceFault::Clock
     }
 }

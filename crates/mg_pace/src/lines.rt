@@ -1,7 +1,8 @@
 ghost use Rattle.std.specs.Prelude.{◌≡◌, ◌+◌, ◌*◌, ◌<◌, ◌≤◌, codes};
 ghost use Rattle.std.specs.Io.KnownBytes.{Appends};
 ghost use Rattle.mg_lines.specs.Streams.{Writes};
-ghost use Rattle.mg_pace.specs.aids.Steps.{WritesLast, WritesSteps, step_lines};
+ghost use Rattle.mg_pace.specs.aids.Steps.{WritesLast, WritesSteps};
+ghost use Rattle.mg_clock.specs.Text.{step_lines};
 
 use mg_lines::{WriteFailed, write_whole};
 use std::io::Write;

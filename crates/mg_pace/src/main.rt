@@ -15,14 +15,12 @@ mod pacer;
 mod program;
 mod schedule;
 mod status;
-mod system_watch;
 #[cfg(test)]
 mod tests;
-mod watch;
 
 use crate::program::program;
 use crate::status::Status;
-use crate::system_watch::SystemWatch;
+use mg_clock::SystemWatch;
 use std::alloc::AllocError;
 use std::io::{ErrorKind, Write};
 use std::process::ExitCode;

@@ -3,9 +3,9 @@ ghost use Rattle.clap.specs.Words.{app_of, found_of, kind_of, rows_of, rule_of};
 ghost use Rattle.mg_options.specs.Numbers.{number_rule};
 ghost use Rattle.mg_pace.specs.Options.{IsRefused, asked, command_line, options_in, run};
 
-use crate::schedule::MOST_POLLS;
 use clap::error::ErrorKind;
 use clap::{Arg, ArgMatches, Command, Error, value_parser};
+use mg_clock::MOST_POLLS;
 use mg_options::{long_number, long_value, short_value};
 use std::alloc::Global;
 use std::convert::AsStr;

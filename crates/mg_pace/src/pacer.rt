@@ -7,7 +7,7 @@ use crate::fault::PaceFault;
 use crate::lines::{write_last, write_steps};
 use crate::options::Options;
 use crate::schedule::Schedule;
-use crate::watch::Watch;
+use mg_clock::Watch;
 use mg_lines::WriteFailed;
 use std::io::Write;
 

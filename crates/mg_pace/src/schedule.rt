@@ -2,17 +2,12 @@ ghost use Rattle.std.specs.Prelude.{◌≡◌, ◌<◌, ◌≤◌};
 ghost use Rattle.std.specs.Duration.{as_nanos};
 ghost use Rattle.mg_pace.specs.Pace.{Advances, Waits, start};
 
+use mg_clock::{steps_due, time_to_step};
 use std::marker::Model;
 use std::time::Duration;
 
-/// The time from one tick to the next, 20 ms, in nanoseconds.
-const PERIOD: u128 = 20_000_000;
-
 /// The most ticks that are written at once after a delay: a second of them. Older ones are left out.
 const CATCH_UP: u64 = 50;
-
-/// The most polls in 20 ms.
-pub const MOST_POLLS: u16 = 1000;
 
 /// How far a run has come. A step is a poll, and a tick comes with the last poll of its 20 ms.
 #[derive(Drop)]
@@ -77,8 +72,7 @@ impl Schedule {
     pub fn advance(&mut self, now: u64)
         ensures value { Advances self.old now self.new }
     {
-        let due = (u128::from(now) * u128::from(self.polls) / PERIOD) as u64;
-        let behind = due.saturating_sub(self.steps + self.polls * self.left);
+        let behind = steps_due(self.polls, now).saturating_sub(self.steps + self.polls * self.left);
         let left = behind
             .saturating_sub(CATCH_UP * self.polls)
             .div_ceil(self.polls);
@@ -87,12 +81,9 @@ impl Schedule {
     }
 
     /// How long after a reading of the clock the next step is due.
-    #[tactic(auto, using(crate::proofs::PaceLaws::soon))]
     pub fn wait(&self, now: u64) -> Duration
         ensures value { Waits self.now now (as_nanos result) }
     {
-        let next = u128::from(self.steps + self.polls * self.left) + 1;
-        let point = (next * PERIOD).div_ceil(u128::from(self.polls));
-        Duration::from_nanos_u128(point.saturating_sub(u128::from(now)))
+        time_to_step(self.polls, self.steps + self.polls * self.left, now)
     }
 }

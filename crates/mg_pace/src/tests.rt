@@ -3,7 +3,7 @@ use crate::options::Options;
 use crate::pacer::pace;
 use crate::program::program;
 use crate::schedule::Schedule;
-use crate::watch::Watch;
+use mg_clock::{ClockFailed, Watch};
 use std::alloc::Global;
 use std::time::Duration;
 
@@ -21,13 +21,13 @@ impl<'a> Watch for Script<'a> {
 
     ghost Fails = { λ s. length s.times.now ≤ s.at };
 
-    fn now(&mut self) -> Result<u64, PaceFault> {
+    fn now(&mut self) -> Result<u64, ClockFailed> {
         if self.at < self.times.len() {
             let time = self.times[self.at];
             self.at += 1;
             return Ok(time);
         }
-        Err(PaceFault::Clock)
+        Err(ClockFailed)
     }
 
     fn wait(&mut self, _time: Duration) {}

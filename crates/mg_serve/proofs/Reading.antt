@@ -1,5 +1,5 @@
 -- Lines, the bytes that they come in, and how far a session has come.
-use Rattle.std.proofs.Common.{◌≡◌, ◌≢◌, ℕ, ◌-◌, ◌<◌, ◌≤◌, Bool, true, false, cond, eqb, List, [], ◌∷◌, ◌++◌, length, take, Result, Ok, Err, refl, sym, ap, ◌∙◌, append_assoc, length-take, arith}
+use Rattle.std.proofs.Common.{◌≡◌, ◌≢◌, ℕ, ◌-◌, ◌<◌, ◌≤◌, Bool, true, false, cond, eqb, List, [], ◌∷◌, ◌++◌, length, take, Result, Ok, Err, refl, sym, ap, ◌∙◌, append_assoc, length-take, arith, true≢false}
 use Rattle.std.proofs.lemmas.List.{take-append-le, take_all, take_at, length-take-le}
 use Rattle.std.proofs.lemmas.Bool.{ne_eqb, ltb-true, ltb-false, false_from_ne_true}
 use Rattle.std.proofs.lemmas.Slice.Eq.{bytes_eq-Decides}
@@ -13,7 +13,7 @@ use Rattle.mg_lines.specs.declared.write_failed.WriteFailed.{WriteFailed}
 use Rattle.mg_serve.specs.declared.command.Command.{Command}
 use Rattle.mg_serve.specs.declared.command.Command.TheVariants.{Poll, Tick, Stats, Quit, Unknown}
 use Rattle.mg_lines.specs.Lines.{without_return, lines_after}
-use Rattle.mg_serve.specs.Lines.{line_command, is_quit, before_quit}
+use Rattle.mg_serve.specs.Lines.{line_command, is_quit, prints, before_quit}
 use Rattle.mg_serve.specs.Session.{Does, Session}
 use Rattle.mg_serve.specs.aids.Driving.{BytesTaken}
 use Rattle.mg_serve.proofs.Taking.{each_both, each_one}
@@ -96,9 +96,41 @@ pub feed_byte : (config : Config) (q : Bool) (left : List ℕ) (w next : World) 
 feed_byte config false left w next p is h = (without_return left ∷ [], [], refl, λ ended more. feed_split false ended left more is, line_done config (without_return left) w next p h)
 feed_byte config true left w next p is h = ([], λ ended more. feed_split true ended left more is, quit_idle config (line_command (without_return left)) w next p is h)
 
-pub feed_fault_by : (config : Config) (q : Bool) (left kept : List ℕ) (failed : WriteFailed) (w next : World) (p : List Call) → is_quit (line_command (without_return left)) ≡ q → Does config (line_command (without_return left)) w p next → BytesTaken config left (10 ∷ []) kept (Err failed) w p next
-feed_fault_by config false left kept failed w next p is h = (without_return left ∷ [], λ ended more. (before_quit (lines_after ended [] more), feed_split false ended left more is), line_done config (without_return left) w next p h)
-feed_fault_by config true left kept failed w next p is h = ([], λ ended more. ([], feed_split true ended left more is), quit_idle config (line_command (without_return left)) w next p is h)
+pub no_more : before_quit [] ≡ []
+unfolding before_quit
+no_more = refl
+
+-- the last line, which has no line feed
+pub last_line : (b : ℕ) (bs : List ℕ) → lines_after true (b ∷ bs) [] ≡ (b ∷ bs) ∷ []
+unfolding lines_after
+last_line b bs = rw (ne_eqb (length (b ∷ bs)) 0 (λ e. absurd (omega (arith, e)))) refl
+
+quit_prints_nothing : (command : Command) → is_quit command ≡ true → prints command ≡ true → ⊥
+quit_prints_nothing Poll quit printed = absurd (true≢false (sym quit))
+quit_prints_nothing Tick quit printed = absurd (true≢false (sym quit))
+quit_prints_nothing Stats quit printed = absurd (true≢false (sym quit))
+quit_prints_nothing Quit quit printed = absurd (true≢false (sym printed))
+quit_prints_nothing Unknown quit printed = absurd (true≢false (sym quit))
+
+pub feed_fault_by : (config : Config) (q : Bool) (left kept : List ℕ) (failed : WriteFailed) (w next : World) (p : List Call) → is_quit (line_command (without_return left)) ≡ q → prints (line_command (without_return left)) ≡ true → Does config (line_command (without_return left)) w p next → BytesTaken config left (10 ∷ []) kept (Err failed) w p next
+feed_fault_by config false left kept failed w next p is printed h = (
+  without_return left ∷ [],
+  λ ended more. (before_quit (lines_after ended [] more), feed_split false ended left more is),
+  record { front = []; line = without_return left; is = refl; printed = printed },
+  line_done config (without_return left) w next p h,
+)
+feed_fault_by config true left kept failed w next p is printed h = absurd (quit_prints_nothing (line_command (without_return left)) is printed)
+
+-- a line that is answered by one, and has no line feed
+pub last_stands : (kept left : List ℕ) → kept ≡ take 8 left → 0 < length kept → prints (line_command kept) ≡ true
+    → (before_quit (lines_after true left []) ≡ left ∷ []) × (prints (line_command left) ≡ true)
+last_stands kept [] is some printed = absurd (omega (arith, some, ap length is))
+last_stands kept (x ∷ xs) is some printed =
+    let line = x ∷ xs in
+    let same : line_command kept ≡ line_command line = ap line_command is ∙ cut_command line in
+    let answered : prints (line_command line) ≡ true = ap prints (sym same) ∙ printed in
+    let on : is_quit (line_command line) ≡ false = false_from_ne_true (is_quit (line_command line)) (λ quit. quit_prints_nothing (line_command line) quit answered) in
+    (ap before_quit (last_line x xs) ∙ first_line false line [] on ∙ ap (λ (l : List (List ℕ)). line ∷ l) no_more, answered)
 
 -- ## Bytes, and then more
 
@@ -124,7 +156,8 @@ bytes_then config begun a left b kept lines (Err failed) w mid next p q split ra
     (h.1 ended more).0,
     ap (λ (l : List ℕ). before_quit (lines_after ended begun l)) (append_assoc a b more) ∙ split ended (b ++ more) ∙ ap (λ (l : List (List ℕ)). lines ++ l) (h.1 ended more).1 ∙ sym (append_assoc lines h.0 (h.1 ended more).0),
   ),
-  session_both config lines h.0 w mid next p q ran h.2,
+  record { front = lines ++ h.2.front; line = h.2.line; is = ap (λ (l : List (List ℕ)). lines ++ l) h.2.is ∙ sym (append_assoc lines h.2.front (h.2.line ∷ [])); printed = h.2.printed },
+  session_both config lines h.0 w mid next p q ran h.3,
 )
 
 pub no_bytes : (config : Config) (begun kept : List ℕ) (w : World) → kept ≡ take 8 begun → BytesTaken config begun [] kept (Ok false) w [] w
@@ -135,4 +168,4 @@ pub whatever_follows : (config : Config) (begun a b kept : List ℕ) (w next : W
 whatever_follows config begun a b kept w next p h = (h.0, λ ended more. ap (λ (l : List ℕ). before_quit (lines_after ended begun l)) (append_assoc a b more) ∙ h.1 ended (b ++ more), h.2)
 
 pub faulty_follows : (config : Config) (begun a b kept : List ℕ) (failed : WriteFailed) (w next : World) (p : List Call) → BytesTaken config begun a kept (Err failed) w p next → BytesTaken config begun (a ++ b) kept (Err failed) w p next
-faulty_follows config begun a b kept failed w next p h = (h.0, λ ended more. ((h.1 ended (b ++ more)).0, ap (λ (l : List ℕ). before_quit (lines_after ended begun l)) (append_assoc a b more) ∙ (h.1 ended (b ++ more)).1), h.2)
+faulty_follows config begun a b kept failed w next p h = (h.0, λ ended more. ((h.1 ended (b ++ more)).0, ap (λ (l : List ℕ). before_quit (lines_after ended begun l)) (append_assoc a b more) ∙ (h.1 ended (b ++ more)).1), h.2, h.3)

@@ -16,13 +16,13 @@ use Rattle.mg_lines.specs.declared.write_failed.WriteFailed.{WriteFailed}
 use Rattle.mg_lines.specs.Lines.{without_return, lines_after}
 use Rattle.mg_ports.specs.declared.call.Call.{Call}
 use Rattle.mg_serve.specs.declared.command.Command.{Command}
-use Rattle.mg_serve.specs.Lines.{line_command, is_quit, before_quit}
+use Rattle.mg_serve.specs.Lines.{LastPrints, line_command, is_quit, prints, before_quit}
 use Rattle.mg_serve.specs.Session.{Does, Session}
 use Rattle.mg_serve.specs.Serve.{Exits, RanLines, ServedSession}
 use Rattle.mg_serve.specs.aids.Driving.{BytesTaken, Finished}
 use Rattle.mg_serve.specs.aids.Takes.{Takes}
 use Rattle.mg_serve.proofs.Taking.{told_both, told_none, takes_none, takes_as, takes_then}
-use Rattle.mg_serve.proofs.Reading.{cut_command, cut_return, plain_byte, feed_byte, feed_fault_by, first_line, quit_idle, line_done, session_both, bytes_then, no_bytes, whatever_follows, faulty_follows}
+use Rattle.mg_serve.proofs.Reading.{cut_command, cut_return, plain_byte, feed_byte, feed_fault_by, first_line, last_line, last_stands, no_more, quit_idle, line_done, session_both, bytes_then, no_bytes, whatever_follows, faulty_follows}
 
 -- ## Bytes by their index
 
@@ -48,11 +48,11 @@ takes_feed config kept q mid core y z quit h left is =
     takes_as mid core y z (Does config (line_command (without_return kept))) (BytesTaken config left (10 ∷ []) [] (Ok q)) h
     (λ w next p k. feed_byte config q left w next p (sym (quit ∙ ap is_quit same)) (subst (λ (d : Command). Does config d w p next) same k))
 
-takes_fault : (config : Config) (kept new : List ℕ) (failed : WriteFailed) (mid core : CoreState) (y z : Option (List Call)) → Takes mid core y z (Does config (line_command (without_return kept))) → (left : List ℕ) → kept ≡ take 8 left → Takes mid core y z (BytesTaken config left (10 ∷ []) new (Err failed))
-takes_fault config kept new failed mid core y z h left is =
+takes_fault : (config : Config) (kept new : List ℕ) (failed : WriteFailed) (mid core : CoreState) (y z : Option (List Call)) → prints (line_command (without_return kept)) ≡ true → Takes mid core y z (Does config (line_command (without_return kept))) → (left : List ℕ) → kept ≡ take 8 left → Takes mid core y z (BytesTaken config left (10 ∷ []) new (Err failed))
+takes_fault config kept new failed mid core y z printed h left is =
     let same = same_command kept left is in
     takes_as mid core y z (Does config (line_command (without_return kept))) (BytesTaken config left (10 ∷ []) new (Err failed)) h
-    (λ w next p k. feed_fault_by config (is_quit (line_command (without_return left))) left new failed w next p refl (subst (λ (d : Command). Does config d w p next) same k))
+    (λ w next p k. feed_fault_by config (is_quit (line_command (without_return left))) left new failed w next p refl (ap prints (sym same) ∙ printed) (subst (λ (d : Command). Does config d w p next) same k))
 
 pub index_plain : (config : Config) (begun bytes kept new : List ℕ) (i : ℕ) (old mid : CoreState) (x y : Option (List Call)) → i < length bytes → get_or bytes i 0 ≢ 10 → new ≡ take 8 (kept ++ get_or bytes i 0 ∷ []) → Takes old mid x y (BytesTaken config begun (take i bytes) kept (Ok false)) → Takes old mid x y (BytesTaken config begun (take (i + 1) bytes) new (Ok false))
 index_plain config begun bytes kept new i old mid x y lt ne is h =
@@ -73,12 +73,12 @@ index_quit config begun bytes kept new i old mid core x y z lt feed h quit is k 
     (takes_as old core x z (BytesTaken config begun (take (i + 1) bytes) new (Ok true)) (BytesTaken config begun (take (i + 1) bytes ++ drop (i + 1) bytes) new (Ok true))
     (index_feed config begun bytes kept new i true old mid core x y z lt feed h quit is k) (λ w next p. whatever_follows config begun (take (i + 1) bytes) (drop (i + 1) bytes) new w next p))
 
-pub index_fault : (config : Config) (begun bytes kept new : List ℕ) (i : ℕ) (failed : WriteFailed) (old mid core : CoreState) (x y z : Option (List Call)) → i < length bytes → get_or bytes i 0 ≡ 10 → Takes old mid x y (BytesTaken config begun (take i bytes) kept (Ok false)) → Takes mid core y z (Does config (line_command (without_return kept))) → Takes old core x z (BytesTaken config begun bytes new (Err failed))
-index_fault config begun bytes kept new i failed old mid core x y z lt feed h k =
+pub index_fault : (config : Config) (begun bytes kept new : List ℕ) (i : ℕ) (failed : WriteFailed) (old mid core : CoreState) (x y z : Option (List Call)) → i < length bytes → get_or bytes i 0 ≡ 10 → Takes old mid x y (BytesTaken config begun (take i bytes) kept (Ok false)) → prints (line_command (without_return kept)) ≡ true → Takes mid core y z (Does config (line_command (without_return kept))) → Takes old core x z (BytesTaken config begun bytes new (Err failed))
+index_fault config begun bytes kept new i failed old mid core x y z lt feed h printed k =
     subst (λ (l : List ℕ). Takes old core x z (BytesTaken config begun l new (Err failed))) (take-append-drop (i + 1) bytes)
     (takes_as old core x z (BytesTaken config begun (take (i + 1) bytes) new (Err failed)) (BytesTaken config begun (take (i + 1) bytes ++ drop (i + 1) bytes) new (Err failed))
     (subst (λ (l : List ℕ). Takes old core x z (BytesTaken config begun l new (Err failed))) (sym (take_more bytes i 0 lt ∙ ap (λ (b : ℕ). take i bytes ++ b ∷ []) feed))
-    (more_bytes config begun (take i bytes) (10 ∷ []) kept new (Err failed) old mid core x y z h (takes_fault config kept new failed mid core y z k)))
+    (more_bytes config begun (take i bytes) (10 ∷ []) kept new (Err failed) old mid core x y z h (takes_fault config kept new failed mid core y z printed k)))
     (λ w next p. faulty_follows config begun (take (i + 1) bytes) (drop (i + 1) bytes) new failed w next p))
 
 -- ## What was read
@@ -121,10 +121,6 @@ unfolding lines_after
 unfinished [] = refl
 unfinished (b ∷ bs) = rw (ne_eqb (length (b ∷ bs)) 0 (λ e. absurd (omega (arith, e)))) refl
 
-no_more : before_quit [] ≡ []
-unfolding before_quit
-no_more = refl
-
 nothing_left : (left : List ℕ) → before_quit (lines_after false left []) ≡ []
 nothing_left left = ap before_quit (unfinished left) ∙ no_more
 
@@ -144,17 +140,12 @@ failed_by fault = Err fault
 ends_by_write : (config : Config) (i k : Option (List ℕ)) (kept : List ℕ) (failed : WriteFailed) (w next : World) (p : List Call) → Read config i k kept (Err failed) w p next → RanLines config i k (failed_by faults.Write) w p next
 ends_by_write config i k kept failed w next p h =
     let t = h.2 in
-    record { text = h.0; ended = false; lines = t.0; others = (t.1 false []).0; consumed = h.1; counted = at_nil false h.0 ∙ (t.1 false []).1; session = t.2; exits = tt }
+    record { text = h.0; ended = false; lines = t.0; others = (t.1 false []).0; consumed = h.1; counted = at_nil false h.0 ∙ (t.1 false []).1; session = t.3; exits = inr t.2 }
 
 ends_by_read : (config : Config) (i j k : Option (List ℕ)) (kept : List ℕ) (w next : World) (p : List Call) → Keeps j k → Read config i j kept (Ok false) w p next → RanLines config i k (failed_by faults.Read) w p next
 ends_by_read config i j k kept w next p same h =
     let t = h.2 in
     record { text = h.0; ended = false; lines = t.0; others = []; consumed = consumes_keeps i j k h.0 h.1 same; counted = at_nil false h.0 ∙ t.3 false [] ∙ ap (λ (l : List (List ℕ)). t.0 ++ l) (nothing_left t.1); session = t.4; exits = (refl, refl) }
-
--- the last line, which has no line feed
-last_line : (b : ℕ) (bs : List ℕ) → lines_after true (b ∷ bs) [] ≡ (b ∷ bs) ∷ []
-unfolding lines_after
-last_line b bs = rw (ne_eqb (length (b ∷ bs)) 0 (λ e. absurd (omega (arith, e)))) refl
 
 no_line : before_quit (lines_after true [] []) ≡ []
 unfolding lines_after before_quit
@@ -176,24 +167,31 @@ last_done config (b ∷ bs) (x ∷ xs) w next p is h =
     ap before_quit (last_line x xs) ∙ first_line quit line [] refl ∙ ap (λ (l : List (List ℕ)). cond quit [] (line ∷ l)) no_more in
     subst (λ (l : List (List ℕ)). Session config l w p next) (sym lines) (last_by config quit line w next p refl (subst (λ (d : Command). Does config d w p next) same h))
 
--- at the end of the input a run is done, or the print of the last line failed
-abbrev pub EndsAtEnd : Result (Unit {0}) RunFault → Type 0
-EndsAtEnd (Ok value) = Unit {0}
-EndsAtEnd (Err faults.Write) = Unit {0}
-EndsAtEnd (Err faults.Read) = ⊥
-EndsAtEnd (Err faults.NoMemory) = ⊥
-EndsAtEnd (Err faults.BadConfig) = ⊥
-EndsAtEnd (Err (faults.Script number)) = ⊥
+-- At the end of the input a run is done, or the answer to the last line failed to be printed, whose front is kept.
+abbrev pub EndsAtEnd : List ℕ → Result (Unit {0}) RunFault → Type 0
+EndsAtEnd kept (Ok value) = Unit {0}
+EndsAtEnd kept (Err faults.Write) = (0 < length kept) × (prints (line_command kept) ≡ true)
+EndsAtEnd kept (Err faults.Read) = ⊥
+EndsAtEnd kept (Err faults.NoMemory) = ⊥
+EndsAtEnd kept (Err faults.BadConfig) = ⊥
+EndsAtEnd kept (Err (faults.Script number)) = ⊥
 
-end_exits : (r : Result (Unit {0}) RunFault) (text : List ℕ) (lines : List (List ℕ)) (k : Option (List ℕ)) → EndsAtEnd r → IsAtEnd k → Exits r true text lines [] k
-end_exits (Ok value) text lines k fault at = (refl, inl (refl, at))
-end_exits (Err faults.Write) text lines k fault at = tt
-end_exits (Err faults.Read) text lines k fault at = absurd fault
-end_exits (Err faults.NoMemory) text lines k fault at = absurd fault
-end_exits (Err faults.BadConfig) text lines k fault at = absurd fault
-end_exits (Err (faults.Script number)) text lines k fault at = absurd fault
+end_exits : (r : Result (Unit {0}) RunFault) (kept text : List ℕ) (lines : List (List ℕ)) (k : Option (List ℕ)) → EndsAtEnd kept r → IsAtEnd k
+    → (0 < length kept → prints (line_command kept) ≡ true → LastPrints lines) → Exits r true text lines [] k
+end_exits (Ok value) kept text lines k fault at last = (refl, inl (refl, at))
+end_exits (Err faults.Write) kept text lines k fault at last = inr (last fault.0 fault.1)
+end_exits (Err faults.Read) kept text lines k fault at last = absurd fault
+end_exits (Err faults.NoMemory) kept text lines k fault at last = absurd fault
+end_exits (Err faults.BadConfig) kept text lines k fault at last = absurd fault
+end_exits (Err (faults.Script number)) kept text lines k fault at last = absurd fault
 
-ends_at_end : (config : Config) (i j k : Option (List ℕ)) (kept : List ℕ) (r : Result (Unit {0}) RunFault) (w mid next : World) (p q : List Call) → Keeps j k × IsAtEnd k → EndsAtEnd r → Read config i j kept (Ok false) w p mid → Finished config kept mid q next → RanLines config i k r w (p ++ q) next
+last_prints : (kept left : List ℕ) (lines : List (List ℕ)) → kept ≡ take 8 left → 0 < length kept → prints (line_command kept) ≡ true
+    → LastPrints (lines ++ before_quit (lines_after true left []))
+last_prints kept left lines is some printed =
+    let stands = last_stands kept left is some printed in
+    record { front = lines; line = left; is = ap (λ (l : List (List ℕ)). lines ++ l) stands.0; printed = stands.1 }
+
+ends_at_end : (config : Config) (i j k : Option (List ℕ)) (kept : List ℕ) (r : Result (Unit {0}) RunFault) (w mid next : World) (p q : List Call) → Keeps j k × IsAtEnd k → EndsAtEnd kept r → Read config i j kept (Ok false) w p mid → Finished config kept mid q next → RanLines config i k r w (p ++ q) next
 ends_at_end config i j k kept r w mid next p q end fault h last =
     let t = h.2 in
     let lines = t.0 ++ before_quit (lines_after true t.1 []) in
@@ -205,10 +203,10 @@ ends_at_end config i j k kept r w mid next p q end fault h last =
       consumed = consumes_keeps i j k h.0 h.1 end.0;
       counted = at_nil true h.0 ∙ t.3 true [] ∙ sym (append-nil lines);
       session = session_both config t.0 (before_quit (lines_after true t.1 [])) w mid next p q t.4 (last_done config kept t.1 mid next q t.2 last);
-      exits = end_exits r h.0 lines k fault end.1;
+      exits = end_exits r kept h.0 lines k fault end.1 (last_prints kept t.1 t.0 t.2);
     }
 
-pub takes_end : (config : Config) (i j k : Option (List ℕ)) (kept : List ℕ) (r : Result (Unit {0}) RunFault) (old mid core : CoreState) (x y z : Option (List Call)) → Takes old mid x y (Read config i j kept (Ok false)) → Keeps j k × IsAtEnd k → EndsAtEnd r → Takes mid core y z (Finished config kept) → Takes old core x z (RanLines config i k r)
+pub takes_end : (config : Config) (i j k : Option (List ℕ)) (kept : List ℕ) (r : Result (Unit {0}) RunFault) (old mid core : CoreState) (x y z : Option (List Call)) → Takes old mid x y (Read config i j kept (Ok false)) → Keeps j k × IsAtEnd k → EndsAtEnd kept r → Takes mid core y z (Finished config kept) → Takes old core x z (RanLines config i k r)
 takes_end config i j k kept r old mid core x y z first end fault last =
     takes_then old mid core x y z (Read config i j kept (Ok false)) (Finished config kept) (RanLines config i k r) first last
     (λ w m next p q h l. ends_at_end config i j k kept r w m next p q end fault h l)

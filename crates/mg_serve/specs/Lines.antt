@@ -1,5 +1,5 @@
 -- The lines that drive a gateway.
-use Rattle.std.specs.Prelude.{ℕ, Bool, true, false, List, [], ◌∷◌, codes, if◌then◌else◌}
+use Rattle.std.specs.Prelude.{◌≡◌, ℕ, Bool, true, false, List, [], ◌∷◌, ◌++◌, codes, if◌then◌else◌}
 use Rattle.std.specs.Str.{bytes_eq}
 use Rattle.mg_serve.specs.declared.command.Command.{Command}
 use Rattle.mg_serve.specs.declared.command.Command.TheVariants.{Poll, Tick, Stats, Quit, Unknown}
@@ -15,6 +15,19 @@ line_command line =
 abbrev pub is_quit : Command → Bool
 is_quit Quit = true
 is_quit _ = false
+
+-- a line is answered by a line
+abbrev pub prints : Command → Bool
+prints Stats = true
+prints Unknown = true
+prints _ = false
+
+-- the last of these lines is answered by one
+pub record LastPrints (lines : List (List ℕ)) : Type 0 where
+  pub front : List (List ℕ)
+  pub line : List ℕ
+  pub is : lines ≡ front ++ line ∷ []
+  pub printed : prints (line_command line) ≡ true
 
 -- the lines before the first `quit`
 unfoldable pub before_quit : List (List ℕ) → List (List ℕ)

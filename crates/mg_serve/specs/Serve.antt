@@ -10,7 +10,7 @@ use Rattle.mg_core.specs.World.{World, counts_of, start_of}
 use Rattle.mg_lines.specs.Lines.{lines_of}
 use Rattle.mg_ports.specs.declared.call.Call.{Call}
 use Rattle.mg_ports.specs.Calls.{Told}
-use Rattle.mg_serve.specs.Lines.{before_quit}
+use Rattle.mg_serve.specs.Lines.{LastPrints, before_quit}
 use Rattle.mg_serve.specs.Session.{Session}
 
 -- Why no line more was done. Of the text that was read these lines count and were done; the others
@@ -23,8 +23,8 @@ Exits (Ok value) ended text lines others left =
     ⊎ ((more : List ℕ) → before_quit (lines_of true (text ++ more)) ≡ lines))
 -- all lines that were read whole were done
 Exits (Err faults.Read) ended text lines others left = (ended ≡ false) × (others ≡ [])
--- the last line that was done is one whose print failed
-Exits (Err faults.Write) ended text lines others left = Unit {0}
+-- the last line that was done is one whose answer failed to be printed, or it was `ready`
+Exits (Err faults.Write) ended text lines others left = (lines ≡ []) ⊎ LastPrints lines
 -- nothing was done
 Exits (Err faults.NoMemory) ended text lines others left = lines ≡ []
 Exits (Err faults.BadConfig) ended text lines others left = lines ≡ []

@@ -1,8 +1,8 @@
-ghost use Rattle.std.specs.Prelude.{◌≡◌, ◌≢◌, ◌↔◌, ℕ, List, [], take, Err, IfOk, OnOk};
+ghost use Rattle.std.specs.Prelude.{◌≡◌, ◌≢◌, ◌↔◌, ℕ, ◌<◌, List, [], true, length, take, Err, IfErr, IfOk, OnOk};
 ghost use Rattle.mg_engine.specs.Config.{IsValidConfig};
 ghost use Rattle.mg_core.specs.World.{StandsFor, start_of};
 ghost use Rattle.mg_lines.specs.Lines.{without_return};
-ghost use Rattle.mg_serve.specs.Lines.{line_command, is_quit};
+ghost use Rattle.mg_serve.specs.Lines.{line_command, is_quit, prints};
 ghost use Rattle.mg_serve.specs.Session.{Does};
 ghost use Rattle.mg_serve.specs.Serve.{RanLines};
 ghost use Rattle.mg_serve.specs.aids.Driving.{BytesTaken, Finished};
@@ -50,6 +50,7 @@ impl LineDriver {
         requires sound { IsValidConfig config }
         ensures begun { OnOk result (self.new.begun ≡ []) }
         ensures quit { IfOk result (λ quit. quit ≡ is_quit (line_command (without_return self.old.begun))) }
+        ensures printed { IfErr result (λ failed. prints (line_command (without_return self.old.begun)) ≡ true) }
         ensures value { Takes self.old.server.core.state self.new.server.core.state (P.calls ports.old) (P.calls ports.new)
             (Does config (line_command (without_return self.old.begun))) }
     {
@@ -100,6 +101,8 @@ impl LineDriver {
         requires sound { IsValidConfig config }
         ensures value { Takes self.old.server.core.state self.new.server.core.state (P.calls ports.old) (P.calls ports.new)
             (Finished config self.old.begun) }
+        ensures some { IfErr result (λ failed. 0 < length self.old.begun) }
+        ensures printed { IfErr result (λ failed. prints (line_command self.old.begun) ≡ true) }
     {
         let line = self.begun.as_slice();
         if line.is_empty() {

@@ -1,4 +1,4 @@
-ghost use Rattle.std.specs.Prelude.{◌≡◌, ◌≤◌, ◌+◌, ◌*◌, ◌-◌, ◌⊎◌, ◌↔◌, [], ◌∷◌, map, Err, IfOk, OnOk};
+ghost use Rattle.std.specs.Prelude.{◌≡◌, ◌≤◌, ◌+◌, ◌*◌, ◌-◌, ◌⊎◌, ◌↔◌, [], ◌∷◌, map, true, Err, IfErr, IfOk, OnOk};
 ghost use Rattle.mg_engine.specs.Config.{IsValidConfig};
 ghost use Rattle.mg_core.specs.declared.event.Event.TheVariants as events;
 ghost use Rattle.mg_core.specs.Step.{Packet, Step};
@@ -6,7 +6,7 @@ ghost use Rattle.mg_core.specs.World.{World, StandsFor, counts_of, start_of};
 ghost use Rattle.mg_words.specs.Leads.{Leads};
 ghost use Rattle.mg_ports.specs.declared.call.Call.TheVariants.{Send};
 ghost use Rattle.mg_ports.specs.Calls.{Told};
-ghost use Rattle.mg_serve.specs.Lines.{is_quit};
+ghost use Rattle.mg_serve.specs.Lines.{is_quit, prints};
 ghost use Rattle.mg_serve.specs.Session.{Does, Happens, IsNoEvent, SlotTurn, event_at, send_of};
 ghost use Rattle.mg_serve.specs.aids.Driving.{Received};
 ghost use Rattle.mg_serve.specs.aids.Takes.{Takes};
@@ -213,6 +213,7 @@ impl Server {
     ) -> Result<bool, WriteFailed>
         requires sound { IsValidConfig config }
         ensures quit { IfOk result (λ quit. quit ≡ is_quit command) }
+        ensures printed { IfErr result (λ failed. prints command ≡ true) }
         ensures value { Takes self.old.core.state self.new.core.state (P.calls ports.old) (P.calls ports.new)
             (Does config command) }
     {

@@ -1,4 +1,4 @@
-ghost use Rattle.std.specs.Prelude.{◌≡◌, ◌↔◌, Err, OnOk};
+ghost use Rattle.std.specs.Prelude.{◌≡◌, ◌↔◌, length, Err, IfOk, OnOk};
 ghost use Rattle.mg_engine.specs.Config.{IsValidConfig};
 ghost use Rattle.mg_serve.specs.Serve.{ServedSession};
 
@@ -47,7 +47,9 @@ pub fn serve<P: Ports, R: Read, W: Write>(
     Ok(driver.server.counts(ports))
 }
 
-/// Room for a datagram.
-fn datagram_buffer(alloc: Global) -> Result<Vec<u8>, AllocError> {
+/// Room for the longest datagram.
+fn datagram_buffer(alloc: Global) -> Result<Vec<u8>, AllocError>
+    ensures room { IfOk result (λ buffer. length buffer.items ≡ 65535) }
+{
     vec![in alloc; 0; DATAGRAM_LIMIT]
 }

@@ -1,8 +1,11 @@
 use super::local;
-use crate::udp_ports::UdpPorts;
+use crate::deadline::NoDeadline;
+use crate::readiness::SOCKETS;
+use crate::udp_ports::{Sockets, UdpPorts};
 use mg_core::{Config, Counts, Peer, RunFault};
 use mg_ports::{PortFault, Ports};
 use mg_serve::serve;
+use mio::Events;
 use std::alloc::AllocError;
 use std::io;
 use std::net::{IpAddr, Ipv4Addr, SocketAddr, UdpSocket};
@@ -38,11 +41,12 @@ fn config(control_port: u16, slots: u16) -> Config {
 }
 
 /// The ports of a gateway.
-fn bind(rt: &HostRuntime, config: &Config) -> Result<UdpPorts, Fail> {
+fn bind(rt: &HostRuntime, config: &Config) -> Result<UdpPorts<NoDeadline>, Fail> {
     if !config.is_sound() {
         return Err(Fail::new("bad configuration"));
     }
-    Ok(UdpPorts::bind(rt, config)?)
+    let events = Events::with_capacity(rt.alloc(), SOCKETS)?;
+    Ok(UdpPorts::new(Sockets::bind(rt, config, events)?, NoDeadline))
 }
 
 /// A socket of a caller's that doesn't wait.
@@ -73,7 +77,7 @@ fn lines(rt: &HostRuntime) -> Result<String, AllocError> {
 fn serve_lines(
     rt: &HostRuntime,
     config: Config,
-    ports: &mut UdpPorts,
+    ports: &mut UdpPorts<NoDeadline>,
     lines: &str,
 ) -> (Result<Counts, RunFault>, Vec<u8>) {
     let alloc = rt.alloc();
@@ -167,6 +171,7 @@ fn receives_without_waiting(rt: HostRuntime) -> Result<(), Fail> {
         address: [127, 0, 0, 1],
         port: 29810,
     };
+    assert_eq!(rt; ports.receive(0, &mut buffer), Ok(None));
     assert_eq!(rt; ports.receive(1, &mut buffer), Ok(Some((0, source))));
     assert_eq!(rt; ports.receive(1, &mut buffer), Ok(Some((4, source))));
     assert_eq!(rt; buffer, *b"cut ");
@@ -175,5 +180,37 @@ fn receives_without_waiting(rt: HostRuntime) -> Result<(), Fail> {
     assert_eq!(rt; ports.receive(2, &mut buffer), Err(PortFault));
     assert_eq!(rt; ports.send(2, source, b""), Err(PortFault));
     assert_eq!(rt; ports.failures(), 2);
+    Ok(())
+}
+
+const HEARTBEAT: &[u8] =
+    b"MEGACO/1 [127.0.0.1]:29910 Transaction=1{Context=-{AuditValue=ROOT{Audit{}}}}";
+
+/// A heartbeat with spaces after it, of so many bytes in all.
+fn padded(rt: &HostRuntime, length: usize) -> Result<Vec<u8>, AllocError> {
+    let mut message = HEARTBEAT.to_vec(rt.alloc())?;
+    message.resize(length, b' ')?;
+    Ok(message)
+}
+
+/// The longest message is read, and a longer one is refused, up to the longest that UDP carries.
+#[test]
+fn takes_messages_whole(rt: HostRuntime) -> Result<(), Fail> {
+    let config = config(29900, 1);
+    let mut ports = bind(&rt, &config)?;
+    let caller = caller(&rt, 29910)?;
+    for length in [8192, 8193, 65507] {
+        let message = padded(&rt, length)?;
+        caller.send_to(message.as_slice(), local(29900))?;
+    }
+    let (result, _) = serve_lines(&rt, config, &mut ports, "poll\n");
+    assert_eq!(rt; result?.control, 3);
+    let answered: &[u8] = b"MEGACO/1 [127.0.0.1]:29900\nReply=1{Context=-{AuditValue=ROOT}}";
+    let refused: &[u8] = b"MEGACO/1 [127.0.0.1]:29900\nError=501{\"not served\"}";
+    let mut buffer = [0; 200];
+    for wanted in [answered, refused, refused] {
+        let (n, _) = caller.recv_from(&mut buffer)?;
+        assert_eq!(rt; &buffer[..n], wanted);
+    }
     Ok(())
 }

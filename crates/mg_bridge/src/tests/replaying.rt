@@ -29,7 +29,8 @@ fn tells_a_bad_configuration(rt: HostRuntime) {
     let done = run_program(&rt, &["replay", "--slots", "0"], HEARTBEAT);
     assert_eq!(rt; done.status, 2);
     assert!(rt; done.output.is_empty());
-    assert_eq!(rt; done.errors.as_slice(), b"bad configuration\n".as_slice());
+    let wanted = b"bad configuration: --slots is 0, or more than there can be terminations\n";
+    assert_eq!(rt; done.errors.as_slice(), wanted.as_slice());
 }
 
 #[test]

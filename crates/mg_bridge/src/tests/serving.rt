@@ -39,7 +39,7 @@ fn tells_a_taken_control_port(rt: HostRuntime) -> Result<(), Fail> {
     assert!(rt; done.output.is_empty());
     assert_eq!(rt;
         done.errors.as_slice(),
-        b"cannot bind port 29100\n".as_slice()
+        b"cannot bind port 29100: Address already in use (os error 98)\n".as_slice()
     );
     Ok(())
 }
@@ -62,23 +62,43 @@ fn tells_the_first_taken_media_port(rt: HostRuntime) -> Result<(), Fail> {
     assert!(rt; done.output.is_empty());
     assert_eq!(rt;
         done.errors.as_slice(),
-        b"cannot bind port 29204\n".as_slice()
+        b"cannot bind port 29204: Address already in use (os error 98)\n".as_slice()
     );
     Ok(())
 }
 
 #[test]
-fn binds_nothing_without_a_configuration(rt: HostRuntime) -> Result<(), Fail> {
+fn names_the_option_at_fault_and_binds_nothing(rt: HostRuntime) -> Result<(), Fail> {
     let _control = UdpSocket::bind(&rt, local(29300))?;
-    let cases: [&[&str]; 2] = [
-        &["serve", "--control-port", "29300", "--slots", "0"],
-        &["serve", "--control-port", "29300", "--base-port", "29303"],
+    let slots = b"bad configuration: --slots is 0, or more than there can be terminations\n";
+    let base =
+        b"bad configuration: --base-port is 0 or odd, or there are not as many even ports from it on as --slots says\n";
+    let control = b"bad configuration: --control-port is 0, or one of the media ports\n";
+    let cases: [(&[&str], &[u8]); 6] = [
+        (&["serve", "--control-port", "29300", "--slots", "0"], slots),
+        (
+            &["live", "--control-port", "29300", "--slots", "257"],
+            slots,
+        ),
+        (
+            &["serve", "--control-port", "29300", "--base-port", "29303"],
+            base,
+        ),
+        (
+            &["live", "--control-port", "29300", "--base-port", "65530"],
+            base,
+        ),
+        (&["serve", "--control-port", "0"], control),
+        (
+            &["live", "--base-port", "29300", "--control-port", "29302"],
+            control,
+        ),
     ];
-    for words in cases {
+    for (words, wanted) in cases {
         let done = run_program(&rt, words, b"quit\n");
         assert_eq!(rt; done.status, 2);
         assert!(rt; done.output.is_empty());
-        assert_eq!(rt; done.errors.as_slice(), b"bad configuration\n".as_slice());
+        assert_eq!(rt; done.errors.as_slice(), wanted);
     }
     Ok(())
 }
@@ -99,6 +119,6 @@ fn tells_an_address_of_another_machine(rt: HostRuntime) {
     assert!(rt; done.output.is_empty());
     assert_eq!(rt;
         done.errors.as_slice(),
-        b"cannot bind port 29400\n".as_slice()
+        b"cannot bind port 29400: Cannot assign requested address (os error 99)\n".as_slice()
     );
 }

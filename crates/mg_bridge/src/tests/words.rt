@@ -3,7 +3,7 @@ use std::test::Fail;
 
 #[test]
 fn refuses_arguments(rt: HostRuntime) {
-    let cases: [&[&str]; 7] = [
+    let cases: [&[&str]; 9] = [
         &[],
         &["record"],
         &["replay", "--slots"],
@@ -11,6 +11,8 @@ fn refuses_arguments(rt: HostRuntime) {
         &["replay", "--slots", "1", "--slots", "1"],
         &["serve", "--colour"],
         &["serve", "--control-port", "x"],
+        &["serve", "--late", "5"],
+        &["live", "--late", "65536"],
     ];
     for words in cases {
         let done = run_program(&rt, words, b"");
@@ -21,8 +23,20 @@ fn refuses_arguments(rt: HostRuntime) {
 }
 
 #[test]
+fn prints_its_version(rt: HostRuntime) {
+    let done = run_program(&rt, &["--version"], b"");
+    assert_eq!(rt; done.status, 0);
+    assert_eq!(rt; done.output.as_slice(), b"mg_bridge 0.1.0\n".as_slice());
+}
+
+#[test]
 fn prints_help(rt: HostRuntime) {
-    let cases: [&[&str]; 3] = [&["--help"], &["replay", "--help"], &["serve", "--help"]];
+    let cases: [&[&str]; 4] = [
+        &["--help"],
+        &["replay", "--help"],
+        &["serve", "--help"],
+        &["live", "--help"],
+    ];
     for words in cases {
         let done = run_program(&rt, words, b"");
         assert_eq!(rt; done.status, 0);

@@ -1,15 +1,12 @@
--- The steps of a run: the lines of some steps, and what is written at one reading.
-use Rattle.std.specs.Prelude.{◌≡◌, ℕ, ◌*◌, ◌%◌, Bool, ◌==◌, nat_le, List, ◌++◌}
-use Rattle.std.specs.Prelude.{Option, Result, Ok, Err, if◌then◌else◌}
+-- The steps of a run: what is written of some of them, and at one reading.
+use Rattle.std.specs.Prelude.{◌≡◌, ℕ, ◌*◌, Bool, nat_le, List, ◌++◌}
+use Rattle.std.specs.Prelude.{Option, Result, Ok, Err}
 use Rattle.std.specs.Io.KnownBytes.{Appends}
 use Rattle.mg_lines.specs.declared.write_failed.WriteFailed.{WriteFailed}
 use Rattle.mg_lines.specs.Streams.{Writes, WritesFront}
 use Rattle.mg_pace.specs.Pace.{Pace}
-use Rattle.mg_pace.specs.Text.{text, text_by, poll_line, tick_line, quit_line}
-
--- the lines of the step with this number, counted from 1
-abbrev pub step_lines : ℕ → ℕ → List ℕ
-step_lines polls step = if step % polls == 0 then poll_line ++ tick_line else poll_line
+use Rattle.mg_clock.specs.Text.{text}
+use Rattle.mg_pace.specs.Text.{text_by, quit_line}
 
 -- The lines of the steps after `from` and up to `to` were written, whatever lines of earlier steps
 -- stand before them.

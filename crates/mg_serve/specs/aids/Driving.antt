@@ -6,7 +6,7 @@ use Rattle.mg_core.specs.World.{World}
 use Rattle.mg_lines.specs.declared.write_failed.WriteFailed.{WriteFailed}
 use Rattle.mg_lines.specs.Lines.{lines_after}
 use Rattle.mg_ports.specs.declared.call.Call.{Call}
-use Rattle.mg_serve.specs.Lines.{line_command, before_quit}
+use Rattle.mg_serve.specs.Lines.{LastPrints, line_command, before_quit}
 use Rattle.mg_serve.specs.Session.{Comes, Does, GivesNone, Session}
 
 -- a receive, and whether a datagram came
@@ -33,7 +33,7 @@ BytesTaken config begun bytes kept (Err failed) w calls next =
     (lines : List (List ℕ))
     × ((ended : Bool) (more : List ℕ) → (others : List (List ℕ))
     × (before_quit (lines_after ended begun (bytes ++ more)) ≡ lines ++ others))
-    × Session config lines w calls next
+    × LastPrints lines × Session config lines w calls next
 
 -- the line that was begun is the last, if there is one
 abbrev pub Finished : Config → List ℕ → World → List Call → World → Type 0

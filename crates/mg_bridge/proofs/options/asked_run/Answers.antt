@@ -24,7 +24,7 @@ returns-in-Ok-clause-run g c =
     let rows = rows_of (found_of c.in-Some.options.now) in
     let asks = asks_run _ words c.in_ok-command.ensures.app c.in_ok-matches.matches name rows c.in_ok-matches.ensures.kinds c.in_ok-matches.ensures.ok.2
     c.in-Some.ensures.name c.in-Some.ensures.rows in
-    asks ∙ (ap (run_at name rows) (sym c.in-Ok.ensures.value) ∙ run_is name rows c.in-Ok.address _ _ c.config_at.ensures.value c.run_of.ensures.value)
+    asks ∙ (ap (run_at name rows) (sym c.in-Ok.ensures.value) ∙ run_is name rows c.in-Ok.address _ _ _ c.config_at.ensures.value c.late_of.ensures.value c.run_of.ensures.value)
 
 pub returns-in_err-error-in-Err-clause-refused : goal.returns-in_err-error-in-Err-clause-refused
 returns-in_err-error-in-Err-clause-refused g c =

@@ -1,4 +1,4 @@
-use Rattle.std.proofs.Common.{refl}
+use Rattle.std.proofs.Common.{refl, inl}
 use Rattle.std.proofs.lemmas.Result.{err_from_is_err_and}
 use Rattle.mg_core.specs.declared.fault.RunFault.TheVariants as faults
 use Rattle.mg_serve.proofs.Running.{serves_nothing, served_ok, served_err, not_started}
@@ -13,7 +13,7 @@ pub returns-in_default-clause-session : goal.returns-in_default-clause-session
 returns-in_default-clause-session g c = serves_nothing c.args.config (g.R.Read.remaining c.args.reader.now) (g.P.Ports.calls c.args.ports.now) faults.NoMemory refl
 
 pub returns-then-is_err-clause-session : goal.returns-then-is_err-clause-session
-returns-then-is_err-clause-session g c = serves_nothing c.args.config (g.R.Read.remaining c.args.reader.now) (g.P.Ports.calls c.args.ports.now) faults.Write tt
+returns-then-is_err-clause-session g c = serves_nothing c.args.config (g.R.Read.remaining c.args.reader.now) (g.P.Ports.calls c.args.ports.now) faults.Write (inl refl)
 
 pub returns-in_err-take_all-clause-session : goal.returns-in_err-take_all-clause-session
 returns-in_err-take_all-clause-session g c =

@@ -19,7 +19,7 @@ returns-in-Ok-finish-clause-value g c =
 pub returns-in-Err-clause-value : goal.returns-in-Err-clause-value
 returns-in-Err-clause-value g c =
     takes_end c.args.config (g.R.Read.remaining c.args.reader.now) (g.R.Read.remaining c.loop.reader) (g.R.Read.remaining c.read_some.new.reader) c.loop.self.begun (Err faults.Write) c.args.self.now.server.core.state c.loop.self.server.core.state c.finish.new.self.server.core.state (g.P.Ports.calls c.args.ports.now) (g.P.Ports.calls c.loop.ports) (g.P.Ports.calls c.finish.new.ports)
-    c.loop.invariant (rw c.in_default-read.is at c.in-Ok.ensures.value) tt c.finish.ensures.value
+    c.loop.invariant (rw c.in_default-read.is at c.in-Ok.ensures.value) (c.in-Err.ensures.some, c.in-Err.ensures.printed) c.finish.ensures.value
 
 pub returns-in-Ok-true-clause-value : goal.returns-in-Ok-true-clause-value
 returns-in-Ok-true-clause-value g c =

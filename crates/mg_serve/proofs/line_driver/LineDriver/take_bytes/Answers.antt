@@ -31,7 +31,7 @@ returns-in_err-end_line g c = record {
       λ begun is.
       let p = err_from_is_err_and c.from_residual.result c.from_residual.ensures.1 in
       rw p.1 (index_fault c.args.config begun c.args.bytes.now c.loop-b.self.begun c.end_line.new.self.begun c.loop-b.b-index _ c.args.self.now.server.core.state c.loop-b.self.server.core.state c.end_line.new.self.server.core.state (g.P.Ports.calls c.args.ports.now) (g.P.Ports.calls c.loop-b.ports) (g.P.Ports.calls c.end_line.new.ports)
-      c.loop-b-test.true c.if-b-ne10.false (c.loop-b.invariant begun is) c.end_line.ensures.value);
+      c.loop-b-test.true c.if-b-ne10.false (c.loop-b.invariant begun is) c.in_err-end_line.ensures.printed c.end_line.ensures.value);
 }
 
 pub returns : goal.returns

@@ -1,9 +1,9 @@
-use crate::fault::PaceFault;
+use crate::clock_failed::ClockFailed;
 use crate::watch::Watch;
 use std::thread;
 use std::time::{Clock, Duration, Instant};
 
-/// The system's monotonic clock. Its first reading is its start.
+/// The system's monotonic clock. It starts at its first reading, or when it was begun.
 #[derive(Drop)]
 pub struct SystemWatch<'a, C: Clock> {
     clock: &'a C,
@@ -11,13 +11,33 @@ pub struct SystemWatch<'a, C: Clock> {
 }
 
 impl<'a, C: Clock> SystemWatch<'a, C> {
+    /// A clock that starts at its first reading.
     pub fn new(clock: &'a C) -> Self {
         SystemWatch { clock, start: None }
+    }
+
+    /// A clock that starts now.
+    pub fn begun(clock: &'a C) -> Result<Self, ClockFailed> {
+        match Instant::now(clock) {
+            Ok(start) => Ok(SystemWatch {
+                clock,
+                start: Some(start),
+            }),
+            Err(_) => Err(ClockFailed),
+        }
+    }
+
+    /// Another clock with the same start.
+    pub fn again(&self) -> Self {
+        SystemWatch {
+            clock: self.clock,
+            start: self.start,
+        }
     }
 }
 
 impl<'a, C: Clock> Watch for SystemWatch<'a, C> {
-    fn now(&mut self) -> Result<u64, PaceFault> {
+    fn now(&mut self) -> Result<u64, ClockFailed> {
         let time = match &self.start {
             Some(start) => start.elapsed(self.clock),
             None => Instant::now(self.clock).map(|start| {
@@ -27,7 +47,7 @@ impl<'a, C: Clock> Watch for SystemWatch<'a, C> {
         };
         match time {
             Ok(time) => Ok(u64::try_from(time.as_nanos()).unwrap_or(u64::MAX)),
-            Err(_) => Err(PaceFault::Clock),
+            Err(_) => Err(ClockFailed),
         }
     }
 

@@ -1,8 +1,8 @@
-ghost use Rattle.std.specs.Prelude.{◌≡◌, ℕ, ⊤, List, Option, None, MatchResult, IfErr, [], ◌∷◌};
+ghost use Rattle.std.specs.Prelude.{ℕ, [], ◌∷◌, List, Option, None, MatchResult, IfErr, ⊤};
 ghost use Rattle.std.specs.Duration.{as_nanos};
 ghost use Rattle.std.specs.Io.KnownBytes.{Appends, Keeps};
 
-use crate::fault::PaceFault;
+use crate::clock_failed::ClockFailed;
 use std::time::Duration;
 
 /// A clock that tells how long ago it was started, in nanoseconds, and can wait.
@@ -16,12 +16,12 @@ pub trait Watch {
     // What is known of a clock that couldn't be read.
     ghost Fails: { Self → Type 0 } = { λ _. ⊤ };
 
-    /// The nanoseconds since its start. The one error is `Clock`.
-    fn now(&mut self) -> Result<u64, PaceFault>
+    /// The nanoseconds since its start.
+    fn now(&mut self) -> Result<u64, ClockFailed>
         ensures tells { MatchResult result (λ t. Appends (readings self.old) (readings self.new) (t ∷ []))
-            (λ fault. (fault ≡ PaceFault.Clock) × Keeps (readings self.old) (readings self.new)) }
+            (λ failed. Keeps (readings self.old) (readings self.new)) }
         ensures waits { Keeps (waits self.old) (waits self.new) }
-        ensures fails { IfErr result (λ fault. Fails self.new) };
+        ensures fails { IfErr result (λ failed. Fails self.new) };
 
     /// Waits so long, or longer.
     fn wait(&mut self, time: Duration)

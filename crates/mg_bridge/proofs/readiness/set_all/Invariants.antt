@@ -1,0 +1,5 @@
+use Rattle.mg_bridge.specs.Readiness.{AreStillReady}
+use Rattle.mg_bridge.proofs.readiness.set_all.Given as goal
+
+abbrev pub invariant-loop-slot : goal.invariant-loop-slot
+invariant-loop-slot l = AreStillReady l.initial.ready l.ready

@@ -1,0 +1,35 @@
+ghost use Rattle.std.specs.Prelude.{IfNone, IfSome};
+ghost use Rattle.mg_engine.specs.Config.{IsValidConfig};
+
+use mg_core::{Config, TERMINATIONS};
+use thiserror::Error;
+
+/// Why no gateway can be started with a configuration, by the option at fault.
+#[derive(Clone, Copy, Debug, PartialEq, Eq, Error)]
+pub enum ConfigFault {
+    #[error("--slots is 0, or more than there can be terminations")]
+    Slots,
+    #[error("--base-port is 0 or odd, or there are not as many even ports from it on as --slots says")]
+    BasePort,
+    #[error("--control-port is 0, or one of the media ports")]
+    ControlPort,
+}
+
+impl ConfigFault {
+    /// The first option at fault, if one is.
+    pub fn of(config: &Config) -> Option<Self>
+        ensures sound { IfNone result (IsValidConfig config.now) }
+        ensures fault { IfSome result (λ fault. ¬ IsValidConfig config.now) }
+    {
+        if config.is_sound() {
+            return None;
+        }
+        if config.slots == 0 || usize::from(config.slots) > TERMINATIONS {
+            return Some(ConfigFault::Slots);
+        }
+        if config.limits().is_valid() {
+            return Some(ConfigFault::ControlPort);
+        }
+        Some(ConfigFault::BasePort)
+    }
+}

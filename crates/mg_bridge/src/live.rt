@@ -1,0 +1,71 @@
+ghost use Rattle.std.specs.Prelude.{◌≡◌, ◌↔◌, None, Err};
+ghost use Rattle.mg_engine.specs.Config.{IsValidConfig};
+ghost use Rattle.mg_serve.specs.Serve.{ServedSession};
+ghost use Rattle.mg_bridge.specs.Serve.{ServesByClock};
+
+use crate::deadline::TickDeadline;
+use crate::serve::bind;
+use crate::status::Status;
+use crate::udp_ports::{Sockets, UdpPorts};
+use mg_clock::{ClockLines, SystemWatch, Watch};
+use mg_core::{Config, Counts, RunFault};
+use std::alloc::Global;
+use std::cell::Cell;
+use std::io::Write;
+use std::net::Net;
+use std::time::Clock;
+
+/// The polls in 20 ms: a control message waits 10 ms at most.
+const POLLS: u16 = 2;
+
+/// Serves a new gateway on these sockets by a clock. How late a packet is is told by another one with the same start.
+fn serve_by<K: Watch + Drop, W: Write, E: Write>(
+    alloc: Global,
+    config: Config,
+    late: u16,
+    sockets: Sockets,
+    clock: K,
+    again: K,
+    output: &mut W,
+    errors: &mut E,
+) -> Result<Counts, RunFault>
+    ensures session { ServedSession config None None None None result }
+    ensures bad { (result ≡ Err RunFault.BadConfig) ↔ ¬ IsValidConfig config }
+{
+    let ticks = Cell::new(0);
+    let deadline = TickDeadline::new(again, &ticks, late, errors);
+    let mut ports = UdpPorts::new(sockets, deadline);
+    let mut lines = ClockLines::new(clock, &ticks, POLLS);
+    mg_serve::serve(alloc, config, &mut ports, &mut lines, output)
+}
+
+/// Serves a new gateway on UDP ports by the clock: two polls and a tick every 20 ms. The text of a fault goes to `errors`.
+///
+/// After a delay all polls and ticks that were missed are done at once. The packets of a tick that is late by more ticks than are
+/// allowed are not sent, so that callers hear a gap, and timestamps stay with the clock. How many weren't sent goes to `errors`.
+pub fn live<N: Net, C: Clock, W: Write, E: Write>(
+    net: &N,
+    clock: &C,
+    alloc: Global,
+    config: Config,
+    late: u16,
+    output: &mut W,
+    errors: &mut E,
+) -> Status
+    ensures value { ServesByClock config output.old output.new result }
+{
+    let sockets = match bind(net, alloc, &config, errors) {
+        Ok(sockets) => sockets,
+        Err(status) => return status,
+    };
+    let watch = match SystemWatch::begun(clock) {
+        Ok(watch) => watch,
+        Err(failed) => {
+            let _ = writeln!(errors, "{failed}");
+            return Status::Failed;
+        }
+    };
+    let again = watch.again();
+    let outcome = serve_by(alloc, config, late, sockets, watch, again, output, errors);
+    Status::after(&outcome, &config, errors)
+}

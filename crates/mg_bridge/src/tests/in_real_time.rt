@@ -1,0 +1,144 @@
+use super::local;
+use crate::deadline::{Deadline, TickDeadline};
+use crate::program::program;
+use mg_clock::{ClockFailed, Watch};
+use std::cell::Cell;
+use std::io;
+use std::io::ErrorKind;
+use std::net::UdpSocket;
+use std::test::Fail;
+use std::time::{Clock, Duration};
+
+const MS: u64 = 1_000_000;
+
+/// Makes a termination that sends to a caller at 28912.
+const ONE_CALLER: &[u8] = b"MEGACO/1 [127.0.0.1]:28912 Transaction=1{Context=${\
+    Add=${Media{LocalControl{Mode=SendOnly},Remote{v=0\nc=IN IP4 127.0.0.1\nm=audio 28912 RTP/AVP 0\n}}}}}";
+
+/// A clock that goes on by what is waited alone. At its first wait a caller asks for a termination, and the wait up to 100 ms takes
+/// two seconds more. It fails after 400 readings.
+#[derive(Drop)]
+struct StallingClock<'a> {
+    now: Cell<u64>,
+    readings: Cell<u64>,
+    caller: &'a UdpSocket,
+}
+
+impl<'a> Clock for StallingClock<'a> {
+    fn monotonic(&self) -> io::Result<Duration> {
+        self.readings.set(self.readings.get().saturating_add(1));
+        if self.readings.get() > 400 {
+            return Err(io::Error::from(ErrorKind::Other));
+        }
+        Ok(Duration::from_nanos(self.now.get()))
+    }
+
+    fn since_1970(&self) -> io::Result<Duration> {
+        Err(io::Error::from(ErrorKind::Other))
+    }
+
+    fn sleep(&self, duration: Duration) {
+        if self.now.get() == 0 {
+            let _ = self.caller.send_to(ONE_CALLER, local(28900));
+        }
+        let time = u64::try_from(duration.as_nanos()).unwrap_or(u64::MAX);
+        let now = self.now.get().saturating_add(time);
+        self.now.set(if now == 100 * MS { 2100 * MS } else { now });
+    }
+}
+
+/// A clock that tells a number of ticks of 20 ms.
+#[derive(Drop)]
+struct Dial<'a> {
+    ticks: &'a Cell<u64>,
+}
+
+impl<'a> Watch for Dial<'a> {
+    fn now(&mut self) -> Result<u64, ClockFailed> {
+        Ok(self.ticks.get().saturating_mul(20 * MS))
+    }
+
+    fn wait(&mut self, _time: Duration) {}
+}
+
+/// The sequence number and the timestamp of the next packet that waits at a socket.
+fn next_packet(socket: &UdpSocket) -> io::Result<(u16, u32)> {
+    let mut buffer = [0; 300];
+    let (n, _) = socket.recv_from(&mut buffer)?;
+    if n != 172 {
+        return Err(io::Error::from(ErrorKind::InvalidData));
+    }
+    let sequence = u16::from_be_bytes([buffer[2], buffer[3]]);
+    let timestamp = u32::from_be_bytes([buffer[4], buffer[5], buffer[6], buffer[7]]);
+    Ok((sequence, timestamp))
+}
+
+/// Of the ticks that are due at 2,100 ms, those from the hundredth on are late by five or less.
+#[test]
+fn lets_a_stall_be_heard_as_a_gap(rt: HostRuntime) -> Result<(), Fail> {
+    let caller = UdpSocket::bind(&rt, local(28912))?;
+    caller.set_nonblocking(true)?;
+    let clock = StallingClock {
+        now: Cell::new(0),
+        readings: Cell::new(0),
+        caller: &caller,
+    };
+    let alloc = rt.alloc();
+    let words = [
+        "live",
+        "--control-port",
+        "28900",
+        "--base-port",
+        "28902",
+        "--slots",
+        "1",
+    ];
+    let mut input: &[u8] = b"quit\n";
+    let mut output = Vec::new(alloc);
+    let mut errors = Vec::new(alloc);
+    let status = program(
+        &rt,
+        &clock,
+        alloc,
+        &words,
+        &mut input,
+        &mut output,
+        &mut errors,
+    );
+    assert_eq!(rt; status, 3);
+    assert_eq!(rt; input, b"quit\n".as_slice());
+    assert_eq!(rt; output.as_slice(), b"ready\n".as_slice());
+    assert_eq!(rt;
+        errors.as_slice(),
+        b"95 packets were too late\nread failed\n".as_slice()
+    );
+    let mut reply = [0; 500];
+    caller.recv_from(&mut reply)?;
+    for (sequence, timestamp) in [
+        (0, 0),
+        (1, 160),
+        (2, 320),
+        (3, 480),
+        (99, 15840),
+        (100, 16000),
+    ] {
+        assert_eq!(rt; next_packet(&caller)?, (sequence, timestamp));
+    }
+    Ok(())
+}
+
+#[test]
+fn tells_how_many_packets_were_too_late(rt: HostRuntime) {
+    let mut errors = Vec::new(rt.alloc());
+    let ticks = Cell::new(10);
+    let now = Cell::new(15);
+    let mut deadline = TickDeadline::new(Dial { ticks: &now }, &ticks, 5, &mut errors);
+    assert!(rt; !deadline.is_late());
+    now.set(16);
+    assert!(rt; deadline.is_late());
+    assert!(rt; deadline.is_late());
+    ticks.set(11);
+    assert!(rt; !deadline.is_late());
+    assert!(rt; !deadline.is_late());
+    assert_eq!(rt; errors.as_slice(), b"2 packets were too late\n".as_slice());
+}

@@ -1,0 +1,3 @@
+pub mod DueLaws
+pub mod ReadingLaws
+pub mod TextLaws

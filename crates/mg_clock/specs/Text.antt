@@ -1,0 +1,22 @@
+-- The lines of polls and ticks.
+use Rattle.std.specs.Prelude.{ℕ, ◌/◌, ◌%◌, ◌==◌, List, ◌++◌, codes, if◌then◌else◌}
+use Rattle.std.specs.List.{repeat}
+
+abbrev pub poll_line : List ℕ
+poll_line = codes "poll\n"
+
+abbrev pub tick_line : List ℕ
+tick_line = codes "tick\n"
+
+-- the lines of the step with this number, counted from 1
+abbrev pub step_lines : ℕ → ℕ → List ℕ
+step_lines polls step = if step % polls == 0 then poll_line ++ tick_line else poll_line
+
+-- 20 ms: the polls, and then the tick
+abbrev pub period_lines : ℕ → List ℕ
+period_lines polls = repeat polls poll_line ++ tick_line
+
+-- the lines of so many steps: those of whole 20 ms, and then the polls of the 20 ms that are begun
+unfoldable pub text : ℕ → ℕ → List ℕ
+text polls steps =
+    repeat (steps / polls) (period_lines polls) ++ repeat (steps % polls) poll_line

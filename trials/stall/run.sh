@@ -1,0 +1,11 @@
+#!/bin/sh
+# Stops a gateway in real time for some seconds while callers call, and looks at what they are sent when it goes on.
+# usage: run.sh [CALLERS] [SECONDS]
+# It needs python3 and rt. `mg_bridge` is the one that `rt run` leaves in crates/mg_bridge/out; what isn't built yet is
+# proved and built first, which takes some minutes. The trial takes five seconds and the stall.
+set -eu
+here=$(CDPATH= cd -- "$(dirname -- "$0")" && pwd)
+root=$here/../..
+bridge=$root/crates/mg_bridge/out/mg_bridge
+[ -x "$bridge" ] || (cd "$root/crates/mg_bridge" && rt run -- --help > /dev/null)
+exec python3 "$here/stall.py" "$bridge" "${1:-16}" "${2:-5}"

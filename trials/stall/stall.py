@@ -1,0 +1,127 @@
+"""Stops `mg_bridge live` for some seconds while callers in conferences of up to 64 send packets, and looks at what they are sent.
+
+usage: stall.py BRIDGE CALLERS SECONDS
+
+After the stall no caller may be sent more than six packets at once, those of ticks that are late by five ticks or less, and the
+timestamps have to be where the clock is. Ends with 1 where it is otherwise.
+"""
+import re
+import selectors
+import signal
+import socket
+import subprocess
+import sys
+import tempfile
+import time
+
+BRIDGE, CALLERS, STALL = sys.argv[1], int(sys.argv[2]), float(sys.argv[3])
+BEFORE, AFTER = 2.0, 3.0
+A_REQUEST, MEMBERS = 16, 64
+ADD = ("Add=${Media{LocalControl{Mode=SendReceive},Local{v=0\nc=IN IP4 $\nm=audio $ RTP/AVP 0\n},"
+       "Remote{v=0\nc=IN IP4 127.0.0.1\nm=audio %d RTP/AVP 0\n}}}")
+
+
+def udp(port=0):
+    s = socket.socket(socket.AF_INET, socket.SOCK_DGRAM)
+    s.bind(("127.0.0.1", port))
+    s.setblocking(False)
+    return s
+
+
+def free_ports():
+    """A base port with the even ones after it, and a control port, that nobody has."""
+    for base in range(31000, 39000, 600):
+        try:
+            for s in [udp(base + 2 * slot) for slot in range(CALLERS + 1)]:
+                s.close()
+            return base + 2 * CALLERS, base
+        except OSError:
+            pass
+    sys.exit("no free ports")
+
+
+def ask(controller, to, text):
+    controller.sendto(text.encode(), ("127.0.0.1", to))
+    for _ in range(200):
+        try:
+            return controller.recv(65535).decode()
+        except BlockingIOError:
+            time.sleep(0.01)
+    sys.exit("no answer")
+
+
+def conference(control, callers):
+    """Puts the callers into conferences, and answers the gateway's port of each."""
+    controller = udp()
+    ports = []
+    for first in range(0, CALLERS, A_REQUEST):
+        adds = ",".join(ADD % s.getsockname()[1] for s in callers[first:first + A_REQUEST])
+        context = "$" if first % MEMBERS == 0 else str(first // MEMBERS + 1)
+        reply = ask(controller, control, f"MEGACO/1 [127.0.0.1]:2945 Transaction={first + 1}{{Context={context}{{{adds}}}}}")
+        ports += [int(port) for port in re.findall(r"m=audio (\d+)", reply)]
+    if len(ports) != CALLERS:
+        sys.exit("not all callers were added")
+    return ports
+
+
+def main():
+    control, base = free_ports()
+    errors = tempfile.TemporaryFile()
+    bridge = subprocess.Popen([BRIDGE, "live", "--control-port", str(control), "--base-port", str(base), "--slots", str(CALLERS)],
+                              stdout=subprocess.PIPE, stderr=errors)
+    try:
+        trial(bridge, control)
+    finally:
+        bridge.kill()
+        errors.seek(0)
+        print(errors.read().decode(), end="")
+
+
+def trial(bridge, control):
+    if bridge.stdout.readline() != b"ready\n":
+        sys.exit("not ready")
+    callers = [udp() for _ in range(CALLERS)]
+    ports = conference(control, callers)
+    arrivals = [[] for _ in callers]
+    selector = selectors.DefaultSelector()
+    for number, s in enumerate(callers):
+        selector.register(s, selectors.EVENT_READ, number)
+    start = time.monotonic()
+    stopped, going, sent = None, None, 0
+    while (now := time.monotonic() - start) < BEFORE + STALL + AFTER:
+        if stopped is None and now >= BEFORE:
+            bridge.send_signal(signal.SIGSTOP)
+            stopped = now
+        if going is None and now >= BEFORE + STALL:
+            bridge.send_signal(signal.SIGCONT)
+            going = now
+        while sent * 0.02 <= now:
+            head = b"\x80\x00" + (sent & 0xFFFF).to_bytes(2, "big") + (sent * 160).to_bytes(4, "big")
+            for number, s in enumerate(callers):
+                s.sendto(head + number.to_bytes(4, "big") + b"\xff" * 160, ("127.0.0.1", ports[number]))
+            sent += 1
+        for key, _ in selector.select(0.002):
+            try:
+                while True:
+                    packet = key.fileobj.recv(2000)
+                    arrivals[key.data].append((time.monotonic() - start, int.from_bytes(packet[4:8], "big") / 8000))
+            except BlockingIOError:
+                pass
+    at_once, missing, early, late = 0, 0, 0.0, 0.0
+    for came in arrivals:
+        # When the tick of timestamp 0 was due, by the packet that came soonest after its own.
+        origin = min(at - stamp for at, stamp in came if at < stopped)
+        first = next(at for at, _ in came if at >= going)
+        at_once = max(at_once, sum(first <= at and origin + stamp < first for at, stamp in came))
+        steps = [round((b[1] - a[1]) / 0.02) - 1 for a, b in zip(came, came[1:])]
+        missing = max(missing, sum(steps))
+        for at, stamp in came:
+            if at > first + 0.1:
+                early, late = min(early, at - stamp - origin), max(late, at - stamp - origin)
+    print(f"{CALLERS} callers, {STALL:g} s: at most {at_once} packets at once, {missing} missing; after it a packet comes "
+          f"{1000 * early:.0f} to {1000 * late:.0f} ms after its timestamp")
+    if at_once > 6 or early < -0.03 or late > 0.1:
+        sys.exit(1)
+
+
+main()

@@ -18,15 +18,15 @@ replay_by_itself : asked (codes "replay" ∷ []) ≡ Ok (Replay standard)
 unfolding asked command_line options config_at clap_on_literals
 replay_by_itself = refl
 
-serve_by_itself : asked (codes "serve" ∷ []) ≡ Ok (Serve standard)
+serve_by_itself : asked (codes "serve" ∷ []) ≡ Ok (Serve standard [])
 unfolding asked command_line options config_at clap_on_literals
 serve_by_itself = refl
 
-live_by_itself : asked (codes "live" ∷ []) ≡ Ok (Live standard 5)
+live_by_itself : asked (codes "live" ∷ []) ≡ Ok (Live standard [] 5)
 unfolding asked command_line options config_at clap_on_literals
 live_by_itself = refl
 
-live_with_both : asked (codes "live" ∷ codes "--slots=4" ∷ codes "--late" ∷ codes "0" ∷ []) ≡ Ok (Live (record standard { slots = 4 }) 0)
+live_with_both : asked (codes "live" ∷ codes "--slots=4" ∷ codes "--late" ∷ codes "0" ∷ []) ≡ Ok (Live (record standard { slots = 4 }) [] 0)
 unfolding asked command_line options config_at clap_on_literals
 live_with_both = refl
 
@@ -34,11 +34,28 @@ serve_is_never_late : asked (codes "serve" ∷ codes "--late=5" ∷ []) ≡ Err 
 unfolding asked command_line options config_at clap_on_literals
 serve_is_never_late = refl
 
+first_numbers : asked (codes "live" ∷ codes "--first-context=7" ∷ codes "--first-termination" ∷ codes "9" ∷ []) ≡ Ok (Live (record standard { first_termination = 9; first_context = 7 }) [] 5)
+unfolding asked command_line options config_at clap_on_literals
+first_numbers = refl
+
+two_controllers : asked (codes "live" ∷ codes "--controller=10.0.0.1" ∷ codes "--controller" ∷ codes "10.0.0.2" ∷ [])
+    ≡ Ok (Live standard ((10 ∷ 0 ∷ 0 ∷ 1 ∷ []) ∷ (10 ∷ 0 ∷ 0 ∷ 2 ∷ []) ∷ []) 5)
+unfolding asked command_line options config_at address_of clap_on_literals
+two_controllers = refl
+
+no_controller : asked (codes "serve" ∷ codes "--controller=localhost" ∷ []) ≡ Err (kind.ValueValidation ∷ [])
+unfolding asked command_line options config_at address_of clap_on_literals
+no_controller = refl
+
+replay_has_no_controller : asked (codes "replay" ∷ codes "--controller=10.0.0.1" ∷ []) ≡ Err (kind.UnknownArgument ∷ [])
+unfolding asked command_line options config_at clap_on_literals
+replay_has_no_controller = refl
+
 with_slots : asked (slots (codes "4")) ≡ Ok (Replay (record standard { slots = 4 }))
 unfolding asked command_line options config_at clap_on_literals
 with_slots = refl
 
-serve_with_slots : asked (codes "serve" ∷ codes "--slots=4" ∷ []) ≡ Ok (Serve (record standard { slots = 4 }))
+serve_with_slots : asked (codes "serve" ∷ codes "--slots=4" ∷ []) ≡ Ok (Serve (record standard { slots = 4 }) [])
 unfolding asked command_line options config_at clap_on_literals
 serve_with_slots = refl
 
@@ -55,11 +72,11 @@ with_plus : asked (slots (codes "+7")) ≡ Ok (Replay (record standard { slots =
 unfolding asked command_line options config_at clap_on_literals
 with_plus = refl
 
-with_address : asked (at_address (codes "10.0.0.1")) ≡ Ok (Serve (record standard { address = 10 ∷ 0 ∷ 0 ∷ 1 ∷ [] }))
+with_address : asked (at_address (codes "10.0.0.1")) ≡ Ok (Serve (record standard { address = 10 ∷ 0 ∷ 0 ∷ 1 ∷ [] }) [])
 unfolding asked command_line options config_at address_of clap_on_literals
 with_address = refl
 
-with_leading_zeros : asked (at_address (codes "010.00.0.001")) ≡ Ok (Serve (record standard { address = 10 ∷ 0 ∷ 0 ∷ 1 ∷ [] }))
+with_leading_zeros : asked (at_address (codes "010.00.0.001")) ≡ Ok (Serve (record standard { address = 10 ∷ 0 ∷ 0 ∷ 1 ∷ [] }) [])
 unfolding asked command_line options config_at address_of clap_on_literals
 with_leading_zeros = refl
 

@@ -20,7 +20,8 @@ use Rattle.std.specs.Box.{box_value}
 use Rattle.mg_engine.specs.declared.config.Config.{Config}
 use Rattle.mg_bridge.specs.declared.invocation.Invocation.{Invocation}
 use Rattle.mg_bridge.specs.declared.address.AddressFault.{AddressFault}
-use Rattle.mg_bridge.specs.Options.{IsRefused, address_in, asked, asked_by, command_line, config_at, late_in, options, run_at, run_of}
+use Rattle.mg_bridge.specs.declared.controller_fault.ControllerFault.{ControllerFault}
+use Rattle.mg_bridge.specs.Options.{IsRefused, address_in, asked, asked_by, command_line, config_at, controllers_in, late_in, options, run_at, run_of, run_under}
 
 abbrev has_kinds : Kinds → Bool
 has_kinds [] = false
@@ -118,9 +119,17 @@ module _ (line : App) (words : List Text) (is : line ≡ command_line) where
   asks_none kind fails = refused_by _ _ kind (subst (λ (l : App). (kind ≡ OutOfMemory) ⊎ IsAmong kind (fault_of l words)) is (fails simple))
 
 -- the run of a subcommand at an address
-pub run_is : (name : Text) (rows : List Row) (address : List ℕ) (config : Config) (late : ℕ) (run : Invocation) → config ≡ config_at address rows
-    → late ≡ late_in rows → run ≡ run_of name config late → run_at name rows (Ok address) ≡ Ok run
-run_is name rows address config late run configured allowed is = rw (is, configured, allowed) refl
+pub run_is : (name : Text) (rows : List Row) (address : List ℕ) (config : Config) (controllers : List (List ℕ)) (late : ℕ) (run : Invocation)
+    → config ≡ config_at address rows → Ok controllers ≡ controllers_in rows → late ≡ late_in rows → run ≡ run_of name config controllers late
+    → run_at name rows (Ok address) ≡ Ok run
+run_is name rows address config controllers late run configured listed allowed is =
+    ap (run_under name rows (config_at address rows)) (sym listed) ∙ rw (is, configured, allowed) refl
+
+-- an error says why there is none under texts that name no controllers
+pub refuses_controllers : (asked : Result Invocation Kinds) (name : Text) (rows : List Row) (config : Config) (fault : ControllerFault) (kind : ErrorKind)
+    → asked ≡ run_under name rows config (controllers_in rows) → Err fault ≡ controllers_in rows → kind ≡ ValueValidation → IsRefused asked kind
+refuses_controllers asked name rows config fault kind asks listed is =
+    rw (asks ∙ ap (run_under name rows config) (sym listed), is) (inr (inl refl))
 
 -- an error says why there is none at a text that names no address
 pub refuses_address : (asked : Result Invocation Kinds) (name : Text) (rows : List Row) (fault : AddressFault) (kind : ErrorKind)

@@ -1,5 +1,6 @@
 pub mod Status
 pub mod Address
+pub mod Controllers
 pub mod Options
 pub mod Replay
 pub mod Readiness

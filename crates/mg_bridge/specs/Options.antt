@@ -3,11 +3,12 @@ use Rattle.std.specs.Prelude.{◌≡◌, ℕ, true, if◌then◌else◌, List, [
 use Rattle.std.specs.Prelude.{Result, Ok, Err, codes}
 use Rattle.std.specs.Option.{option_map_or}
 use Rattle.std.specs.Str.{bytes_eq}
-use Rattle.clap.specs.Walk.{Row, Rule, Text, first_of}
+use Rattle.clap.specs.Walk.{Row, Rule, Text, all_of, first_of}
 use Rattle.clap.specs.Simple.{App, new_app, new_rule, on_top, subcommand_of, with_rule}
 use Rattle.clap.specs.Simple.{with_subcommand}
 use Rattle.clap.specs.Kinds.{Kinds, IsAmong}
 use Rattle.clap.specs.Faults.{fault_of}
+use Rattle.clap.specs.declared.builder.action.ArgAction.TheVariants.{Append}
 use Rattle.clap.specs.declared.error.kind.ErrorKind.{ErrorKind}
 use Rattle.clap.specs.declared.error.kind.ErrorKind.TheVariants.{OutOfMemory, ValueValidation}
 use Rattle.mg_options.specs.Numbers.{number_given, number_rule}
@@ -16,7 +17,9 @@ use Rattle.mg_engine.specs.Config.{standard}
 use Rattle.mg_bridge.specs.declared.address.AddressFault.{AddressFault}
 use Rattle.mg_bridge.specs.declared.invocation.Invocation.{Invocation}
 use Rattle.mg_bridge.specs.declared.invocation.Invocation.TheVariants.{Replay, Serve, Live}
+use Rattle.mg_bridge.specs.declared.controller_fault.ControllerFault.{ControllerFault}
 use Rattle.mg_bridge.specs.Address.{own_address}
+use Rattle.mg_bridge.specs.Controllers.{controllers_of}
 
 -- ## The command line
 
@@ -28,7 +31,8 @@ text_rule name = record (new_rule name) { long = Some name; value_names = 1 }
 unfoldable pub options : List Rule
 options = text_rule (codes "address") ∷ number_rule (codes "control-port") 0 65535
     ∷ number_rule (codes "base-port") 0 65535 ∷ number_rule (codes "slots") 0 65535
-    ∷ number_rule (codes "ssrc") 0 4294967295 ∷ number_rule (codes "sequence") 0 65535
+    ∷ number_rule (codes "first-termination") 0 4294967295
+    ∷ number_rule (codes "first-context") 0 4294967295 ∷ number_rule (codes "ssrc") 0 4294967295 ∷ number_rule (codes "sequence") 0 65535
     ∷ number_rule (codes "timestamp") 0 4294967295 ∷ []
 
 abbrev pub with_rules : App → List Rule → App
@@ -39,9 +43,17 @@ with_rules app (rule ∷ rules) = with_rules (with_rule app rule) rules
 abbrev pub subcommand_line : Text → App
 subcommand_line name = with_rules (new_app name) options
 
--- the subcommand that has one option more
+-- the option that may be given several times
+abbrev pub controller_rule : Rule
+controller_rule = record (text_rule (codes "controller")) { action = Some Append }
+
+-- a subcommand of a gateway on sockets
+abbrev pub sockets_line : Text → App
+sockets_line name = with_rule (subcommand_line name) controller_rule
+
+-- and the one that has a clock
 abbrev pub live_line : App
-live_line = with_rule (subcommand_line (codes "live")) (number_rule (codes "late") 0 65535)
+live_line = with_rule (sockets_line (codes "live")) (number_rule (codes "late") 0 65535)
 
 -- the command line: words without the program's name, of which one is a subcommand
 unfoldable pub command_line : App
@@ -52,7 +64,7 @@ command_line =
       has_version = true;
     }) (new_app (codes "mg_bridge")))
     (subcommand_line (codes "replay")).top)
-    (subcommand_line (codes "serve")).top)
+    (sockets_line (codes "serve")).top)
     live_line.top
 
 -- ## The values of the options
@@ -72,6 +84,8 @@ config_at address found = record standard {
   control_port = short_in (codes "control-port") found standard.control_port;
   base_port = short_in (codes "base-port") found standard.base_port;
   slots = short_in (codes "slots") found standard.slots;
+  first_termination = long_in (codes "first-termination") found standard.first_termination;
+  first_context = long_in (codes "first-context") found standard.first_context;
   ssrc = long_in (codes "ssrc") found standard.ssrc;
   sequence = short_in (codes "sequence") found standard.sequence;
   timestamp = long_in (codes "timestamp") found standard.timestamp;
@@ -88,13 +102,23 @@ address_in found = option_map_or own_address (first_of (codes "address") found)
 abbrev pub late_in : List Row → ℕ
 late_in found = short_in (codes "late") found 5
 
-abbrev pub run_of : Text → Config → ℕ → Invocation
-run_of name config late =
-    if bytes_eq name (codes "serve") then Serve config
-    else (if bytes_eq name (codes "live") then Live config late else Replay config)
+-- the controllers that the options name
+abbrev pub controllers_in : List Row → Result (List (List ℕ)) ControllerFault
+controllers_in found = controllers_of (unwrap_or (all_of (codes "controller") found) [])
+
+abbrev pub run_of : Text → Config → List (List ℕ) → ℕ → Invocation
+run_of name config controllers late =
+    if bytes_eq name (codes "serve") then Serve config controllers
+    else (if bytes_eq name (codes "live") then Live config controllers late else Replay config)
+
+abbrev pub run_under : Text → List Row → Config → Result (List (List ℕ)) ControllerFault
+    → Result Invocation Kinds
+run_under name found config (Ok controllers) = Ok (run_of name config controllers (late_in found))
+run_under name found config (Err fault) = Err (ValueValidation ∷ [])
 
 abbrev pub run_at : Text → List Row → Result (List ℕ) AddressFault → Result Invocation Kinds
-run_at name found (Ok address) = Ok (run_of name (config_at address found) (late_in found))
+run_at name found (Ok address) =
+    run_under name found (config_at address found) (controllers_in found)
 run_at name found (Err fault) = Err (ValueValidation ∷ [])
 
 abbrev pub asked_by : Kinds → Option (Text × List Row) → Result Invocation Kinds
@@ -102,7 +126,7 @@ asked_by [] (Some found) = run_at found.0 found.1 (address_in found.1)
 asked_by kinds found = Err kinds
 
 -- A run of a subcommand, or none. There is none where the parser of words has a fault to tell, or
--- the address can't be a gateway's: the fault has one of these kinds. A call for help is a fault of
+-- an address can't be a gateway's or a controller's: the fault has one of these kinds. A call for help is a fault of
 -- the parser's.
 unfoldable pub asked : List Text → Result Invocation Kinds
 asked words = asked_by (fault_of command_line words) (subcommand_of command_line words)

@@ -2,6 +2,7 @@ ghost use Rattle.std.specs.Prelude.{IfNone, IfSome};
 ghost use Rattle.mg_engine.specs.Config.{IsValidConfig};
 
 use mg_core::{Config, TERMINATIONS};
+use mg_words::LAST_CONTEXT;
 use thiserror::Error;
 
 /// Why no gateway can be started with a configuration, by the option at fault.
@@ -9,6 +10,10 @@ use thiserror::Error;
 pub enum ConfigFault {
     #[error("--slots is 0, or more than there can be terminations")]
     Slots,
+    #[error("--first-termination is 0")]
+    FirstTermination,
+    #[error("--first-context is 0, or more than a context can have")]
+    FirstContext,
     #[error("--base-port is 0 or odd, or there are not as many even ports from it on as --slots says")]
     BasePort,
     #[error("--control-port is 0, or one of the media ports")]
@@ -26,6 +31,12 @@ impl ConfigFault {
         }
         if config.slots == 0 || usize::from(config.slots) > TERMINATIONS {
             return Some(ConfigFault::Slots);
+        }
+        if config.first_termination == 0 {
+            return Some(ConfigFault::FirstTermination);
+        }
+        if config.first_context == 0 || config.first_context > LAST_CONTEXT {
+            return Some(ConfigFault::FirstContext);
         }
         if config.limits().is_valid() {
             return Some(ConfigFault::ControlPort);

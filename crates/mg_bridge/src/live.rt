@@ -3,25 +3,28 @@ ghost use Rattle.mg_engine.specs.Config.{IsValidConfig};
 ghost use Rattle.mg_serve.specs.Serve.{ServedSession};
 ghost use Rattle.mg_bridge.specs.Serve.{ServesByClock};
 
+use crate::controllers::Controllers;
 use crate::deadline::TickDeadline;
 use crate::serve::bind;
 use crate::status::Status;
 use crate::udp_ports::{Sockets, UdpPorts};
 use mg_clock::{ClockLines, SystemWatch, Watch};
 use mg_core::{Config, Counts, RunFault};
+use mg_ports::GuardedPorts;
 use std::alloc::Global;
 use std::cell::Cell;
 use std::io::Write;
 use std::net::Net;
 use std::time::Clock;
 
-/// The polls in 20 ms: a control message waits 10 ms at most.
-const POLLS: u16 = 2;
+/// The polls in 20 ms: a control message waits for its answer 20 ms at most.
+const POLLS: u16 = 1;
 
 /// Serves a new gateway on these sockets by a clock. How late a packet is is told by another one with the same start.
 fn serve_by<K: Watch + Drop, W: Write, E: Write>(
     alloc: Global,
     config: Config,
+    controllers: &Controllers,
     late: u16,
     sockets: Sockets,
     clock: K,
@@ -34,12 +37,13 @@ fn serve_by<K: Watch + Drop, W: Write, E: Write>(
 {
     let ticks = Cell::new(0);
     let deadline = TickDeadline::new(again, &ticks, late, errors);
-    let mut ports = UdpPorts::new(sockets, deadline);
+    let ports = UdpPorts::new(sockets, deadline);
+    let mut ports = GuardedPorts::new(ports, controllers.as_slice());
     let mut lines = ClockLines::new(clock, &ticks, POLLS);
     mg_serve::serve(alloc, config, &mut ports, &mut lines, output)
 }
 
-/// Serves a new gateway on UDP ports by the clock: two polls and a tick every 20 ms. The text of a fault goes to `errors`.
+/// Serves a new gateway on UDP ports by the clock: a poll and a tick every 20 ms. The text of a fault goes to `errors`.
 ///
 /// After a delay all polls and ticks that were missed are done at once. The packets of a tick that is late by more ticks than are
 /// allowed are not sent, so that callers hear a gap, and timestamps stay with the clock. How many weren't sent goes to `errors`.
@@ -48,6 +52,7 @@ pub fn live<N: Net, C: Clock, W: Write, E: Write>(
     clock: &C,
     alloc: Global,
     config: Config,
+    controllers: &Controllers,
     late: u16,
     output: &mut W,
     errors: &mut E,
@@ -66,6 +71,16 @@ pub fn live<N: Net, C: Clock, W: Write, E: Write>(
         }
     };
     let again = watch.again();
-    let outcome = serve_by(alloc, config, late, sockets, watch, again, output, errors);
+    let outcome = serve_by(
+        alloc,
+        config,
+        controllers,
+        late,
+        sockets,
+        watch,
+        again,
+        output,
+        errors,
+    );
     Status::after(&outcome, &config, errors)
 }

@@ -16,6 +16,8 @@ ghost use Rattle.std.specs.IoError.{error_kind};
 mod address;
 mod bind_fault;
 mod config_fault;
+mod controller_fault;
+mod controllers;
 mod deadline;
 mod invocation;
 mod live;

@@ -1,13 +1,16 @@
 ghost use Rattle.std.specs.Prelude.{◌≡◌, IfErr, IfOk, Ok, map};
 ghost use Rattle.clap.specs.Words.{app_of, found_of, kind_of, rows_of, rule_of, with_rule};
-ghost use Rattle.mg_bridge.specs.Options.{IsRefused, address_in, asked, command_line, config_at, late_in, live_line};
+ghost use Rattle.mg_bridge.specs.Options.{IsRefused, address_in, asked, command_line, config_at, controller_rule};
+ghost use Rattle.mg_bridge.specs.Options.{controllers_in, late_in, live_line, sockets_line};
 ghost use Rattle.mg_bridge.specs.Options.{options, run_of, subcommand_line, text_rule};
 ghost use Rattle.mg_bridge.specs.Options.{with_rules};
 
 use crate::address::{AddressFault, own_address};
+use crate::controller_fault::ControllerFault;
+use crate::controllers::Controllers;
 use crate::invocation::Invocation;
 use clap::error::ErrorKind;
-use clap::{Arg, ArgMatches, Command, Error};
+use clap::{Arg, ArgAction, ArgMatches, Command, Error};
 use mg_core::Config;
 use mg_options::{long_number, long_value, short_number, short_value};
 use std::alloc::Global;
@@ -38,6 +41,12 @@ fn with_options<'a>(alloc: Global, command: Command<'a>) -> Result<Command<'a>, 
         .arg(short_number(alloc, "slots").help(
             "How many media ports there are, from 1 to 256, which is also where this isn't given",
         ))?
+        .arg(long_number(alloc, "first-termination").help(
+            "The number of the first termination, from 1; 1 where this isn't given",
+        ))?
+        .arg(long_number(alloc, "first-context").help(
+            "The number of the first context, from 1 to 4294967293; 1 where this isn't given",
+        ))?
         .arg(long_number(alloc, "ssrc").help(
             "The SSRC of termination n is this plus n; 0 where this isn't given",
         ))?
@@ -50,6 +59,19 @@ fn with_options<'a>(alloc: Global, command: Command<'a>) -> Result<Command<'a>, 
     Ok(command)
 }
 
+/// An option that takes an IPv4 address, and can be given several times.
+fn controller_option<'a>(alloc: Global) -> Arg<'a>
+    ensures rule { rule_of result ≡ controller_rule }
+{
+    Arg::new(alloc, "controller")
+        .long("controller")
+        .value_name("ADDRESS")
+        .action(ArgAction::Append)
+        .help(
+            "The IPv4 address of a controller, up to eight times; where this isn't given, anybody may send messages",
+        )
+}
+
 /// A subcommand with the options of a gateway.
 fn subcommand<'a>(alloc: Global, name: &'a str, about: &'a str) -> Result<Command<'a>, Error>
     ensures app { IfOk result (λ command. app_of command ≡ subcommand_line name.now) }
@@ -58,12 +80,21 @@ fn subcommand<'a>(alloc: Global, name: &'a str, about: &'a str) -> Result<Comman
     with_options(alloc, Command::new(alloc, name).about(about))
 }
 
+/// A subcommand of a gateway on sockets.
+fn on_sockets<'a>(alloc: Global, name: &'a str, about: &'a str) -> Result<Command<'a>, Error>
+    ensures app { IfOk result (λ command. app_of command ≡ sockets_line name.now) }
+    ensures memory { IfErr result (λ error. kind_of error ≡ ErrorKind.OutOfMemory) }
+{
+    let command = subcommand(alloc, name, about)?.arg(controller_option(alloc))?;
+    Ok(command)
+}
+
 /// The subcommand of a gateway that goes by the clock.
 fn live<'a>(alloc: Global) -> Result<Command<'a>, Error>
     ensures app { IfOk result (λ command. app_of command ≡ live_line) }
     ensures memory { IfErr result (λ error. kind_of error ≡ ErrorKind.OutOfMemory) }
 {
-    let command = subcommand(alloc, "live", "Serves a gateway on UDP ports in real time")?.arg(
+    let command = on_sockets(alloc, "live", "Serves a gateway on UDP ports in real time")?.arg(
         short_number(alloc, "late").help(
             "Packets aren't sent where their tick is late by more ticks of 20 ms than this; 5 where this isn't given",
         ),
@@ -81,7 +112,7 @@ fn command<'a>(alloc: Global) -> Result<Command<'a>, Error>
         "replay",
         "Runs a script from standard input, and writes its answers to standard output",
     )?;
-    let serve = subcommand(
+    let serve = on_sockets(
         alloc,
         "serve",
         "Serves a gateway on UDP ports, driven by lines from standard input: poll, tick, stats, quit",
@@ -117,8 +148,10 @@ fn config_at(address: [u8; 4], matches: &ArgMatches<'_>) -> Config
         control_port: short_value(matches, "control-port").unwrap_or(standard.control_port),
         base_port: short_value(matches, "base-port").unwrap_or(standard.base_port),
         slots: short_value(matches, "slots").unwrap_or(standard.slots),
-        first_termination: standard.first_termination,
-        first_context: standard.first_context,
+        first_termination: long_value(matches, "first-termination").unwrap_or(
+            standard.first_termination,
+        ),
+        first_context: long_value(matches, "first-context").unwrap_or(standard.first_context),
         ssrc: long_value(matches, "ssrc").unwrap_or(standard.ssrc),
         sequence: short_value(matches, "sequence").unwrap_or(standard.sequence),
         timestamp: long_value(matches, "timestamp").unwrap_or(standard.timestamp),
@@ -132,14 +165,24 @@ fn late_of(matches: &ArgMatches<'_>) -> u16
     short_value(matches, "late").unwrap_or(5)
 }
 
+/// The controllers that the options name.
+fn controllers_of(matches: &ArgMatches<'_>) -> Result<Controllers, ControllerFault>
+    ensures value { result ≡ controllers_in (rows_of (found_of matches.now)) }
+{
+    match matches.get_strs("controller") {
+        Some(texts) => Controllers::of(texts),
+        None => Controllers::of(&[]),
+    }
+}
+
 /// The run of a subcommand.
-fn run_of(name: &str, config: Config, late: u16) -> Invocation
-    ensures value { result ≡ run_of name.now config late }
+fn run_of(name: &str, config: Config, controllers: Controllers, late: u16) -> Invocation
+    ensures value { result ≡ run_of name.now config controllers late }
 {
     if name == "serve" {
-        Invocation::Serve(config)
+        Invocation::Serve(config, controllers)
     } else if name == "live" {
-        Invocation::Live(config, late)
+        Invocation::Live(config, controllers, late)
     } else {
         Invocation::Replay(config)
     }
@@ -158,8 +201,17 @@ pub fn asked_run<'a, S: AsStr>(alloc: Global, words: &'a [S]) -> Result<Invocati
     let Some((name, options)) = matches.subcommand() else {
         unreachable!();
     };
-    match address_of(options) {
-        Ok(address) => Ok(run_of(name, config_at(address, options), late_of(options))),
+    let address = match address_of(options) {
+        Ok(address) => address,
+        Err(fault) => return Err(command.error(ErrorKind::ValueValidation, fault.message())?),
+    };
+    match controllers_of(options) {
+        Ok(controllers) => Ok(run_of(
+            name,
+            config_at(address, options),
+            controllers,
+            late_of(options),
+        )),
         Err(fault) => Err(command.error(ErrorKind::ValueValidation, fault.message())?),
     }
 }

@@ -62,8 +62,21 @@ pub fn program<'a, N: Net, C: Clock, S: AsStr, R: Read, W: Write, E: Write>(
 {
     let status = match asked_run(alloc, words) {
         Ok(Invocation::Replay(config)) => replay(alloc, config, input, output, errors),
-        Ok(Invocation::Serve(config)) => serve(net, alloc, config, input, output, errors),
-        Ok(Invocation::Live(config, late)) => live(net, clock, alloc, config, late, output, errors),
+        Ok(Invocation::Serve(config, controllers)) => {
+            serve(net, alloc, config, &controllers, input, output, errors)
+        }
+        Ok(Invocation::Live(config, controllers, late)) => {
+            live(
+                net,
+                clock,
+                alloc,
+                config,
+                &controllers,
+                late,
+                output,
+                errors,
+            )
+        }
         Err(error) => tell(&error, output, errors),
     };
     status.code()

@@ -3,11 +3,13 @@ ghost use Rattle.mg_engine.specs.Config.{IsValidConfig};
 ghost use Rattle.mg_bridge.specs.Serve.{IsNotBegun, Serves};
 
 use crate::config_fault::ConfigFault;
+use crate::controllers::Controllers;
 use crate::deadline::NoDeadline;
 use crate::readiness::SOCKETS;
 use crate::status::Status;
 use crate::udp_ports::{Sockets, UdpPorts};
 use mg_core::{Config, RunFault};
+use mg_ports::GuardedPorts;
 use mio::Events;
 use std::alloc::Global;
 use std::io::{Read, Write};
@@ -43,7 +45,7 @@ pub fn bind<N: Net, E: Write>(
     }
 }
 
-/// Serves a new gateway on UDP ports by the lines that are read. The text of a fault goes to `errors`.
+/// Serves a new gateway on UDP ports by the lines that are read, under these controllers. The text of a fault goes to `errors`.
 ///
 /// A configuration that can't be used is told before a port is bound, and a port that can't be bound before a line
 /// is read.
@@ -51,6 +53,7 @@ pub fn serve<N: Net, R: Read, W: Write, E: Write>(
     net: &N,
     alloc: Global,
     config: Config,
+    controllers: &Controllers,
     input: &mut R,
     output: &mut W,
     errors: &mut E,
@@ -62,7 +65,8 @@ pub fn serve<N: Net, R: Read, W: Write, E: Write>(
         Ok(sockets) => sockets,
         Err(status) => return status,
     };
-    let mut ports = UdpPorts::new(sockets, NoDeadline);
+    let ports = UdpPorts::new(sockets, NoDeadline);
+    let mut ports = GuardedPorts::new(ports, controllers.as_slice());
     let outcome = mg_serve::serve(alloc, config, &mut ports, input, output);
     Status::after(&outcome, &config, errors)
 }

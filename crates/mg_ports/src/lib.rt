@@ -2,7 +2,7 @@
 //!
 //! [`Ports`] is what a gateway needs of them: to receive a datagram without waiting, to send one, and to tell how many calls
 //! failed. [`FakePorts`] are ports in memory, for tests: datagrams wait at them, calls of chosen numbers fail, and each call is
-//! told.
+//! told. [`GuardedPorts`] give messages of some controllers alone.
 //!
 //! ```rust
 //! let mut ports = FakePorts::new(alloc, waiting, failing);
@@ -19,6 +19,7 @@
 mod arrival;
 mod call;
 mod fake_ports;
+mod guarded_ports;
 mod log;
 mod payload;
 mod port_fault;
@@ -30,6 +31,7 @@ mod tests;
 pub use crate::arrival::Arrival;
 pub use crate::call::Call;
 pub use crate::fake_ports::FakePorts;
+pub use crate::guarded_ports::GuardedPorts;
 pub use crate::payload::Payload;
 pub use crate::port_fault::PortFault;
 pub use crate::ports::Ports;

@@ -1,4 +1,5 @@
-ghost use Rattle.std.specs.Prelude.{◌≡◌, ℕ, ◌≤◌, [], ◌∷◌, length, List, Option, None, IfOk, IfSome, OnErr};
+ghost use Rattle.std.specs.Prelude.{◌≡◌, ℕ, ◌≤◌, [], ◌∷◌, length, List, Option, None, IfOk, IfSome, OnErr, ⊤};
+ghost use Rattle.mg_engine.specs.declared.peer.Peer.{Peer};
 ghost use Rattle.mg_ports.specs.declared.call.Call.{Call};
 ghost use Rattle.mg_ports.specs.declared.call.Call.TheVariants.{Receive, Send};
 ghost use Rattle.mg_ports.specs.Calls.{Told, IsCounted, receipt_of};
@@ -14,6 +15,9 @@ pub trait Ports {
     /// How many receives and sends failed.
     ghost failed: { Self → ℕ };
 
+    // What is known of the source of a datagram that they give at a slot.
+    ghost Gives: { Self → ℕ → Peer → Type 0 } = { λ _ _ _. ⊤ };
+
     /// Receives a datagram, if one is there: answers how many of its bytes stand at the front of the buffer, and where it
     /// came from. This doesn't wait. A datagram that is longer than the buffer loses its end.
     fn receive(
@@ -23,6 +27,7 @@ pub trait Ports {
     ) -> Result<Option<(usize, Peer)>, PortFault>
         ensures within { IfOk result (λ came. IfSome came (λ d. d.0 ≤ length buffer.new)) }
         ensures told { Told (calls self.old) (calls self.new) (Receive slot (receipt_of result buffer.new) ∷ []) }
+        ensures gives { IfOk result (λ came. IfSome came (λ d. Gives self.new slot d.1)) }
         ensures fault { OnErr result (IsCounted (failed self.old) (failed self.new)) };
 
     /// Sends a datagram. This doesn't wait.

@@ -1,4 +1,4 @@
-use crate::{Arrival, Call, FakePorts, Payload, Peer, PortFault, Ports, Receipt};
+use crate::{Arrival, Call, FakePorts, GuardedPorts, Payload, Peer, PortFault, Ports, Receipt};
 use std::alloc::{AllocError, Global};
 use std::test::Fail;
 
@@ -105,5 +105,25 @@ fn tells_its_calls(rt: HostRuntime) -> Result<(), Fail> {
         _ => false,
     };
     assert!(rt; is_told);
+    Ok(())
+}
+
+#[test]
+fn lets_messages_of_strangers_fall(rt: HostRuntime) -> Result<(), Fail> {
+    let mut buffer = [0; 8];
+    let controllers = [[127, 0, 0, 2]];
+    let mut guarded = GuardedPorts::new(ports(rt.alloc(), &[])?, &controllers);
+    assert_eq!(rt; guarded.receive(0, &mut buffer), Ok(None));
+    assert_eq!(rt; guarded.strangers(), 2);
+    assert_eq!(rt; guarded.receive(2, &mut buffer), Ok(Some((5, CALLER))));
+    let controllers = [[127, 0, 0, 2], CALLER.address];
+    let mut guarded = GuardedPorts::new(ports(rt.alloc(), &[1])?, &controllers);
+    assert_eq!(rt; guarded.receive(0, &mut buffer), Ok(Some((3, CALLER))));
+    assert_eq!(rt; guarded.receive(0, &mut buffer), Err(PortFault));
+    assert_eq!(rt; guarded.receive(0, &mut buffer), Ok(Some((3, CALLER))));
+    assert_eq!(rt; guarded.failures(), 1);
+    let mut open = GuardedPorts::new(ports(rt.alloc(), &[])?, &[]);
+    assert_eq!(rt; open.receive(0, &mut buffer), Ok(Some((3, CALLER))));
+    assert_eq!(rt; open.strangers(), 0);
     Ok(())
 }

@@ -70,3 +70,36 @@ fn takes_one_address(rt: HostRuntime) {
         assert!(rt; done.output.is_empty());
     }
 }
+
+#[test]
+fn takes_eight_controllers(rt: HostRuntime) {
+    let eight = [
+        "serve",
+        "--control-port=0",
+        "--controller=10.0.0.1",
+        "--controller=10.0.0.2",
+        "--controller=10.0.0.3",
+        "--controller=10.0.0.4",
+        "--controller=10.0.0.5",
+        "--controller=10.0.0.6",
+        "--controller=10.0.0.7",
+        "--controller=10.0.0.8",
+        "--controller=10.0.0.9",
+    ];
+    let done = run_program(&rt, &eight[..10], b"");
+    assert!(rt;
+        done.errors
+            .as_slice()
+            .starts_with(b"bad configuration: --control-port")
+    );
+    let done = run_program(&rt, &eight, b"");
+    assert_eq!(rt; done.status, 2);
+    let wanted =
+        b"error: invalid value for '--controller <ADDRESS>': there can be eight controllers at most\n";
+    assert!(rt; done.errors.as_slice().starts_with(wanted.as_slice()));
+    let done = run_program(&rt, &["live", "--controller", "localhost"], b"");
+    assert_eq!(rt; done.status, 2);
+    let wanted =
+        b"error: invalid value for '--controller <ADDRESS>': it is no IPv4 address in dotted decimal\n";
+    assert!(rt; done.errors.as_slice().starts_with(wanted.as_slice()));
+}

@@ -3,7 +3,7 @@ use crate::deadline::NoDeadline;
 use crate::readiness::SOCKETS;
 use crate::udp_ports::{Sockets, UdpPorts};
 use mg_core::{Config, Counts, Peer, RunFault};
-use mg_ports::{PortFault, Ports};
+use mg_ports::{GuardedPorts, PortFault, Ports};
 use mg_serve::serve;
 use mio::Events;
 use std::alloc::AllocError;
@@ -74,10 +74,10 @@ fn lines(rt: &HostRuntime) -> Result<String, AllocError> {
 }
 
 /// Serves a gateway on some ports by these lines: what was counted, and what was printed.
-fn serve_lines(
+fn serve_lines<P: Ports>(
     rt: &HostRuntime,
     config: Config,
-    ports: &mut UdpPorts<NoDeadline>,
+    ports: &mut P,
     lines: &str,
 ) -> (Result<Counts, RunFault>, Vec<u8>) {
     let alloc = rt.alloc();
@@ -212,5 +212,25 @@ fn takes_messages_whole(rt: HostRuntime) -> Result<(), Fail> {
         let (n, _) = caller.recv_from(&mut buffer)?;
         assert_eq!(rt; &buffer[..n], wanted);
     }
+    Ok(())
+}
+
+#[test]
+fn lets_messages_of_strangers_fall(rt: HostRuntime) -> Result<(), Fail> {
+    let config = config(28800, 1);
+    let controllers = [[127, 0, 0, 2]];
+    let mut ports = GuardedPorts::new(bind(&rt, &config)?, &controllers);
+    let stranger = caller(&rt, 28810)?;
+    let address = SocketAddr::new(IpAddr::V4(Ipv4Addr::new(127, 0, 0, 2)), 28810);
+    let controller = UdpSocket::bind(&rt, address)?;
+    for sender in [&stranger, &stranger, &controller] {
+        sender.send_to(b"MEGACO/2", local(28800))?;
+    }
+    let (result, _) = serve_lines(&rt, config, &mut ports, "poll\n");
+    assert_eq!(rt; result?.control, 1);
+    assert_eq!(rt; ports.strangers(), 2);
+    let mut buffer = [0; 100];
+    assert!(rt; stranger.recv_from(&mut buffer).is_err());
+    assert!(rt; controller.recv_from(&mut buffer).is_ok());
     Ok(())
 }

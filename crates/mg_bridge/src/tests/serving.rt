@@ -74,7 +74,7 @@ fn names_the_option_at_fault_and_binds_nothing(rt: HostRuntime) -> Result<(), Fa
     let base =
         b"bad configuration: --base-port is 0 or odd, or there are not as many even ports from it on as --slots says\n";
     let control = b"bad configuration: --control-port is 0, or one of the media ports\n";
-    let cases: [(&[&str], &[u8]); 6] = [
+    let cases: [(&[&str], &[u8]); 8] = [
         (&["serve", "--control-port", "29300", "--slots", "0"], slots),
         (
             &["live", "--control-port", "29300", "--slots", "257"],
@@ -87,6 +87,14 @@ fn names_the_option_at_fault_and_binds_nothing(rt: HostRuntime) -> Result<(), Fa
         (
             &["live", "--control-port", "29300", "--base-port", "65530"],
             base,
+        ),
+        (
+            &["serve", "--first-termination", "0"],
+            b"bad configuration: --first-termination is 0\n",
+        ),
+        (
+            &["live", "--first-context", "4294967294"],
+            b"bad configuration: --first-context is 0, or more than a context can have\n",
         ),
         (&["serve", "--control-port", "0"], control),
         (

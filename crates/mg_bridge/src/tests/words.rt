@@ -3,7 +3,7 @@ use std::test::Fail;
 
 #[test]
 fn refuses_arguments(rt: HostRuntime) {
-    let cases: [&[&str]; 9] = [
+    let cases: [&[&str]; 11] = [
         &[],
         &["record"],
         &["replay", "--slots"],
@@ -13,6 +13,8 @@ fn refuses_arguments(rt: HostRuntime) {
         &["serve", "--control-port", "x"],
         &["serve", "--late", "5"],
         &["live", "--late", "65536"],
+        &["live", "--first-context", "4294967296"],
+        &["replay", "--controller", "10.0.0.1"],
     ];
     for words in cases {
         let done = run_program(&rt, words, b"");

@@ -1,7 +1,7 @@
 use Rattle.std.proofs.Common.{◌≡◌, ◌∙◌, true, ap, refl, codes}
 use Rattle.clap.specs.Words.{Shape, app_of, new_app}
 use Rattle.clap.specs.Simple.{app_of_fields, on_top}
-use Rattle.mg_bridge.specs.Options.{command_line, live_line, options, subcommand_line}
+use Rattle.mg_bridge.specs.Options.{command_line, live_line, options, sockets_line, subcommand_line}
 use Rattle.mg_bridge.proofs.CommandLaws.{adds_subcommand}
 use Rattle.mg_bridge.proofs.options.command.Goals as goal
 
@@ -9,7 +9,7 @@ replay_is_plain : (subcommand_line (codes "replay")).top.is_plain ≡ true
 unfolding options
 replay_is_plain = refl
 
-serve_is_plain : (subcommand_line (codes "serve")).top.is_plain ≡ true
+serve_is_plain : (sockets_line (codes "serve")).top.is_plain ≡ true
 unfolding options
 serve_is_plain = refl
 

@@ -1,0 +1,22 @@
+/// Why texts name no controllers.
+#[derive(Clone, Copy, Debug, PartialEq, Eq)]
+pub enum ControllerFault {
+    /// One of them is no IPv4 address in dotted decimal.
+    Unreadable,
+    /// There are more than eight.
+    TooMany,
+}
+
+impl ControllerFault {
+    /// The text that tells it.
+    pub fn message(self) -> &'static str {
+        match self {
+            ControllerFault::Unreadable => {
+                "invalid value for '--controller <ADDRESS>': it is no IPv4 address in dotted decimal"
+            }
+            ControllerFault::TooMany => {
+                "invalid value for '--controller <ADDRESS>': there can be eight controllers at most"
+            }
+        }
+    }
+}

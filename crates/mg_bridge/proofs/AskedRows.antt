@@ -84,6 +84,14 @@ unspecified_address : asked (at_address (codes "0.0.0.0")) ≡ Err (kind.ValueVa
 unfolding asked command_line options config_at address_of clap_on_literals
 unspecified_address = refl
 
+multicast_address : asked (at_address (codes "224.0.0.1")) ≡ Err (kind.ValueValidation ∷ [])
+unfolding asked command_line options config_at address_of clap_on_literals
+multicast_address = refl
+
+greatest_address : asked (at_address (codes "223.255.255.255")) ≡ Ok (Serve (record standard { address = 223 ∷ 255 ∷ 255 ∷ 255 ∷ [] }) [])
+unfolding asked command_line options config_at address_of clap_on_literals
+greatest_address = refl
+
 three_parts : asked (at_address (codes "1.2.3")) ≡ Err (kind.ValueValidation ∷ [])
 unfolding asked command_line options config_at address_of clap_on_literals
 three_parts = refl

@@ -1,16 +1,21 @@
 -- The address of a gateway, by its text.
-use Rattle.std.specs.Prelude.{ℕ, List, [], ◌∷◌, Option, Some, None, Result, Ok, Err}
-use Rattle.std.specs.Prelude.{if◌then◌else◌}
+use Rattle.std.specs.Prelude.{ℕ, Bool, nat_le, List, [], ◌∷◌, slice_index, Option, Some, None, Result}
+use Rattle.std.specs.Prelude.{Ok, Err, if◌then◌else◌}
 use Rattle.std.specs.Str.{bytes_eq}
 use Rattle.mg_words.specs.Address.{address_of}
 use Rattle.mg_bridge.specs.declared.address.AddressFault.{AddressFault}
-use Rattle.mg_bridge.specs.declared.address.AddressFault.TheVariants.{Unreadable, Unspecified}
+use Rattle.mg_bridge.specs.declared.address.AddressFault.TheVariants.{Unreadable, Unspecified, OfMany}
 
--- Callers are told the address, and send to it. So it isn't 0.0.0.0.
+-- addresses from 224.0.0.0 on are those of groups, of no use, or of all
+abbrev pub is_of_many : List ℕ → Bool
+is_of_many address = nat_le 224 (slice_index address 0)
+
+-- Callers are told the address, and send to it. So it isn't 0.0.0.0, and one machine's.
 abbrev pub address_for_callers : Option (List ℕ) → Result (List ℕ) AddressFault
 address_for_callers None = Err Unreadable
 address_for_callers (Some address) =
-    if bytes_eq address (0 ∷ 0 ∷ 0 ∷ 0 ∷ []) then Err Unspecified else Ok address
+    if bytes_eq address (0 ∷ 0 ∷ 0 ∷ 0 ∷ []) then Err Unspecified
+    else (if is_of_many address then Err OfMany else Ok address)
 
 -- the address that a text in dotted decimal names
 abbrev pub own_address : List ℕ → Result (List ℕ) AddressFault

@@ -1,5 +1,5 @@
 ghost use Rattle.std.specs.Prelude.{◌≡◌};
-ghost use Rattle.mg_bridge.specs.Address.{own_address};
+ghost use Rattle.mg_bridge.specs.Address.{is_of_many, own_address};
 
 use mg_words::address_of;
 
@@ -10,6 +10,8 @@ pub enum AddressFault {
     Unreadable,
     /// It is 0.0.0.0, which stands for all addresses of a machine: callers can't send to it.
     Unspecified,
+    /// It is from 224.0.0.0 on: an address of multicast or broadcast, or of no use.
+    OfMany,
 }
 
 impl AddressFault {
@@ -19,11 +21,21 @@ impl AddressFault {
             AddressFault::Unreadable => {
                 "invalid value for '--address <ADDRESS>': it is no IPv4 address in dotted decimal"
             }
+            AddressFault::OfMany => {
+                "invalid value for '--address <ADDRESS>': callers are told this address, and it is none of one machine"
+            }
             AddressFault::Unspecified => {
                 "invalid value for '--address <ADDRESS>': callers are told this address, and can't send to 0.0.0.0"
             }
         }
     }
+}
+
+/// Whether an address is one of multicast or broadcast, or of no use: those from 224.0.0.0 on.
+pub fn is_of_many(address: [u8; 4]) -> bool
+    ensures value { result ≡ is_of_many address }
+{
+    address[0] >= 224
 }
 
 /// The address of a gateway that a text names: an IPv4 address in dotted decimal, where leading zeros are allowed.
@@ -32,6 +44,7 @@ pub fn own_address(text: &str) -> Result<[u8; 4], AddressFault>
 {
     match address_of(text.as_bytes()) {
         Some(address) if address == [0; 4] => Err(AddressFault::Unspecified),
+        Some(address) if is_of_many(address) => Err(AddressFault::OfMany),
         Some(address) => Ok(address),
         None => Err(AddressFault::Unreadable),
     }

@@ -3,6 +3,7 @@ ghost use Rattle.mg_engine.specs.Config.{IsValidConfig};
 ghost use Rattle.mg_ports.specs.Calls.{IsCounted};
 ghost use Rattle.mg_bridge.specs.Serve.{IsPortOf};
 
+use crate::address::is_of_many;
 use crate::bind_fault::BindFault;
 use crate::deadline::Deadline;
 use crate::readiness::{Readiness, SOCKETS};
@@ -54,6 +55,12 @@ fn bind_socket<N: Net>(
         Ok(()) => Ok(socket),
         Err(error) => Err(BindFault { port, error }),
     }
+}
+
+/// Whether an address is none of a caller's: 0.0.0.0, by which a call is held, would be this machine's own, and others are those of
+/// many.
+fn is_no_callers(address: [u8; 4]) -> bool {
+    address == [0; 4] || is_of_many(address)
 }
 
 /// Who sent a datagram. A sender that has no IPv4 address is a fault.
@@ -168,11 +175,11 @@ impl<D: Deadline> UdpPorts<D> {
         }
     }
 
-    /// Sends from a slot's socket. A packet, which goes out at a media port, has to be in time.
+    /// Sends from a slot's socket. A packet, which goes out at a media port, has to be in time and go to one machine.
     fn send_in_time(&mut self, slot: usize, to: Peer, bytes: &[u8]) -> Result<(), PortFault>
         ensures failures { self.new.failures ≡ self.old.failures }
     {
-        if slot > 0 && self.deadline.is_late() {
+        if slot > 0 && (is_no_callers(to.address) || self.deadline.is_late()) {
             return Err(PortFault);
         }
         self.sockets.try_send(slot, to, bytes)

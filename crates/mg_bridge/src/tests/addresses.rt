@@ -58,6 +58,23 @@ fn refuses_the_address_that_callers_cannot_send_to(rt: HostRuntime) {
 }
 
 #[test]
+fn refuses_addresses_of_many(rt: HostRuntime) {
+    let wanted =
+        b"error: invalid value for '--address <ADDRESS>': callers are told this address, and it is none of one machine\n";
+    for text in [
+        "224.0.0.1",
+        "239.255.255.255",
+        "240.0.0.0",
+        "255.255.255.255",
+    ] {
+        let done = run_program(&rt, &["live", "--address", text], b"");
+        assert_eq!(rt; done.status, 2);
+        assert!(rt; done.output.is_empty());
+        assert!(rt; done.errors.as_slice().starts_with(wanted.as_slice()));
+    }
+}
+
+#[test]
 fn takes_one_address(rt: HostRuntime) {
     let cases: [&[&str]; 3] = [
         &["replay", "--address", "10.0.0.1", "--address", "10.0.0.1"],

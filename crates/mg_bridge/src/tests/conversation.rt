@@ -136,6 +136,26 @@ fn loses_the_packets_that_cannot_be_sent_alone(rt: HostRuntime) -> Result<(), Fa
     Ok(())
 }
 
+/// Makes a termination that sends to 0.0.0.0, one that sends to a group, and one that sends to 28712.
+const HELD: &[u8] = b"MEGACO/1 [127.0.0.1]:28712 Transaction=1{Context=${\
+    Add=${Media{LocalControl{Mode=SendOnly},Remote{v=0\nc=IN IP4 0.0.0.0\nm=audio 28712 RTP/AVP 0\n}}},\
+    Add=${Media{LocalControl{Mode=SendOnly},Remote{v=0\nc=IN IP4 224.0.0.1\nm=audio 28712 RTP/AVP 0\n}}},\
+    Add=${Media{LocalControl{Mode=SendOnly},Remote{v=0\nc=IN IP4 127.0.0.1\nm=audio 28712 RTP/AVP 0\n}}}}}";
+
+#[test]
+fn sends_to_one_machine_alone(rt: HostRuntime) -> Result<(), Fail> {
+    let config = config(28700, 3);
+    let mut ports = bind(&rt, &config)?;
+    let caller = caller(&rt, 28712)?;
+    caller.send_to(HELD, local(28700))?;
+    let (result, _) = serve_lines(&rt, config, &mut ports, "poll\ntick\n");
+    let counts = result?;
+    assert_eq!(rt; counts.sent, 2);
+    assert_eq!(rt; counts.failed, 2);
+    assert!(rt; carries(&caller, 1, &[0xff; 160])?);
+    Ok(())
+}
+
 #[test]
 fn binds_its_address_alone(rt: HostRuntime) -> Result<(), Fail> {
     let config = Config {

@@ -35,6 +35,6 @@ wait $! 2> /dev/null || true
 [ "$callers" -gt 0 ] || exit 0
 : > "$work/out"
 mkfifo "$work/lines"
-"$pace" --polls 2 > "$work/lines" 2> "$work/errors" &
+"$pace" --polls 1 > "$work/lines" 2> "$work/errors" &
 "$work/bare" "$callers" "$slots" < "$work/lines" > "$work/out" &
 measure 'bare calls' $!

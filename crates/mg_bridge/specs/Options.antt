@@ -32,7 +32,8 @@ unfoldable pub options : List Rule
 options = text_rule (codes "address") ∷ number_rule (codes "control-port") 0 65535
     ∷ number_rule (codes "base-port") 0 65535 ∷ number_rule (codes "slots") 0 65535
     ∷ number_rule (codes "first-termination") 0 4294967295
-    ∷ number_rule (codes "first-context") 0 4294967295 ∷ number_rule (codes "ssrc") 0 4294967295 ∷ number_rule (codes "sequence") 0 65535
+    ∷ number_rule (codes "first-context") 0 4294967295
+    ∷ number_rule (codes "ssrc") 0 4294967295 ∷ number_rule (codes "sequence") 0 65535
     ∷ number_rule (codes "timestamp") 0 4294967295 ∷ []
 
 abbrev pub with_rules : App → List Rule → App
@@ -126,8 +127,8 @@ asked_by [] (Some found) = run_at found.0 found.1 (address_in found.1)
 asked_by kinds found = Err kinds
 
 -- A run of a subcommand, or none. There is none where the parser of words has a fault to tell, or
--- an address can't be a gateway's or a controller's: the fault has one of these kinds. A call for help is a fault of
--- the parser's.
+-- an address can't be a gateway's or a controller's: the fault has one of these kinds. A call for
+-- help is a fault of the parser's.
 unfoldable pub asked : List Text → Result Invocation Kinds
 asked words = asked_by (fault_of command_line words) (subcommand_of command_line words)
 

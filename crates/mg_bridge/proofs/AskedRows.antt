@@ -18,28 +18,36 @@ replay_by_itself : asked (codes "replay" ∷ []) ≡ Ok (Replay standard)
 unfolding asked command_line options config_at clap_on_literals
 replay_by_itself = refl
 
-serve_by_itself : asked (codes "serve" ∷ []) ≡ Ok (Serve standard [])
+serve_by_itself : asked (codes "serve" ∷ []) ≡ Ok (Serve standard [] 0)
 unfolding asked command_line options config_at clap_on_literals
 serve_by_itself = refl
 
-live_by_itself : asked (codes "live" ∷ []) ≡ Ok (Live standard [] 5)
+live_by_itself : asked (codes "live" ∷ []) ≡ Ok (Live standard [] 5 0)
 unfolding asked command_line options config_at clap_on_literals
 live_by_itself = refl
 
-live_with_both : asked (codes "live" ∷ codes "--slots=4" ∷ codes "--late" ∷ codes "0" ∷ []) ≡ Ok (Live (record standard { slots = 4 }) [] 0)
+live_with_both : asked (codes "live" ∷ codes "--slots=4" ∷ codes "--late" ∷ codes "0" ∷ []) ≡ Ok (Live (record standard { slots = 4 }) [] 0 0)
 unfolding asked command_line options config_at clap_on_literals
 live_with_both = refl
+
+with_reports : asked (codes "serve" ∷ codes "--report=10" ∷ []) ≡ Ok (Serve standard [] 10)
+unfolding asked command_line options config_at clap_on_literals
+with_reports = refl
+
+live_with_reports : asked (codes "live" ∷ codes "--report=60" ∷ codes "--late=1" ∷ []) ≡ Ok (Live standard [] 1 60)
+unfolding asked command_line options config_at clap_on_literals
+live_with_reports = refl
 
 serve_is_never_late : asked (codes "serve" ∷ codes "--late=5" ∷ []) ≡ Err (kind.UnknownArgument ∷ [])
 unfolding asked command_line options config_at clap_on_literals
 serve_is_never_late = refl
 
-first_numbers : asked (codes "live" ∷ codes "--first-context=7" ∷ codes "--first-termination" ∷ codes "9" ∷ []) ≡ Ok (Live (record standard { first_termination = 9; first_context = 7 }) [] 5)
+first_numbers : asked (codes "live" ∷ codes "--first-context=7" ∷ codes "--first-termination" ∷ codes "9" ∷ []) ≡ Ok (Live (record standard { first_termination = 9; first_context = 7 }) [] 5 0)
 unfolding asked command_line options config_at clap_on_literals
 first_numbers = refl
 
 two_controllers : asked (codes "live" ∷ codes "--controller=10.0.0.1" ∷ codes "--controller" ∷ codes "10.0.0.2" ∷ [])
-    ≡ Ok (Live standard ((10 ∷ 0 ∷ 0 ∷ 1 ∷ []) ∷ (10 ∷ 0 ∷ 0 ∷ 2 ∷ []) ∷ []) 5)
+    ≡ Ok (Live standard ((10 ∷ 0 ∷ 0 ∷ 1 ∷ []) ∷ (10 ∷ 0 ∷ 0 ∷ 2 ∷ []) ∷ []) 5 0)
 unfolding asked command_line options config_at address_of clap_on_literals
 two_controllers = refl
 
@@ -55,7 +63,7 @@ with_slots : asked (slots (codes "4")) ≡ Ok (Replay (record standard { slots =
 unfolding asked command_line options config_at clap_on_literals
 with_slots = refl
 
-serve_with_slots : asked (codes "serve" ∷ codes "--slots=4" ∷ []) ≡ Ok (Serve (record standard { slots = 4 }) [])
+serve_with_slots : asked (codes "serve" ∷ codes "--slots=4" ∷ []) ≡ Ok (Serve (record standard { slots = 4 }) [] 0)
 unfolding asked command_line options config_at clap_on_literals
 serve_with_slots = refl
 
@@ -72,11 +80,11 @@ with_plus : asked (slots (codes "+7")) ≡ Ok (Replay (record standard { slots =
 unfolding asked command_line options config_at clap_on_literals
 with_plus = refl
 
-with_address : asked (at_address (codes "10.0.0.1")) ≡ Ok (Serve (record standard { address = 10 ∷ 0 ∷ 0 ∷ 1 ∷ [] }) [])
+with_address : asked (at_address (codes "10.0.0.1")) ≡ Ok (Serve (record standard { address = 10 ∷ 0 ∷ 0 ∷ 1 ∷ []; control_address = 10 ∷ 0 ∷ 0 ∷ 1 ∷ [] }) [] 0)
 unfolding asked command_line options config_at address_of clap_on_literals
 with_address = refl
 
-with_leading_zeros : asked (at_address (codes "010.00.0.001")) ≡ Ok (Serve (record standard { address = 10 ∷ 0 ∷ 0 ∷ 1 ∷ [] }) [])
+with_leading_zeros : asked (at_address (codes "010.00.0.001")) ≡ Ok (Serve (record standard { address = 10 ∷ 0 ∷ 0 ∷ 1 ∷ []; control_address = 10 ∷ 0 ∷ 0 ∷ 1 ∷ [] }) [] 0)
 unfolding asked command_line options config_at address_of clap_on_literals
 with_leading_zeros = refl
 
@@ -88,9 +96,19 @@ multicast_address : asked (at_address (codes "224.0.0.1")) ≡ Err (kind.ValueVa
 unfolding asked command_line options config_at address_of clap_on_literals
 multicast_address = refl
 
-greatest_address : asked (at_address (codes "223.255.255.255")) ≡ Ok (Serve (record standard { address = 223 ∷ 255 ∷ 255 ∷ 255 ∷ [] }) [])
+greatest_address : asked (at_address (codes "223.255.255.255")) ≡ Ok (Serve (record standard { address = 223 ∷ 255 ∷ 255 ∷ 255 ∷ []; control_address = 223 ∷ 255 ∷ 255 ∷ 255 ∷ [] }) [] 0)
 unfolding asked command_line options config_at address_of clap_on_literals
 greatest_address = refl
+
+-- control messages on a network of their own
+two_addresses : asked (codes "live" ∷ codes "--control-address=10.0.0.1" ∷ codes "--address" ∷ codes "192.0.2.1" ∷ [])
+    ≡ Ok (Live (record standard { address = 192 ∷ 0 ∷ 2 ∷ 1 ∷ []; control_address = 10 ∷ 0 ∷ 0 ∷ 1 ∷ [] }) [] 5 0)
+unfolding asked command_line options config_at address_of clap_on_literals
+two_addresses = refl
+
+unspecified_control_address : asked (codes "live" ∷ codes "--control-address=0.0.0.0" ∷ []) ≡ Err (kind.ValueValidation ∷ [])
+unfolding asked command_line options config_at address_of clap_on_literals
+unspecified_control_address = refl
 
 three_parts : asked (at_address (codes "1.2.3")) ≡ Err (kind.ValueValidation ∷ [])
 unfolding asked command_line options config_at address_of clap_on_literals

@@ -35,10 +35,10 @@ pub ends_told : {R W : Type 0} (remaining : R → Option (List ℕ)) (contents :
 ends_told remaining contents (Ok (Replay config)) kind input rest old new status memory told left =
     let ended = subst (λ k. Tells k old new status) memory told in
     rw (ended.0, ended.1, left) (not_begun config (remaining input) (contents old))
-ends_told remaining contents (Ok (Serve config controllers)) kind input rest old new status memory told left =
+ends_told remaining contents (Ok (Serve config controllers report)) kind input rest old new status memory told left =
     let ended = subst (λ k. Tells k old new status) memory told in
     inr (subst (IsNotBegun config) (sym ended.0) tt, left, ended.1)
-ends_told remaining contents (Ok (Live config controllers late)) kind input rest old new status memory told left =
+ends_told remaining contents (Ok (Live config controllers late report)) kind input rest old new status memory told left =
     let ended = subst (λ k. Tells k old new status) memory told in
     (left, inr (inl (subst (IsNotBegun config) (sym ended.0) tt), ended.1))
 ends_told remaining contents (Err kinds) kind input rest old new status why told left = (left, record { kind = kind; among = why; told = told })

@@ -1,5 +1,5 @@
 -- What follows of the words for which the command line finds no fault, or one.
-use Rattle.std.proofs.Common.{◌≡◌, ◌⊎◌, ◌&&◌, ◌∙◌, ℕ, Bool, true, false, not, List, [], ◌∷◌, Option, Some, None, is_some, inl, inr, refl, sym, ap, ap₂, subst, true≢false, Result, Ok, Err}
+use Rattle.std.proofs.Common.{◌≡◌, ◌⊎◌, ◌&&◌, ◌∙◌, ℕ, Bool, true, false, not, List, [], ◌∷◌, Option, Some, None, is_some, inl, inr, refl, sym, ap, ap₂, subst, true≢false, Result, Ok, Err, codes}
 use Rattle.std.specs.Prelude.{Box, IfErr, IsErrAnd, option_map}
 use Rattle.std.proofs.lemmas.Bool.{and_parts}
 use Rattle.std.specs.List.{list_any}
@@ -18,10 +18,11 @@ use Rattle.clap.specs.declared.error.kind.ErrorKind.TheVariants.{OutOfMemory, Va
 use Rattle.clap.specs.declared.parser.matches.SubCommand.{SubCommand}
 use Rattle.std.specs.Box.{box_value}
 use Rattle.mg_engine.specs.declared.config.Config.{Config}
+use Rattle.mg_engine.specs.Config.{standard}
 use Rattle.mg_bridge.specs.declared.invocation.Invocation.{Invocation}
 use Rattle.mg_bridge.specs.declared.address.AddressFault.{AddressFault}
 use Rattle.mg_bridge.specs.declared.controller_fault.ControllerFault.{ControllerFault}
-use Rattle.mg_bridge.specs.Options.{IsRefused, address_in, asked, asked_by, command_line, config_at, controllers_in, late_in, options, run_at, run_of, run_under}
+use Rattle.mg_bridge.specs.Options.{IsRefused, address_in, asked, asked_by, command_line, config_at, controllers_in, late_in, options, report_in, run_at, run_named, run_of, run_under}
 
 abbrev has_kinds : Kinds → Bool
 has_kinds [] = false
@@ -69,7 +70,7 @@ memory_refuses (Ok run) = refl
 memory_refuses (Err kinds) = inl refl
 
 run_by : (kinds : Kinds) (found : Option (Text × List Row)) (run : Text × List Row) → kinds ≡ [] → found ≡ Some run
-    → asked_by kinds found ≡ run_at run.0 run.1 (address_in run.1)
+    → asked_by kinds found ≡ run_at run.0 run.1 (address_in (codes "address") standard.address run.1)
 run_by kinds found run none is = ap₂ asked_by none is
 
 refused_by : (kinds : Kinds) (found : Option (Text × List Row)) (kind : ErrorKind) → (kind ≡ OutOfMemory) ⊎ IsAmong kind kinds
@@ -108,7 +109,7 @@ module _ (line : App) (words : List Text) (is : line ≡ command_line) where
   -- matches ask for a run by the name and the options of the subcommand
   pub asks_run : (m : ArgMatches) (name : Text) (rows : List Row) → (is_simple_and_free line ≡ true → fault_of line words ≡ [])
       → HasMatchesOf line words m → Some name ≡ subcommand_name_of m → Some rows ≡ option_map (λ f. f.1) (subcommand_rows_of m)
-      → asked words ≡ run_at name rows (address_in rows)
+      → asked words ≡ run_at name rows (address_in (codes "address") standard.address rows)
   unfolding asked
   asks_run m name rows passes matches named found =
       run_by _ _ (name, rows) (no_fault passes) (sym (subcommand_is m matches) ∙ both_found (out-ArgMatches m).subcommand name rows named found)
@@ -118,23 +119,34 @@ module _ (line : App) (words : List Text) (is : line ≡ command_line) where
   unfolding asked
   asks_none kind fails = refused_by _ _ kind (subst (λ (l : App). (kind ≡ OutOfMemory) ⊎ IsAmong kind (fault_of l words)) is (fails simple))
 
+-- the address that the options name is that of the run
+pub at_address : (name : Text) (rows : List Row) (config : Config) (found : Result (List ℕ) AddressFault) → config ≡ standard
+    → found ≡ address_in (codes "address") config.address rows → run_at name rows (address_in (codes "address") standard.address rows) ≡ run_at name rows found
+at_address name rows config found is named = sym (ap (run_at name rows) (named ∙ ap (λ (c : Config). address_in (codes "address") c.address rows) is))
+
 -- the run of a subcommand at an address
-pub run_is : (name : Text) (rows : List Row) (address : List ℕ) (config : Config) (controllers : List (List ℕ)) (late : ℕ) (run : Invocation)
-    → config ≡ config_at address rows → Ok controllers ≡ controllers_in rows → late ≡ late_in rows → run ≡ run_of name config controllers late
-    → run_at name rows (Ok address) ≡ Ok run
-run_is name rows address config controllers late run configured listed allowed is =
-    ap (run_under name rows (config_at address rows)) (sym listed) ∙ rw (is, configured, allowed) refl
+pub run_is : (name : Text) (rows : List Row) (address control : List ℕ) (config : Config) (controllers : List (List ℕ)) (late report : ℕ) (run : Invocation)
+    → Ok control ≡ address_in (codes "control-address") address rows → config ≡ config_at address control rows → Ok controllers ≡ controllers_in rows → late ≡ late_in rows
+    → report ≡ report_in rows → run ≡ run_of name config controllers late report → run_at name rows (Ok address) ≡ Ok run
+run_is name rows address control config controllers late report run named configured listed allowed often is =
+    ap (run_named name rows address) (sym named) ∙ (ap (run_under name rows (config_at address control rows)) (sym listed) ∙ rw (is, configured, allowed, often) refl)
 
 -- an error says why there is none under texts that name no controllers
-pub refuses_controllers : (asked : Result Invocation Kinds) (name : Text) (rows : List Row) (config : Config) (fault : ControllerFault) (kind : ErrorKind)
-    → asked ≡ run_under name rows config (controllers_in rows) → Err fault ≡ controllers_in rows → kind ≡ ValueValidation → IsRefused asked kind
-refuses_controllers asked name rows config fault kind asks listed is =
-    rw (asks ∙ ap (run_under name rows config) (sym listed), is) (inr (inl refl))
+pub refuses_controllers : (asked : Result Invocation Kinds) (name : Text) (rows : List Row) (address control : List ℕ) (fault : ControllerFault) (kind : ErrorKind)
+    → asked ≡ run_at name rows (Ok address) → Ok control ≡ address_in (codes "control-address") address rows → Err fault ≡ controllers_in rows → kind ≡ ValueValidation
+    → IsRefused asked kind
+refuses_controllers asked name rows address control fault kind asks named listed is =
+    rw (asks ∙ (ap (run_named name rows address) (sym named) ∙ ap (run_under name rows (config_at address control rows)) (sym listed)), is) (inr (inl refl))
 
 -- an error says why there is none at a text that names no address
 pub refuses_address : (asked : Result Invocation Kinds) (name : Text) (rows : List Row) (fault : AddressFault) (kind : ErrorKind)
     → asked ≡ run_at name rows (Err fault) → kind ≡ ValueValidation → IsRefused asked kind
 refuses_address asked name rows fault kind asks is = rw (asks, is) (inr (inl refl))
+
+-- or none at one that names no address for control messages
+pub refuses_control : (asked : Result Invocation Kinds) (name : Text) (rows : List Row) (address : List ℕ) (fault : AddressFault) (kind : ErrorKind)
+    → asked ≡ run_at name rows (Ok address) → Err fault ≡ address_in (codes "control-address") address rows → kind ≡ ValueValidation → IsRefused asked kind
+refuses_control asked name rows address fault kind asks named is = rw (asks ∙ ap (run_named name rows address) (sym named), is) (inr (inl refl))
 
 -- an error that was passed on
 pub passed_on : {T : Type 0} (r : Result T Error) (error : Error) (Q : ErrorKind → Type 0) → IsErrAnd r (λ e. e ≡ error) → Q (kind_of error)

@@ -1,22 +1,24 @@
 -- The address of a gateway, by its text.
-use Rattle.std.specs.Prelude.{ℕ, Bool, nat_le, List, [], ◌∷◌, slice_index, Option, Some, None, Result}
-use Rattle.std.specs.Prelude.{Ok, Err, if◌then◌else◌}
+use Rattle.std.specs.Prelude.{ℕ, Bool, nat_le, List, [], ◌∷◌, slice_index, Option, Some, None}
+use Rattle.std.specs.Prelude.{Result, Ok, Err, if◌then◌else◌}
 use Rattle.std.specs.Str.{bytes_eq}
 use Rattle.mg_words.specs.Address.{address_of}
 use Rattle.mg_bridge.specs.declared.address.AddressFault.{AddressFault}
-use Rattle.mg_bridge.specs.declared.address.AddressFault.TheVariants.{Unreadable, Unspecified, OfMany}
+use Rattle.mg_bridge.specs.declared.address.AddressFault.TheVariants.{Unreadable, Unspecified}
+use Rattle.mg_bridge.specs.declared.address.AddressFault.TheVariants.{OfMany}
 
 -- addresses from 224.0.0.0 on are those of groups, of no use, or of all
 abbrev pub is_of_many : List ℕ → Bool
 is_of_many address = nat_le 224 (slice_index address 0)
 
--- Callers are told the address, and send to it. So it isn't 0.0.0.0, and one machine's.
-abbrev pub address_for_callers : Option (List ℕ) → Result (List ℕ) AddressFault
-address_for_callers None = Err Unreadable
-address_for_callers (Some address) =
+-- Callers are told the address, or the gateway is named by it. So it isn't 0.0.0.0, and one
+-- machine's.
+abbrev pub address_of_one : Option (List ℕ) → Result (List ℕ) AddressFault
+address_of_one None = Err Unreadable
+address_of_one (Some address) =
     if bytes_eq address (0 ∷ 0 ∷ 0 ∷ 0 ∷ []) then Err Unspecified
     else (if is_of_many address then Err OfMany else Ok address)
 
 -- the address that a text in dotted decimal names
 abbrev pub own_address : List ℕ → Result (List ℕ) AddressFault
-own_address text = address_for_callers (address_of text)
+own_address text = address_of_one (address_of text)

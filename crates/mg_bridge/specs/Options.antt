@@ -29,7 +29,8 @@ text_rule name = record (new_rule name) { long = Some name; value_names = 1 }
 
 -- the options of every subcommand, each of which may be given once
 unfoldable pub options : List Rule
-options = text_rule (codes "address") ∷ number_rule (codes "control-port") 0 65535
+options = text_rule (codes "address") ∷ text_rule (codes "control-address")
+    ∷ number_rule (codes "control-port") 0 65535
     ∷ number_rule (codes "base-port") 0 65535 ∷ number_rule (codes "slots") 0 65535
     ∷ number_rule (codes "first-termination") 0 4294967295
     ∷ number_rule (codes "first-context") 0 4294967295
@@ -50,7 +51,9 @@ controller_rule = record (text_rule (codes "controller")) { action = Some Append
 
 -- a subcommand of a gateway on sockets
 abbrev pub sockets_line : Text → App
-sockets_line name = with_rule (subcommand_line name) controller_rule
+sockets_line name =
+    with_rule (with_rule (subcommand_line name) controller_rule)
+    (number_rule (codes "report") 0 65535)
 
 -- and the one that has a clock
 abbrev pub live_line : App
@@ -77,11 +80,12 @@ short_in name found otherwise = unwrap_or (number_given 65536 name found) otherw
 abbrev pub long_in : Text → List Row → ℕ → ℕ
 long_in name found otherwise = unwrap_or (number_given 4294967296 name found) otherwise
 
--- the configuration that the options name, at this address: what isn't named is as in the standard
--- one
-unfoldable pub config_at : List ℕ → List Row → Config
-config_at address found = record standard {
+-- the configuration that the options name, at these addresses for media and for control messages:
+-- what isn't named is as in the standard one
+unfoldable pub config_at : List ℕ → List ℕ → List Row → Config
+config_at address control found = record standard {
   address = address;
+  control_address = control;
   control_port = short_in (codes "control-port") found standard.control_port;
   base_port = short_in (codes "base-port") found standard.base_port;
   slots = short_in (codes "slots") found standard.slots;
@@ -92,10 +96,9 @@ config_at address found = record standard {
   timestamp = long_in (codes "timestamp") found standard.timestamp;
 }
 
--- the address that the options name, or the standard one
-abbrev pub address_in : List Row → Result (List ℕ) AddressFault
-address_in found = option_map_or own_address (first_of (codes "address") found)
-    (Ok standard.address)
+-- the address that an option names, or another one where it isn't given
+abbrev pub address_in : Text → List ℕ → List Row → Result (List ℕ) AddressFault
+address_in name otherwise found = option_map_or own_address (first_of name found) (Ok otherwise)
 
 -- ## What words ask of the program
 
@@ -103,27 +106,41 @@ address_in found = option_map_or own_address (first_of (codes "address") found)
 abbrev pub late_in : List Row → ℕ
 late_in found = short_in (codes "late") found 5
 
+-- how often a report is due, in seconds
+abbrev pub report_in : List Row → ℕ
+report_in found = short_in (codes "report") found 0
+
 -- the controllers that the options name
 abbrev pub controllers_in : List Row → Result (List (List ℕ)) ControllerFault
 controllers_in found = controllers_of (unwrap_or (all_of (codes "controller") found) [])
 
-abbrev pub run_of : Text → Config → List (List ℕ) → ℕ → Invocation
-run_of name config controllers late =
-    if bytes_eq name (codes "serve") then Serve config controllers
-    else (if bytes_eq name (codes "live") then Live config controllers late else Replay config)
+abbrev pub run_of : Text → Config → List (List ℕ) → ℕ → ℕ → Invocation
+run_of name config controllers late report =
+    if bytes_eq name (codes "serve") then Serve config controllers report
+    else (if bytes_eq name (codes "live") then Live config controllers late report
+    else Replay config)
 
 abbrev pub run_under : Text → List Row → Config → Result (List (List ℕ)) ControllerFault
     → Result Invocation Kinds
-run_under name found config (Ok controllers) = Ok (run_of name config controllers (late_in found))
+run_under name found config (Ok controllers) =
+    Ok (run_of name config controllers (late_in found) (report_in found))
 run_under name found config (Err fault) = Err (ValueValidation ∷ [])
 
+abbrev pub run_named : Text → List Row → List ℕ → Result (List ℕ) AddressFault
+    → Result Invocation Kinds
+run_named name found address (Ok control) =
+    run_under name found (config_at address control found) (controllers_in found)
+run_named name found address (Err fault) = Err (ValueValidation ∷ [])
+
+-- without an address of its own for control messages a gateway has the one that callers are told
 abbrev pub run_at : Text → List Row → Result (List ℕ) AddressFault → Result Invocation Kinds
 run_at name found (Ok address) =
-    run_under name found (config_at address found) (controllers_in found)
+    run_named name found address (address_in (codes "control-address") address found)
 run_at name found (Err fault) = Err (ValueValidation ∷ [])
 
 abbrev pub asked_by : Kinds → Option (Text × List Row) → Result Invocation Kinds
-asked_by [] (Some found) = run_at found.0 found.1 (address_in found.1)
+asked_by [] (Some found) =
+    run_at found.0 found.1 (address_in (codes "address") standard.address found.1)
 asked_by kinds found = Err kinds
 
 -- A run of a subcommand, or none. There is none where the parser of words has a fault to tell, or

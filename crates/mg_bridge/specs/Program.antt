@@ -33,9 +33,9 @@ abbrev pub Ends : {R W : Type 0} → (R → Option (List ℕ)) → (W → Option
     → Result Invocation Kinds → R → R → W → W → Status → Type 0
 Ends remaining contents (Ok (Replay config)) input rest old new status =
     Replays config (remaining input) (remaining rest) (contents old) (contents new) status
-Ends remaining contents (Ok (Serve config controllers)) input rest old new status =
+Ends remaining contents (Ok (Serve config controllers report)) input rest old new status =
     Serves remaining config input rest old new status
-Ends remaining contents (Ok (Live config controllers late)) input rest old new status =
+Ends remaining contents (Ok (Live config controllers late report)) input rest old new status =
     (rest ≡ input) × ServesByClock config old new status
 Ends remaining contents (Err kinds) input rest old new status =
     (rest ≡ input) × TellsOne kinds old new status
@@ -51,5 +51,5 @@ pub record EndsWith {R W : Type 0} (remaining : R → Option (List ℕ))
 -- the words ask for a gateway by the clock
 abbrev pub IsLive : Result Invocation Kinds → Type 0
 IsLive asked =
-    (config : Config) × (controllers : List (List ℕ)) × (late : ℕ)
-    × (asked ≡ Ok (Live config controllers late))
+    (config : Config) × (controllers : List (List ℕ)) × (late : ℕ) × (report : ℕ)
+    × (asked ≡ Ok (Live config controllers late report))

@@ -8,14 +8,14 @@ use mg_words::address_of;
 pub enum AddressFault {
     /// It is no IPv4 address in dotted decimal.
     Unreadable,
-    /// It is 0.0.0.0, which stands for all addresses of a machine: callers can't send to it.
+    /// It is 0.0.0.0, which stands for all addresses of a machine: nobody can send to it.
     Unspecified,
     /// It is from 224.0.0.0 on: an address of multicast or broadcast, or of no use.
     OfMany,
 }
 
 impl AddressFault {
-    /// The text that tells it.
+    /// The text that tells it of the address for media.
     pub fn message(self) -> &'static str {
         match self {
             AddressFault::Unreadable => {
@@ -26,6 +26,21 @@ impl AddressFault {
             }
             AddressFault::Unspecified => {
                 "invalid value for '--address <ADDRESS>': callers are told this address, and can't send to 0.0.0.0"
+            }
+        }
+    }
+
+    /// The text that tells it of the address for control messages.
+    pub fn control_message(self) -> &'static str {
+        match self {
+            AddressFault::Unreadable => {
+                "invalid value for '--control-address <ADDRESS>': it is no IPv4 address in dotted decimal"
+            }
+            AddressFault::OfMany => {
+                "invalid value for '--control-address <ADDRESS>': the gateway is named by this address, and it is none of one machine"
+            }
+            AddressFault::Unspecified => {
+                "invalid value for '--control-address <ADDRESS>': the gateway is named by this address, and can't be by 0.0.0.0"
             }
         }
     }

@@ -4,10 +4,11 @@ ghost use Rattle.mg_serve.specs.Serve.{ServedSession};
 ghost use Rattle.mg_bridge.specs.Serve.{ServesByClock};
 
 use crate::controllers::Controllers;
-use crate::deadline::TickDeadline;
 use crate::serve::bind;
+use crate::sockets::Sockets;
 use crate::status::Status;
-use crate::udp_ports::{Sockets, UdpPorts};
+use crate::tick_deadline::TickDeadline;
+use crate::udp_ports::UdpPorts;
 use mg_clock::{ClockLines, SystemWatch, Watch};
 use mg_core::{Config, Counts, RunFault};
 use mg_ports::GuardedPorts;
@@ -21,7 +22,7 @@ use std::time::Clock;
 const POLLS: u16 = 1;
 
 /// Serves a new gateway on these sockets by a clock. How late a packet is is told by another one with the same start.
-fn serve_by<K: Watch + Drop, W: Write, E: Write>(
+fn serve_by<K: Watch + Drop, W: Write, E: Write, T: Write>(
     alloc: Global,
     config: Config,
     controllers: &Controllers,
@@ -31,6 +32,8 @@ fn serve_by<K: Watch + Drop, W: Write, E: Write>(
     again: K,
     output: &mut W,
     errors: &mut E,
+    seconds: u16,
+    reports: &mut T,
 ) -> Result<Counts, RunFault>
     ensures session { ServedSession config None None None None result }
     ensures bad { (result ≡ Err RunFault.BadConfig) ↔ ¬ IsValidConfig config }
@@ -40,14 +43,16 @@ fn serve_by<K: Watch + Drop, W: Write, E: Write>(
     let ports = UdpPorts::new(sockets, deadline);
     let mut ports = GuardedPorts::new(ports, controllers.as_slice());
     let mut lines = ClockLines::new(clock, &ticks, POLLS);
-    mg_serve::serve(alloc, config, &mut ports, &mut lines, output)
+    mg_serve::serve(
+        alloc, config, &mut ports, &mut lines, output, seconds, reports,
+    )
 }
 
 /// Serves a new gateway on UDP ports by the clock: a poll and a tick every 20 ms. The text of a fault goes to `errors`.
 ///
 /// After a delay all polls and ticks that were missed are done at once. The packets of a tick that is late by more ticks than are
-/// allowed are not sent, so that callers hear a gap, and timestamps stay with the clock. How many weren't sent goes to `errors`.
-pub fn live<N: Net, C: Clock, W: Write, E: Write>(
+/// allowed are not sent, so that callers hear a gap, and timestamps stay with the clock. How many weren't sent goes to `errors`. Every so many seconds, if any, a report goes to `reports`.
+pub fn live<N: Net, C: Clock, W: Write, E: Write, T: Write>(
     net: &N,
     clock: &C,
     alloc: Global,
@@ -56,6 +61,8 @@ pub fn live<N: Net, C: Clock, W: Write, E: Write>(
     late: u16,
     output: &mut W,
     errors: &mut E,
+    seconds: u16,
+    reports: &mut T,
 ) -> Status
     ensures value { ServesByClock config output.old output.new result }
 {
@@ -81,6 +88,8 @@ pub fn live<N: Net, C: Clock, W: Write, E: Write>(
         again,
         output,
         errors,
+        seconds,
+        reports,
     );
     Status::after(&outcome, &config, errors)
 }

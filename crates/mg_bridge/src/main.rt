@@ -21,14 +21,17 @@ mod controllers;
 mod deadline;
 mod invocation;
 mod live;
+mod no_deadline;
 mod options;
 mod program;
 mod readiness;
 mod replay;
 mod serve;
+mod sockets;
 mod status;
 #[cfg(test)]
 mod tests;
+mod tick_deadline;
 mod udp_ports;
 
 use crate::program::program;
@@ -64,6 +67,7 @@ fn main(rt: HostRuntime) -> ExitCode {
     };
     let mut input = rt.stdin();
     let mut output = rt.stdout();
+    let mut reports = rt.stderr();
     let code = program(
         &rt,
         &rt,
@@ -72,6 +76,7 @@ fn main(rt: HostRuntime) -> ExitCode {
         &mut input,
         &mut output,
         &mut errors,
+        &mut reports,
     );
     ExitCode::from(code)
 }

@@ -1,7 +1,7 @@
 ghost use Rattle.std.specs.Prelude.{◌≡◌, IfErr, IfOk, Ok, map};
 ghost use Rattle.clap.specs.Words.{app_of, found_of, kind_of, rows_of, rule_of, with_rule};
 ghost use Rattle.mg_bridge.specs.Options.{IsRefused, address_in, asked, command_line, config_at, controller_rule};
-ghost use Rattle.mg_bridge.specs.Options.{controllers_in, late_in, live_line, sockets_line};
+ghost use Rattle.mg_bridge.specs.Options.{controllers_in, late_in, live_line, report_in, sockets_line};
 ghost use Rattle.mg_bridge.specs.Options.{options, run_of, subcommand_line, text_rule};
 ghost use Rattle.mg_bridge.specs.Options.{with_rules};
 
@@ -31,6 +31,9 @@ fn with_options<'a>(alloc: Global, command: Command<'a>) -> Result<Command<'a>, 
     let command = command
         .arg(address_option(alloc, "address").help(
             "The IPv4 address of the gateway, which callers are told; 127.0.0.1 where this isn't given",
+        ))?
+        .arg(address_option(alloc, "control-address").help(
+            "The IPv4 address for control messages; the same as for callers where this isn't given",
         ))?
         .arg(short_number(alloc, "control-port").help(
             "The UDP port for control messages; 2944 where this isn't given",
@@ -85,7 +88,11 @@ fn on_sockets<'a>(alloc: Global, name: &'a str, about: &'a str) -> Result<Comman
     ensures app { IfOk result (λ command. app_of command ≡ sockets_line name.now) }
     ensures memory { IfErr result (λ error. kind_of error ≡ ErrorKind.OutOfMemory) }
 {
-    let command = subcommand(alloc, name, about)?.arg(controller_option(alloc))?;
+    let command = subcommand(alloc, name, about)?
+        .arg(controller_option(alloc))?
+        .arg(short_number(alloc, "report").help(
+            "Reports on standard error every so many seconds; never where this isn't given, or 0",
+        ))?;
     Ok(command)
 }
 
@@ -128,23 +135,29 @@ fn command<'a>(alloc: Global) -> Result<Command<'a>, Error>
     Ok(command)
 }
 
-/// The address that the options name, or the default.
-fn address_of(matches: &ArgMatches<'_>) -> Result<[u8; 4], AddressFault>
-    ensures value { result ≡ address_in (rows_of (found_of matches.now)) }
+/// The address that an option names, or another one where it isn't given.
+fn address_of(
+    name: &str,
+    otherwise: [u8; 4],
+    matches: &ArgMatches<'_>,
+) -> Result<[u8; 4], AddressFault>
+    ensures value { result ≡ address_in name.now otherwise (rows_of (found_of matches.now)) }
 {
-    match matches.get_str("address") {
+    match matches.get_str(name) {
         Some(text) => own_address(text),
-        None => Ok(Config::default().address),
+        None => Ok(otherwise),
     }
 }
 
-/// The configuration that the options name, at this address. An option that isn't given leaves the default.
-fn config_at(address: [u8; 4], matches: &ArgMatches<'_>) -> Config
-    ensures value { result ≡ config_at address (rows_of (found_of matches.now)) }
+/// The configuration that the options name, at these addresses for media and for control messages. An option that isn't given leaves
+/// the default.
+fn config_at(address: [u8; 4], control_address: [u8; 4], matches: &ArgMatches<'_>) -> Config
+    ensures value { result ≡ config_at address control_address (rows_of (found_of matches.now)) }
 {
     let standard = Config::default();
     Config {
         address,
+        control_address,
         control_port: short_value(matches, "control-port").unwrap_or(standard.control_port),
         base_port: short_value(matches, "base-port").unwrap_or(standard.base_port),
         slots: short_value(matches, "slots").unwrap_or(standard.slots),
@@ -165,6 +178,13 @@ fn late_of(matches: &ArgMatches<'_>) -> u16
     short_value(matches, "late").unwrap_or(5)
 }
 
+/// How often a report is due, in seconds.
+fn report_of(matches: &ArgMatches<'_>) -> u16
+    ensures value { result ≡ report_in (rows_of (found_of matches.now)) }
+{
+    short_value(matches, "report").unwrap_or(0)
+}
+
 /// The controllers that the options name.
 fn controllers_of(matches: &ArgMatches<'_>) -> Result<Controllers, ControllerFault>
     ensures value { result ≡ controllers_in (rows_of (found_of matches.now)) }
@@ -176,13 +196,19 @@ fn controllers_of(matches: &ArgMatches<'_>) -> Result<Controllers, ControllerFau
 }
 
 /// The run of a subcommand.
-fn run_of(name: &str, config: Config, controllers: Controllers, late: u16) -> Invocation
-    ensures value { result ≡ run_of name.now config controllers late }
+fn run_of(
+    name: &str,
+    config: Config,
+    controllers: Controllers,
+    late: u16,
+    report: u16,
+) -> Invocation
+    ensures value { result ≡ run_of name.now config controllers late report }
 {
     if name == "serve" {
-        Invocation::Serve(config, controllers)
+        Invocation::Serve(config, controllers, report)
     } else if name == "live" {
-        Invocation::Live(config, controllers, late)
+        Invocation::Live(config, controllers, late, report)
     } else {
         Invocation::Replay(config)
     }
@@ -201,16 +227,23 @@ pub fn asked_run<'a, S: AsStr>(alloc: Global, words: &'a [S]) -> Result<Invocati
     let Some((name, options)) = matches.subcommand() else {
         unreachable!();
     };
-    let address = match address_of(options) {
+    let address = match address_of("address", Config::default().address, options) {
         Ok(address) => address,
         Err(fault) => return Err(command.error(ErrorKind::ValueValidation, fault.message())?),
+    };
+    let control = match address_of("control-address", address, options) {
+        Ok(control) => control,
+        Err(fault) => {
+            return Err(command.error(ErrorKind::ValueValidation, fault.control_message())?);
+        }
     };
     match controllers_of(options) {
         Ok(controllers) => Ok(run_of(
             name,
-            config_at(address, options),
+            config_at(address, control, options),
             controllers,
             late_of(options),
+            report_of(options),
         )),
         Err(fault) => Err(command.error(ErrorKind::ValueValidation, fault.message())?),
     }

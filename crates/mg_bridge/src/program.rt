@@ -43,8 +43,9 @@ fn tell<W: Write, E: Write>(error: &Error, output: &mut W, errors: &mut E) -> St
 
 /// Runs the program on its arguments, which stand without its name, and answers its exit status: 0; 1 for a bad
 /// script line; 2 for arguments or a configuration that can't be used; 3 where a read or a write failed; 4 where
-/// memory ran out; 5 for a port that can't be bound. The text that belongs to a status other than 0 goes to `errors`.
-pub fn program<'a, N: Net, C: Clock, S: AsStr, R: Read, W: Write, E: Write>(
+/// memory ran out; 5 for a port that can't be bound. The text that belongs to a status other than 0 goes to `errors`, and what
+/// a gateway reports now and then to `reports`.
+pub fn program<'a, N: Net, C: Clock, S: AsStr, R: Read, W: Write, E: Write, T: Write>(
     net: &N,
     clock: &C,
     alloc: Global,
@@ -52,6 +53,7 @@ pub fn program<'a, N: Net, C: Clock, S: AsStr, R: Read, W: Write, E: Write>(
     input: &mut R,
     output: &mut W,
     errors: &mut E,
+    reports: &mut T,
 ) -> u8
     ensures status { result ≤ 5 }
     // What the words ask for was done as far as the status says.
@@ -62,10 +64,20 @@ pub fn program<'a, N: Net, C: Clock, S: AsStr, R: Read, W: Write, E: Write>(
 {
     let status = match asked_run(alloc, words) {
         Ok(Invocation::Replay(config)) => replay(alloc, config, input, output, errors),
-        Ok(Invocation::Serve(config, controllers)) => {
-            serve(net, alloc, config, &controllers, input, output, errors)
+        Ok(Invocation::Serve(config, controllers, seconds)) => {
+            serve(
+                net,
+                alloc,
+                config,
+                &controllers,
+                input,
+                output,
+                errors,
+                seconds,
+                reports,
+            )
         }
-        Ok(Invocation::Live(config, controllers, late)) => {
+        Ok(Invocation::Live(config, controllers, late, seconds)) => {
             live(
                 net,
                 clock,
@@ -75,6 +87,8 @@ pub fn program<'a, N: Net, C: Clock, S: AsStr, R: Read, W: Write, E: Write>(
                 late,
                 output,
                 errors,
+                seconds,
+                reports,
             )
         }
         Err(error) => tell(&error, output, errors),

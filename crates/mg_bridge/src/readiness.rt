@@ -1,5 +1,7 @@
-ghost use Rattle.std.specs.Prelude.{◌≡◌, false, slice_index_or, slice_set};
-ghost use Rattle.mg_bridge.specs.Readiness.{AreStillReady};
+ghost use Rattle.std.specs.Prelude.{◌≡◌, ◌+◌, false, slice_index_or, slice_set};
+ghost use Rattle.mio.specs.Events.{items};
+ghost use Rattle.mg_words.specs.Limits.{termination_limit};
+ghost use Rattle.mg_bridge.specs.Readiness.{AreReadyBelow, AreStillReady, AreTold};
 
 use mg_core::TERMINATIONS;
 use mio::event::Source;
@@ -76,9 +78,9 @@ impl Readiness {
 }
 
 /// Has the sockets that the system told of count as ready.
-#[tactic(auto, using(crate::proofs::ReadinessLaws::still_set))]
 fn set_told(events: &Events, ready: &mut [bool; SOCKETS])
     ensures kept { AreStillReady ready.old ready.new }
+    ensures told { AreTold (items events.now) ready.new }
 {
     for event in events.iter() {
         set(ready, event.token().0, true);
@@ -86,9 +88,9 @@ fn set_told(events: &Events, ready: &mut [bool; SOCKETS])
 }
 
 /// Has all sockets count as ready.
-#[tactic(auto, using(crate::proofs::ReadinessLaws::still_set))]
 fn set_all(ready: &mut [bool; SOCKETS])
-    ensures value { AreStillReady ready.old ready.new }
+    ensures kept { AreStillReady ready.old ready.new }
+    ensures all { AreReadyBelow (termination_limit + 1) ready.new }
 {
     for slot in 0..SOCKETS {
         set(ready, slot, true);

@@ -4,10 +4,11 @@ ghost use Rattle.mg_bridge.specs.Serve.{IsNotBegun, Serves};
 
 use crate::config_fault::ConfigFault;
 use crate::controllers::Controllers;
-use crate::deadline::NoDeadline;
+use crate::no_deadline::NoDeadline;
 use crate::readiness::SOCKETS;
+use crate::sockets::Sockets;
 use crate::status::Status;
-use crate::udp_ports::{Sockets, UdpPorts};
+use crate::udp_ports::UdpPorts;
 use mg_core::{Config, RunFault};
 use mg_ports::GuardedPorts;
 use mio::Events;
@@ -45,11 +46,12 @@ pub fn bind<N: Net, E: Write>(
     }
 }
 
-/// Serves a new gateway on UDP ports by the lines that are read, under these controllers. The text of a fault goes to `errors`.
+/// Serves a new gateway on UDP ports by the lines that are read, under these controllers. The text of a fault goes to `errors`, and
+/// every so many seconds, if any, a report to `reports`.
 ///
 /// A configuration that can't be used is told before a port is bound, and a port that can't be bound before a line
 /// is read.
-pub fn serve<N: Net, R: Read, W: Write, E: Write>(
+pub fn serve<N: Net, R: Read, W: Write, E: Write, T: Write>(
     net: &N,
     alloc: Global,
     config: Config,
@@ -57,6 +59,8 @@ pub fn serve<N: Net, R: Read, W: Write, E: Write>(
     input: &mut R,
     output: &mut W,
     errors: &mut E,
+    seconds: u16,
+    reports: &mut T,
 ) -> Status
     ensures value { Serves R.remaining config input.old input.new output.old output.new result }
     ensures quiet { result ≡ Status.Done → errors.new ≡ errors.old }
@@ -67,6 +71,6 @@ pub fn serve<N: Net, R: Read, W: Write, E: Write>(
     };
     let ports = UdpPorts::new(sockets, NoDeadline);
     let mut ports = GuardedPorts::new(ports, controllers.as_slice());
-    let outcome = mg_serve::serve(alloc, config, &mut ports, input, output);
+    let outcome = mg_serve::serve(alloc, config, &mut ports, input, output, seconds, reports);
     Status::after(&outcome, &config, errors)
 }

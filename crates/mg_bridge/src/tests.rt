@@ -14,6 +14,7 @@ struct Outcome {
     status: u8,
     output: Vec<u8>,
     errors: Vec<u8>,
+    reports: Vec<u8>,
 }
 
 /// Runs the program on these arguments and this input.
@@ -22,11 +23,22 @@ fn run_program(rt: &HostRuntime, words: &[&str], text: &[u8]) -> Outcome {
     let mut input = text;
     let mut output = Vec::new(alloc);
     let mut errors = Vec::new(alloc);
-    let status = program(rt, rt, alloc, words, &mut input, &mut output, &mut errors);
+    let mut reports = Vec::new(alloc);
+    let status = program(
+        rt,
+        rt,
+        alloc,
+        words,
+        &mut input,
+        &mut output,
+        &mut errors,
+        &mut reports,
+    );
     Outcome {
         status,
         output,
         errors,
+        reports,
     }
 }
 

@@ -106,7 +106,7 @@ replied_to source sender mark (x ∷ xs) w =
 
 -- what an answer begins with
 abbrev pub answer_head : World → List ℕ
-answer_head w = head_text w.gateway.config.address w.gateway.config.control_port
+answer_head w = head_text w.gateway.config.control_address w.gateway.config.control_port
 
 -- an answer with what was written for requests; where there is none, silence
 abbrev pub if_asked : Bool → List ℕ → List ℕ × World → Option (List ℕ) × World

@@ -41,10 +41,10 @@ pub fn refusal_of(fault: ReadFault) -> Option<ErrorNumber>
 pub fn put_error(config: &Config, number: ErrorNumber, answer: &mut Bytes)
     requires room { 97 ≤ answer.old.room }
     ensures text { answer.new.text ≡ answer.old.text
-        ++ (head_text config.now.address config.now.control_port ++ error_text number) }
+        ++ (head_text config.now.control_address config.now.control_port ++ error_text number) }
     ensures total { answer.new.room + length answer.new.text ≡ answer.old.room + length answer.old.text }
 {
-    write_head(config.address, config.control_port, answer);
+    write_head(config.control_address, config.control_port, answer);
     write_error(number, answer);
 }
 

@@ -126,7 +126,11 @@ impl Core {
     {
         let items = items_of(&message.body);
         let config = *self.state.engine.config();
-        write_head(config.address, config.control_port, &mut self.answer);
+        write_head(
+            config.control_address,
+            config.control_port,
+            &mut self.answer,
+        );
         put_replies(
             &mut self.state,
             source,

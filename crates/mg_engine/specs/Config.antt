@@ -9,6 +9,7 @@ use Rattle.mg_engine.specs.declared.config.Config.{Config}
 abbrev pub standard : Config
 standard = record {
   address = 127 ∷ 0 ∷ 0 ∷ 1 ∷ [];
+  control_address = 127 ∷ 0 ∷ 0 ∷ 1 ∷ [];
   control_port = 2944;
   base_port = 30000;
   slots = termination_limit;

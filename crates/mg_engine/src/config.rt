@@ -6,8 +6,10 @@ use mg_rooms::{Limits, TERMINATIONS};
 /// .. up to `base_port + 2 * (slots - 1)`.
 #[derive(Clone, Copy, Debug, PartialEq, Eq)]
 pub struct Config {
-    /// The IPv4 address that the gateway tells in its answers.
+    /// The IPv4 address for media, which callers are told.
     pub address: [u8; 4],
+    /// The IPv4 address for control messages, by which the gateway names itself to its controller.
+    pub control_address: [u8; 4],
     /// The UDP port for control messages.
     pub control_port: u16,
     /// The first UDP port for media.
@@ -35,6 +37,7 @@ impl Default for Config {
     fn default() -> Self {
         Config {
             address: [127, 0, 0, 1],
+            control_address: [127, 0, 0, 1],
             control_port: 2944,
             base_port: 30000,
             slots: TERMINATIONS as u16,

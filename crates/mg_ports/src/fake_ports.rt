@@ -125,4 +125,8 @@ impl Ports for FakePorts {
     fn failures(&self) -> u64 {
         self.failures
     }
+
+    fn strangers(&self) -> u64 {
+        0
+    }
 }

@@ -37,16 +37,6 @@ impl<'a, P: Ports> GuardedPorts<'a, P> {
         }
     }
 
-    /// How many datagrams of strangers were let fall. This stays at its greatest value.
-    pub fn strangers(&self) -> u64 {
-        self.strangers
-    }
-
-    /// The ports that are guarded.
-    pub fn ports(&self) -> &P {
-        &self.ports
-    }
-
     /// Receives, and lets fall what strangers sent to the control port, 64 of their datagrams at most.
     fn receive_message(
         &mut self,
@@ -98,5 +88,9 @@ impl<'a, P: Ports> Ports for GuardedPorts<'a, P> {
 
     fn failures(&self) -> u64 {
         self.failures
+    }
+
+    fn strangers(&self) -> u64 {
+        self.strangers
     }
 }

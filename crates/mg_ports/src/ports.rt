@@ -38,4 +38,7 @@ pub trait Ports {
     /// How many receives and sends failed. This stays at its greatest value.
     fn failures(&self) -> u64
         ensures value { result ≡ failed self.now };
+
+    /// How many datagrams of strangers were let fall. This stays at its greatest value.
+    fn strangers(&self) -> u64;
 }

@@ -15,6 +15,8 @@ pub mod laws;
 mod line;
 mod line_driver;
 mod output;
+mod port_counts;
+mod reports;
 mod server;
 mod serving;
 

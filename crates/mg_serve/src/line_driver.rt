@@ -19,21 +19,26 @@ use std::io::{Read, Write};
 
 /// Drives a server by lines, in whatever pieces they come.
 #[derive(Drop)]
-pub struct LineDriver {
-    pub server: Server,
+pub struct LineDriver<'a, E: Write> {
+    pub server: Server<'a, E>,
     pub begun: Line,
 }
 
-impl LineDriver {
-    /// A driver of a new gateway, before the first line.
-    pub fn new(alloc: Global, config: Config) -> Result<Self, StartFault>
+impl<'a, E: Write> LineDriver<'a, E> {
+    /// A driver of a new gateway, before the first line. It reports every so many seconds, if any.
+    pub fn new(
+        alloc: Global,
+        config: Config,
+        seconds: u16,
+        reports: &'a mut E,
+    ) -> Result<Self, StartFault>
         ensures bad { (result ≡ Err StartFault.BadConfig) ↔ ¬ IsValidConfig config }
         ensures sound { OnOk result (IsValidConfig config) }
         ensures start { IfOk result (λ driver. StandsFor driver.server.core.state (start_of config)) }
         ensures begun { IfOk result (λ driver. driver.begun ≡ []) }
     {
         Ok(LineDriver {
-            server: Server::new(alloc, config)?,
+            server: Server::new(alloc, config, seconds, reports)?,
             begun: Line::new(),
         })
     }

@@ -13,6 +13,7 @@ ghost use Rattle.mg_serve.specs.aids.Takes.{Takes};
 
 use crate::command::Command;
 use crate::output::{print_counts, print_line};
+use crate::reports::Reports;
 use mg_core::{Answer, Config, Core, Counts, Datagram, Peer, StartFault};
 use mg_lines::WriteFailed;
 use mg_ports::Ports;
@@ -24,8 +25,9 @@ const TURN: usize = 64;
 
 /// A gateway that is driven over ports. Its configuration is handed to each call.
 #[derive(Drop)]
-pub struct Server {
+pub struct Server<'a, E: Write> {
     pub core: Core,
+    reports: Reports<'a, E>,
     /// Lines that were done.
     pub lines: u64,
     /// Answers and packets whose send succeeded.
@@ -75,15 +77,21 @@ fn media_port(config: Config, slot: u16) -> u16
     config.base_port + 2 * (slot - 1)
 }
 
-impl Server {
-    /// A server of a new gateway.
-    pub fn new(alloc: Global, config: Config) -> Result<Self, StartFault>
+impl<'a, E: Write> Server<'a, E> {
+    /// A server of a new gateway, which reports every so many seconds, if any.
+    pub fn new(
+        alloc: Global,
+        config: Config,
+        seconds: u16,
+        reports: &'a mut E,
+    ) -> Result<Self, StartFault>
         ensures bad { (result ≡ Err StartFault.BadConfig) ↔ ¬ IsValidConfig config }
         ensures sound { OnOk result (IsValidConfig config) }
         ensures start { IfOk result (λ server. StandsFor server.core.state (start_of config)) }
     {
         Ok(Server {
             core: Core::new(alloc, config)?,
+            reports: Reports::new(alloc, seconds, reports)?,
             lines: 0,
             sent: 0,
             unread: 0,
@@ -118,7 +126,8 @@ impl Server {
             Step w (event_at config slot source bytes.now) [] next) }
     {
         let port = media_port(config, slot);
-        let _ = self.core.media(port, source, bytes);
+        let taken = self.core.media(port, source, bytes);
+        self.reports.count(slot, taken, self.core.counts().ticks);
     }
 
     /// Receives a datagram at a slot and takes it, and answers whether one came.
@@ -179,13 +188,25 @@ impl Server {
         }
     }
 
-    /// Passes on by 20 ms, and sends the packets.
+    /// Passes on by 20 ms, sends the packets, and reports if that is due.
     fn tick<P: Ports>(&mut self, config: Config, ports: &mut P)
         ensures value { Takes self.old.core.state self.new.core.state (P.calls ports.old) (P.calls ports.new)
             (Does config Command.Tick) }
     {
         self.core.tick();
         send_packets(ports, config, self.core.outbox(), &mut self.sent);
+        self.report_if_due(config, ports);
+    }
+
+    /// Reports to the operator, if that is due.
+    fn report_if_due<P: Ports>(&mut self, config: Config, ports: &P)
+        ensures core { self.new.core ≡ self.old.core }
+    {
+        let counts = self.counts(ports);
+        if self.reports.is_due(counts.ticks) {
+            self.reports
+                .print(config, &self.core, &counts, ports.strangers());
+        }
     }
 
     /// What was counted, with the failures of the ports.

@@ -22,21 +22,26 @@ const DATAGRAM_LIMIT: usize = 65535;
 ///   are.
 /// - Any other line prints `unknown command`.
 ///
+/// Every so many seconds of ticks, if any, it reports to an operator: the totals since the start, and each media port that had trouble
+/// since the last report. A report that can't be printed is passed over.
+///
 /// At every exit the lines that were read whole and the calls of the ports are a session of a new gateway. `Read` and `Write`
 /// say that the input or the output failed; after 4,294,967,295 reads without an end of input it answers `Read` too.
 /// `BadConfig` comes exactly where the configuration isn't sound, and `NoMemory` before anything is done.
-pub fn serve<P: Ports, R: Read, W: Write>(
+pub fn serve<P: Ports, R: Read, W: Write, E: Write>(
     alloc: Global,
     config: Config,
     ports: &mut P,
     reader: &mut R,
     writer: &mut W,
+    seconds: u16,
+    reports: &mut E,
 ) -> Result<Counts, RunFault>
     ensures session { ServedSession config (R.remaining reader.old) (R.remaining reader.new) (P.calls ports.old) (P.calls ports.new) result }
     ensures bad { (result ≡ Err RunFault.BadConfig) ↔ ¬ IsValidConfig config }
     ensures sound { OnOk result (IsValidConfig config) }
 {
-    let mut driver = LineDriver::new(alloc, config)?;
+    let mut driver = LineDriver::new(alloc, config, seconds, reports)?;
     let Ok(mut buffer) = datagram_buffer(alloc) else {
         return Err(RunFault::NoMemory);
     };

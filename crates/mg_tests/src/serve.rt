@@ -86,7 +86,16 @@ fn session(
     let mut ports = ports(alloc, waiting, failing)?;
     let mut input = lines;
     let mut printed = Vec::new(alloc);
-    let result = serve(alloc, config(), &mut ports, &mut input, &mut printed);
+    let mut reports = Vec::new(alloc);
+    let result = serve(
+        alloc,
+        config(),
+        &mut ports,
+        &mut input,
+        &mut printed,
+        0,
+        &mut reports,
+    );
     let told = told(alloc, &ports)?;
     Ok(Outcome {
         result,
@@ -115,7 +124,16 @@ fn loses_the_packet_whose_send_fails(rt: HostRuntime) -> Result<(), Fail> {
     let mut ports = ports(alloc, &[(0, ADD)], &[5])?;
     let mut input: &[u8] = b"poll\ntick\ntick\nstats\nquit\n";
     let mut printed = Vec::new(alloc);
-    let result = serve(alloc, config(), &mut ports, &mut input, &mut printed);
+    let mut reports = Vec::new(alloc);
+    let result = serve(
+        alloc,
+        config(),
+        &mut ports,
+        &mut input,
+        &mut printed,
+        0,
+        &mut reports,
+    );
     assert!(rt; result.is_ok());
     let wanted: &[u8] =
         b"ready\ncontrol=1 media=0 ticks=2 sent=2 failed=1 dropped=0,0,0,0,0,0 concealed=0\n";
@@ -252,6 +270,57 @@ fn answers_a_request_again_whose_answer_was_lost(rt: HostRuntime) -> Result<(), 
     Ok(())
 }
 
+/// The lines of so many ticks after a poll.
+fn poll_and_ticks(alloc: Global, ticks: u64) -> Result<String, AllocError> {
+    let mut lines = String::new(alloc);
+    lines.push_str("poll\n")?;
+    for _ in 0..ticks {
+        lines.push_str("tick\n")?;
+    }
+    Ok(lines)
+}
+
+/// The text of a report in a session of so many ticks, with one every second, or with none.
+fn reported(alloc: Global, seconds: u16, ticks: u64) -> Result<Vec<u8>, AllocError> {
+    let mut ports = ports(alloc, &[(0, ADD), (1, b"x"), (2, b"x")], &[])?;
+    let lines = poll_and_ticks(alloc, ticks)?;
+    let mut input = lines.as_bytes();
+    let mut printed = Vec::new(alloc);
+    let mut reports = Vec::new(alloc);
+    let _ = serve(
+        alloc,
+        config(),
+        &mut ports,
+        &mut input,
+        &mut printed,
+        seconds,
+        &mut reports,
+    );
+    Ok(reports)
+}
+
+#[test]
+fn reports_what_had_trouble(rt: HostRuntime) -> Result<(), Fail> {
+    let alloc = rt.alloc();
+    assert!(rt; reported(alloc, 1, 49)?.is_empty());
+    assert!(rt; reported(alloc, 0, 50)?.is_empty());
+    let first =
+        b"totals control=1 media=2 ticks=50 sent=51 failed=0 strangers=0 started=0 placed=0 pushed=0 again=0 late=0 \
+        dropped=1,0,0,1,0,0 concealed=0\n\
+        trouble port=30000 termination=1 packets=1 started=0 pushed=0 again=0 late=0 dropped=0,0,0,1,0,0 silent=0\n\
+        trouble port=30002 termination=0 packets=1 started=0 pushed=0 again=0 late=0 dropped=1,0,0,0,0,0 silent=0\n";
+    let second =
+        b"totals control=1 media=2 ticks=100 sent=101 failed=0 strangers=0 started=0 placed=0 pushed=0 again=0 late=0 \
+        dropped=1,0,0,1,0,0 concealed=0\n\
+        trouble port=30000 termination=1 packets=0 started=0 pushed=0 again=0 late=0 dropped=0,0,0,0,0,0 silent=1\n";
+    let both = reported(alloc, 1, 100)?;
+    assert_eq!(rt;
+        both.as_slice().strip_prefix(first.as_slice()),
+        Some(second.as_slice())
+    );
+    Ok(())
+}
+
 #[test]
 fn refuses_a_bad_configuration(rt: HostRuntime) -> Result<(), Fail> {
     let alloc = rt.alloc();
@@ -262,7 +331,16 @@ fn refuses_a_bad_configuration(rt: HostRuntime) -> Result<(), Fail> {
     let mut ports = ports(alloc, &[], &[])?;
     let mut input: &[u8] = b"poll\n";
     let mut printed = Vec::new(alloc);
-    let result = serve(alloc, config, &mut ports, &mut input, &mut printed);
+    let mut reports = Vec::new(alloc);
+    let result = serve(
+        alloc,
+        config,
+        &mut ports,
+        &mut input,
+        &mut printed,
+        0,
+        &mut reports,
+    );
     assert!(rt; matches!(result, Err(RunFault::BadConfig)));
     assert!(rt; printed.is_empty());
     assert_eq!(rt; told(alloc, &ports)?.as_str(), "");
@@ -312,7 +390,16 @@ fn ends_where_a_read_fails(rt: HostRuntime) -> Result<(), Fail> {
     let mut ports = ports(alloc, &[(1, b"x")], &[])?;
     let mut input = FailingReader { is_read: false };
     let mut printed = Vec::new(alloc);
-    let result = serve(alloc, config(), &mut ports, &mut input, &mut printed);
+    let mut reports = Vec::new(alloc);
+    let result = serve(
+        alloc,
+        config(),
+        &mut ports,
+        &mut input,
+        &mut printed,
+        0,
+        &mut reports,
+    );
     assert!(rt; matches!(result, Err(RunFault::Read)));
     assert_eq!(rt; told(alloc, &ports)?.as_str(), "n0c1n1n2");
     Ok(())
@@ -323,7 +410,16 @@ fn told_with_writer(alloc: Global, calls: u64, lines: &[u8]) -> Result<String, A
     let mut ports = ports(alloc, &[(1, b"x")], &[])?;
     let mut input = lines;
     let mut output = FailingWriter { calls };
-    let result = serve(alloc, config(), &mut ports, &mut input, &mut output);
+    let mut reports = Vec::new(alloc);
+    let result = serve(
+        alloc,
+        config(),
+        &mut ports,
+        &mut input,
+        &mut output,
+        0,
+        &mut reports,
+    );
     if !matches!(result, Err(RunFault::Write)) {
         return Ok(String::new(alloc));
     }

@@ -1,7 +1,8 @@
 use super::local;
-use crate::deadline::NoDeadline;
+use crate::no_deadline::NoDeadline;
 use crate::readiness::SOCKETS;
-use crate::udp_ports::{Sockets, UdpPorts};
+use crate::sockets::Sockets;
+use crate::udp_ports::UdpPorts;
 use mg_core::{Config, Counts, Peer, RunFault};
 use mg_ports::{GuardedPorts, PortFault, Ports};
 use mg_serve::serve;
@@ -83,7 +84,16 @@ fn serve_lines<P: Ports>(
     let alloc = rt.alloc();
     let mut input = lines.as_bytes();
     let mut printed = Vec::new(alloc);
-    let result = serve(alloc, config, ports, &mut input, &mut printed);
+    let mut reports = Vec::new(alloc);
+    let result = serve(
+        alloc,
+        config,
+        ports,
+        &mut input,
+        &mut printed,
+        0,
+        &mut reports,
+    );
     (result, printed)
 }
 
@@ -157,9 +167,10 @@ fn sends_to_one_machine_alone(rt: HostRuntime) -> Result<(), Fail> {
 }
 
 #[test]
-fn binds_its_address_alone(rt: HostRuntime) -> Result<(), Fail> {
+fn binds_its_addresses_alone(rt: HostRuntime) -> Result<(), Fail> {
     let config = Config {
-        address: [127, 0, 0, 2],
+        address: [127, 0, 0, 3],
+        control_address: [127, 0, 0, 2],
         ..config(29700, 1)
     };
     let mut ports = bind(&rt, &config)?;
@@ -167,8 +178,12 @@ fn binds_its_address_alone(rt: HostRuntime) -> Result<(), Fail> {
     let caller = caller(&rt, 29710)?;
     let control = SocketAddr::new(IpAddr::V4(Ipv4Addr::new(127, 0, 0, 2)), 29700);
     caller.send_to(b"MEGACO/2", control)?;
+    let media = SocketAddr::new(IpAddr::V4(Ipv4Addr::new(127, 0, 0, 3)), 29702);
+    caller.send_to(b"x", media)?;
     let (result, _) = serve_lines(&rt, config, &mut ports, "poll\n");
-    assert_eq!(rt; result?.control, 1);
+    let counts = result?;
+    assert_eq!(rt; counts.control, 1);
+    assert_eq!(rt; counts.media, 1);
     let mut buffer = [0; 100];
     let (n, from) = caller.recv_from(&mut buffer)?;
     assert_eq!(rt;

@@ -1,6 +1,7 @@
 use super::local;
-use crate::deadline::{Deadline, TickDeadline};
+use crate::deadline::Deadline;
 use crate::program::program;
+use crate::tick_deadline::TickDeadline;
 use mg_clock::{ClockFailed, Watch};
 use std::cell::Cell;
 use std::io;
@@ -92,10 +93,13 @@ fn lets_a_stall_be_heard_as_a_gap(rt: HostRuntime) -> Result<(), Fail> {
         "28902",
         "--slots",
         "1",
+        "--report",
+        "2",
     ];
     let mut input: &[u8] = b"quit\n";
     let mut output = Vec::new(alloc);
     let mut errors = Vec::new(alloc);
+    let mut reports = Vec::new(alloc);
     let status = program(
         &rt,
         &clock,
@@ -104,6 +108,7 @@ fn lets_a_stall_be_heard_as_a_gap(rt: HostRuntime) -> Result<(), Fail> {
         &mut input,
         &mut output,
         &mut errors,
+        &mut reports,
     );
     assert_eq!(rt; status, 3);
     assert_eq!(rt; input, b"quit\n".as_slice());
@@ -111,6 +116,11 @@ fn lets_a_stall_be_heard_as_a_gap(rt: HostRuntime) -> Result<(), Fail> {
     assert_eq!(rt;
         errors.as_slice(),
         b"95 packets were too late\nread failed\n".as_slice()
+    );
+    assert!(rt;
+        reports.as_slice().starts_with(
+            b"totals control=1 media=0 ticks=100 sent=6 failed=95 strangers=0 "
+        )
     );
     let mut reply = [0; 500];
     caller.recv_from(&mut reply)?;

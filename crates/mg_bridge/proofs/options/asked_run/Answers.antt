@@ -1,7 +1,7 @@
 use Rattle.std.proofs.Common.{◌∙◌, map, sym, ap, true≢false}
 use Rattle.clap.specs.Words.{found_of, kind_of, rows_of}
-use Rattle.mg_bridge.specs.Options.{IsRefused, asked, run_at}
-use Rattle.mg_bridge.proofs.InvocationLaws.{asks_none, asks_run, meets_subcommand, memory_passed_on, passed_on, refuses_address, refuses_controllers, run_is}
+use Rattle.mg_bridge.specs.Options.{IsRefused, asked}
+use Rattle.mg_bridge.proofs.InvocationLaws.{asks_none, asks_run, at_address, meets_subcommand, memory_passed_on, passed_on, refuses_address, refuses_control, refuses_controllers, run_is}
 use Rattle.mg_bridge.proofs.options.asked_run.Goals as goal
 
 pub returns-in_err-matches-clause-refused : goal.returns-in_err-matches-clause-refused
@@ -28,7 +28,21 @@ returns-in-Err-clause-refused g c =
     let rows = rows_of (found_of c.in-Some.options.now) in
     let asks = asks_run _ words c.in_ok-command.ensures.app c.in_ok-matches.matches name rows c.in_ok-matches.ensures.kinds c.in_ok-matches.ensures.ok.2
     c.in-Some.ensures.name c.in-Some.ensures.rows in
-    refuses_address _ name rows c.in-Err.fault _ (asks ∙ ap (run_at name rows) (sym c.in-Err.ensures.value)) c.in_ok-error-in-Err.ensures.kind
+    refuses_address _ name rows c.in-Err.fault _ (asks ∙ at_address name rows c.default.result _ c.default.ensures c.in-Err.ensures.value) c.in_ok-error-in-Err.ensures.kind
+
+pub returns-in_err-error-in-Err-address_of-clause-refused : goal.returns-in_err-error-in-Err-address_of-clause-refused
+returns-in_err-error-in-Err-address_of-clause-refused g c =
+    memory_passed_on c.from_residual-in_err-error-in-Err-address_of.result (asked (map g.S.AsStr.text c.args.words.now)) c.from_residual-in_err-error-in-Err-address_of.ensures.1
+
+pub returns-in-Err-address_of-clause-refused : goal.returns-in-Err-address_of-clause-refused
+returns-in-Err-address_of-clause-refused g c =
+    let words = map g.S.AsStr.text c.args.words.now in
+    let name = c.in-Some.name.now in
+    let rows = rows_of (found_of c.in-Some.options.now) in
+    let asks = asks_run _ words c.in_ok-command.ensures.app c.in_ok-matches.matches name rows c.in_ok-matches.ensures.kinds c.in_ok-matches.ensures.ok.2
+    c.in-Some.ensures.name c.in-Some.ensures.rows in
+    refuses_control _ name rows c.in-Ok.address c.in-Err-address_of.fault _ (asks ∙ at_address name rows c.default.result _ c.default.ensures c.in-Ok.ensures.value)
+    c.in-Err-address_of.ensures.value c.in_ok-error-in-Err-address_of.ensures.kind
 
 pub returns-in-Ok-controllers_of-clause-run : goal.returns-in-Ok-controllers_of-clause-run
 returns-in-Ok-controllers_of-clause-run g c =
@@ -37,8 +51,9 @@ returns-in-Ok-controllers_of-clause-run g c =
     let rows = rows_of (found_of c.in-Some.options.now) in
     let asks = asks_run _ words c.in_ok-command.ensures.app c.in_ok-matches.matches name rows c.in_ok-matches.ensures.kinds c.in_ok-matches.ensures.ok.2
     c.in-Some.ensures.name c.in-Some.ensures.rows in
-    asks ∙ (ap (run_at name rows) (sym c.in-Ok.ensures.value)
-    ∙ run_is name rows c.in-Ok.address _ _ _ _ c.config_at.ensures.value c.in-Ok-controllers_of.ensures.value c.late_of.ensures.value c.run_of.ensures.value)
+    asks ∙ (at_address name rows c.default.result _ c.default.ensures c.in-Ok.ensures.value
+    ∙ run_is name rows c.in-Ok.address c.in-Ok-address_of.control _ _ _ _ _ c.in-Ok-address_of.ensures.value c.config_at.ensures.value c.in-Ok-controllers_of.ensures.value
+    c.late_of.ensures.value c.report_of.ensures.value c.run_of.ensures.value)
 
 pub returns-in_err-error-in-Err-controllers_of-clause-refused : goal.returns-in_err-error-in-Err-controllers_of-clause-refused
 returns-in_err-error-in-Err-controllers_of-clause-refused g c =
@@ -51,5 +66,6 @@ returns-clause-refused g c =
     let rows = rows_of (found_of c.in-Some.options.now) in
     let asks = asks_run _ words c.in_ok-command.ensures.app c.in_ok-matches.matches name rows c.in_ok-matches.ensures.kinds c.in_ok-matches.ensures.ok.2
     c.in-Some.ensures.name c.in-Some.ensures.rows in
-    refuses_controllers _ name rows _ c.in-Err-controllers_of.fault _ (asks ∙ ap (run_at name rows) (sym c.in-Ok.ensures.value)) c.in-Err-controllers_of.ensures.value
+    refuses_controllers _ name rows c.in-Ok.address c.in-Ok-address_of.control c.in-Err-controllers_of.fault _
+    (asks ∙ at_address name rows c.default.result _ c.default.ensures c.in-Ok.ensures.value) c.in-Ok-address_of.ensures.value c.in-Err-controllers_of.ensures.value
     c.in_ok-error-in-Err-controllers_of.ensures.kind

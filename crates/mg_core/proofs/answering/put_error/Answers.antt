@@ -7,7 +7,7 @@ use Rattle.mg_core.proofs.answering.put_error.Goals as goal
 
 pub returns-clause-total : goal.returns-clause-total
 returns-clause-total c =
-    let head = head_text c.args.config.now.address c.args.config.now.control_port in
+    let head = head_text c.args.config.now.control_address c.args.config.now.control_port in
     let error = error_text c.args.number in
     let first_room = ap (λ (w : Written). w.room) c.write_head.ensures.value in
     let first_total = ap (λ (w : Written). w.room + length w.text) c.write_head.ensures.value in

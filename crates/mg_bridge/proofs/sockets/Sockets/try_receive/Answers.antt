@@ -1,7 +1,7 @@
 use Rattle.std.proofs.Common.{◌≤◌, length}
 use Rattle.std.proofs.lemmas.Result.{IfOk-weaker}
 use Rattle.io.specs.Counts.{IsPrefixLen}
-use Rattle.mg_bridge.proofs.udp_ports.Sockets.try_receive.Goals as goal
+use Rattle.mg_bridge.proofs.sockets.Sockets.try_receive.Goals as goal
 
 pub returns : goal.returns
 returns c =

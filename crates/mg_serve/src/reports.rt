@@ -1,0 +1,122 @@
+use crate::port_counts::PortCounts;
+use arrayvec::ArrayVec;
+use mg_core::{Config, Core, Counts, Record, TERMINATIONS, Taken};
+use mg_words::mode_talks;
+use std::alloc::{AllocError, Global};
+use std::io::Write;
+
+/// Ticks in a second.
+const TICKS: u64 = 50;
+
+/// A line of a report, as it is made up before it is written at once.
+type Text = ArrayVec<u8, 512>;
+
+/// What is printed for an operator every so many seconds: the totals since the start, and a line for each media port that had
+/// trouble since the last report. A print that fails is passed over.
+#[derive(Drop)]
+pub struct Reports<'a, E: Write> {
+    every: u64,
+    ports: Vec<PortCounts>,
+    writer: &'a mut E,
+}
+
+impl<'a, E: Write> Reports<'a, E> {
+    /// Reports every so many seconds, or none where they are 0.
+    pub fn new(alloc: Global, seconds: u16, writer: &'a mut E) -> Result<Self, AllocError> {
+        Ok(Reports {
+            every: u64::from(seconds) * TICKS,
+            ports: vec![in alloc; PortCounts::new(); TERMINATIONS]?,
+            writer,
+        })
+    }
+
+    /// Counts what became of an RTP datagram that came to a slot of the ports, the first of which is 1, after so many ticks.
+    pub fn count(&mut self, slot: u16, taken: Taken, ticks: u64) {
+        if let Some(port) = self.ports.get_mut(usize::from(slot).wrapping_sub(1)) {
+            port.count(taken, ticks);
+        }
+    }
+
+    /// Whether one is due after so many ticks.
+    pub fn is_due(&self, ticks: u64) -> bool {
+        self.every > 0 && ticks % self.every == 0
+    }
+
+    /// Prints one, of a gateway that counted this.
+    pub fn print(&mut self, config: Config, core: &Core, counts: &Counts, strangers: u64) {
+        print_totals(counts, strangers, self.writer);
+        for slot in 0..=u8::MAX {
+            if u16::from(slot) < config.slots {
+                self.print_slot(config, core, slot, counts.ticks);
+            }
+        }
+    }
+
+    /// Prints what came to a slot of the pool, if it had trouble, and begins it anew.
+    fn print_slot(&mut self, config: Config, core: &Core, slot: u8, ticks: u64) {
+        let Some(port) = self.ports.get_mut(usize::from(slot)) else {
+            return;
+        };
+        let held = core.rooms().held(slot);
+        let silent = port.silent_ticks(expected(held), ticks);
+        if port.have_trouble() || silent >= self.every {
+            print_port(
+                config.base_port.wrapping_add(2 * u16::from(slot)),
+                held.map_or(0, |record| record.number),
+                &port.counts,
+                silent / TICKS,
+                self.writer,
+            );
+        }
+        port.clear();
+    }
+}
+
+/// The number of a termination whose caller is expected to send packets: it has a Local, and a mode that talks.
+fn expected(held: Option<Record>) -> Option<u32> {
+    match held {
+        Some(record) if record.local.is_some() && mode_talks(record.mode) => Some(record.number),
+        _ => None,
+    }
+}
+
+/// Writes a line at once.
+fn write_line<E: Write>(line: &Text, writer: &mut E) {
+    let _ = writer.write_all(line.as_slice());
+}
+
+/// Prints the totals since the start.
+fn print_totals<E: Write>(counts: &Counts, strangers: u64, writer: &mut E) {
+    let Counts {
+        control,
+        media,
+        ticks,
+        sent,
+        failed,
+        placed,
+        dropped,
+        concealed,
+        ..
+    } = counts;
+    let [started, in_turn, pushed, again, late] = placed;
+    let [a, b, c, d, e, f] = dropped;
+    let mut line = Text::new();
+    let _ = writeln!(
+        line,
+        "totals control={control} media={media} ticks={ticks} sent={sent} failed={failed} strangers={strangers} started={started} placed={in_turn} pushed={pushed} again={again} late={late} dropped={a},{b},{c},{d},{e},{f} concealed={concealed}"
+    );
+    write_line(&line, writer);
+}
+
+/// Prints what came to a media port since the last report. The number of a termination is 0 where none has the port.
+fn print_port<E: Write>(port: u16, termination: u32, counts: &Counts, silent: u64, writer: &mut E) {
+    let [started, _, pushed, again, late] = counts.placed;
+    let [a, b, c, d, e, f] = counts.dropped;
+    let packets = counts.media;
+    let mut line = Text::new();
+    let _ = writeln!(
+        line,
+        "trouble port={port} termination={termination} packets={packets} started={started} pushed={pushed} again={again} late={late} dropped={a},{b},{c},{d},{e},{f} silent={silent}"
+    );
+    write_line(&line, writer);
+}

@@ -2,10 +2,31 @@
 #     . demo/callers.sh
 # It needs netcat-openbsd, sox, ffmpeg and GStreamer (gstreamer1.0-tools, -plugins-base, -plugins-good).
 
+# The gateway's control port, the port by which the controller names itself, and the first port of the callers. For a
+# second run set others, and type the same commands: CONTROL_PORT and CALLER_PORT for another gateway, CONTROLLER_PORT
+# and CALLER_PORT for the same one, which then takes the messages for another controller's.
+: "${CONTROL_PORT:=2944}" "${CONTROLLER_PORT:=2945}" "${CALLER_PORT:=40000}"
+# What the gateway chose: its port for the first caller, the context, and the first termination. `mg` takes them from
+# the answer to an Add.
+: "${MEDIA_PORT:=30000}" "${CONTEXT:=1}" "${TERMINATION:=1}"
+
+# Commands and messages have the ports and numbers of a first run at a new gateway. Tells where such a port is now.
+moved() {
+    if [ "$1" -lt 40000 ]; then echo $(($1 - 30000 + MEDIA_PORT)); else echo $(($1 - 40000 + CALLER_PORT)); fi
+}
+
 # Sends a message of a controller from a file, and prints the answer. A message is one datagram.
 mg() {
-    nc -u -w 1 127.0.0.1 2944 < "$1"
-    echo
+    answer=$(awk -v name="$CONTROLLER_PORT" -v callers="$CALLER_PORT" -v context="$CONTEXT" -v first="$TERMINATION" '
+        NR == 1 { sub(/:2945/, ":" name) }
+        /^m=audio 4/ { $2 += callers - 40000 }
+        { sub(/Context=1[{]/, "Context=" context "{"); gsub(/RTP\/3/, "RTP/" first + 2); print }' "$1" |
+        nc -u -w 1 127.0.0.1 "$CONTROL_PORT")
+    echo "$answer"
+    case $answer in *Add=RTP/*audio*)
+        CONTEXT=${answer#*Context=} TERMINATION=${answer#*Add=RTP/} MEDIA_PORT=${answer#*m=audio }
+        CONTEXT=${CONTEXT%%\{*} TERMINATION=${TERMINATION%%\{*} MEDIA_PORT=${MEDIA_PORT%% *}
+    esac
 }
 
 # Writes five seconds of a tone: FILE.wav FREQUENCY
@@ -19,7 +40,7 @@ say() {
     gst-launch-1.0 -q filesrc location="$1" ! wavparse ! audioconvert ! audioresample ! \
         audio/x-raw,rate=8000,channels=1 ! mulawenc ! \
         rtppcmupay pt=0 min-ptime=20000000 max-ptime=20000000 ! \
-        udpsink host=127.0.0.1 port="$2" bind-address=127.0.0.1 bind-port="$3"
+        udpsink host=127.0.0.1 port="$(moved "$2")" bind-address=127.0.0.1 bind-port="$(moved "$3")"
 }
 
 # The same, with packets lost on the way: FILE.wav GATEWAY_PORT FROM_PORT PROBABILITY. 0.1 loses one in ten.
@@ -27,21 +48,23 @@ say_with_loss() {
     gst-launch-1.0 -q filesrc location="$1" ! wavparse ! audioconvert ! audioresample ! \
         audio/x-raw,rate=8000,channels=1 ! mulawenc ! \
         rtppcmupay pt=0 min-ptime=20000000 max-ptime=20000000 ! identity drop-probability="$4" ! \
-        udpsink host=127.0.0.1 port="$2" bind-address=127.0.0.1 bind-port="$3"
+        udpsink host=127.0.0.1 port="$(moved "$2")" bind-address=127.0.0.1 bind-port="$(moved "$3")"
 }
 
 # The same as `say` by ffmpeg.
 say_by_ffmpeg() {
+    local to from
+    to=127.0.0.1:$(moved "$2") from=$(moved "$3")
     ffmpeg -hide_banner -loglevel error -nostdin -i "$1" \
         -af aresample=8000,asetnsamples=n=160:p=1,arealtime -ac 1 -ar 8000 -c:a pcm_mulaw \
         -f rtp -payload_type 0 -rtpflags +skip_rtcp \
-        "rtp://127.0.0.1:$2?localaddr=127.0.0.1&localrtpport=$3&localrtcpport=$(($3 + 1))&pkt_size=172" > /dev/null
+        "rtp://$to?localaddr=127.0.0.1&localrtpport=$from&localrtcpport=$((from + 1))&pkt_size=172" > /dev/null
 }
 
 # Records what a caller is sent: CALLER_PORT FILE.wav SECONDS. Where nothing is sent it gives up 10 seconds later.
 # To hear it at once: audioconvert ! audioresample ! autoaudiosink in the place of the last three parts.
 record() {
-    timeout $(($3 + 10)) gst-launch-1.0 -q udpsrc address=127.0.0.1 port="$1" num-buffers=$(($3 * 50)) \
+    timeout $(($3 + 10)) gst-launch-1.0 -q udpsrc address=127.0.0.1 port="$(moved "$1")" num-buffers=$(($3 * 50)) \
         caps="application/x-rtp,media=audio,clock-rate=8000,encoding-name=PCMU,payload=0" ! \
         rtpjitterbuffer latency=60 ! rtppcmudepay ! mulawdec ! audio/x-raw,format=S16LE ! \
         wavenc ! filesink location="$2"

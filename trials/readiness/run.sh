@@ -12,4 +12,4 @@ work=$(mktemp -d)
 trap 'rm -rf "$work"' EXIT
 [ -x "$bridge" ] || (cd "$root/crates/mg_bridge" && rt run -- --help > /dev/null)
 gcc -O2 -Wall -Wextra -shared -fPIC -o "$work/refuse.so" "$here/../refusals/refuse.c"
-python3 "$here/schedules.py" "$bridge" "$work/refuse.so" "${1:-10000}" "${2:-1}"
+PYTHONPATH=$here/.. python3 "$here/schedules.py" "$bridge" "$work/refuse.so" "${1:-10000}" "${2:-1}"

@@ -11,9 +11,10 @@ question which sockets are ready. Ends with 1 at the first schedule that is wron
 import os
 import random
 import re
-import socket
 import subprocess
 import sys
+
+from loopback import free_ports, udp
 
 BRIDGE, LIBRARY = sys.argv[1:3]
 SCHEDULES, SEED = int(sys.argv[3]), int(sys.argv[4])
@@ -24,27 +25,9 @@ MOST_AT_A_PORT = 200
 ASK = b"MEGACO/1 [127.0.0.1]:2945 Transaction=%d{Context=-{AuditValue=ROOT{Audit{}}}}"
 
 
-def udp(port=0):
-    s = socket.socket(socket.AF_INET, socket.SOCK_DGRAM)
-    s.bind(("127.0.0.1", port))
-    return s
-
-
-def free_ports():
-    """A base port with the even ones after it, and a control port, that nobody has."""
-    for base in range(31000, 39000, 100):
-        try:
-            for s in [udp(base + 2 * slot) for slot in range(SLOTS + 1)]:
-                s.close()
-            return base + 2 * SLOTS, base
-        except OSError:
-            pass
-    sys.exit("no free ports")
-
-
 class Session:
     def __init__(self, chance):
-        self.control, self.base = free_ports()
+        self.control, self.base = free_ports(SLOTS)
         self.refused = chance.choice(["none", "receive", "wait"])
         at = chance.randrange(1, 2000)
         env = dict(os.environ, LD_PRELOAD=LIBRARY, REFUSE=self.refused, REFUSE_AT=str(at))
@@ -53,7 +36,6 @@ class Session:
         if self.bridge.stdout.readline() != b"ready\n":
             sys.exit("not ready")
         self.caller = udp()
-        self.caller.setblocking(False)
         self.sent = [0] * (SLOTS + 1)
         self.asked = 0
 

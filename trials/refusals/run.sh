@@ -117,7 +117,7 @@ is_last "$output"
 
 # Sessions of the gateway over loopback.
 for kind in memory read write receive send wait; do
-    python3 "$here/serve.py" "$bridge" "$work/refuse.so" "$kind"
+    PYTHONPATH=$here/.. python3 "$here/serve.py" "$bridge" "$work/refuse.so" "$kind"
 done
 
 # A core alone: what it answers to who looks at it, before and after a message that found no memory. Its program is built anew

@@ -12,6 +12,8 @@ import subprocess
 import sys
 import tempfile
 
+from loopback import free_ports, udp
+
 BRIDGE, LIBRARY, KIND = sys.argv[1:]
 
 HEAD = b"MEGACO/1 [127.0.0.1]:%d\n"
@@ -40,25 +42,6 @@ def expect(holds, what):
         raise Wrong(what)
 
 
-def udp(port=0):
-    s = socket.socket(socket.AF_INET, socket.SOCK_DGRAM)
-    s.bind(("127.0.0.1", port))
-    s.setblocking(False)
-    return s
-
-
-def free_ports():
-    """A control port, and a base port with the next even one, that nobody has."""
-    for base in range(31000, 39000, 10):
-        try:
-            for s in [udp(base), udp(base + 2), udp(base + 4)]:
-                s.close()
-            return base + 4, base
-        except OSError:
-            pass
-    sys.exit("no free ports")
-
-
 def came(s):
     """The datagrams that wait at a socket."""
     datagrams = []
@@ -79,7 +62,7 @@ def packet(number, tick):
 class Session:
     def __init__(self, at):
         self.at = at
-        self.control_port, self.base_port = free_ports()
+        self.control_port, self.base_port = free_ports(2)
         self.controller, self.callers = udp(), [udp(), udp()]
         self.folder = tempfile.TemporaryDirectory()
         self.mark = os.path.join(self.folder.name, "told")

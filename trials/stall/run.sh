@@ -8,4 +8,4 @@ here=$(CDPATH= cd -- "$(dirname -- "$0")" && pwd)
 root=$here/../..
 bridge=$root/crates/mg_bridge/out/mg_bridge
 [ -x "$bridge" ] || (cd "$root/crates/mg_bridge" && rt run -- --help > /dev/null)
-exec python3 "$here/stall.py" "$bridge" "${1:-16}" "${2:-5}"
+PYTHONPATH=$here/.. exec python3 "$here/stall.py" "$bridge" "${1:-16}" "${2:-5}"

@@ -8,36 +8,18 @@ timestamps have to be where the clock is. Ends with 1 where it is otherwise.
 import re
 import selectors
 import signal
-import socket
 import subprocess
 import sys
 import tempfile
 import time
+
+from loopback import free_ports, udp
 
 BRIDGE, CALLERS, STALL = sys.argv[1], int(sys.argv[2]), float(sys.argv[3])
 BEFORE, AFTER = 2.0, 3.0
 A_REQUEST, MEMBERS = 16, 64
 ADD = ("Add=${Media{LocalControl{Mode=SendReceive},Local{v=0\nc=IN IP4 $\nm=audio $ RTP/AVP 0\n},"
        "Remote{v=0\nc=IN IP4 127.0.0.1\nm=audio %d RTP/AVP 0\n}}}")
-
-
-def udp(port=0):
-    s = socket.socket(socket.AF_INET, socket.SOCK_DGRAM)
-    s.bind(("127.0.0.1", port))
-    s.setblocking(False)
-    return s
-
-
-def free_ports():
-    """A base port with the even ones after it, and a control port, that nobody has."""
-    for base in range(31000, 39000, 600):
-        try:
-            for s in [udp(base + 2 * slot) for slot in range(CALLERS + 1)]:
-                s.close()
-            return base + 2 * CALLERS, base
-        except OSError:
-            pass
-    sys.exit("no free ports")
 
 
 def ask(controller, to, text):
@@ -65,7 +47,7 @@ def conference(control, callers):
 
 
 def main():
-    control, base = free_ports()
+    control, base = free_ports(CALLERS)
     errors = tempfile.TemporaryFile()
     bridge = subprocess.Popen([BRIDGE, "live", "--control-port", str(control), "--base-port", str(base), "--slots", str(CALLERS)],
                               stdout=subprocess.PIPE, stderr=errors)

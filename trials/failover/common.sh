@@ -1,0 +1,61 @@
+# Gateways on this host, callers who follow a controller, and the controller of `demo` over the gateways. Read by run.sh
+# and cost.sh. BRIDGE is the program, where it isn't the one that `rt run` leaves in crates/mg_bridge/out; that one is
+# proved and built first where it isn't there, which takes some minutes.
+root=$here/../..
+bridge=${BRIDGE:-$root/crates/mg_bridge/out/mg_bridge}
+[ -x "$bridge" ] || (cd "$root/crates/mg_bridge" && rt run -- --help > /dev/null)
+work=$(mktemp -d)
+trap 'kill $(jobs -p) 2> /dev/null || true; rm -rf "$work"' EXIT
+gcc -O2 -Wall -o "$work/callers" "$here/callers.c"
+
+# The policy of the unit file, where it is allowed.
+policy=
+if chrt -f 10 true 2> /dev/null; then policy='chrt -f 10'; fi
+
+# Waits until a file has a line a number of times, for at most ten seconds: FILE PATTERN TIMES
+until_told() {
+    for ((i = 0; i < 100; i++)); do
+        if [ "$(cat "$work/$1" 2> /dev/null | grep -c -- "$2")" -ge "$3" ]; then return; fi
+        sleep 0.1
+    done
+    echo "$1: not told: $2"
+    grep -v '^member' "$work/log" || true
+    errors
+    exit 1
+}
+
+# Starts gateway N, whose numbers begin at the seconds of the clock.
+declare -A process
+start() {
+    numbers=$(date +%s)
+    : > "$work/$1.out"
+    $policy "$bridge" live --control-port $((12944 + 2 * $1)) --base-port $((13000 + 512 * $1)) --controller 127.0.0.1 \
+        --first-termination "$numbers" --first-context "$numbers" > "$work/$1.out" 2>> "$work/$1.errors" &
+    process[$1]=$!
+}
+
+# Starts gateways, 256 callers and the controller, which makes four conferences of 64; more words go to the callers.
+# Lines for the callers go to 8, and those for the controller to 9: HOW_MANY [WORD]..
+call() {
+    rm -f "$work/events" "$work/words"
+    mkfifo "$work/events" "$work/words"
+    $policy "$work/callers" 256 20000 "${@:2}" < "$work/events" > "$work/report" &
+    exec 8> "$work/events"
+    gateways=()
+    for ((n = 0; n < $1; n++)); do
+        start $n
+        until_told $n.out ready 1
+        gateways+=("127.0.0.1:$((12944 + 2 * n))")
+    done
+    "$root/demo/controller.escript" --here 127.0.0.1:12942 --conferences 4 --members 64 --callers 127.0.0.1:20000 \
+        "${gateways[@]}" < "$work/words" 2> "$work/controller.errors" | tee "$work/log" >&8 &
+    exec 9> "$work/words"
+    until_told log '^member' 256
+}
+
+# What the gateways and the controller said on standard error.
+errors() {
+    for file in "$work"/*.errors; do
+        sed "s/^/$(basename "$file" .errors): /" "$file"
+    done
+}

@@ -1,0 +1,44 @@
+#!/bin/bash
+# What four gateways with 64 callers each take of the processor, beside one with 256 in as many conferences: the user
+# and system time of /proc/PID/stat while all callers speak. Turns of one and of four alternate; the least counts.
+# usage: cost.sh [SECONDS] [TURNS]
+# It needs what run.sh needs.
+set -eu
+seconds=${1:-30} turns=${2:-3}
+here=$(CDPATH= cd -- "$(dirname -- "$0")" && pwd)
+. "$here/common.sh"
+
+# Prints the ticks of the processor's time that the gateways took.
+taken() {
+    for n in "${!process[@]}"; do
+        cat "/proc/${process[$n]}/stat"
+    done | awk '{ sum += $14 + $15 } END { print sum }'
+}
+turn() {
+    call "$1" noise
+    sleep 2
+    echo mark >&8
+    before=$(taken)
+    sleep "$seconds"
+    after=$(taken)
+    echo report >&8
+    until_told report moved 1
+    awk -v n="$1" -v ticks=$((after - before)) -v hz="$(getconf CLK_TCK)" -v s="$seconds" 'END {
+        share = ticks / hz / s
+        printf "%d of %d: %.2f %% of a core, %.0f callers a core, missing %d, at most %.0f ms between two\n", n,
+            256 / n, 100 * share, 256 / share, $12, 1000 * $14 }' "$work/report" | tee -a "$work/turns"
+    echo quit >&9
+    sleep 1
+    echo quit >&8
+    kill "${process[@]}"
+    wait "${process[@]}" 2> /dev/null || true
+    process=()
+    sleep 0.5
+}
+for ((k = 0; k < turns; k++)); do
+    turn 1
+    turn 4
+done
+echo 'the least:'
+sort -n -k 1,1 -k 4,4 "$work/turns" | awk '!seen[$1]++'
+errors

@@ -1,0 +1,60 @@
+#!/bin/bash
+# Four gateways on this host under the controller of `demo`, with 64 callers on each. One is killed; later another is
+# killed and begins anew at once. Each time its callers have to hear the others again within 3 s, on another gateway;
+# who is isolated has to hear nobody; and the callers of the other gateways may miss no packet.
+# usage: run.sh
+# It needs gcc and Erlang (erlang-base, erlang-megaco), and takes half a minute. Ends with 0 where all of it held.
+set -eu
+here=$(CDPATH= cd -- "$(dirname -- "$0")" && pwd)
+. "$here/common.sh"
+
+# Does something, at any moment between two audits, gives the controller and the callers five seconds, and tells
+# of the callers: WHAT COMMAND ..
+failed=0 reports=0
+after() {
+    sleep "0.$((RANDOM % 900 + 100))"
+    echo mark >&8
+    "${@:2}"
+    sleep 5
+    reports=$((reports + 1))
+    echo report >&8
+    until_told report moved $reports
+    tail -n 1 "$work/report" | awk -v what="$1" '{
+        printf "%s: ", what
+        if ($2 > 0) printf "%d of its %d callers heard others again, %.2f to %.2f s after it; ", $4, $2, $6, $8
+        printf "%d callers stayed and missed %d packets, at most %.0f ms between two; ", $10, $12, 1000 * $14
+        printf "%d packets with speech to one isolated\n", $16
+        exit !($4 == $2 && $8 <= 3 && $2 + $10 == 256 && $12 == 0 && $16 == 0) }' || failed=1
+}
+lose() {
+    kill -9 "${process[$1]}"
+    wait "${process[$1]}" 2> /dev/null || true
+}
+lose_and_start() {
+    lose "$1"
+    start "$1"
+}
+# The number of the gateway that has a conference.
+holder() {
+    port=$(sed -n "s/^conference $1 on 127.0.0.1:\([0-9]*\).*/\1/p" "$work/log" | tail -n 1)
+    echo $(((port - 12944) / 2))
+}
+
+call 4
+echo 'isolate 1 3 *' >&9
+echo 'isolate 2 4 *' >&9
+until_told log 'isolate .*: ok' 2
+sleep 2
+after 'nothing done' true
+first=$(holder 1)
+after 'killed' lose "$first"
+start "$first"
+until_told log '^gateway .* up' 5
+after 'killed and begun anew' lose_and_start "$(holder 2)"
+echo quit >&9
+grep '^gateway.*lost' "$work/log"
+until_told log 'lost: no answer' 1
+until_told log 'lost: began anew, error 4[13]' 1
+errors
+if [ $failed = 1 ]; then echo 'it did not hold'; fi
+exit $failed

@@ -1,0 +1,23 @@
+"""Ports of 127.0.0.1 for the trials."""
+import socket
+import sys
+
+
+def udp(port=0):
+    """A UDP socket that doesn't wait."""
+    s = socket.socket(socket.AF_INET, socket.SOCK_DGRAM)
+    s.bind(("127.0.0.1", port))
+    s.setblocking(False)
+    return s
+
+
+def free_ports(slots):
+    """A control port, and a base port with as many even ones from it on, that nobody has."""
+    for base in range(31000, 39000, 2 * slots + 2):
+        try:
+            for s in [udp(base + 2 * slot) for slot in range(slots + 1)]:
+                s.close()
+            return base + 2 * slots, base
+        except OSError:
+            pass
+    sys.exit("no free ports")

@@ -1,5 +1,6 @@
 pub mod InvocationLaws
 pub mod AskedRows
 pub mod CommandLaws
+pub mod ControllerLaws
 pub mod EndLaws
 pub mod ReadinessLaws

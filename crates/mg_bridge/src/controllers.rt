@@ -28,14 +28,14 @@ impl Controllers {
     pub fn of(texts: &[&str]) -> Result<Self, ControllerFault>
         ensures value { result ≡ controllers_of (map (λ text. text.now) texts.now) }
     {
+        if texts.len() > MOST {
+            return Err(ControllerFault::TooMany);
+        }
         let mut addresses = ArrayVec::new();
         for text in texts {
             let Some(address) = address_of(text.as_bytes()) else {
                 return Err(ControllerFault::Unreadable);
             };
-            if addresses.is_full() {
-                return Err(ControllerFault::TooMany);
-            }
             addresses.push(address);
         }
         Ok(Controllers { addresses })

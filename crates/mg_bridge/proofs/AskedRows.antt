@@ -26,7 +26,8 @@ live_by_itself : asked (codes "live" ∷ []) ≡ Ok (Live standard [] 5 0)
 unfolding asked command_line options config_at clap_on_literals
 live_by_itself = refl
 
-live_with_both : asked (codes "live" ∷ codes "--slots=4" ∷ codes "--late" ∷ codes "0" ∷ []) ≡ Ok (Live (record standard { slots = 4 }) [] 0 0)
+live_with_both : asked (codes "live" ∷ codes "--slots=4" ∷ codes "--late" ∷ codes "0" ∷ []) ≡
+    Ok (Live (record standard { slots = 4 }) [] 0 0)
 unfolding asked command_line options config_at clap_on_literals
 live_with_both = refl
 
@@ -42,7 +43,8 @@ serve_is_never_late : asked (codes "serve" ∷ codes "--late=5" ∷ []) ≡ Err 
 unfolding asked command_line options config_at clap_on_literals
 serve_is_never_late = refl
 
-first_numbers : asked (codes "live" ∷ codes "--first-context=7" ∷ codes "--first-termination" ∷ codes "9" ∷ []) ≡ Ok (Live (record standard { first_termination = 9; first_context = 7 }) [] 5 0)
+first_numbers : asked (codes "live" ∷ codes "--first-context=7" ∷ codes "--first-termination" ∷ codes "9" ∷ []) ≡
+    Ok (Live (record standard { first_termination = 9; first_context = 7 }) [] 5 0)
 unfolding asked command_line options config_at clap_on_literals
 first_numbers = refl
 
@@ -72,7 +74,8 @@ with_no_slots : asked (slots (codes "0")) ≡ Ok (Replay (record standard { slot
 unfolding asked command_line options config_at clap_on_literals
 with_no_slots = refl
 
-with_two : asked (codes "replay" ∷ codes "--ssrc=4294967295" ∷ codes "--control-port" ∷ codes "4000" ∷ []) ≡ Ok (Replay (record standard { ssrc = 4294967295; control_port = 4000 }))
+with_two : asked (codes "replay" ∷ codes "--ssrc=4294967295" ∷ codes "--control-port" ∷ codes "4000" ∷ []) ≡
+    Ok (Replay (record standard { ssrc = 4294967295; control_port = 4000 }))
 unfolding asked command_line options config_at clap_on_literals
 with_two = refl
 
@@ -80,11 +83,13 @@ with_plus : asked (slots (codes "+7")) ≡ Ok (Replay (record standard { slots =
 unfolding asked command_line options config_at clap_on_literals
 with_plus = refl
 
-with_address : asked (at_address (codes "10.0.0.1")) ≡ Ok (Serve (record standard { address = 10 ∷ 0 ∷ 0 ∷ 1 ∷ []; control_address = 10 ∷ 0 ∷ 0 ∷ 1 ∷ [] }) [] 0)
+with_address : asked (at_address (codes "10.0.0.1")) ≡
+    Ok (Serve (record standard { address = 10 ∷ 0 ∷ 0 ∷ 1 ∷ []; control_address = 10 ∷ 0 ∷ 0 ∷ 1 ∷ [] }) [] 0)
 unfolding asked command_line options config_at address_of clap_on_literals
 with_address = refl
 
-with_leading_zeros : asked (at_address (codes "010.00.0.001")) ≡ Ok (Serve (record standard { address = 10 ∷ 0 ∷ 0 ∷ 1 ∷ []; control_address = 10 ∷ 0 ∷ 0 ∷ 1 ∷ [] }) [] 0)
+with_leading_zeros : asked (at_address (codes "010.00.0.001")) ≡
+    Ok (Serve (record standard { address = 10 ∷ 0 ∷ 0 ∷ 1 ∷ []; control_address = 10 ∷ 0 ∷ 0 ∷ 1 ∷ [] }) [] 0)
 unfolding asked command_line options config_at address_of clap_on_literals
 with_leading_zeros = refl
 
@@ -96,7 +101,9 @@ multicast_address : asked (at_address (codes "224.0.0.1")) ≡ Err (kind.ValueVa
 unfolding asked command_line options config_at address_of clap_on_literals
 multicast_address = refl
 
-greatest_address : asked (at_address (codes "223.255.255.255")) ≡ Ok (Serve (record standard { address = 223 ∷ 255 ∷ 255 ∷ 255 ∷ []; control_address = 223 ∷ 255 ∷ 255 ∷ 255 ∷ [] }) [] 0)
+greatest_address : asked (at_address (codes "223.255.255.255")) ≡
+    Ok (Serve (record standard { address = 223 ∷ 255 ∷ 255 ∷ 255 ∷ []; control_address = 223 ∷ 255 ∷ 255 ∷ 255 ∷ [] })
+    [] 0)
 unfolding asked command_line options config_at address_of clap_on_literals
 greatest_address = refl
 
@@ -106,7 +113,8 @@ two_addresses : asked (codes "live" ∷ codes "--control-address=10.0.0.1" ∷ c
 unfolding asked command_line options config_at address_of clap_on_literals
 two_addresses = refl
 
-unspecified_control_address : asked (codes "live" ∷ codes "--control-address=0.0.0.0" ∷ []) ≡ Err (kind.ValueValidation ∷ [])
+unspecified_control_address : asked (codes "live" ∷ codes "--control-address=0.0.0.0" ∷ []) ≡
+    Err (kind.ValueValidation ∷ [])
 unfolding asked command_line options config_at address_of clap_on_literals
 unspecified_control_address = refl
 
@@ -118,7 +126,8 @@ five_parts : asked (at_address (codes "1.2.3.4.5")) ≡ Err (kind.ValueValidatio
 unfolding asked command_line options config_at address_of clap_on_literals
 five_parts = refl
 
-address_twice : asked (codes "serve" ∷ codes "--address=10.0.0.1" ∷ codes "--address=10.0.0.1" ∷ []) ≡ Err (kind.ArgumentConflict ∷ [])
+address_twice : asked (codes "serve" ∷ codes "--address=10.0.0.1" ∷ codes "--address=10.0.0.1" ∷ []) ≡
+    Err (kind.ArgumentConflict ∷ [])
 unfolding asked command_line options config_at clap_on_literals
 address_twice = refl
 

@@ -35,13 +35,16 @@ has_no_globals c plain =
     not_so (out-Command c).has_globals (and_parts (not (out-Command c).has_globals) _ globals).0
 
 -- an argument that is no other's matter is the last of the rules
-pub adds_rule : (old new : Command) (a : Arg) (line : App) (rule : Rule) → AddsArg old a new → app_of old ≡ line → rule_of a ≡ rule
+pub adds_rule : (old new : Command) (a : Arg) (line : App) (rule : Rule) → AddsArg old a new → app_of old ≡ line →
+    rule_of a ≡ rule
     → rule.is_simple ≡ true → app_of new ≡ with_rule line rule
 adds_rule old new a line rule added was is simple =
     added.shape (is_local a (ap (λ (r : Rule). r.is_simple) is ∙ simple)) ∙ ap₂ with_rule was is
 
 -- and so a subcommand
-pub adds_subcommand : (old new sub : Command) (line below : App) → AddsSubcommand old sub new → app_of old ≡ line → app_of sub ≡ below
+pub adds_subcommand : (old new sub : Command) (line below : App) → AddsSubcommand old sub new → app_of old ≡ line →
+    app_of sub ≡ below
     → below.top.is_plain ≡ true → app_of new ≡ with_subcommand line below.top
 adds_subcommand old new sub line below added was is plain =
-    added.shape (has_no_globals sub (ap (λ (a : App). a.top.is_plain) is ∙ plain)) ∙ ap₂ with_subcommand was (ap (λ (a : App). a.top) is)
+    added.shape (has_no_globals sub (ap (λ (a : App). a.top.is_plain) is ∙ plain)) ∙
+    ap₂ with_subcommand was (ap (λ (a : App). a.top) is)

@@ -21,13 +21,17 @@ with_one : (read : List (List ℕ)) (address : List ℕ) (named : Result (List (
 with_one read address (Ok named) = ap Ok (sym (append_assoc read (address ∷ []) named))
 with_one read address (Err fault) = refl
 
-one_read : (read : List (List ℕ)) (text : List ℕ) (texts : List (List ℕ)) (address : List ℕ) → address_of text ≡ Some address
+one_read : (read : List (List ℕ)) (text : List ℕ) (texts : List (List ℕ)) (address : List ℕ) →
+    address_of text ≡ Some address
     → then_named read (all_named (text ∷ texts)) ≡ then_named (read ++ address ∷ []) (all_named texts)
 one_read read text texts address is = rw is (with_one read address (all_named texts))
 
 -- the next of some texts was read
-pub next_read : {X : Type 0} (now : X → List ℕ) (texts : List X) (i : ℕ) (d : X) (address : List ℕ) (read : List (List ℕ)) → i < length texts
+pub next_read : {X : Type 0} (now : X → List ℕ) (texts : List X) (i : ℕ) (d : X) (address : List ℕ)
+    (read : List (List ℕ)) → i < length texts
     → address_of (now (get_or texts i d)) ≡ Some address
-    → then_named read (all_named (map now (drop i texts))) ≡ then_named (read ++ address ∷ []) (all_named (map now (drop (i + 1) texts)))
+    → then_named read (all_named (map now (drop i texts))) ≡
+    then_named (read ++ address ∷ []) (all_named (map now (drop (i + 1) texts)))
 next_read now texts i d address read lt is =
-    at_drop_more (λ rest. then_named read (all_named (map now rest))) texts i d lt ∙ one_read read (now (get_or texts i d)) (map now (drop (i + 1) texts)) address is
+    at_drop_more (λ rest. then_named read (all_named (map now rest))) texts i d lt ∙
+    one_read read (now (get_or texts i d)) (map now (drop (i + 1) texts)) address is

@@ -26,10 +26,17 @@ not_bad config e h = cc e
 
 not_begun : (config : Config) (input old : Option (List ℕ)) → Replays config input input old old NoMemory
 unfolding status_of
-not_begun config input old = record { outcome = no_memory; is = refl; ran = inl (Keeps-refl input, Keeps-refl old); bad = not_bad config; unsound = λ h. inr refl }
+not_begun config input old = record {
+  outcome = no_memory;
+  is = refl;
+  ran = inl (Keeps-refl input, Keeps-refl old);
+  bad = not_bad config;
+  unsound = λ h. inr refl;
+}
 
 -- a fault of the words was told, and their input was left alone
-pub ends_told : {R W : Type 0} (remaining : R → Option (List ℕ)) (contents : W → Option (List ℕ)) (asked : Result Invocation Kinds) (kind : ErrorKind)
+pub ends_told : {R W : Type 0} (remaining : R → Option (List ℕ)) (contents : W → Option (List ℕ))
+    (asked : Result Invocation Kinds) (kind : ErrorKind)
     (input rest : R) (old new : W) (status : Status) → IsRefused asked kind → Tells kind old new status → rest ≡ input
     → Ends remaining contents asked input rest old new status
 ends_told remaining contents (Ok (Replay config)) kind input rest old new status memory told left =
@@ -38,10 +45,12 @@ ends_told remaining contents (Ok (Replay config)) kind input rest old new status
 ends_told remaining contents (Ok (Serve config controllers report)) kind input rest old new status memory told left =
     let ended = subst (λ k. Tells k old new status) memory told in
     inr (subst (IsNotBegun config) (sym ended.0) tt, left, ended.1)
-ends_told remaining contents (Ok (Live config controllers late report)) kind input rest old new status memory told left =
+ends_told remaining contents (Ok (Live config controllers late report)) kind input rest old new status memory told
+    left =
     let ended = subst (λ k. Tells k old new status) memory told in
     (left, inr (inl (subst (IsNotBegun config) (sym ended.0) tt), ended.1))
-ends_told remaining contents (Err kinds) kind input rest old new status why told left = (left, record { kind = kind; among = why; told = told })
+ends_told remaining contents (Err kinds) kind input rest old new status why told left =
+    (left, record { kind = kind; among = why; told = told })
 
 -- a run that ended by a fault isn't done
 pub fault_is_told : (fault : RunFault) → status_of (Err fault) ≡ Done → ⊥

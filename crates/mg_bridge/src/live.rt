@@ -50,8 +50,9 @@ fn serve_by<K: Watch + Drop, W: Write, E: Write, T: Write>(
 
 /// Serves a new gateway on UDP ports by the clock: a poll and a tick every 20 ms. The text of a fault goes to `errors`.
 ///
-/// After a delay all polls and ticks that were missed are done at once. The packets of a tick that is late by more ticks than are
-/// allowed are not sent, so that callers hear a gap, and timestamps stay with the clock. How many weren't sent goes to `errors`. Every so many seconds, if any, a report goes to `reports`.
+/// After a delay all polls and ticks that were missed are done at once. The packets of a tick that is late by more
+/// ticks than are allowed are not sent, so that callers hear a gap, and timestamps stay with the clock. How many
+/// weren't sent goes to `errors`. Every so many seconds, if any, a report goes to `reports`.
 pub fn live<N: Net, C: Clock, W: Write, E: Write, T: Write>(
     net: &N,
     clock: &C,

@@ -5,9 +5,9 @@
 //!
 //! `mg_bridge live` is a gateway on UDP ports in real time.
 //!
-//! `mg_bridge serve` is the same gateway, driven by lines on standard input: `poll` takes what came to the ports, `tick`
-//! passes on by 20 ms and sends the packets, `stats` prints what was counted, `quit` ends it. Another program, `mg_pace`,
-//! writes these lines by the clock.
+//! `mg_bridge serve` is the same gateway, driven by lines on standard input: `poll` takes what came to the ports,
+//! `tick` passes on by 20 ms and sends the packets, `stats` prints what was counted, `quit` ends it. Another program,
+//! `mg_pace`, writes these lines by the clock.
 #![tactic(auto)]
 
 ghost use Rattle.std.specs.Prelude.{◌≡◌, ◌≢◌};

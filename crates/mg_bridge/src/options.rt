@@ -149,8 +149,8 @@ fn address_of(
     }
 }
 
-/// The configuration that the options name, at these addresses for media and for control messages. An option that isn't given leaves
-/// the default.
+/// The configuration that the options name, at these addresses for media and for control messages. An option that isn't
+/// given leaves the default.
 fn config_at(address: [u8; 4], control_address: [u8; 4], matches: &ArgMatches<'_>) -> Config
     ensures value { result ≡ config_at address control_address (rows_of (found_of matches.now)) }
 {

@@ -41,10 +41,10 @@ fn tell<W: Write, E: Write>(error: &Error, output: &mut W, errors: &mut E) -> St
     }
 }
 
-/// Runs the program on its arguments, which stand without its name, and answers its exit status: 0; 1 for a bad
-/// script line; 2 for arguments or a configuration that can't be used; 3 where a read or a write failed; 4 where
-/// memory ran out; 5 for a port that can't be bound. The text that belongs to a status other than 0 goes to `errors`, and what
-/// a gateway reports now and then to `reports`.
+/// Runs the program on its arguments, which stand without its name, and answers its exit status: 0; 1 for a bad script
+/// line; 2 for arguments or a configuration that can't be used; 3 where a read or a write failed; 4 where memory ran
+/// out; 5 for a port that can't be bound. The text that belongs to a status other than 0 goes to `errors`, and what a
+/// gateway reports now and then to `reports`.
 pub fn program<'a, N: Net, C: Clock, S: AsStr, R: Read, W: Write, E: Write, T: Write>(
     net: &N,
     clock: &C,

@@ -16,8 +16,9 @@ pub const SOCKETS: usize = TERMINATIONS + 1;
 
 /// Which sockets have a datagram, by what the system tells of them.
 ///
-/// The system tells of a socket when a datagram comes, and once. So a socket counts as ready from then on until a receive found
-/// nothing there, and nothing else ends it: no bound on how many are taken at a time, and no receive that failed.
+/// The system tells of a socket when a datagram comes, and once. So a socket counts as ready from then on until a
+/// receive found nothing there, and nothing else ends it: no bound on how many are taken at a time, and no receive that
+/// failed.
 #[derive(Drop)]
 pub struct Readiness {
     poll: Poll,
@@ -34,7 +35,8 @@ impl Model for Readiness {
 }
 
 impl Readiness {
-    /// No socket is watched, and all count as ready. The room for what the system tells is handed in, so this takes no memory.
+    /// No socket is watched, and all count as ready. The room for what the system tells is handed in, so this takes no
+    /// memory.
     pub fn new<N: Net>(net: &N, events: Events) -> io::Result<Self> {
         Ok(Readiness {
             poll: Poll::new(net)?,
@@ -50,8 +52,8 @@ impl Readiness {
             .register(socket, Token(slot), Interest::READABLE)
     }
 
-    /// Asks the system which sockets have had a datagram since it was last asked. This doesn't wait. Where the system can't tell,
-    /// all count as ready.
+    /// Asks the system which sockets have had a datagram since it was last asked. This doesn't wait. Where the system
+    /// can't tell, all count as ready.
     pub fn ask(&mut self)
         ensures kept { AreStillReady self.old self.new }
     {

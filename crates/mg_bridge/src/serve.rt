@@ -46,8 +46,8 @@ pub fn bind<N: Net, E: Write>(
     }
 }
 
-/// Serves a new gateway on UDP ports by the lines that are read, under these controllers. The text of a fault goes to `errors`, and
-/// every so many seconds, if any, a report to `reports`.
+/// Serves a new gateway on UDP ports by the lines that are read, under these controllers. The text of a fault goes to
+/// `errors`, and every so many seconds, if any, a report to `reports`.
 ///
 /// A configuration that can't be used is told before a port is bound, and a port that can't be bound before a line
 /// is read.

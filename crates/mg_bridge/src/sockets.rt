@@ -71,7 +71,8 @@ fn datagram_of(answer: io::Result<(usize, SocketAddr)>) -> Result<Option<(usize,
 
 impl Sockets {
     /// Binds the ports of a gateway: the control port, and then the media ports in rising order. The first one that
-    /// can't be bound is told. The room for what the system tells is handed in, so this takes no memory of the program's.
+    /// can't be bound is told. The room for what the system tells is handed in, so this takes no memory of the
+    /// program's.
     pub fn bind<N: Net>(net: &N, config: &Config, events: Events) -> Result<Sockets, BindFault>
         requires sound { IsValidConfig config.now }
         ensures port { IfErr result (λ fault. IsPortOf config.now fault.port) }
@@ -113,7 +114,8 @@ impl Sockets {
         datagram_of(self.socket(slot)?.recv_from(buffer))
     }
 
-    /// Receives from a slot's socket. One that isn't ready gives nothing. A receive at the control port asks first which are.
+    /// Receives from a slot's socket. One that isn't ready gives nothing. A receive at the control port asks first
+    /// which are.
     pub fn receive_ready(
         &mut self,
         slot: usize,

@@ -3,8 +3,8 @@ use mg_clock::{Watch, is_late};
 use std::cell::Cell;
 use std::io::Write;
 
-/// Packets are too late where their tick is late by more ticks of 20 ms than are allowed. How many were is told with the first
-/// one that isn't.
+/// Packets are too late where their tick is late by more ticks of 20 ms than are allowed. How many were is told with
+/// the first one that isn't.
 #[derive(Drop)]
 pub struct TickDeadline<'a, K: Watch, E: Write> {
     watch: K,

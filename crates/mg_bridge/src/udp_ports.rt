@@ -15,8 +15,8 @@ pub struct UdpPorts<D: Deadline> {
     failures: u64,
 }
 
-/// Whether an address is none of a caller's: 0.0.0.0, by which a call is held, would be this machine's own, and others are those of
-/// many.
+/// Whether an address is none of a caller's: 0.0.0.0, by which a call is held, would be this machine's own, and others
+/// are those of many.
 fn is_no_callers(address: [u8; 4]) -> bool {
     address == [0; 4] || is_of_many(address)
 }

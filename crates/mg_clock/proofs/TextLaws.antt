@@ -18,28 +18,37 @@ repeat_more n xs =
 -- the text at k whole periods and r polls
 text_at : (polls k r : ℕ) → r < polls → text polls (k * polls + r) ≡ repeat k (period_lines polls) ++ repeat r poll_line
 unfolding text
-text_at polls k r lt = ap₂ (λ a b. repeat a (period_lines polls) ++ repeat b poll_line) (div-mul-add k polls r lt) (mod-mul-add k polls r lt)
+text_at polls k r lt = ap₂ (λ a b. repeat a (period_lines polls) ++ repeat b poll_line) (div-mul-add k polls r lt)
+    (mod-mul-add k polls r lt)
 
 not_zero : (n : ℕ) → (n + 1 == 0) ≡ false
 not_zero n = grind (arith, nat_tests)
 
 -- a poll more
-poll_more : (polls k r : ℕ) → r + 1 < polls → text polls (k * polls + r + 1) ≡ text polls (k * polls + r) ++ step_lines polls (k * polls + r + 1)
+poll_more : (polls k r : ℕ) → r + 1 < polls →
+    text polls (k * polls + r + 1) ≡ text polls (k * polls + r) ++ step_lines polls (k * polls + r + 1)
 poll_more polls k r lt =
     let at : k * polls + r + 1 ≡ k * polls + (r + 1) = omega arith in
-    let lines : step_lines polls (k * polls + r + 1) ≡ poll_line = rw (at, mod-mul-add k polls (r + 1) lt, not_zero r) refl in
-    ap (text polls) at ∙ text_at polls k (r + 1) lt ∙ ap (λ (l : List ℕ). repeat k (period_lines polls) ++ l) (repeat_more r poll_line)
+    let lines : step_lines polls (k * polls + r + 1) ≡ poll_line =
+    rw (at, mod-mul-add k polls (r + 1) lt, not_zero r) refl in
+    ap (text polls) at ∙ text_at polls k (r + 1) lt ∙
+    ap (λ (l : List ℕ). repeat k (period_lines polls) ++ l) (repeat_more r poll_line)
     ∙ sym (append_assoc (repeat k (period_lines polls)) (repeat r poll_line) poll_line)
     ∙ ap₂ (λ (a b : List ℕ). a ++ b) (sym (text_at polls k r (omega (arith, lt)))) (sym lines)
 
 -- a poll and a tick more
-tick_more : (k r : ℕ) → text (r + 1) (k * (r + 1) + r + 1) ≡ text (r + 1) (k * (r + 1) + r) ++ step_lines (r + 1) (k * (r + 1) + r + 1)
+tick_more : (k r : ℕ) → text (r + 1) (k * (r + 1) + r + 1) ≡ text (r + 1) (k * (r + 1) + r) ++
+    step_lines (r + 1) (k * (r + 1) + r + 1)
 tick_more k r =
     let polls = r + 1 in
     let at : k * (r + 1) + r + 1 ≡ (k + 1) * (r + 1) + 0 = omega arith in
-    let lines : step_lines polls (k * (r + 1) + r + 1) ≡ poll_line ++ tick_line = rw (at, mod-mul-add (k + 1) polls 0 (omega arith)) refl in
-    let period : period_lines polls ≡ repeat r poll_line ++ (poll_line ++ tick_line) = ap (λ (l : List ℕ). l ++ tick_line) (repeat_more r poll_line) ∙ append_assoc (repeat r poll_line) poll_line tick_line in
-    ap (text polls) at ∙ text_at polls (k + 1) 0 (omega arith) ∙ append-nil (repeat (k + 1) (period_lines polls)) ∙ repeat_more k (period_lines polls)
+    let lines : step_lines polls (k * (r + 1) + r + 1) ≡ poll_line ++ tick_line =
+    rw (at, mod-mul-add (k + 1) polls 0 (omega arith)) refl in
+    let period : period_lines polls ≡ repeat r poll_line ++ (poll_line ++ tick_line) =
+    ap (λ (l : List ℕ). l ++ tick_line) (repeat_more r poll_line) ∙
+    append_assoc (repeat r poll_line) poll_line tick_line in
+    ap (text polls) at ∙ text_at polls (k + 1) 0 (omega arith) ∙ append-nil (repeat (k + 1) (period_lines polls)) ∙
+    repeat_more k (period_lines polls)
     ∙ ap (λ (l : List ℕ). repeat k (period_lines polls) ++ l) period
     ∙ sym (append_assoc (repeat k (period_lines polls)) (repeat r poll_line) (poll_line ++ tick_line))
     ∙ ap₂ (λ (a b : List ℕ). a ++ b) (sym (text_at polls k r (omega arith))) (sym lines)
@@ -53,7 +62,8 @@ step_at polls k r false e lt =
 
 pub text_more : (polls step : ℕ) → 0 < polls → text polls (step + 1) ≡ text polls step ++ step_lines polls (step + 1)
 text_more polls step some =
-    rw (← div-add-mod' step polls) (step_at polls (step / polls) (step % polls) (nat_lt (step % polls + 1) polls) refl (mod_below step polls some))
+    rw (← div-add-mod' step polls) (step_at polls (step / polls) (step % polls) (nat_lt (step % polls + 1) polls) refl
+    (mod_below step polls some))
 
 pub text_none : (polls : ℕ) → 0 < polls → text polls 0 ≡ []
 text_none polls some =

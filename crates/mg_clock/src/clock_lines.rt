@@ -9,8 +9,8 @@ use std::io::{ErrorKind, Read};
 
 /// A reader that gives the lines `poll` and `tick` when they are due, by a clock. It never ends.
 ///
-/// A read gives the line of one poll, with each last one of 20 ms the line of a tick too, and waits for them where they aren't
-/// due yet. After a delay it waits for none until all that were missed are given.
+/// A read gives the line of one poll, with each last one of 20 ms the line of a tick too, and waits for them where they
+/// aren't due yet. After a delay it waits for none until all that were missed are given.
 #[derive(Drop)]
 pub struct ClockLines<'a, K: Watch> {
     watch: K,
@@ -25,8 +25,8 @@ pub struct ClockLines<'a, K: Watch> {
 impl<'a, K: Watch> ClockLines<'a, K> {
     ghost use Rattle.mg_clock.specs.Reading.{Begins, GivesLines, HasGiven, WaitsFor, lines_at, seen, start, with_next_step};
 
-    /// The lines from the start of a clock on, with so many polls in 20 ms, from 1 to 1000. `ticks` tells from now on how many
-    /// ticks were begun.
+    /// The lines from the start of a clock on, with so many polls in 20 ms, from 1 to 1000. `ticks` tells from now on
+    /// how many ticks were begun.
     pub fn new(watch: K, ticks: &'a Cell<u64>, polls: u16) -> Self
         requires some { 0 < polls }
         requires few { polls ≤ 1000 }
@@ -46,7 +46,8 @@ impl<'a, K: Watch> ClockLines<'a, K> {
     fn wait_for_step(&mut self) -> Result<(), ClockFailed>
         ensures lines { lines_at self.new ≡ lines_at self.old }
         ensures waits { OnOk result (WaitsFor self.old.polls self.old.steps
-            (seen (K.readings self.old.watch) (K.waits self.old.watch)) (seen (K.readings self.new.watch) (K.waits self.new.watch))) }
+            (seen (K.readings self.old.watch) (K.waits self.old.watch))
+            (seen (K.readings self.new.watch) (K.waits self.new.watch))) }
         ensures fails { IfErr result (λ failed. K.Fails self.new.watch) }
     {
         let now = self.watch.now()?;
@@ -57,7 +58,8 @@ impl<'a, K: Watch> ClockLines<'a, K> {
     /// Begins the lines of the next step. There is none after 18,446,744,073,709,551,615.
     fn begin_step(&mut self) -> Result<(), ClockFailed>
         ensures value { OnOk result (lines_at self.new ≡ with_next_step (lines_at self.old)) }
-        ensures fails { IfErr result (λ failed. (self.old.steps ≡ 2 ^ 64 - 1) × (lines_at self.new ≡ lines_at self.old)) }
+        ensures fails { IfErr result (λ failed. (self.old.steps ≡ 2 ^ 64 - 1) ×
+            (lines_at self.new ≡ lines_at self.old)) }
         ensures watch { self.new.watch ≡ self.old.watch }
         ensures some { OnOk result (0 < length self.new.rest.now) }
     {
@@ -76,7 +78,8 @@ impl<'a, K: Watch> ClockLines<'a, K> {
     /// Begins a read: waits for the next step and begins its lines, where nothing is left.
     fn begin(&mut self) -> Result<(), ClockFailed>
         ensures begins { OnOk result (Begins (lines_at self.old) (lines_at self.new)
-            (seen (K.readings self.old.watch) (K.waits self.old.watch)) (seen (K.readings self.new.watch) (K.waits self.new.watch))) }
+            (seen (K.readings self.old.watch) (K.waits self.old.watch))
+            (seen (K.readings self.new.watch) (K.waits self.new.watch))) }
         ensures some { OnOk result (0 < length self.new.rest.now) }
         ensures stays { IfErr result (λ failed. lines_at self.new ≡ lines_at self.old) }
         ensures fails { IfErr result (λ failed. (K.Fails self.new.watch) ⊎ (self.old.steps ≡ 2 ^ 64 - 1)) }
@@ -103,10 +106,11 @@ impl<'a, K: Watch> ClockLines<'a, K> {
         n
     }
 
-    /// Gives the lines that are due next, or what is left of them, and waits for them where nothing is left: answers how many
-    /// bytes of them stand at the front of the buffer.
+    /// Gives the lines that are due next, or what is left of them, and waits for them where nothing is left: answers
+    /// how many bytes of them stand at the front of the buffer.
     pub fn fill(&mut self, buffer: &mut [u8]) -> Result<usize, ClockFailed>
-        ensures gives { GivesLines (lines_at self.old) (lines_at self.new) (seen (K.readings self.old.watch) (K.waits self.old.watch))
+        ensures gives { GivesLines (lines_at self.old) (lines_at self.new)
+            (seen (K.readings self.old.watch) (K.waits self.old.watch))
             (seen (K.readings self.new.watch) (K.waits self.new.watch)) buffer.new result }
         // What was given so far, with these bytes, is still the text of the steps.
         ensures text { (given : List ℕ) → HasGiven (lines_at self.old) given

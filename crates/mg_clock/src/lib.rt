@@ -1,8 +1,8 @@
 //! The time of a gateway: when its polls and ticks are due, and their lines as they fall due.
 //!
-//! A tick comes every 20 ms, and a step, which is a poll, several times in 20 ms; the last step of each 20 ms is a poll and a
-//! tick. Each stands at its own point of time from the start, so that no delay adds up. [`ClockLines`] is a reader that gives the
-//! lines `poll` and `tick` when they are due, and never ends:
+//! A tick comes every 20 ms, and a step, which is a poll, several times in 20 ms; the last step of each 20 ms is a poll
+//! and a tick. Each stands at its own point of time from the start, so that no delay adds up. [`ClockLines`] is a
+//! reader that gives the lines `poll` and `tick` when they are due, and never ends:
 //!
 //! ```rust
 //! let ticks = Cell::new(0);
@@ -11,10 +11,11 @@
 //! let n = lines.read(&mut buffer)?;
 //! ```
 //!
-//! [`Watch`] is a clock that can wait, and [`SystemWatch`] the system's monotonic one. Times are nanoseconds since the start.
+//! [`Watch`] is a clock that can wait, and [`SystemWatch`] the system's monotonic one. Times are nanoseconds since the
+//! start.
 //!
-//! Contracts speak of a clock by its readings and waits, where they are known: those of a clock that is a script are, and the
-//! system's are not.
+//! Contracts speak of a clock by its readings and waits, where they are known: those of a clock that is a script are,
+//! and the system's are not.
 #![tactic(auto)]
 
 mod clock_failed;

@@ -11,42 +11,56 @@ use Rattle.mg_commands.specs.DescriptorFault.{is_jitter, same_control}
 use Rattle.mg_commands.specs.Search.{first_after}
 use Rattle.mg_commands.specs.aids.Levels.{is_single}
 
-pub walk_next : {X : Type 0} (f : List X → X → Option ErrorNumber) (xs : List X) (i : ℕ) (d : X) → i < length xs → f (take i xs) (get_or xs i d) ≡ None → first_after f (take (i + 1) xs) (drop (i + 1) xs) ≡ first_after f (take i xs) (drop i xs)
+pub walk_next : {X : Type 0} (f : List X → X → Option ErrorNumber) (xs : List X) (i : ℕ) (d : X) → i < length xs →
+    f (take i xs) (get_or xs i d) ≡ None → first_after f (take (i + 1) xs) (drop (i + 1) xs) ≡
+    first_after f (take i xs) (drop i xs)
 unfolding first_after
 walk_next f xs i d lt e = rw (drop_more xs i d lt, take_more xs i d lt, e) refl
 
-pub walk_found : {X : Type 0} (f : List X → X → Option ErrorNumber) (xs : List X) (i : ℕ) (d : X) (fault : ErrorNumber) → i < length xs → f (take i xs) (get_or xs i d) ≡ Some fault → first_after f (take i xs) (drop i xs) ≡ Some fault
+pub walk_found : {X : Type 0} (f : List X → X → Option ErrorNumber) (xs : List X) (i : ℕ) (d : X)
+    (fault : ErrorNumber) → i < length xs → f (take i xs) (get_or xs i d) ≡ Some fault →
+    first_after f (take i xs) (drop i xs) ≡ Some fault
 unfolding first_after
 walk_found f xs i d fault lt e = rw (drop_more xs i d lt, e) refl
 
 -- the fault that was found is the first
-pub walk_hit : {X : Type 0} (f : List X → X → Option ErrorNumber) (xs : List X) (i : ℕ) (x d : X) (before : List X) (r w : Option ErrorNumber) (fault : ErrorNumber) → i < length xs → x ≡ get_or xs i d → before ≡ take i xs → r ≡ f before x → r ≡ Some fault → first_after f (take i xs) (drop i xs) ≡ w → Some fault ≡ w
+pub walk_hit : {X : Type 0} (f : List X → X → Option ErrorNumber) (xs : List X) (i : ℕ) (x d : X) (before : List X)
+    (r w : Option ErrorNumber) (fault : ErrorNumber) → i < length xs → x ≡ get_or xs i d → before ≡ take i xs →
+    r ≡ f before x → r ≡ Some fault → first_after f (take i xs) (drop i xs) ≡ w → Some fault ≡ w
 walk_hit f xs i x d before r w fault lt is front called some h =
-    let one : f (take i xs) (get_or xs i d) ≡ Some fault = ap (f (take i xs)) (sym is) ∙ ap (λ (b : List _). f b x) (sym front) ∙ sym called ∙ some in
+    let one : f (take i xs) (get_or xs i d) ≡ Some fault = ap (f (take i xs)) (sym is) ∙
+    ap (λ (b : List _). f b x) (sym front) ∙ sym called ∙ some in
     sym (walk_found f xs i d fault lt one) ∙ h
 
 -- the first fault is not here
-pub walk_pass : {X : Type 0} (f : List X → X → Option ErrorNumber) (xs : List X) (i : ℕ) (x d : X) (before : List X) (r w : Option ErrorNumber) → i < length xs → x ≡ get_or xs i d → before ≡ take i xs → r ≡ f before x → r ≡ None → first_after f (take i xs) (drop i xs) ≡ w → first_after f (take (i + 1) xs) (drop (i + 1) xs) ≡ w
+pub walk_pass : {X : Type 0} (f : List X → X → Option ErrorNumber) (xs : List X) (i : ℕ) (x d : X) (before : List X)
+    (r w : Option ErrorNumber) → i < length xs → x ≡ get_or xs i d → before ≡ take i xs → r ≡ f before x → r ≡ None →
+    first_after f (take i xs) (drop i xs) ≡ w → first_after f (take (i + 1) xs) (drop (i + 1) xs) ≡ w
 walk_pass f xs i x d before r w lt is front called none h =
-    let one : f (take i xs) (get_or xs i d) ≡ None = ap (f (take i xs)) (sym is) ∙ ap (λ (b : List _). f b x) (sym front) ∙ sym called ∙ none in
+    let one : f (take i xs) (get_or xs i d) ≡ None = ap (f (take i xs)) (sym is) ∙
+    ap (λ (b : List _). f b x) (sym front) ∙ sym called ∙ none in
     walk_next f xs i d lt one ∙ h
 
-pub walk_end : {X : Type 0} (f : List X → X → Option ErrorNumber) (xs : List X) (i : ℕ) → length xs ≤ i → first_after f (take i xs) (drop i xs) ≡ None
+pub walk_end : {X : Type 0} (f : List X → X → Option ErrorNumber) (xs : List X) (i : ℕ) → length xs ≤ i →
+    first_after f (take i xs) (drop i xs) ≡ None
 unfolding first_after
 walk_end f xs i le = rw (drop_all i xs le) refl
 
 -- a property that may stand again is the same as none
-pub same_as_none : (source : List ℕ) (a : Span) (v : Option PropertyValue) (y : ControlPart) → is_jitter source a ≡ false → same_control source (controls.Property a v) y ≡ false
+pub same_as_none : (source : List ℕ) (a : Span) (v : Option PropertyValue) (y : ControlPart) →
+    is_jitter source a ≡ false → same_control source (controls.Property a v) y ≡ false
 same_as_none source a v (controls.Mode m) e = refl
 same_as_none source a v (controls.ReservedValue on) e = refl
 same_as_none source a v (controls.ReservedGroup on) e = refl
 same_as_none source a v (controls.Property b w) e = rw e refl
 
-pub others_stood : (source : List ℕ) (a : Span) (v : Option PropertyValue) (xs : List ControlPart) → is_jitter source a ≡ false → list_any (same_control source (controls.Property a v)) xs ≡ false
+pub others_stood : (source : List ℕ) (a : Span) (v : Option PropertyValue) (xs : List ControlPart) →
+    is_jitter source a ≡ false → list_any (same_control source (controls.Property a v)) xs ≡ false
 others_stood source a v [] e = refl
 others_stood source a v (x ∷ xs) e = rw (same_as_none source a v x e, others_stood source a v xs e) refl
 
-pub stood_of_others : (source : List ℕ) (x : ControlPart) (xs : List ControlPart) → is_single source x ≡ false → list_any (same_control source x) xs ≡ false
+pub stood_of_others : (source : List ℕ) (x : ControlPart) (xs : List ControlPart) → is_single source x ≡ false →
+    list_any (same_control source x) xs ≡ false
 stood_of_others source (controls.Mode m) xs e = absurd (cc e)
 stood_of_others source (controls.ReservedValue on) xs e = absurd (cc e)
 stood_of_others source (controls.ReservedGroup on) xs e = absurd (cc e)

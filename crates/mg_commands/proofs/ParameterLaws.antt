@@ -38,21 +38,42 @@ after_others source a xs =
       audits_statistics = a.audits_statistics || list_any is_statistics_audit xs;
     }
 
-all_after : (source : List ℕ) (a : CommandParameters) (xs : List Part) → with_parts source a xs ≡ after_others source a xs
+all_after : (source : List ℕ) (a : CommandParameters) (xs : List Part) →
+    with_parts source a xs ≡ after_others source a xs
 unfolding with_parts first_of
 all_after source a [] =
-    rw (sym (option_or-none a.settings.mode), sym (option_or-none a.settings.depth), sym (option_or-none a.settings.local), sym (option_or-none a.settings.remote), sym (or_false a.has_audit), sym (or_false a.audits_media), sym (or_false a.audits_statistics)) refl
+    rw (
+      sym (option_or-none a.settings.mode),
+      sym (option_or-none a.settings.depth),
+      sym (option_or-none a.settings.local),
+      sym (option_or-none a.settings.remote),
+      sym (or_false a.has_audit),
+      sym (or_false a.audits_media),
+      sym (or_false a.audits_statistics),
+    ) refl
 all_after source a (x ∷ xs) =
     all_after source (with_part source a x) xs
-    ∙ rw (option_or-assoc a.settings.mode (mode_in x) (first_of mode_in xs), option_or-assoc a.settings.depth (depth_in source x) (first_of (depth_in source) xs), option_or-assoc a.settings.local (local_in source x) (first_of (local_in source) xs), option_or-assoc a.settings.remote (remote_in source x) (first_of (remote_in source) xs), or_assoc a.has_audit (is_audit x) (list_any is_audit xs), or_assoc a.audits_media (is_media_audit x) (list_any is_media_audit xs), or_assoc a.audits_statistics (is_statistics_audit x) (list_any is_statistics_audit xs)) refl
+    ∙ rw (
+      option_or-assoc a.settings.mode (mode_in x) (first_of mode_in xs),
+      option_or-assoc a.settings.depth (depth_in source x) (first_of (depth_in source) xs),
+      option_or-assoc a.settings.local (local_in source x) (first_of (local_in source) xs),
+      option_or-assoc a.settings.remote (remote_in source x) (first_of (remote_in source) xs),
+      or_assoc a.has_audit (is_audit x) (list_any is_audit xs),
+      or_assoc a.audits_media (is_media_audit x) (list_any is_media_audit xs),
+      or_assoc a.audits_statistics (is_statistics_audit x) (list_any is_statistics_audit xs),
+    ) refl
 
-pub parts_ask : (source : List ℕ) (xs : List Descriptor) → with_parts source nothing_asked (parts_of xs) ≡ parameters_of source xs
+pub parts_ask : (source : List ℕ) (xs : List Descriptor) →
+    with_parts source nothing_asked (parts_of xs) ≡ parameters_of source xs
 parts_ask source xs = all_after source nothing_asked (parts_of xs)
 
-pub part_taken : (source : List ℕ) (a : CommandParameters) (x : Part) (xs ys : List Part) (next w : CommandParameters) → xs ≡ x ∷ ys → next ≡ with_part source a x → with_parts source a xs ≡ w → with_parts source next ys ≡ w
+pub part_taken : (source : List ℕ) (a : CommandParameters) (x : Part) (xs ys : List Part) (next w : CommandParameters)
+    → xs ≡ x ∷ ys → next ≡ with_part source a x → with_parts source a xs ≡ w → with_parts source next ys ≡ w
 unfolding with_parts
-part_taken source a x xs ys next w e taken h = ap (λ (n : CommandParameters). with_parts source n ys) taken ∙ sym (ap (with_parts source a) e) ∙ h
+part_taken source a x xs ys next w e taken h = ap (λ (n : CommandParameters). with_parts source n ys) taken ∙
+    sym (ap (with_parts source a) e) ∙ h
 
-pub all_taken : (source : List ℕ) (a : CommandParameters) (xs : List Part) (w : CommandParameters) → xs ≡ [] → with_parts source a xs ≡ w → a ≡ w
+pub all_taken : (source : List ℕ) (a : CommandParameters) (xs : List Part) (w : CommandParameters) → xs ≡ [] →
+    with_parts source a xs ≡ w → a ≡ w
 unfolding with_parts
 all_taken source a xs w e h = sym (ap (with_parts source a) e) ∙ h

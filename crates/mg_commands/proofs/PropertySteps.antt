@@ -16,13 +16,17 @@ use Rattle.mg_commands.specs.Search.{first_of, first_after}
 -- ## A search by an index
 
 module _ {X A : Type 0} (f : X → Option A) (xs : List X) (i : ℕ) where
-  pub not_here : (d : X) (w : Option A) → i < length xs → f (get_or xs i d) ≡ None → first_of f (drop i xs) ≡ w → first_of f (drop (i + 1) xs) ≡ w
+  pub not_here : (d : X) (w : Option A) → i < length xs → f (get_or xs i d) ≡ None → first_of f (drop i xs) ≡ w →
+      first_of f (drop (i + 1) xs) ≡ w
   unfolding first_of
-  not_here d w lt none h = sym (ap (first_of f) (drop_more xs i d lt) ∙ ap (λ (o : Option A). option_or o (first_of f (drop (i + 1) xs))) none) ∙ h
+  not_here d w lt none h = sym (ap (first_of f) (drop_more xs i d lt) ∙
+      ap (λ (o : Option A). option_or o (first_of f (drop (i + 1) xs))) none) ∙ h
 
-  pub found_here : (d : X) (w : Option A) (y : A) → i < length xs → f (get_or xs i d) ≡ Some y → first_of f (drop i xs) ≡ w → Some y ≡ w
+  pub found_here : (d : X) (w : Option A) (y : A) → i < length xs → f (get_or xs i d) ≡ Some y →
+      first_of f (drop i xs) ≡ w → Some y ≡ w
   unfolding first_of
-  found_here d w y lt some h = sym (ap (first_of f) (drop_more xs i d lt) ∙ ap (λ (o : Option A). option_or o (first_of f (drop (i + 1) xs))) some) ∙ h
+  found_here d w y lt some h = sym (ap (first_of f) (drop_more xs i d lt) ∙
+      ap (λ (o : Option A). option_or o (first_of f (drop (i + 1) xs))) some) ∙ h
 
   pub nowhere : (w : Option A) → length xs ≤ i → first_of f (drop i xs) ≡ w → None ≡ w
   unfolding first_of
@@ -46,15 +50,21 @@ not_refused : (b : Bool) (e : ErrorNumber) → refused_if b e ≡ None → b ≡
 not_refused true e h = absurd (cc h)
 not_refused false e h = refl
 
-few_here : (before : List ContextProperty) (xs : List Triple) → context_property_fault before (properties.Topology xs) ≡ None → length xs ≤ triple_limit
-few_here before xs h = ltb-false triple_limit (length xs) (not_refused (nat_lt triple_limit (length xs)) errors.NotServed (if_none (list_any is_topology before) errors.DescriptorTwice _ h))
+few_here : (before : List ContextProperty) (xs : List Triple) →
+    context_property_fault before (properties.Topology xs) ≡ None → length xs ≤ triple_limit
+few_here before xs h = ltb-false triple_limit (length xs)
+    (not_refused (nat_lt triple_limit (length xs)) errors.NotServed
+    (if_none (list_any is_topology before) errors.DescriptorTwice _ h))
 
-pub few_triples : (before ps : List ContextProperty) → first_after context_property_fault before ps ≡ None → length (triples_or_none (first_of triples_in ps)) ≤ triple_limit
+pub few_triples : (before ps : List ContextProperty) → first_after context_property_fault before ps ≡ None →
+    length (triples_or_none (first_of triples_in ps)) ≤ triple_limit
 unfolding first_after first_of
 few_triples before [] h = omega arith
-few_triples before (properties.Topology xs ∷ ps) h = few_here before xs (first_none (context_property_fault before (properties.Topology xs)) _ h)
+few_triples before (properties.Topology xs ∷ ps) h =
+    few_here before xs (first_none (context_property_fault before (properties.Topology xs)) _ h)
 few_triples before (properties.ContextAudit ws ∷ ps) h =
-    few_triples (before ++ properties.ContextAudit ws ∷ []) ps (second_none (context_property_fault before (properties.ContextAudit ws)) _ h)
+    few_triples (before ++ properties.ContextAudit ws ∷ []) ps
+    (second_none (context_property_fault before (properties.ContextAudit ws)) _ h)
 few_triples before (properties.Priority word ∷ ps) h = absurd (cc h)
 few_triples before (properties.Emergency word ∷ ps) h = absurd (cc h)
 

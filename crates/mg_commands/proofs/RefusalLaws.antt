@@ -10,7 +10,8 @@ use Rattle.mg_commands.specs.Theorems.{RefusedNamesChangeNothing, RefusedCommand
 use Rattle.mg_commands.specs.Transaction.{TransactionState, action_unless, after_commands, after_outcome, after_properties, and_then, id_of, with_action, with_names, with_trial}
 
 pub names_refused : RefusedNamesChangeNothing
-names_refused source c parameters name run e h = ap (λ (o : CommandOutcome). after_outcome c.word (written_as (text_of source c.term) name) run o) h
+names_refused source c parameters name run e h =
+    ap (λ (o : CommandOutcome). after_outcome c.word (written_as (text_of source c.term) name) run o) h
 
 pub commands_refused : RefusedCommandsChangeNothing
 commands_refused source c run e h = ap (λ (r : Result Trial ErrorNumber). with_trial source c run r) h
@@ -22,9 +23,13 @@ actions_refused source a s e h = ap (λ (o : Option ErrorNumber). action_unless 
 pub topologies_refused : RefusedTopologiesChangeNothing
 unfolding with_action
 topologies_refused source a s run e none were_done h =
-    ap (λ (o : Option ErrorNumber). action_unless o source a s) none ∙ ap (after_commands source a.properties) were_done ∙ ap (after_properties run) h
-    ∙ ap (λ (items : List Item). let s : TransactionState × Bool = (record { gateway = run.gateway; items = items }, false) in s) (append_assoc run.items (replies.Fault e ∷ []) (replies.Action (id_of run.target) ∷ []))
+    ap (λ (o : Option ErrorNumber). action_unless o source a s) none ∙
+    ap (after_commands source a.properties) were_done ∙ ap (after_properties run) h
+    ∙ ap (λ (items : List Item). let s : TransactionState × Bool =
+    (record { gateway = run.gateway; items = items }, false) in s)
+    (append_assoc run.items (replies.Fault e ∷ []) (replies.Action (id_of run.target) ∷ []))
 
 pub others_tried : OthersAreTried
 unfolding with_names
-others_tried source c parameters x xs run e h = ap (and_then (with_names source c parameters xs)) (names_refused source c parameters x run e h)
+others_tried source c parameters x xs run e h =
+    ap (and_then (with_names source c parameters xs)) (names_refused source c parameters x run e h)

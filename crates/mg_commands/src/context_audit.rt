@@ -44,7 +44,8 @@ fn audit_pair(engine: &Engine, first: &NamedMember, second: &NamedMember) -> Ite
 fn put_pairs_of(engine: &Engine, first: &NamedMember, later: &[NamedMember], reply: &mut Reply)
     requires first { IsOnSeat engine.now.rooms first.now }
     requires later { All (IsOnSeat engine.now.rooms) later.now }
-    ensures value { (w : Gateway) → StandsFor engine.now w → reply.new ≡ after_all reply.old (map (λ m. audit_pair w first.now.number m.number) later.now) }
+    ensures value { (w : Gateway) → StandsFor engine.now w →
+        reply.new ≡ after_all reply.old (map (λ m. audit_pair w first.now.number m.number) later.now) }
 {
     for second in later {
         reply.put(audit_pair(engine, first, second));
@@ -54,7 +55,8 @@ fn put_pairs_of(engine: &Engine, first: &NamedMember, later: &[NamedMember], rep
 /// Tells of each pair of members, in the order of their entry.
 pub fn put_pairs(engine: &Engine, members: &[NamedMember], reply: &mut Reply)
     requires members { All (IsOnSeat engine.now.rooms) members.now }
-    ensures value { (w : Gateway) → StandsFor engine.now w → reply.new ≡ after_all reply.old (audit_pairs w (map (λ m. m.number) members.now)) }
+    ensures value { (w : Gateway) → StandsFor engine.now w →
+        reply.new ≡ after_all reply.old (audit_pairs w (map (λ m. m.number) members.now)) }
 {
     for (i, first) in members.iter().enumerate() {
         let (_, later) = members.split_at(i + 1);

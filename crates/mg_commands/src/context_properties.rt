@@ -71,7 +71,9 @@ fn apply_topology(
     progress: Progress,
 ) -> Result<u32, ErrorNumber>
     requires few { length (triples_or_none (first_of triples_in properties.now)) ≤ triple_limit }
-    ensures came { (w : Gateway) → StandsFor engine.old w → IsOutcome engine.new result (apply_triples w progress.target (triples_of source.now progress.made properties.now)) }
+    ensures came { (w : Gateway) → StandsFor engine.old w →
+        IsOutcome engine.new result (apply_triples w progress.target
+        (triples_of source.now progress.made properties.now)) }
     ensures refused { OnErr result (engine.new ≡ engine.old) }
     ensures work { engine.new.sums.work ≡ engine.old.sums.work }
 {
@@ -85,7 +87,8 @@ fn apply_topology(
 
 /// Answers the audit of a context, if one is asked for.
 fn answer_audit(engine: &Engine, properties: &[ContextProperty], context: u32, reply: &mut Reply)
-    ensures value { (w : Gateway) → StandsFor engine.now w → reply.new ≡ after_all reply.old (audit_items properties.now w context) }
+    ensures value { (w : Gateway) → StandsFor engine.now w →
+        reply.new ≡ after_all reply.old (audit_items properties.now w context) }
 {
     if has_context_audit(properties) {
         let members = named_members(engine.seated(context).as_slice());

@@ -221,7 +221,8 @@ fn stream_of(part: &MediaPart) -> u32
 /// greater number than each of those before, so that streams by rising numbers look back at nothing.
 fn lookback<'a>(greatest: u32, before: &'a [MediaPart], part: &MediaPart) -> &'a [MediaPart]
     requires greatest { greatest ≡ greatest_stream before.now }
-    ensures level { (source : List ℕ) → media_level source result.now part.now ≡ media_level source before.now part.now }
+    ensures level { (source : List ℕ) → media_level source result.now part.now ≡
+        media_level source before.now part.now }
 {
     if stream_of(part) > greatest {
         &[]

@@ -47,7 +47,8 @@ fn add_outcome(
     name: Name,
     parameters: &CommandParameters,
 ) -> Result<Served, ErrorNumber>
-    ensures came { (w : Gateway) → StandsFor engine.old w → IsOutcome engine.new result (add_outcome w target name parameters.now) }
+    ensures came { (w : Gateway) → StandsFor engine.old w →
+        IsOutcome engine.new result (add_outcome w target name parameters.now) }
     ensures refused { OnErr result (engine.new ≡ engine.old) }
     ensures work { RisesAtMost 4 engine.old.sums.work engine.new.sums.work }
 {
@@ -65,7 +66,8 @@ fn modify_outcome(
     name: Name,
     parameters: &CommandParameters,
 ) -> Result<Served, ErrorNumber>
-    ensures came { (w : Gateway) → StandsFor engine.old w → IsOutcome engine.new result (modify_outcome w target name parameters.now) }
+    ensures came { (w : Gateway) → StandsFor engine.old w →
+        IsOutcome engine.new result (modify_outcome w target name parameters.now) }
     ensures refused { OnErr result (engine.new ≡ engine.old) }
     ensures work { RisesAtMost 4 engine.old.sums.work engine.new.sums.work }
 {
@@ -83,7 +85,8 @@ fn move_outcome(
     name: Name,
     parameters: &CommandParameters,
 ) -> Result<Served, ErrorNumber>
-    ensures came { (w : Gateway) → StandsFor engine.old w → IsOutcome engine.new result (move_outcome w target name parameters.now) }
+    ensures came { (w : Gateway) → StandsFor engine.old w →
+        IsOutcome engine.new result (move_outcome w target name parameters.now) }
     ensures refused { OnErr result (engine.new ≡ engine.old) }
     ensures work { RisesAtMost 4 engine.old.sums.work engine.new.sums.work }
 {
@@ -101,7 +104,8 @@ fn subtract_outcome(
     name: Name,
     parameters: &CommandParameters,
 ) -> Result<Served, ErrorNumber>
-    ensures came { (w : Gateway) → StandsFor engine.old w → IsOutcome engine.new result (subtract_outcome w target name parameters.now) }
+    ensures came { (w : Gateway) → StandsFor engine.old w →
+        IsOutcome engine.new result (subtract_outcome w target name parameters.now) }
     ensures refused { OnErr result (engine.new ≡ engine.old) }
     ensures work { RisesAtMost 4 engine.old.sums.work engine.new.sums.work }
 {
@@ -170,7 +174,8 @@ pub fn outcome(
     name: Name,
     parameters: &CommandParameters,
 ) -> Result<Served, ErrorNumber>
-    ensures came { (w : Gateway) → StandsFor engine.old w → IsOutcome engine.new result (outcome word w target name parameters.now) }
+    ensures came { (w : Gateway) → StandsFor engine.old w →
+        IsOutcome engine.new result (outcome word w target name parameters.now) }
     ensures refused { OnErr result (engine.new ≡ engine.old) }
     ensures work { RisesAtMost (if is_edit word then 4 else 0) engine.old.sums.work engine.new.sums.work }
 {

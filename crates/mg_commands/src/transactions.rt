@@ -72,7 +72,8 @@ fn try_members(
     requires proper { command_is_proper source.now command.now ≡ true }
     ensures ran { (base : Base) → Leads (IsAction base) (action_kept engine.old progress reply.old)
         (action_kept engine.new result.0 reply.new)
-        (λ run next. with_names source.now command.now parameters.now (map Name.Number members.now) run ≡ (next, result.1)) }
+        (λ run next. with_names source.now command.now parameters.now (map Name.Number members.now) run ≡
+        (next, result.1)) }
 {
     let mut progress = progress;
     let mut were_done = true;
@@ -135,7 +136,8 @@ fn try_command(
 ) -> (Progress, bool)
     requires proper { command_is_proper source.now command.now ≡ true }
     ensures ran { (base : Base) → Leads (IsAction base) (action_kept engine.old progress reply.old)
-        (action_kept engine.new result.0 reply.new) (λ run next. with_command source.now command.now run ≡ (next, result.1)) }
+        (action_kept engine.new result.0 reply.new)
+        (λ run next. with_command source.now command.now run ≡ (next, result.1)) }
 {
     match check_command(source, command) {
         Ok(parameters) => match name_of(command.term.text(source)) {
@@ -161,7 +163,8 @@ fn try_commands(
 ) -> (Progress, bool)
     requires proper { list_all (command_is_proper source.now) commands.now ≡ true }
     ensures ran { (base : Base) → Leads (IsAction base) (action_kept engine.old progress reply.old)
-        (action_kept engine.new result.0 reply.new) (λ run next. with_commands source.now commands.now run ≡ (next, result.1)) }
+        (action_kept engine.new result.0 reply.new)
+        (λ run next. with_commands source.now commands.now run ≡ (next, result.1)) }
 {
     let mut progress = progress;
     for command in commands {
@@ -197,8 +200,8 @@ fn id_of(target: Target) -> ContextId
     }
 }
 
-/// Tries an action: its commands, and then, unless one failed, what it asks of its context. The answer is whether it was
-/// done whole.
+/// Tries an action: its commands, and then, unless one failed, what it asks of its context. The answer is whether it
+/// was done whole.
 #[tactic(auto, unfolding(crate::specs::Transaction::with_action))]
 fn try_action(engine: &mut Engine, source: &[u8], action: &Action, reply: &mut Reply) -> bool
     requires proper { action_is_proper source.now action.now ≡ true }

@@ -14,7 +14,8 @@ use Rattle.mg_core.specs.World.{World}
 use Rattle.mg_core.specs.aids.Steps.{refusal_of}
 
 -- room that was left is room plus what was written
-pub appended-total : (w : Written) (a : List ℕ) → length a ≤ w.room → (appended w a).room + length (appended w a).text ≡ w.room + length w.text
+pub appended-total : (w : Written) (a : List ℕ) → length a ≤ w.room →
+    (appended w a).room + length (appended w a).text ≡ w.room + length w.text
 appended-total w a le = omega (arith, length-append w.text a)
 
 pub ruleset totals = (appended-total, length-append, append_assoc)
@@ -37,13 +38,15 @@ short_is n no_more = elim (cases_lt 8192 n) [ inl lt ↦ absurd (no_more lt) | i
 abbrev IsAnswered : Result Message ReadFault → Result Message ReadFault → Type 0
 IsAnswered r want = (r ≡ Err NoMemory) ⊎ (r ≡ want)
 
-neither : (place : ℕ) (want : Result Message ReadFault) → (want ≡ Err (Syntax place) → ⊥) → IsAnswered (Err (Syntax place)) want → ⊥
+neither : (place : ℕ) (want : Result Message ReadFault) → (want ≡ Err (Syntax place) → ⊥) →
+    IsAnswered (Err (Syntax place)) want → ⊥
 neither place want apart (inl h) = cc h
 neither place want apart (inr h) = apart (sym h)
 
 -- a refusal with this number answers the bytes, in any world
 abbrev pub Refuses : List ℕ → ErrorNumber → Type 0
-Refuses bytes e = (w : World) → (reading : MessageReading) × IsReading bytes reading × (answered bytes reading w ≡ refused e w)
+Refuses bytes e = (w : World) → (reading : MessageReading) × IsReading bytes reading ×
+    (answered bytes reading w ≡ refused e w)
 
 -- what a refusal says of the bytes
 pub is_refused : (bytes : List ℕ) (f : ReadFault) (e : ErrorNumber) → refusal_of f ≡ Some e

@@ -48,11 +48,14 @@ is_key sender number key = eqb key.1 number && str_eq_ignore_ascii_case key.0 se
 abbrev in_range : List ℕ → ℕ → ℕ → Key → Bool
 in_range sender first last key = leb first key.1 && leb key.1 last && str_eq_ignore_ascii_case key.0 sender
 
-keys_filtered : (p : Key → Bool) (replies : List KeptReply) → keys (filter (λ r. p (key_of r)) replies) ≡ filter p (keys replies)
+keys_filtered : (p : Key → Bool) (replies : List KeptReply) →
+    keys (filter (λ r. p (key_of r)) replies) ≡ filter p (keys replies)
 keys_filtered p [] = refl
 keys_filtered p (r ∷ rs) = step (p (key_of r)) (keys_filtered p rs)
   where
-    step : (b : Bool) → keys (filter (λ x. p (key_of x)) rs) ≡ filter p (keys rs) → keys (cond b (r ∷ filter (λ x. p (key_of x)) rs) (filter (λ x. p (key_of x)) rs)) ≡ cond b (key_of r ∷ filter p (keys rs)) (filter p (keys rs))
+    step : (b : Bool) → keys (filter (λ x. p (key_of x)) rs) ≡ filter p (keys rs) →
+        keys (cond b (r ∷ filter (λ x. p (key_of x)) rs) (filter (λ x. p (key_of x)) rs)) ≡
+        cond b (key_of r ∷ filter p (keys rs)) (filter p (keys rs))
     step true e = ap (λ (l : List Key). key_of r ∷ l) e
     step false e = e
 
@@ -61,12 +64,15 @@ find_key : (p : Key → Bool) → List Key → Bool
 find_key p [] = false
 find_key p (k ∷ ks) = cond (p k) true (find_key p ks)
 
-kept_by_key : (p : Key → Bool) (replies : List KeptReply) → is_some (option_map (λ r. r.text) (find (λ r. p (key_of r)) replies)) ≡ find_key p (keys replies)
+kept_by_key : (p : Key → Bool) (replies : List KeptReply) →
+    is_some (option_map (λ r. r.text) (find (λ r. p (key_of r)) replies)) ≡ find_key p (keys replies)
 unfolding find_key
 kept_by_key p [] = refl
 kept_by_key p (r ∷ rs) = step (p (key_of r)) (kept_by_key p rs)
   where
-    step : (b : Bool) → is_some (option_map (λ x. x.text) (find (λ x. p (key_of x)) rs)) ≡ find_key p (keys rs) → is_some (option_map (λ x. x.text) (cond b (Some r) (find (λ x. p (key_of x)) rs))) ≡ cond b true (find_key p (keys rs))
+    step : (b : Bool) → is_some (option_map (λ x. x.text) (find (λ x. p (key_of x)) rs)) ≡ find_key p (keys rs) →
+        is_some (option_map (λ x. x.text) (cond b (Some r) (find (λ x. p (key_of x)) rs))) ≡
+        cond b true (find_key p (keys rs))
     step true e = refl
     step false e = e
 
@@ -77,27 +83,38 @@ abbrev newest_keys : ℕ → List Key → List Key
 newest_keys count ks = drop (length ks - count) ks
 
 keys_newest : (count : ℕ) (replies : List KeptReply) → keys (newest count replies) ≡ newest_keys count (keys replies)
-keys_newest count replies = keys_dropped (length replies - count) replies ∙ ap (λ (n : ℕ). drop (n - count) (keys replies)) (sym (length-map replies key_of))
+keys_newest count replies = keys_dropped (length replies - count) replies ∙
+    ap (λ (n : ℕ). drop (n - count) (keys replies)) (sym (length-map replies key_of))
 
 module _ (some : List ℕ) where
   -- the same keys
   abbrev SameKeys : List KeptReply → List KeptReply → Type 0
   SameKeys x y = keys x ≡ keys y
 
-  with_reply_keys : (one other : KeptReply) (x y : List KeptReply) → key_of one ≡ key_of other → SameKeys x y → SameKeys (with_reply one x) (with_reply other y)
+  with_reply_keys : (one other : KeptReply) (x y : List KeptReply) → key_of one ≡ key_of other → SameKeys x y →
+      SameKeys (with_reply one x) (with_reply other y)
   with_reply_keys one other x y same h =
-      keys_newest 32 (x ++ one ∷ []) ∙ ap (newest_keys 32) (map-append key_of x (one ∷ []) ∙ (λ i. h i ++ same i ∷ []) ∙ sym (map-append key_of y (other ∷ []))) ∙ sym (keys_newest 32 (y ++ other ∷ []))
+      keys_newest 32 (x ++ one ∷ []) ∙ ap (newest_keys 32)
+      (map-append key_of x (one ∷ []) ∙ (λ i. h i ++ same i ∷ []) ∙ sym (map-append key_of y (other ∷ []))) ∙
+      sym (keys_newest 32 (y ++ other ∷ []))
 
-  range_keys : (sender : List ℕ) (first last : ℕ) (x y : List KeptReply) → SameKeys x y → SameKeys (without_range sender first last x) (without_range sender first last y)
+  range_keys : (sender : List ℕ) (first last : ℕ) (x y : List KeptReply) → SameKeys x y →
+      SameKeys (without_range sender first last x) (without_range sender first last y)
   range_keys sender first last x y h =
-      keys_filtered (λ k. not (in_range sender first last k)) x ∙ ap (filter (λ k. not (in_range sender first last k))) h ∙ sym (keys_filtered (λ k. not (in_range sender first last k)) y)
+      keys_filtered (λ k. not (in_range sender first last k)) x ∙
+      ap (filter (λ k. not (in_range sender first last k))) h ∙
+      sym (keys_filtered (λ k. not (in_range sender first last k)) y)
 
-  ranges_keys : (sender : List ℕ) (ranges : List Range) (x y : List KeptReply) → SameKeys x y → SameKeys (without_ranges sender ranges x) (without_ranges sender ranges y)
+  ranges_keys : (sender : List ℕ) (ranges : List Range) (x y : List KeptReply) → SameKeys x y →
+      SameKeys (without_ranges sender ranges x) (without_ranges sender ranges y)
   ranges_keys sender [] x y h = h
-  ranges_keys sender (r ∷ rs) x y h = ranges_keys sender rs (without_range sender r.first r.last x) (without_range sender r.first r.last y) (range_keys sender r.first r.last x y h)
+  ranges_keys sender (r ∷ rs) x y h = ranges_keys sender rs (without_range sender r.first r.last x)
+      (without_range sender r.first r.last y) (range_keys sender r.first r.last x y h)
 
-  kept_alike : (sender : List ℕ) (number : ℕ) (x y : List KeptReply) → SameKeys x y → is_some (kept_text x sender number) ≡ is_some (kept_text y sender number)
-  kept_alike sender number x y h = kept_by_key (is_key sender number) x ∙ ap (find_key (is_key sender number)) h ∙ sym (kept_by_key (is_key sender number) y)
+  kept_alike : (sender : List ℕ) (number : ℕ) (x y : List KeptReply) → SameKeys x y →
+      is_some (kept_text x sender number) ≡ is_some (kept_text y sender number)
+  kept_alike sender number x y h = kept_by_key (is_key sender number) x ∙ ap (find_key (is_key sender number)) h ∙
+      sym (kept_by_key (is_key sender number) y)
 
 -- ## Control datagrams
 
@@ -106,41 +123,61 @@ module _ (requests : RequestsKeepAgreement) (some : List ℕ) where
   Agree a b = AgreeOutside some a b
 
   run_agrees : (source sender : List ℕ) (request : Request) (a b : World) → Agree a b
-      → Agree (run_and_kept sender request.number a (replied source request a.gateway)).1 (run_and_kept sender request.number b (replied source request b.gateway)).1
+      → Agree (run_and_kept sender request.number a (replied source request a.gateway)).1
+      (run_and_kept sender request.number b (replied source request b.gateway)).1
   run_agrees source sender request a b h =
       let s = replied source request a.gateway in
       let t = replied source request b.gateway in
-      let one : KeptReply = record { sender = sender; number = request.number; text = sent_text request.number s.items } in
-      let other : KeptReply = record { sender = sender; number = request.number; text = sent_text request.number t.items } in
+      let one : KeptReply = record {
+        sender = sender;
+        number = request.number;
+        text = sent_text request.number s.items;
+      } in
+      let other : KeptReply = record {
+        sender = sender;
+        number = request.number;
+        text = sent_text request.number t.items;
+      } in
       record {
         gateway = (requests some source request a.gateway b.gateway h.gateway).0;
         replies = with_reply_keys some one other a.replies b.replies refl h.replies;
       }
 
-  unless_agrees : (o k : Option (List ℕ)) (source sender : List ℕ) (request : Request) (a b : World) → is_some o ≡ is_some k → Agree a b → Agree (unless_kept o source sender request a).1 (unless_kept k source sender request b).1
+  unless_agrees : (o k : Option (List ℕ)) (source sender : List ℕ) (request : Request) (a b : World) →
+      is_some o ≡ is_some k → Agree a b → Agree (unless_kept o source sender request a).1
+      (unless_kept k source sender request b).1
   unless_agrees (Some text) (Some other) source sender request a b e h = h
   unless_agrees None None source sender request a b e h = run_agrees source sender request a b h
   unless_agrees (Some text) None source sender request a b e h = absurd (cc e)
   unless_agrees None (Some text) source sender request a b e h = absurd (cc e)
 
-  item_agrees : (source sender mark : List ℕ) (x : MessageItem) (a b : World) → Agree a b → Agree (item_replied source sender mark x a).1 (item_replied source sender mark x b).1
+  item_agrees : (source sender mark : List ℕ) (x : MessageItem) (a b : World) → Agree a b →
+      Agree (item_replied source sender mark x a).1 (item_replied source sender mark x b).1
   item_agrees source sender mark (items.Request request) a b h =
-      unless_agrees (kept_text a.replies sender request.number) (kept_text b.replies sender request.number) source sender request a b (kept_alike some sender request.number a.replies b.replies h.replies) h
-  item_agrees source sender mark (items.Acknowledgement ranges) a b h = record { gateway = h.gateway; replies = ranges_keys some sender ranges a.replies b.replies h.replies }
+      unless_agrees (kept_text a.replies sender request.number) (kept_text b.replies sender request.number) source
+      sender request a b (kept_alike some sender request.number a.replies b.replies h.replies) h
+  item_agrees source sender mark (items.Acknowledgement ranges) a b h =
+      record { gateway = h.gateway; replies = ranges_keys some sender ranges a.replies b.replies h.replies }
 
-  items_agree : (source sender mark : List ℕ) (xs : List MessageItem) (a b : World) → Agree a b → Agree (replied_to source sender mark xs a).1 (replied_to source sender mark xs b).1
+  items_agree : (source sender mark : List ℕ) (xs : List MessageItem) (a b : World) → Agree a b →
+      Agree (replied_to source sender mark xs a).1 (replied_to source sender mark xs b).1
   unfolding replied_to
   items_agree source sender mark [] a b h = h
   items_agree source sender mark (x ∷ xs) a b h =
-      items_agree source sender (mark_after mark x) xs (item_replied source sender mark x a).1 (item_replied source sender mark x b).1 (item_agrees source sender mark x a b h)
+      items_agree source sender (mark_after mark x) xs (item_replied source sender mark x a).1
+      (item_replied source sender mark x b).1 (item_agrees source sender mark x a b h)
 
-  asked_agrees : (asked : Bool) (head other : List ℕ) (p q : List ℕ × World) → Agree p.1 q.1 → Agree (if_asked asked head p).1 (if_asked asked other q).1
+  asked_agrees : (asked : Bool) (head other : List ℕ) (p q : List ℕ × World) → Agree p.1 q.1 →
+      Agree (if_asked asked head p).1 (if_asked asked other q).1
   asked_agrees true head other p q h = h
   asked_agrees false head other p q h = h
 
-  answer_agrees : (source : List ℕ) (reading : MessageReading) (a b : World) → Agree a b → Agree (answered source reading a).1 (answered source reading b).1
+  answer_agrees : (source : List ℕ) (reading : MessageReading) (a b : World) → Agree a b →
+      Agree (answered source reading a).1 (answered source reading b).1
   answer_agrees source (Read m) a b h =
-      asked_agrees (has_requests (items_of m.body)) (answer_head a) (answer_head b) (replied_to source (text_of source m.sender) [] (items_of m.body) a) (replied_to source (text_of source m.sender) [] (items_of m.body) b)
+      asked_agrees (has_requests (items_of m.body)) (answer_head a) (answer_head b)
+      (replied_to source (text_of source m.sender) [] (items_of m.body) a)
+      (replied_to source (text_of source m.sender) [] (items_of m.body) b)
       (items_agree source (text_of source m.sender) [] (items_of m.body) a b h)
   answer_agrees source TooMany a b h = h
   answer_agrees source (OtherVersion n) a b h = h
@@ -151,27 +188,37 @@ module _ (requests : RequestsKeepAgreement) (some : List ℕ) where
 abbrev OneReading : Type 0
 OneReading = (bytes : List ℕ) (a b : MessageReading) → IsReading bytes a → IsReading bytes b → a ≡ b
 
-module _ (requests : RequestsKeepAgreement) (reads : OneReading) (media : engine.SameArrivalKeepsAgreement) (one_arrival : engine.OneArrivalKeepsAgreement) (turned : engine.AgreementIsMutual) (ticks : engine.SameTickKeepsAgreement) where
+module _ (requests : RequestsKeepAgreement) (reads : OneReading) (media : engine.SameArrivalKeepsAgreement)
+    (one_arrival : engine.OneArrivalKeepsAgreement) (turned : engine.AgreementIsMutual)
+    (ticks : engine.SameTickKeepsAgreement) where
   pub same_event : SameEventKeepsAgreement
   same_event some a b x y (Control source bytes) s t h (answer, (r, is, came), sent) (other, (q, too, comes), also) =
-      let both = answer_agrees requests some bytes r (with_control a) (with_control b) (record { gateway = h.gateway; replies = h.replies }) in
+      let both = answer_agrees requests some bytes r (with_control a) (with_control b)
+      (record { gateway = h.gateway; replies = h.replies }) in
       let first_is : (answered bytes r (with_control a)).1 ≡ x = ap (λ (p : Option (List ℕ) × World). p.1) came in
-      let second_is : (answered bytes r (with_control b)).1 ≡ y = ap (λ (z : MessageReading). (answered bytes z (with_control b)).1) (reads bytes r q is too) ∙ ap (λ (p : Option (List ℕ) × World). p.1) comes in
-      subst (λ (w : World). AgreeOutside some w y) first_is (subst (λ (w : World). AgreeOutside some (answered bytes r (with_control a)).1 w) second_is both)
-  same_event some a b x y (Media port source bytes) s t h (taken, (g, takes, is), sent) (other, (k, too, its), also) = record {
-    gateway = subst (λ (w : World). engine.AgreeOutside some w.gateway y.gateway) (sym is)
-        (subst (λ (w : World). engine.AgreeOutside some g w.gateway) (sym its) (media some a.gateway b.gateway g k port source.address bytes taken other h.gateway takes too));
-    replies = ap (λ (w : World). keys w.replies) is ∙ h.replies ∙ ap (λ (w : World). keys w.replies) (sym its);
-  }
+      let second_is : (answered bytes r (with_control b)).1 ≡ y =
+      ap (λ (z : MessageReading). (answered bytes z (with_control b)).1) (reads bytes r q is too) ∙
+      ap (λ (p : Option (List ℕ) × World). p.1) comes in
+      subst (λ (w : World). AgreeOutside some w y) first_is
+      (subst (λ (w : World). AgreeOutside some (answered bytes r (with_control a)).1 w) second_is both)
+  same_event some a b x y (Media port source bytes) s t h (taken, (g, takes, is), sent) (other, (k, too, its), also) =
+      record {
+        gateway = subst (λ (w : World). engine.AgreeOutside some w.gateway y.gateway) (sym is)
+            (subst (λ (w : World). engine.AgreeOutside some g w.gateway) (sym its)
+            (media some a.gateway b.gateway g k port source.address bytes taken other h.gateway takes too));
+        replies = ap (λ (w : World). keys w.replies) is ∙ h.replies ∙ ap (λ (w : World). keys w.replies) (sym its);
+      }
   same_event some a b x y Tick s t h (sent, is) (also, its) = record {
     gateway = subst (λ (w : World). engine.AgreeOutside some w.gateway y.gateway) (sym is)
-        (subst (λ (w : World). engine.AgreeOutside some (after_tick a.gateway) w.gateway) (sym its) (ticks some a.gateway b.gateway h.gateway).1);
+        (subst (λ (w : World). engine.AgreeOutside some (after_tick a.gateway) w.gateway) (sym its)
+        (ticks some a.gateway b.gateway h.gateway).1);
     replies = ap (λ (w : World). keys w.replies) is ∙ h.replies ∙ ap (λ (w : World). keys w.replies) (sym its);
   }
 
   pub one_event : OneArrivalKeepsAgreement
   one_event some a b x port source bytes s h among (taken, (g, takes, is), sent) = record {
-    gateway = subst (λ (w : World). engine.AgreeOutside some w.gateway b.gateway) (sym is) (one_arrival some a.gateway b.gateway g port source.address bytes taken h.gateway among takes);
+    gateway = subst (λ (w : World). engine.AgreeOutside some w.gateway b.gateway) (sym is)
+        (one_arrival some a.gateway b.gateway g port source.address bytes taken h.gateway among takes);
     replies = ap (λ (w : World). keys w.replies) is ∙ h.replies;
   }
 
@@ -184,76 +231,111 @@ module _ (same : engine.SamePackets) (some : List ℕ) (port : ℕ) where
   abbrev from : List Datagram → List Sent
   from ds = packets_from port (map Packet ds)
 
-  one_more : (x : Bool) (d : Datagram) (rest others : List Sent) → rest ≡ others → cond x (Packet d ∷ rest) rest ≡ cond x (Packet d ∷ others) others
+  one_more : (x : Bool) (d : Datagram) (rest others : List Sent) → rest ≡ others →
+      cond x (Packet d ∷ rest) rest ≡ cond x (Packet d ∷ others) others
   one_more true d rest others e = ap (λ (l : List Sent). Packet d ∷ l) e
   one_more false d rest others e = e
 
-  cons_same : (o : Option Datagram) (rest others : List Datagram) → from rest ≡ from others → from (cons_option o rest) ≡ from (cons_option o others)
+  cons_same : (o : Option Datagram) (rest others : List Datagram) → from rest ≡ from others →
+      from (cons_option o rest) ≡ from (cons_option o others)
   cons_same None rest others e = e
   cons_same (Some d) rest others e = one_more (eqb d.from port) d (from rest) (from others) e
 
   -- a packet of one that hasn't the port isn't seen
-  unseen_at : (w : Gateway) (r : Record) (to : Chosen) (o : Option TerminationMedia) (rest : List Datagram) → eqb (slot_port w.rooms.limits r.slot) port ≡ false → from (cons_option (option_map (packet w r to) o) rest) ≡ from rest
+  unseen_at : (w : Gateway) (r : Record) (to : Chosen) (o : Option TerminationMedia) (rest : List Datagram) →
+      eqb (slot_port w.rooms.limits r.slot) port ≡ false →
+      from (cons_option (option_map (packet w r to) o) rest) ≡ from rest
   unseen_at w r to None rest e = refl
   unseen_at w r to (Some s) rest e = ap (λ (x : Bool). cond x (Packet (packet w r to s) ∷ from rest) (from rest)) e
 
-  unseen : (w : Gateway) (r : Record) (to : Option Chosen) (rest : List Datagram) → eqb (slot_port w.rooms.limits r.slot) port ≡ false → from (cons_option (packet_to w r to) rest) ≡ from rest
+  unseen : (w : Gateway) (r : Record) (to : Option Chosen) (rest : List Datagram) →
+      eqb (slot_port w.rooms.limits r.slot) port ≡ false → from (cons_option (packet_to w r to) rest) ≡ from rest
   unseen w r None rest e = refl
   unseen w r (Some to) rest e = unseen_at w r to (media_of w r.number) rest e
 
-  each : (a b : Gateway) (r : Record) (rest others : List Datagram) (x : Bool) → eqb (slot_port a.rooms.limits r.slot) port ≡ x → a.rooms ≡ b.rooms → (x ≡ true → packet_of a r ≡ packet_of b r) → from rest ≡ from others → from (cons_option (packet_of a r) rest) ≡ from (cons_option (packet_of b r) others)
-  each a b r rest others true at same_rooms packets h = ap (λ (o : Option Datagram). from (cons_option o rest)) (packets refl) ∙ cons_same (packet_of b r) rest others h
+  each : (a b : Gateway) (r : Record) (rest others : List Datagram) (x : Bool) →
+      eqb (slot_port a.rooms.limits r.slot) port ≡ x → a.rooms ≡ b.rooms →
+      (x ≡ true → packet_of a r ≡ packet_of b r) → from rest ≡ from others →
+      from (cons_option (packet_of a r) rest) ≡ from (cons_option (packet_of b r) others)
+  each a b r rest others true at same_rooms packets h =
+      ap (λ (o : Option Datagram). from (cons_option o rest)) (packets refl) ∙ cons_same (packet_of b r) rest others h
   each a b r rest others false at same_rooms packets h =
-      unseen a r (sent_to r) rest at ∙ h ∙ sym (unseen b r (sent_to r) others (ap (λ (z : rooms.Registry). eqb (slot_port z.limits r.slot) port) (sym same_rooms) ∙ at))
+      unseen a r (sent_to r) rest at ∙ h ∙ sym
+      (unseen b r (sent_to r) others (ap (λ (z : rooms.Registry). eqb (slot_port z.limits r.slot) port)
+      (sym same_rooms) ∙ at))
 
-  all_same : (a b : Gateway) (rs : List Record) → engine.AgreeOutside some a b → AllByRecursion (λ r. slot_port a.rooms.limits r.slot ≡ port → HearsNone some a r.number) rs
+  all_same : (a b : Gateway) (rs : List Record) → engine.AgreeOutside some a b →
+      AllByRecursion (λ r. slot_port a.rooms.limits r.slot ≡ port → HearsNone some a r.number) rs
       → from (filter_map (packet_of (all_played a)) rs) ≡ from (filter_map (packet_of (all_played b)) rs)
   all_same a b [] h none = refl
   all_same a b (r ∷ rs) h none =
-      each (all_played a) (all_played b) r (filter_map (packet_of (all_played a)) rs) (filter_map (packet_of (all_played b)) rs) (eqb (slot_port a.rooms.limits r.slot) port) refl h.rooms
+      each (all_played a) (all_played b) r (filter_map (packet_of (all_played a)) rs)
+      (filter_map (packet_of (all_played b)) rs) (eqb (slot_port a.rooms.limits r.slot) port) refl h.rooms
       (λ at. same some a b r h (none.0 (eqb-true (slot_port a.rooms.limits r.slot) port at))) (all_same a b rs h none.1)
 
-  tick_same : (a b : Gateway) → engine.AgreeOutside some a b → HearsNoneAt some a port → from (sent_in_tick a) ≡ from (sent_in_tick b)
+  tick_same : (a b : Gateway) → engine.AgreeOutside some a b → HearsNoneAt some a port →
+      from (sent_in_tick a) ≡ from (sent_in_tick b)
   tick_same a b h none =
-      all_same a b a.rooms.terminations h none ∙ ap (λ (z : rooms.Registry). from (filter_map (packet_of (all_played b)) z.terminations)) h.rooms
+      all_same a b a.rooms.terminations h none ∙
+      ap (λ (z : rooms.Registry). from (filter_map (packet_of (all_played b)) z.terminations)) h.rooms
 
   no_packets : (source : Peer) (o : Option (List ℕ)) → packets_from port (answer_to source o) ≡ []
   no_packets source None = refl
   no_packets source (Some text) = refl
 
-  event_same : (a b x y : World) (event : Event) (s t : List Sent) → AgreeOutside some a b → HearsNoneIn event some a.gateway port → Step a event s x → Step b event t y → packets_from port s ≡ packets_from port t
+  event_same : (a b x y : World) (event : Event) (s t : List Sent) → AgreeOutside some a b →
+      HearsNoneIn event some a.gateway port → Step a event s x → Step b event t y →
+      packets_from port s ≡ packets_from port t
   event_same a b x y (Control source bytes) s t h none (answer, came, sent) (other, comes, also) =
-      ap (packets_from port) sent ∙ no_packets source answer ∙ sym (no_packets source other) ∙ ap (packets_from port) (sym also)
-  event_same a b x y (Media p source bytes) s t h none (taken, came, sent) (other, comes, also) = ap (packets_from port) (sent ∙ sym also)
-  event_same a b x y Tick s t h none (sent, is) (also, its) = ap (packets_from port) sent ∙ tick_same a.gateway b.gateway h.gateway none ∙ ap (packets_from port) (sym also)
+      ap (packets_from port) sent ∙ no_packets source answer ∙ sym (no_packets source other) ∙
+      ap (packets_from port) (sym also)
+  event_same a b x y (Media p source bytes) s t h none (taken, came, sent) (other, comes, also) =
+      ap (packets_from port) (sent ∙ sym also)
+  event_same a b x y Tick s t h none (sent, is) (also, its) = ap (packets_from port) sent ∙
+      tick_same a.gateway b.gateway h.gateway none ∙ ap (packets_from port) (sym also)
 
 pub same_packets : engine.SamePackets → SamePackets
-same_packets same some port a b x y event s t h none step too = event_same same some port a b x y event s t h none step too
+same_packets same some port a b x y event s t h none step too =
+    event_same same some port a b x y event s t h none step too
 
 -- ## Lists of events
 
-joined : (port : ℕ) (s first others t second rest : List Sent) → s ≡ first ++ others → t ≡ second ++ rest → packets_from port first ≡ packets_from port second → packets_from port others ≡ packets_from port rest → packets_from port s ≡ packets_from port t
+joined : (port : ℕ) (s first others t second rest : List Sent) → s ≡ first ++ others → t ≡ second ++ rest →
+    packets_from port first ≡ packets_from port second → packets_from port others ≡ packets_from port rest →
+    packets_from port s ≡ packets_from port t
 joined port s first others t second rest is its e f =
-    ap (packets_from port) is ∙ filter-append (is_packet_from port) first others ∙ (λ i. e i ++ f i) ∙ sym (filter-append (is_packet_from port) second rest) ∙ ap (packets_from port) (sym its)
+    ap (packets_from port) is ∙ filter-append (is_packet_from port) first others ∙ (λ i. e i ++ f i) ∙
+    sym (filter-append (is_packet_from port) second rest) ∙ ap (packets_from port) (sym its)
 
-among_both : (some : List ℕ) (a b : World) (port : ℕ) → AgreeOutside some a b → IsPortAmong some a.gateway port → IsPortAmong some b.gateway port
-among_both some a b port h (r, at, is_one) = (r, ap (λ (z : rooms.Registry). at_port z port) (sym h.gateway.rooms) ∙ at, is_one)
+among_both : (some : List ℕ) (a b : World) (port : ℕ) → AgreeOutside some a b → IsPortAmong some a.gateway port →
+    IsPortAmong some b.gateway port
+among_both some a b port h (r, at, is_one) =
+    (r, ap (λ (z : rooms.Registry). at_port z port) (sym h.gateway.rooms) ∙ at, is_one)
 
-module _ (event : SameEventKeepsAgreement) (one : OneArrivalKeepsAgreement) (turned : (some : List ℕ) (a b : World) → AgreeOutside some a b → AgreeOutside some b a) (packets : SamePackets) where
-  pub unheard : UnheardChangesNothing
-  unheard some port a b x y [] s t h none (sent, is) (also, its) = (
-    ap (packets_from port) (sent ∙ sym also),
-    subst (λ (w : World). AgreeOutside some w y) (sym is) (subst (λ (w : World). AgreeOutside some a w) (sym its) h),
-  )
-  unheard some port a b x y (Both e ∷ xs) s t h (hears, later) (first, others, next, step, run, is) (second, rest, also, too, runs, its) =
-      let agree = event some a b next also e first second h step too in
-      let last = unheard some port next also x y xs others rest agree (later first next step) run runs in
-      (joined port s first others t second rest is its (packets some port a b next also e first second h hears step too) last.0, last.1)
-  unheard some port a b x y (FirstAlone p source bytes ∷ xs) s t h (among, later) (first, others, next, step, run, is) runs =
-      let agree = one some a b next p source bytes first h among step in
-      let last = unheard some port next b x y xs others t agree (later first next step) run runs in
-      (ap (packets_from port) (is ∙ ap (λ (l : List Sent). l ++ others) step.2) ∙ last.0, last.1)
-  unheard some port a b x y (SecondAlone p source bytes ∷ xs) s t h (among, later) run (second, rest, also, too, runs, its) =
-      let agree = turned some also a (one some b a also p source bytes second (turned some a b h) (among_both some a b p h among) too) in
-      let last = unheard some port a also x y xs s rest agree later run runs in
-      (last.0 ∙ sym (ap (packets_from port) (its ∙ ap (λ (l : List Sent). l ++ rest) too.2)), last.1)
+module _ (event : SameEventKeepsAgreement) (one : OneArrivalKeepsAgreement)
+    (turned : (some : List ℕ) (a b : World) → AgreeOutside some a b → AgreeOutside some b a) (packets : SamePackets)
+  where
+    pub unheard : UnheardChangesNothing
+    unheard some port a b x y [] s t h none (sent, is) (also, its) = (
+      ap (packets_from port) (sent ∙ sym also),
+      subst (λ (w : World). AgreeOutside some w y) (sym is) (subst (λ (w : World). AgreeOutside some a w) (sym its) h),
+    )
+    unheard some port a b x y (Both e ∷ xs) s t h (hears, later) (first, others, next, step, run, is)
+        (second, rest, also, too, runs, its) =
+        let agree = event some a b next also e first second h step too in
+        let last = unheard some port next also x y xs others rest agree (later first next step) run runs in (
+          joined port s first others t second rest is its
+              (packets some port a b next also e first second h hears step too) last.0,
+          last.1,
+        )
+    unheard some port a b x y (FirstAlone p source bytes ∷ xs) s t h (among, later) (first, others, next, step, run, is)
+        runs =
+        let agree = one some a b next p source bytes first h among step in
+        let last = unheard some port next b x y xs others t agree (later first next step) run runs in
+        (ap (packets_from port) (is ∙ ap (λ (l : List Sent). l ++ others) step.2) ∙ last.0, last.1)
+    unheard some port a b x y (SecondAlone p source bytes ∷ xs) s t h (among, later) run
+        (second, rest, also, too, runs, its) =
+        let agree = turned some also a (one some b a also p source bytes second (turned some a b h)
+        (among_both some a b p h among) too) in
+        let last = unheard some port a also x y xs s rest agree later run runs in
+        (last.0 ∙ sym (ap (packets_from port) (its ∙ ap (λ (l : List Sent). l ++ rest) too.2)), last.1)

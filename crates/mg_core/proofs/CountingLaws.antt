@@ -22,18 +22,24 @@ use Rattle.mg_core.specs.World.{World, Tally, cause_of, one_more_at, placed_coun
 
 -- ## A control datagram changes no other count
 
-request_tally : (o : Option (List ℕ)) (source sender : List ℕ) (request : Request) (w : World) → (unless_kept o source sender request w).1.tally ≡ w.tally
+request_tally : (o : Option (List ℕ)) (source sender : List ℕ) (request : Request) (w : World) →
+    (unless_kept o source sender request w).1.tally ≡ w.tally
 request_tally (Some text) source sender request w = refl
 request_tally None source sender request w = refl
 
-item_tally : (source sender mark : List ℕ) (x : MessageItem) (w : World) → (item_replied source sender mark x w).1.tally ≡ w.tally
-item_tally source sender mark (items.Request request) w = request_tally (kept_text w.replies sender request.number) source sender request w
+item_tally : (source sender mark : List ℕ) (x : MessageItem) (w : World) →
+    (item_replied source sender mark x w).1.tally ≡ w.tally
+item_tally source sender mark (items.Request request) w =
+    request_tally (kept_text w.replies sender request.number) source sender request w
 item_tally source sender mark (items.Acknowledgement ranges) w = refl
 
-items_tally : (source sender mark : List ℕ) (xs : List MessageItem) (w : World) → (replied_to source sender mark xs w).1.tally ≡ w.tally
+items_tally : (source sender mark : List ℕ) (xs : List MessageItem) (w : World) →
+    (replied_to source sender mark xs w).1.tally ≡ w.tally
 unfolding replied_to
 items_tally source sender mark [] w = refl
-items_tally source sender mark (x ∷ xs) w = items_tally source sender (mark_after mark x) xs (item_replied source sender mark x w).1 ∙ item_tally source sender mark x w
+items_tally source sender mark (x ∷ xs) w =
+    items_tally source sender (mark_after mark x) xs (item_replied source sender mark x w).1 ∙
+    item_tally source sender mark x w
 
 asked_tally : (b : Bool) (head : List ℕ) (p : List ℕ × World) → (if_asked b head p).1.tally ≡ p.1.tally
 asked_tally true head p = refl
@@ -42,7 +48,8 @@ asked_tally false head p = refl
 answer_tally : (source : List ℕ) (reading : MessageReading) (w : World) → (answered source reading w).1.tally ≡ w.tally
 answer_tally source (Read m) w =
     let p = replied_to source (text_of source m.sender) [] (items_of m.body) w in
-    asked_tally (has_requests (items_of m.body)) (answer_head w) p ∙ items_tally source (text_of source m.sender) [] (items_of m.body) w
+    asked_tally (has_requests (items_of m.body)) (answer_head w) p ∙
+    items_tally source (text_of source m.sender) [] (items_of m.body) w
 answer_tally source TooMany w = refl
 answer_tally source (OtherVersion n) w = refl
 answer_tally source NoMessage w = refl
@@ -76,29 +83,68 @@ dropped_after ns (Dropped cause ∷ ts) = dropped_after (one_more_at (cause_of c
 abbrev five : ℕ → ℕ → ℕ → ℕ → ℕ → List ℕ
 five a b c d e = a ∷ b ∷ c ∷ d ∷ e ∷ []
 
-placed_numbers : (ts : List Taken) (a b c d e : ℕ) → placed_after (five a b c d e) ts ≡ five (a + count_by is_started ts) (b + count_by is_placed ts) (c + count_by is_pushed ts) (d + count_by is_again ts) (e + count_by is_late ts)
+placed_numbers : (ts : List Taken) (a b c d e : ℕ) →
+    placed_after (five a b c d e) ts ≡ five (a + count_by is_started ts) (b + count_by is_placed ts)
+    (c + count_by is_pushed ts) (d + count_by is_again ts) (e + count_by is_late ts)
 unfolding placed_after
 placed_numbers [] a b c d e = λ i. five (zero_more a i) (zero_more b i) (zero_more c i) (zero_more d i) (zero_more e i)
-placed_numbers (Dropped cause ∷ ts) a b c d e = placed_numbers ts a b c d e ∙ (λ i. five (miss is_started (Dropped cause) ts a refl i) (miss is_placed (Dropped cause) ts b refl i) (miss is_pushed (Dropped cause) ts c refl i) (miss is_again (Dropped cause) ts d refl i) (miss is_late (Dropped cause) ts e refl i))
-placed_numbers (Placed answers.Started ∷ ts) a b c d e = let t : Taken = Placed answers.Started in placed_numbers ts (a + 1) b c d e ∙ (λ i. five (hit is_started t ts a refl i) (miss is_placed t ts b refl i) (miss is_pushed t ts c refl i) (miss is_again t ts d refl i) (miss is_late t ts e refl i))
-placed_numbers (Placed answers.Placed ∷ ts) a b c d e = let t : Taken = Placed answers.Placed in placed_numbers ts a (b + 1) c d e ∙ (λ i. five (miss is_started t ts a refl i) (hit is_placed t ts b refl i) (miss is_pushed t ts c refl i) (miss is_again t ts d refl i) (miss is_late t ts e refl i))
-placed_numbers (Placed answers.Pushed ∷ ts) a b c d e = let t : Taken = Placed answers.Pushed in placed_numbers ts a b (c + 1) d e ∙ (λ i. five (miss is_started t ts a refl i) (miss is_placed t ts b refl i) (hit is_pushed t ts c refl i) (miss is_again t ts d refl i) (miss is_late t ts e refl i))
-placed_numbers (Placed answers.Again ∷ ts) a b c d e = let t : Taken = Placed answers.Again in placed_numbers ts a b c (d + 1) e ∙ (λ i. five (miss is_started t ts a refl i) (miss is_placed t ts b refl i) (miss is_pushed t ts c refl i) (hit is_again t ts d refl i) (miss is_late t ts e refl i))
-placed_numbers (Placed answers.Late ∷ ts) a b c d e = let t : Taken = Placed answers.Late in placed_numbers ts a b c d (e + 1) ∙ (λ i. five (miss is_started t ts a refl i) (miss is_placed t ts b refl i) (miss is_pushed t ts c refl i) (miss is_again t ts d refl i) (hit is_late t ts e refl i))
+placed_numbers (Dropped cause ∷ ts) a b c d e = placed_numbers ts a b c d e ∙
+    (λ i. five (miss is_started (Dropped cause) ts a refl i) (miss is_placed (Dropped cause) ts b refl i)
+    (miss is_pushed (Dropped cause) ts c refl i) (miss is_again (Dropped cause) ts d refl i)
+    (miss is_late (Dropped cause) ts e refl i))
+placed_numbers (Placed answers.Started ∷ ts) a b c d e = let t : Taken = Placed answers.Started in
+    placed_numbers ts (a + 1) b c d e ∙ (λ i. five (hit is_started t ts a refl i) (miss is_placed t ts b refl i)
+    (miss is_pushed t ts c refl i) (miss is_again t ts d refl i) (miss is_late t ts e refl i))
+placed_numbers (Placed answers.Placed ∷ ts) a b c d e = let t : Taken = Placed answers.Placed in
+    placed_numbers ts a (b + 1) c d e ∙ (λ i. five (miss is_started t ts a refl i) (hit is_placed t ts b refl i)
+    (miss is_pushed t ts c refl i) (miss is_again t ts d refl i) (miss is_late t ts e refl i))
+placed_numbers (Placed answers.Pushed ∷ ts) a b c d e = let t : Taken = Placed answers.Pushed in
+    placed_numbers ts a b (c + 1) d e ∙ (λ i. five (miss is_started t ts a refl i) (miss is_placed t ts b refl i)
+    (hit is_pushed t ts c refl i) (miss is_again t ts d refl i) (miss is_late t ts e refl i))
+placed_numbers (Placed answers.Again ∷ ts) a b c d e = let t : Taken = Placed answers.Again in
+    placed_numbers ts a b c (d + 1) e ∙ (λ i. five (miss is_started t ts a refl i) (miss is_placed t ts b refl i)
+    (miss is_pushed t ts c refl i) (hit is_again t ts d refl i) (miss is_late t ts e refl i))
+placed_numbers (Placed answers.Late ∷ ts) a b c d e = let t : Taken = Placed answers.Late in
+    placed_numbers ts a b c d (e + 1) ∙ (λ i. five (miss is_started t ts a refl i) (miss is_placed t ts b refl i)
+    (miss is_pushed t ts c refl i) (miss is_again t ts d refl i) (hit is_late t ts e refl i))
 
 abbrev six : ℕ → ℕ → ℕ → ℕ → ℕ → ℕ → List ℕ
 six a b c d e f = a ∷ b ∷ c ∷ d ∷ e ∷ f ∷ []
 
-dropped_numbers : (ts : List Taken) (a b c d e f : ℕ) → dropped_after (six a b c d e f) ts ≡ six (a + count_by is_to_nobody ts) (b + count_by is_stray ts) (c + count_by is_without_local ts) (d + count_by is_no_packet ts) (e + count_by is_of_another_type ts) (f + count_by is_of_another_length ts)
+dropped_numbers : (ts : List Taken) (a b c d e f : ℕ) →
+    dropped_after (six a b c d e f) ts ≡ six (a + count_by is_to_nobody ts) (b + count_by is_stray ts)
+    (c + count_by is_without_local ts) (d + count_by is_no_packet ts) (e + count_by is_of_another_type ts)
+    (f + count_by is_of_another_length ts)
 unfolding dropped_after
-dropped_numbers [] a b c d e f = λ i. six (zero_more a i) (zero_more b i) (zero_more c i) (zero_more d i) (zero_more e i) (zero_more f i)
-dropped_numbers (Placed p ∷ ts) a b c d e f = let t : Taken = Placed p in dropped_numbers ts a b c d e f ∙ (λ i. six (miss is_to_nobody t ts a refl i) (miss is_stray t ts b refl i) (miss is_without_local t ts c refl i) (miss is_no_packet t ts d refl i) (miss is_of_another_type t ts e refl i) (miss is_of_another_length t ts f refl i))
-dropped_numbers (Dropped causes.NoTermination ∷ ts) a b c d e f = let t : Taken = Dropped causes.NoTermination in dropped_numbers ts (a + 1) b c d e f ∙ (λ i. six (hit is_to_nobody t ts a refl i) (miss is_stray t ts b refl i) (miss is_without_local t ts c refl i) (miss is_no_packet t ts d refl i) (miss is_of_another_type t ts e refl i) (miss is_of_another_length t ts f refl i))
-dropped_numbers (Dropped causes.Stray ∷ ts) a b c d e f = let t : Taken = Dropped causes.Stray in dropped_numbers ts a (b + 1) c d e f ∙ (λ i. six (miss is_to_nobody t ts a refl i) (hit is_stray t ts b refl i) (miss is_without_local t ts c refl i) (miss is_no_packet t ts d refl i) (miss is_of_another_type t ts e refl i) (miss is_of_another_length t ts f refl i))
-dropped_numbers (Dropped causes.NoLocal ∷ ts) a b c d e f = let t : Taken = Dropped causes.NoLocal in dropped_numbers ts a b (c + 1) d e f ∙ (λ i. six (miss is_to_nobody t ts a refl i) (miss is_stray t ts b refl i) (hit is_without_local t ts c refl i) (miss is_no_packet t ts d refl i) (miss is_of_another_type t ts e refl i) (miss is_of_another_length t ts f refl i))
-dropped_numbers (Dropped (causes.Rtp fault) ∷ ts) a b c d e f = let t : Taken = Dropped (causes.Rtp fault) in dropped_numbers ts a b c (d + 1) e f ∙ (λ i. six (miss is_to_nobody t ts a refl i) (miss is_stray t ts b refl i) (miss is_without_local t ts c refl i) (hit is_no_packet t ts d refl i) (miss is_of_another_type t ts e refl i) (miss is_of_another_length t ts f refl i))
-dropped_numbers (Dropped causes.PayloadType ∷ ts) a b c d e f = let t : Taken = Dropped causes.PayloadType in dropped_numbers ts a b c d (e + 1) f ∙ (λ i. six (miss is_to_nobody t ts a refl i) (miss is_stray t ts b refl i) (miss is_without_local t ts c refl i) (miss is_no_packet t ts d refl i) (hit is_of_another_type t ts e refl i) (miss is_of_another_length t ts f refl i))
-dropped_numbers (Dropped causes.Length ∷ ts) a b c d e f = let t : Taken = Dropped causes.Length in dropped_numbers ts a b c d e (f + 1) ∙ (λ i. six (miss is_to_nobody t ts a refl i) (miss is_stray t ts b refl i) (miss is_without_local t ts c refl i) (miss is_no_packet t ts d refl i) (miss is_of_another_type t ts e refl i) (hit is_of_another_length t ts f refl i))
+dropped_numbers [] a b c d e f = λ i. six (zero_more a i) (zero_more b i) (zero_more c i) (zero_more d i)
+    (zero_more e i) (zero_more f i)
+dropped_numbers (Placed p ∷ ts) a b c d e f = let t : Taken = Placed p in dropped_numbers ts a b c d e f ∙
+    (λ i. six (miss is_to_nobody t ts a refl i) (miss is_stray t ts b refl i) (miss is_without_local t ts c refl i)
+    (miss is_no_packet t ts d refl i) (miss is_of_another_type t ts e refl i) (miss is_of_another_length t ts f refl i))
+dropped_numbers (Dropped causes.NoTermination ∷ ts) a b c d e f = let t : Taken = Dropped causes.NoTermination in
+    dropped_numbers ts (a + 1) b c d e f ∙ (λ i. six (hit is_to_nobody t ts a refl i) (miss is_stray t ts b refl i)
+    (miss is_without_local t ts c refl i) (miss is_no_packet t ts d refl i) (miss is_of_another_type t ts e refl i)
+    (miss is_of_another_length t ts f refl i))
+dropped_numbers (Dropped causes.Stray ∷ ts) a b c d e f = let t : Taken = Dropped causes.Stray in
+    dropped_numbers ts a (b + 1) c d e f ∙ (λ i. six (miss is_to_nobody t ts a refl i) (hit is_stray t ts b refl i)
+    (miss is_without_local t ts c refl i) (miss is_no_packet t ts d refl i) (miss is_of_another_type t ts e refl i)
+    (miss is_of_another_length t ts f refl i))
+dropped_numbers (Dropped causes.NoLocal ∷ ts) a b c d e f = let t : Taken = Dropped causes.NoLocal in
+    dropped_numbers ts a b (c + 1) d e f ∙ (λ i. six (miss is_to_nobody t ts a refl i) (miss is_stray t ts b refl i)
+    (hit is_without_local t ts c refl i) (miss is_no_packet t ts d refl i) (miss is_of_another_type t ts e refl i)
+    (miss is_of_another_length t ts f refl i))
+dropped_numbers (Dropped (causes.Rtp fault) ∷ ts) a b c d e f = let t : Taken = Dropped (causes.Rtp fault) in
+    dropped_numbers ts a b c (d + 1) e f ∙ (λ i. six (miss is_to_nobody t ts a refl i) (miss is_stray t ts b refl i)
+    (miss is_without_local t ts c refl i) (hit is_no_packet t ts d refl i) (miss is_of_another_type t ts e refl i)
+    (miss is_of_another_length t ts f refl i))
+dropped_numbers (Dropped causes.PayloadType ∷ ts) a b c d e f = let t : Taken = Dropped causes.PayloadType in
+    dropped_numbers ts a b c d (e + 1) f ∙ (λ i. six (miss is_to_nobody t ts a refl i) (miss is_stray t ts b refl i)
+    (miss is_without_local t ts c refl i) (miss is_no_packet t ts d refl i) (hit is_of_another_type t ts e refl i)
+    (miss is_of_another_length t ts f refl i))
+dropped_numbers (Dropped causes.Length ∷ ts) a b c d e f = let t : Taken = Dropped causes.Length in
+    dropped_numbers ts a b c d e (f + 1) ∙ (λ i. six (miss is_to_nobody t ts a refl i) (miss is_stray t ts b refl i)
+    (miss is_without_local t ts c refl i) (miss is_no_packet t ts d refl i) (miss is_of_another_type t ts e refl i)
+    (hit is_of_another_length t ts f refl i))
 
 -- ## Events
 
@@ -113,7 +159,9 @@ tally_after t events taken concealed = record {
   concealed = t.concealed + concealed;
 }
 
-one_taken : (first : Taken) (others : List Taken) (concealed : ℕ) (t : Tally) (port : ℕ) (e : Event) (events : List Event) → is_control e ≡ false → is_media e ≡ true → is_tick e ≡ false → tally_after (with_taken first t) events others concealed ≡ tally_after t (e ∷ events) (first ∷ others) concealed
+one_taken : (first : Taken) (others : List Taken) (concealed : ℕ) (t : Tally) (port : ℕ) (e : Event)
+    (events : List Event) → is_control e ≡ false → is_media e ≡ true → is_tick e ≡ false →
+    tally_after (with_taken first t) events others concealed ≡ tally_after t (e ∷ events) (first ∷ others) concealed
 unfolding tally_after placed_after dropped_after
 one_taken (Placed p) others concealed t port e events c m k = λ i. record {
   control = miss is_control e events t.control c i;
@@ -132,16 +180,27 @@ one_taken (Dropped cause) others concealed t port e events c m k = λ i. record 
   concealed = t.concealed + concealed;
 }
 
-counted : (w last : World) (events : List Event) (taken : List Taken) (concealed : ℕ) → RunTaking w events taken concealed last → last.tally ≡ tally_after w.tally events taken concealed
+counted : (w last : World) (events : List Event) (taken : List Taken) (concealed : ℕ) →
+    RunTaking w events taken concealed last → last.tally ≡ tally_after w.tally events taken concealed
 unfolding tally_after placed_after dropped_after
 counted w last [] taken concealed (none, clear, is) =
-    ap (λ (v : World). v.tally) is ∙ (λ i. let ts : List Taken = sym none i in record { control = zero_more w.tally.control i; media = zero_more w.tally.media i; ticks = zero_more w.tally.ticks i; placed = placed_after w.tally.placed ts; dropped = dropped_after w.tally.dropped ts; concealed = no_more i })
+    ap (λ (v : World). v.tally) is ∙ (λ i. let ts : List Taken = sym none i in
+    record {
+      control = zero_more w.tally.control i;
+      media = zero_more w.tally.media i;
+      ticks = zero_more w.tally.ticks i;
+      placed = placed_after w.tally.placed ts;
+      dropped = dropped_after w.tally.dropped ts;
+      concealed = no_more i;
+    })
   where
     no_more : w.tally.concealed ≡ w.tally.concealed + concealed
     no_more = omega (arith, clear)
-counted w last (Control source bytes ∷ events) taken concealed (sent, next, (answer, (reading, read, came), told), run) =
+counted w last (Control source bytes ∷ events) taken concealed
+    (sent, next, (answer, (reading, read, came), told), run) =
     let e : Event = Control source bytes in
-    let same : next.tally ≡ (with_control w).tally = ap (λ (p : Option (List ℕ) × World). p.1.tally) (sym came) ∙ answer_tally bytes reading (with_control w) in
+    let same : next.tally ≡ (with_control w).tally = ap (λ (p : Option (List ℕ) × World). p.1.tally) (sym came) ∙
+    answer_tally bytes reading (with_control w) in
     counted next last events taken concealed run ∙ ap (λ (t : Tally). tally_after t events taken concealed) same
     ∙ (λ i. record (tally_after w.tally events taken concealed) {
       control = hit is_control e events w.tally.control refl i;
@@ -168,23 +227,42 @@ pub events_are_counted : EventsAreCounted
 unfolding tally_after
 events_are_counted config events taken concealed last run =
     counted (start_of config) last events taken concealed run
-    ∙ (λ i. record { control = plus_none (count_by is_control events) i; media = plus_none (count_by is_media events) i; ticks = plus_none (count_by is_tick events) i; placed = all_placed i; dropped = all_dropped i; concealed = plus_none concealed i })
+    ∙ (λ i. record {
+      control = plus_none (count_by is_control events) i;
+      media = plus_none (count_by is_media events) i;
+      ticks = plus_none (count_by is_tick events) i;
+      placed = all_placed i;
+      dropped = all_dropped i;
+      concealed = plus_none concealed i;
+    })
   where
     plus_none : (n : ℕ) → 0 + n ≡ n
     plus_none n = omega arith
 
-    all_placed : placed_after (five 0 0 0 0 0) taken ≡ five (count_by is_started taken) (count_by is_placed taken) (count_by is_pushed taken) (count_by is_again taken) (count_by is_late taken)
-    all_placed = placed_numbers taken 0 0 0 0 0 ∙ (λ i. five (plus_none (count_by is_started taken) i) (plus_none (count_by is_placed taken) i) (plus_none (count_by is_pushed taken) i) (plus_none (count_by is_again taken) i) (plus_none (count_by is_late taken) i))
+    all_placed : placed_after (five 0 0 0 0 0) taken ≡
+        five (count_by is_started taken) (count_by is_placed taken) (count_by is_pushed taken)
+        (count_by is_again taken) (count_by is_late taken)
+    all_placed = placed_numbers taken 0 0 0 0 0 ∙
+        (λ i. five (plus_none (count_by is_started taken) i) (plus_none (count_by is_placed taken) i)
+        (plus_none (count_by is_pushed taken) i) (plus_none (count_by is_again taken) i)
+        (plus_none (count_by is_late taken) i))
 
-    all_dropped : dropped_after (six 0 0 0 0 0 0) taken ≡ six (count_by is_to_nobody taken) (count_by is_stray taken) (count_by is_without_local taken) (count_by is_no_packet taken) (count_by is_of_another_type taken) (count_by is_of_another_length taken)
+    all_dropped : dropped_after (six 0 0 0 0 0 0) taken ≡
+        six (count_by is_to_nobody taken) (count_by is_stray taken) (count_by is_without_local taken)
+        (count_by is_no_packet taken) (count_by is_of_another_type taken) (count_by is_of_another_length taken)
     all_dropped = dropped_numbers taken 0 0 0 0 0 0
-        ∙ (λ i. six (plus_none (count_by is_to_nobody taken) i) (plus_none (count_by is_stray taken) i) (plus_none (count_by is_without_local taken) i) (plus_none (count_by is_no_packet taken) i) (plus_none (count_by is_of_another_type taken) i) (plus_none (count_by is_of_another_length taken) i))
+        ∙ (λ i. six (plus_none (count_by is_to_nobody taken) i) (plus_none (count_by is_stray taken) i)
+        (plus_none (count_by is_without_local taken) i) (plus_none (count_by is_no_packet taken) i)
+        (plus_none (count_by is_of_another_type taken) i) (plus_none (count_by is_of_another_length taken) i))
 
 pub runs_take : RunsTake
 runs_take w last [] sent (none, is) = ([], 0, (refl, refl, is))
 runs_take w last (Control source bytes ∷ events) sent (first, others, next, step, run, is) =
-    let (taken, concealed, runs) = runs_take next last events others run in (taken, concealed, (first, next, step, runs))
+    let (taken, concealed, runs) = runs_take next last events others run in
+    (taken, concealed, (first, next, step, runs))
 runs_take w last (Media port source bytes ∷ events) sent (first, others, next, (t, took, told), run, is) =
-    let (taken, concealed, runs) = runs_take next last events others run in (t ∷ taken, concealed, (t, taken, next, took, runs, refl))
+    let (taken, concealed, runs) = runs_take next last events others run in
+    (t ∷ taken, concealed, (t, taken, next, took, runs, refl))
 runs_take w last (Tick ∷ events) sent (first, others, next, step, run, is) =
-    let (taken, concealed, runs) = runs_take next last events others run in (taken, concealed_in_tick w.gateway + concealed, (first, concealed, next, step, runs, refl))
+    let (taken, concealed, runs) = runs_take next last events others run in
+    (taken, concealed_in_tick w.gateway + concealed, (first, concealed, next, step, runs, refl))

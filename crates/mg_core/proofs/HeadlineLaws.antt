@@ -13,7 +13,13 @@ one_event : (w v : World) (event : Event) (sent : List Sent) → Step w event se
 one_event w v event sent step = (sent, [], v, step, (refl, refl), sym (append-nil sent))
 
 -- a step from each world is a step after any list of events
-pub goes_on : (old new : CoreState) (event : Event) (sent : List Sent) → Leads StandsFor old new (λ w next. Step w event sent next) → GoesOn old new event sent
+pub goes_on : (old new : CoreState) (event : Event) (sent : List Sent) →
+    Leads StandsFor old new (λ w next. Step w event sent next) → GoesOn old new event sent
 goes_on old new event sent leads config events before w (run, stands) =
-    let (next, step, left) = leads w stands in
-    (next, (run_both (start_of config) w next events (event ∷ []) before sent run (one_event w next event sent step), left))
+    let (next, step, left) = leads w stands in (
+      next,
+      (
+        run_both (start_of config) w next events (event ∷ []) before sent run (one_event w next event sent step),
+        left,
+      ),
+    )

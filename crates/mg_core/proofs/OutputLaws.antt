@@ -7,13 +7,17 @@ use Rattle.mg_reply.proofs.WrittenLaws.{appended-appended}
 use Rattle.mg_core.specs.Script.{escape_of, escaped}
 
 -- one byte more
-pub escaped_more : (w : Written) (text : List ℕ) (i : ℕ) → i < length text → appended (appended w (escaped (take i text))) (escape_of (get_or text i 0)) ≡ appended w (escaped (take (i + 1) text))
+pub escaped_more : (w : Written) (text : List ℕ) (i : ℕ) → i < length text →
+    appended (appended w (escaped (take i text))) (escape_of (get_or text i 0)) ≡
+    appended w (escaped (take (i + 1) text))
 escaped_more w text i lt =
     let one : escaped (get_or text i 0 ∷ []) ≡ escape_of (get_or text i 0) = append-nil (escape_of (get_or text i 0)) in
     appended-appended w (escaped (take i text)) (escape_of (get_or text i 0))
-    ∙ ap (appended w) (ap (λ (l : List ℕ). escaped (take i text) ++ l) (sym one) ∙ sym (flat_map-append escape_of (take i text) (get_or text i 0 ∷ [])) ∙ ap escaped (sym (take_more text i 0 lt)))
+    ∙ ap (appended w) (ap (λ (l : List ℕ). escaped (take i text) ++ l) (sym one) ∙
+    sym (flat_map-append escape_of (take i text) (get_or text i 0 ∷ [])) ∙ ap escaped (sym (take_more text i 0 lt)))
 
-escape_cases : (x y z : Bool) (b : ℕ) → length (cond x (codes "\\n") (cond y (codes "\\r") (cond z (codes "\\\\") (b ∷ [])))) ≤ 2
+escape_cases : (x y z : Bool) (b : ℕ) → length
+    (cond x (codes "\\n") (cond y (codes "\\r") (cond z (codes "\\\\") (b ∷ [])))) ≤ 2
 escape_cases true y z b = lit≤ tt
 escape_cases false true z b = lit≤ tt
 escape_cases false false true b = lit≤ tt

@@ -35,34 +35,51 @@ events_are es = Some es
 are_same : (a b : List Event) → events_are a ≡ events_are b → a ≡ b
 are_same a b h = cc h
 
-events_step : (o : Option (Option Event)) (p all : Option (List Event)) (es fs : List Event) → (o >>= λ e. p >>= λ l. Some (then_all e l)) ≡ Some es → ((l : List Event) → p ≡ Some l → all ≡ Some (l ++ fs)) → (o >>= λ e. all >>= λ l. Some (then_all e l)) ≡ Some (es ++ fs)
+events_step : (o : Option (Option Event)) (p all : Option (List Event)) (es fs : List Event) →
+    (o >>= λ e. p >>= λ l. Some (then_all e l)) ≡ Some es → ((l : List Event) → p ≡ Some l → all ≡ Some (l ++ fs)) →
+    (o >>= λ e. all >>= λ l. Some (then_all e l)) ≡ Some (es ++ fs)
 events_step None p all es fs h k = absurd (cc h)
 events_step (Some e) None all es fs h k = absurd (cc h)
-events_step (Some e) (Some l) all es fs h k = rw (k l refl) (ap events_are (before_both e l fs ∙ ap (λ (x : List Event). x ++ fs) (are_same (then_all e l) es h)))
+events_step (Some e) (Some l) all es fs h k =
+    rw (k l refl) (ap events_are (before_both e l fs ∙ ap (λ (x : List Event). x ++ fs) (are_same (then_all e l) es h)))
 
-pub events_both : (xs ys : List (List ℕ)) (es fs : List Event) → events_of xs ≡ Some es → events_of ys ≡ Some fs → events_of (xs ++ ys) ≡ Some (es ++ fs)
+pub events_both : (xs ys : List (List ℕ)) (es fs : List Event) → events_of xs ≡ Some es → events_of ys ≡ Some fs →
+    events_of (xs ++ ys) ≡ Some (es ++ fs)
 unfolding events_of
 events_both [] ys es fs h k = k ∙ ap (λ (x : List Event). events_are (x ++ fs)) (are_same [] es h)
-events_both (x ∷ xs) ys es fs h k = events_step (event_of x) (events_of xs) (events_of (xs ++ ys)) es fs h (λ l is. events_both xs ys l fs is k)
+events_both (x ∷ xs) ys es fs h k = events_step (event_of x) (events_of xs) (events_of (xs ++ ys)) es fs h
+    (λ l is. events_both xs ys l fs is k)
 
-pub run_both : (w v u : World) (es fs : List Event) (a b : List Sent) → Run w es a v → Run v fs b u → Run w (es ++ fs) (a ++ b) u
-run_both w v u [] fs a b h k = subst (λ (x : World). Run x fs (a ++ b) u) h.1 (subst (λ (l : List Sent). Run v fs l u) (ap (λ (l : List Sent). l ++ b) (sym h.0)) k)
-run_both w v u (e ∷ es) fs a b h k =
-    (h.0, h.1 ++ b, h.2, h.3, run_both h.2 v u es fs h.1 b h.4 k, ap (λ (l : List Sent). l ++ b) h.5 ∙ append_assoc h.0 h.1 b)
+pub run_both : (w v u : World) (es fs : List Event) (a b : List Sent) → Run w es a v → Run v fs b u →
+    Run w (es ++ fs) (a ++ b) u
+run_both w v u [] fs a b h k = subst (λ (x : World). Run x fs (a ++ b) u) h.1
+    (subst (λ (l : List Sent). Run v fs l u) (ap (λ (l : List Sent). l ++ b) (sym h.0)) k)
+run_both w v u (e ∷ es) fs a b h k = (
+  h.0,
+  h.1 ++ b,
+  h.2,
+  h.3,
+  run_both h.2 v u es fs h.1 b h.4 k,
+  ap (λ (l : List Sent). l ++ b) h.5 ∙
+      append_assoc h.0 h.1 b,
+)
 
 lines_both : (a b : List Sent) → lines_for (a ++ b) ≡ lines_for a ++ lines_for b
 lines_both a b = flat_map-append line_of a b
 
-ran_both : (w v u : World) (xs ys : List (List ℕ)) (a b c : Option (List ℕ)) → Ran w xs v a b → Ran v ys u b c → Ran w (xs ++ ys) u a c
+ran_both : (w v u : World) (xs ys : List (List ℕ)) (a b c : Option (List ℕ)) → Ran w xs v a b → Ran v ys u b c →
+    Ran w (xs ++ ys) u a c
 ran_both w v u xs ys a b c h k = record {
   events = h.events ++ k.events;
   sent = h.sent ++ k.sent;
   are = events_both xs ys h.events k.events h.are k.are;
   run = run_both w v u h.events k.events h.sent k.sent h.run k.run;
-  written = subst (Appends a c) (sym (lines_both h.sent k.sent)) (appends_then a b c (lines_for h.sent) (lines_for k.sent) h.written k.written);
+  written = subst (Appends a c) (sym (lines_both h.sent k.sent))
+      (appends_then a b c (lines_for h.sent) (lines_for k.sent) h.written k.written);
 }
 
-ran_part : (w v u : World) (xs ys : List (List ℕ)) (a b c : Option (List ℕ)) → Ran w xs v a b → RanInPart v ys u b c → RanInPart w (xs ++ ys) u a c
+ran_part : (w v u : World) (xs ys : List (List ℕ)) (a b c : Option (List ℕ)) → Ran w xs v a b → RanInPart v ys u b c →
+    RanInPart w (xs ++ ys) u a c
 ran_part w v u xs ys a b c h k = record {
   events = h.events ++ k.events;
   sent = h.sent ++ k.sent;
@@ -70,13 +87,22 @@ ran_part w v u xs ys a b c h k = record {
   rest = k.rest;
   are = events_both xs ys h.events k.events h.are k.are;
   run = run_both w v u h.events k.events h.sent k.sent h.run k.run;
-  parts = lines_both h.sent k.sent ∙ ap (λ (l : List ℕ). lines_for h.sent ++ l) k.parts ∙ sym (append_assoc (lines_for h.sent) k.front k.rest);
+  parts = lines_both h.sent k.sent ∙ ap (λ (l : List ℕ). lines_for h.sent ++ l) k.parts ∙
+      sym (append_assoc (lines_for h.sent) k.front k.rest);
   written = appends_then a b c (lines_for h.sent) k.front h.written k.written;
 }
 
 -- nothing more was written, and the world is as it was
-ran_kept : (w v u : World) (xs : List (List ℕ)) (a b c : Option (List ℕ)) → Ran w xs v a b → Keeps b c → u ≡ v → Ran w xs u a c
-ran_kept w v u xs a b c h k same = subst (λ (x : World). Ran w xs x a c) (sym same) (record { events = h.events; sent = h.sent; are = h.are; run = h.run; written = appends_keeps a b c (lines_for h.sent) h.written k })
+ran_kept : (w v u : World) (xs : List (List ℕ)) (a b c : Option (List ℕ)) → Ran w xs v a b → Keeps b c → u ≡ v →
+    Ran w xs u a c
+ran_kept w v u xs a b c h k same = subst (λ (x : World). Ran w xs x a c) (sym same)
+    (record {
+      events = h.events;
+      sent = h.sent;
+      are = h.are;
+      run = h.run;
+      written = appends_keeps a b c (lines_for h.sent) h.written k;
+    })
 
 pub ran_nothing : (w : World) (a : Option (List ℕ)) → Ran w [] w a a
 unfolding events_of
@@ -84,31 +110,48 @@ ran_nothing w a = record { events = []; sent = []; are = refl; run = (refl, refl
 
 -- the same with what was sent counted
 
-counted_both : (w v u : World) (xs ys : List (List ℕ)) (s t z : ℕ) (a b c : Option (List ℕ)) → RanCounted w xs v s t a b → RanCounted v ys u t z b c → RanCounted w (xs ++ ys) u s z a c
+counted_both : (w v u : World) (xs ys : List (List ℕ)) (s t z : ℕ) (a b c : Option (List ℕ)) →
+    RanCounted w xs v s t a b → RanCounted v ys u t z b c → RanCounted w (xs ++ ys) u s z a c
 unfolding ran_both
 counted_both w v u xs ys s t z a b c h k = record {
   ran = ran_both w v u xs ys a b c h.ran k.ran;
   counted = k.counted ∙ ap (λ (n : ℕ). after_sent n k.ran.sent) h.counted ∙ sym (sent_both s h.ran.sent k.ran.sent);
 }
 
-counted_kept : (w v u : World) (xs : List (List ℕ)) (s t : ℕ) (a b c : Option (List ℕ)) → RanCounted w xs v s t a b → Keeps b c → u ≡ v → RanCounted w xs u s t a c
+counted_kept : (w v u : World) (xs : List (List ℕ)) (s t : ℕ) (a b c : Option (List ℕ)) → RanCounted w xs v s t a b →
+    Keeps b c → u ≡ v → RanCounted w xs u s t a c
 counted_kept w v u xs s t a b c h k same =
     subst (λ (x : World). RanCounted w xs x s t a c) (sym same)
-    (record { ran = record { events = h.ran.events; sent = h.ran.sent; are = h.ran.are; run = h.ran.run; written = appends_keeps a b c (lines_for h.ran.sent) h.ran.written k }; counted = h.counted })
+    (record {
+      ran = record {
+        events = h.ran.events;
+        sent = h.ran.sent;
+        are = h.ran.are;
+        run = h.ran.run;
+        written = appends_keeps a b c (lines_for h.ran.sent) h.ran.written k;
+      };
+      counted = h.counted;
+    })
 
 counted_nothing : (w : World) (s t : ℕ) (a : Option (List ℕ)) → t ≡ s → RanCounted w [] w s t a a
 unfolding events_of after_sent
-counted_nothing w s t a same = record { ran = record { events = []; sent = []; are = refl; run = (refl, refl); written = same_appends a }; counted = same }
+counted_nothing w s t a same = record {
+  ran = record { events = []; sent = []; are = refl; run = (refl, refl); written = same_appends a };
+  counted = same;
+}
 
 -- no bytes yet
-pub bytes_start : (n : ℕ) (begun : List ℕ) (w : World) (s : ℕ) (a : Option (List ℕ)) → BytesRan n n begun [] begun w w s s a a (Ok tt)
+pub bytes_start : (n : ℕ) (begun : List ℕ) (w : World) (s : ℕ) (a : Option (List ℕ)) →
+    BytesRan n n begun [] begun w w s s a a (Ok tt)
 bytes_start n begun w s a = ([], λ ended more. refl, omega arith, counted_nothing w s s a refl)
 
-one_byte : (ended : Bool) (x : ℕ) (begun bytes : List ℕ) → x ≢ 10 → lines_after ended begun (x ∷ bytes) ≡ lines_after ended (begun ++ x ∷ []) bytes
+one_byte : (ended : Bool) (x : ℕ) (begun bytes : List ℕ) → x ≢ 10 →
+    lines_after ended begun (x ∷ bytes) ≡ lines_after ended (begun ++ x ∷ []) bytes
 unfolding lines_after
 one_byte ended x begun bytes ne = rw (ne_eqb x 10 ne) refl
 
-line_feed : (ended : Bool) (begun bytes : List ℕ) → lines_after ended begun (10 ∷ bytes) ≡ without_return begun ∷ lines_after ended [] bytes
+line_feed : (ended : Bool) (begun bytes : List ℕ) →
+    lines_after ended begun (10 ∷ bytes) ≡ without_return begun ∷ lines_after ended [] bytes
 unfolding lines_after
 line_feed ended begun bytes = refl
 
@@ -116,59 +159,111 @@ regroup : (front : List ℕ) (x : ℕ) (rest : List ℕ) → (front ++ x ∷ [])
 regroup front x rest = append_assoc front (x ∷ []) rest
 
 -- a byte that ends no line
-pub bytes_plain : (n m : ℕ) (begun front left : List ℕ) (w v : World) (s t : ℕ) (a b : Option (List ℕ)) (x : ℕ) → x ≢ 10 → BytesRan n m begun front left w v s t a b (Ok tt) → BytesRan n m begun (front ++ x ∷ []) (left ++ x ∷ []) w v s t a b (Ok tt)
-bytes_plain n m begun front left w v s t a b x ne h =
-    (h.0, λ ended more. ap (lines_after ended begun) (regroup front x more) ∙ h.1 ended (x ∷ more) ∙ ap (λ (l : List (List ℕ)). h.0 ++ l) (one_byte ended x left more ne), h.2, h.3)
+pub bytes_plain : (n m : ℕ) (begun front left : List ℕ) (w v : World) (s t : ℕ) (a b : Option (List ℕ)) (x : ℕ) →
+    x ≢ 10 → BytesRan n m begun front left w v s t a b (Ok tt) →
+    BytesRan n m begun (front ++ x ∷ []) (left ++ x ∷ []) w v s t a b (Ok tt)
+bytes_plain n m begun front left w v s t a b x ne h = (
+  h.0,
+  λ ended more. ap (lines_after ended begun) (regroup front x more) ∙ h.1 ended (x ∷ more) ∙
+      ap (λ (l : List (List ℕ)). h.0 ++ l) (one_byte ended x left more ne),
+  h.2,
+  h.3,
+)
 
 -- a byte that ends a line, which was run
-pub bytes_line : (n m : ℕ) (begun front left : List ℕ) (w v u : World) (s t z : ℕ) (a b c : Option (List ℕ)) (number : ℕ) → BytesRan n m begun front left w v s t a b (Ok tt) → LineRan number (without_return left) v u t z b c (Ok tt) → BytesRan n (m + 1) begun (front ++ 10 ∷ []) [] w u s z a c (Ok tt)
+pub bytes_line : (n m : ℕ) (begun front left : List ℕ) (w v u : World) (s t z : ℕ) (a b c : Option (List ℕ))
+    (number : ℕ) → BytesRan n m begun front left w v s t a b (Ok tt) →
+    LineRan number (without_return left) v u t z b c (Ok tt) →
+    BytesRan n (m + 1) begun (front ++ 10 ∷ []) [] w u s z a c (Ok tt)
 bytes_line n m begun front left w v u s t z a b c number h k =
     let line = without_return left in
-    let next : (ended : Bool) (more : List ℕ) → lines_after ended begun ((front ++ 10 ∷ []) ++ more) ≡ (h.0 ++ line ∷ []) ++ lines_after ended [] more =
-    λ ended more. ap (lines_after ended begun) (regroup front 10 more) ∙ h.1 ended (10 ∷ more) ∙ ap (λ (l : List (List ℕ)). h.0 ++ l) (line_feed ended left more) ∙ sym (append_assoc h.0 (line ∷ []) (lines_after ended [] more)) in
-    (h.0 ++ line ∷ [], next, omega (arith, length-append h.0 (line ∷ []), h.2), counted_both w v u h.0 (line ∷ []) s t z a b c h.3 k)
+    let next : (ended : Bool) (more : List ℕ) →
+    lines_after ended begun ((front ++ 10 ∷ []) ++ more) ≡ (h.0 ++ line ∷ []) ++ lines_after ended [] more =
+    λ ended more. ap (lines_after ended begun) (regroup front 10 more) ∙ h.1 ended (10 ∷ more) ∙
+    ap (λ (l : List (List ℕ)). h.0 ++ l) (line_feed ended left more) ∙
+    sym (append_assoc h.0 (line ∷ []) (lines_after ended [] more)) in (
+      h.0 ++ line ∷ [],
+      next,
+      omega (arith, length-append h.0 (line ∷ []), h.2),
+      counted_both w v u h.0 (line ∷ []) s t z a b c h.3 k,
+    )
 
 -- the lines after some bytes, where a line feed stands after the first of them
-at_feed : (ended : Bool) (begun front left back more : List ℕ) (lines : List (List ℕ)) → ((ended : Bool) (more : List ℕ) → lines_after ended begun (front ++ more) ≡ lines ++ lines_after ended left more) → lines_after ended begun ((front ++ (10 ∷ back)) ++ more) ≡ lines ++ without_return left ∷ lines_after ended [] (back ++ more)
+at_feed : (ended : Bool) (begun front left back more : List ℕ) (lines : List (List ℕ)) →
+    ((ended : Bool) (more : List ℕ) → lines_after ended begun (front ++ more) ≡ lines ++ lines_after ended left more)
+    → lines_after ended begun ((front ++ (10 ∷ back)) ++ more) ≡ lines ++ without_return left ∷
+    lines_after ended [] (back ++ more)
 at_feed ended begun front left back more lines h =
-    ap (lines_after ended begun) (append_assoc front (10 ∷ back) more) ∙ h ended (10 ∷ (back ++ more)) ∙ ap (λ (l : List (List ℕ)). lines ++ l) (line_feed ended left (back ++ more))
+    ap (lines_after ended begun) (append_assoc front (10 ∷ back) more) ∙ h ended (10 ∷ (back ++ more)) ∙
+    ap (λ (l : List (List ℕ)). lines ++ l) (line_feed ended left (back ++ more))
 
 -- the same where nothing stands after them
-at_last_feed : (begun front left back : List ℕ) (lines : List (List ℕ)) → ((ended : Bool) (more : List ℕ) → lines_after ended begun (front ++ more) ≡ lines ++ lines_after ended left more) → lines_after false begun (front ++ (10 ∷ back)) ≡ lines ++ without_return left ∷ lines_after false [] back
+at_last_feed : (begun front left back : List ℕ) (lines : List (List ℕ)) →
+    ((ended : Bool) (more : List ℕ) → lines_after ended begun (front ++ more) ≡ lines ++ lines_after ended left more)
+    → lines_after false begun (front ++ (10 ∷ back)) ≡ lines ++ without_return left ∷ lines_after false [] back
 at_last_feed begun front left back lines h =
     h false (10 ∷ back) ∙ ap (λ (l : List (List ℕ)). lines ++ l) (line_feed false left back)
 
 -- a line that was not run
-pub bytes_stop : (n m p : ℕ) (begun front left back other : List ℕ) (w v u : World) (s t z : ℕ) (a b c : Option (List ℕ)) (e : LineFault) → BytesRan n m begun front left w v s t a b (Ok tt) → LineRan (m + 1) (without_return left) v u t z b c (Err e) → BytesRan n p begun (front ++ (10 ∷ back)) other w u s z a c (Err e)
-bytes_stop n m p begun front left back other w v u s t z a b c (faults.Bad k) h l =
-    (h.0, λ more. record { bad = without_return left; others = lines_after true [] (back ++ more); parts = at_feed true begun front left back more h.0 h.1; is_bad = l.1 }, omega (arith, l.0, h.2), ran_kept w v u h.0 a b c h.3.ran l.2 l.3)
+pub bytes_stop : (n m p : ℕ) (begun front left back other : List ℕ) (w v u : World) (s t z : ℕ)
+    (a b c : Option (List ℕ)) (e : LineFault) → BytesRan n m begun front left w v s t a b (Ok tt) →
+    LineRan (m + 1) (without_return left) v u t z b c (Err e) →
+    BytesRan n p begun (front ++ (10 ∷ back)) other w u s z a c (Err e)
+bytes_stop n m p begun front left back other w v u s t z a b c (faults.Bad k) h l = (
+  h.0,
+  λ more. record {
+    bad = without_return left;
+    others = lines_after true [] (back ++ more);
+    parts = at_feed true begun front left back more h.0 h.1;
+    is_bad = l.1;
+  },
+  omega (arith, l.0, h.2),
+  ran_kept w v u h.0 a b c h.3.ran l.2 l.3,
+)
 bytes_stop n m p begun front left back other w v u s t z a b c faults.Write h l =
     (h.0, without_return left, lines_after false [] back, at_last_feed begun front left back h.0 h.1, v, b, h.3.ran, l)
-bytes_stop n m p begun front left back other w v u s t z a b c faults.NoMemory h l =
-    (h.0, without_return left, lines_after false [] back, at_last_feed begun front left back h.0 h.1, ran_kept w v u h.0 a b c h.3.ran l.0 l.1)
+bytes_stop n m p begun front left back other w v u s t z a b c faults.NoMemory h l = (
+  h.0,
+  without_return left,
+  lines_after false [] back,
+  at_last_feed begun front left back h.0 h.1,
+  ran_kept w v u h.0 a b c h.3.ran l.0 l.1,
+)
 
 -- a line that is too long is bad, wherever it ends
 long_bad : (line : List ℕ) → 140001 ≤ length line → event_of line ≡ None
 unfolding event_of
 long_bad line le = rw (lt-ltb 140000 (length line) (omega arith)) refl
 
-return_long : (t : Bool) (line : List ℕ) (n : ℕ) → n + 1 ≤ length line → n ≤ length (cond t (take (length line - 1) line) line)
+return_long : (t : Bool) (line : List ℕ) (n : ℕ) → n + 1 ≤ length line →
+    n ≤ length (cond t (take (length line - 1) line) line)
 return_long true line n le = omega (arith, length-take (length line - 1) line)
 return_long false line n le = omega arith
 
-long_step : (t : Bool) (begun : List ℕ) (x : ℕ) (bytes : List ℕ) → eqb x 10 ≡ t → 140002 ≤ length begun → HasBadAfter [] (lines_after true (begun ++ x ∷ []) bytes) → HasBadAfter [] (lines_after true begun (x ∷ bytes))
+long_step : (t : Bool) (begun : List ℕ) (x : ℕ) (bytes : List ℕ) → eqb x 10 ≡ t → 140002 ≤ length begun →
+    HasBadAfter [] (lines_after true (begun ++ x ∷ []) bytes) → HasBadAfter [] (lines_after true begun (x ∷ bytes))
 unfolding lines_after
 long_step true begun x bytes e le h =
-    rw e (record { bad = without_return begun; others = lines_after true [] bytes; parts = refl; is_bad = long_bad (without_return begun) (return_long (eqb (slice_index begun (length begun - 1)) 13) begun 140001 (omega arith)) })
+    rw e (record {
+      bad = without_return begun;
+      others = lines_after true [] bytes;
+      parts = refl;
+      is_bad =
+          long_bad (without_return begun) (return_long (eqb (slice_index begun (length begun - 1)) 13) begun 140001
+          (omega arith));
+    })
 long_step false begun x bytes e le h = rw e h
 
 long_line : (begun bytes : List ℕ) → 140002 ≤ length begun → HasBadAfter [] (lines_after true begun bytes)
 unfolding lines_after
-long_line begun [] le = rw (ne_eqb (length begun) 0 (λ e. absurd (omega arith))) (record { bad = begun; others = []; parts = refl; is_bad = long_bad begun (omega arith) })
-long_line begun (x ∷ bytes) le = long_step (eqb x 10) begun x bytes refl le (long_line (begun ++ x ∷ []) bytes (omega (arith, length-append begun (x ∷ []))))
+long_line begun [] le = rw (ne_eqb (length begun) 0 (λ e. absurd (omega arith)))
+    (record { bad = begun; others = []; parts = refl; is_bad = long_bad begun (omega arith) })
+long_line begun (x ∷ bytes) le = long_step (eqb x 10) begun x bytes refl le
+    (long_line (begun ++ x ∷ []) bytes (omega (arith, length-append begun (x ∷ []))))
 
 -- a bad line after some lines stands after those before them too
-bad_later : (before lines others all : List (List ℕ)) → all ≡ before ++ others → HasBadAfter lines others → HasBadAfter (before ++ lines) all
+bad_later : (before lines others all : List (List ℕ)) → all ≡ before ++ others → HasBadAfter lines others →
+    HasBadAfter (before ++ lines) all
 bad_later before lines others all is h = record {
   bad = h.bad;
   others = h.others;
@@ -177,20 +272,32 @@ bad_later before lines others all is h = record {
 }
 
 -- a byte that makes a line too long
-pub bytes_long : (n m p : ℕ) (begun front left back other : List ℕ) (w v : World) (s t z : ℕ) (a b : Option (List ℕ)) (x : ℕ) → x ≢ 10 → 140001 ≤ length left → BytesRan n m begun front left w v s t a b (Ok tt) → BytesRan n p begun (front ++ (x ∷ back)) other w v s z a b (Err (faults.Bad (m + 1)))
+pub bytes_long : (n m p : ℕ) (begun front left back other : List ℕ) (w v : World) (s t z : ℕ) (a b : Option (List ℕ))
+    (x : ℕ) → x ≢ 10 → 140001 ≤ length left → BytesRan n m begun front left w v s t a b (Ok tt) →
+    BytesRan n p begun (front ++ (x ∷ back)) other w v s z a b (Err (faults.Bad (m + 1)))
 bytes_long n m p begun front left back other w v s t z a b x ne le h =
-    let long : (more : List ℕ) → HasBadAfter [] (lines_after true (left ++ x ∷ []) (back ++ more)) = λ more. long_line (left ++ x ∷ []) (back ++ more) (omega (arith, length-append left (x ∷ []))) in
-    let split : (more : List ℕ) → lines_after true begun ((front ++ (x ∷ back)) ++ more) ≡ h.0 ++ lines_after true (left ++ x ∷ []) (back ++ more) =
-    λ more. ap (lines_after true begun) (append_assoc front (x ∷ back) more) ∙ h.1 true (x ∷ (back ++ more)) ∙ ap (λ (l : List (List ℕ)). h.0 ++ l) (one_byte true x left (back ++ more) ne) in (
+    let long : (more : List ℕ) → HasBadAfter [] (lines_after true (left ++ x ∷ []) (back ++ more)) =
+    λ more. long_line (left ++ x ∷ []) (back ++ more) (omega (arith, length-append left (x ∷ []))) in
+    let split : (more : List ℕ) → lines_after true begun ((front ++ (x ∷ back)) ++ more) ≡ h.0 ++
+    lines_after true (left ++ x ∷ []) (back ++ more) =
+    λ more. ap (lines_after true begun) (append_assoc front (x ∷ back) more) ∙ h.1 true (x ∷ (back ++ more)) ∙
+    ap (λ (l : List (List ℕ)). h.0 ++ l) (one_byte true x left (back ++ more) ne) in (
       h.0,
-      λ more. record { bad = (long more).bad; others = (long more).others; parts = split more ∙ ap (λ (l : List (List ℕ)). h.0 ++ l) (long more).parts; is_bad = (long more).is_bad },
+      λ more. record {
+        bad = (long more).bad;
+        others = (long more).others;
+        parts = split more ∙
+            ap (λ (l : List (List ℕ)). h.0 ++ l) (long more).parts;
+        is_bad = (long more).is_bad;
+      },
       omega (arith, h.2),
       h.3.ran,
     )
 
 -- How far a run of a script has come: a text was read, the lines that end in it were run on a new gateway, and the line
 -- after them is begun.
-pub record Progress (config : Config) (input remaining : Option (List ℕ)) (begun : List ℕ) (count : ℕ) (now : World) (sent : ℕ) (old new : Option (List ℕ)) : Type 0 where
+pub record Progress (config : Config) (input remaining : Option (List ℕ)) (begun : List ℕ) (count : ℕ) (now : World)
+    (sent : ℕ) (old new : Option (List ℕ)) : Type 0 where
   pub text : List ℕ
   pub consumed : Consumes input remaining text
   pub lines : List (List ℕ)
@@ -198,15 +305,28 @@ pub record Progress (config : Config) (input remaining : Option (List ℕ)) (beg
   pub counted : count ≡ length lines
   pub ran : RanCounted (start_of config) lines now 0 sent old new
 
-pub progress_start : (config : Config) (input : Option (List ℕ)) (begun : List ℕ) (count s : ℕ) (a : Option (List ℕ)) → begun ≡ [] → count ≡ 0 → s ≡ 0 → Progress config input input begun count (start_of config) s a a
-progress_start config input begun count s a none zero_is unsent = record { text = []; consumed = Consumes-nil input; lines = []; split = λ ended more. ap (λ (l : List ℕ). lines_after ended l more) (sym none); counted = zero_is; ran = counted_nothing (start_of config) 0 s a unsent }
+pub progress_start : (config : Config) (input : Option (List ℕ)) (begun : List ℕ) (count s : ℕ) (a : Option (List ℕ))
+    → begun ≡ [] → count ≡ 0 → s ≡ 0 → Progress config input input begun count (start_of config) s a a
+progress_start config input begun count s a none zero_is unsent =
+    record {
+      text = [];
+      consumed = Consumes-nil input;
+      lines = [];
+      split = λ ended more. ap (λ (l : List ℕ). lines_after ended l more) (sym none);
+      counted = zero_is;
+      ran = counted_nothing (start_of config) 0 s a unsent;
+    }
 
-pub progress_bytes : (config : Config) (i x y : Option (List ℕ)) (begun bytes left : List ℕ) (n m : ℕ) (v u : World) (s t : ℕ) (a b c : Option (List ℕ)) → Progress config i x begun n v s a b → Consumes x y bytes → BytesRan n m begun bytes left v u s t b c (Ok tt) → Progress config i y left m u t a c
+pub progress_bytes : (config : Config) (i x y : Option (List ℕ)) (begun bytes left : List ℕ) (n m : ℕ) (v u : World)
+    (s t : ℕ) (a b c : Option (List ℕ)) → Progress config i x begun n v s a b → Consumes x y bytes →
+    BytesRan n m begun bytes left v u s t b c (Ok tt) → Progress config i y left m u t a c
 progress_bytes config i x y begun bytes left n m v u s t a b c p eaten h = record {
   text = p.text ++ bytes;
   consumed = Consumes-trans i x y p.text bytes p.consumed eaten;
   lines = p.lines ++ h.0;
-  split = λ ended more. ap (lines_after ended []) (append_assoc p.text bytes more) ∙ p.split ended (bytes ++ more) ∙ ap (λ (l : List (List ℕ)). p.lines ++ l) (h.1 ended more) ∙ sym (append_assoc p.lines h.0 (lines_after ended left more));
+  split = λ ended more. ap (lines_after ended []) (append_assoc p.text bytes more) ∙ p.split ended (bytes ++ more) ∙
+      ap (λ (l : List (List ℕ)). p.lines ++ l) (h.1 ended more) ∙
+      sym (append_assoc p.lines h.0 (lines_after ended left more));
   counted = omega (arith, h.2, p.counted, length-append p.lines h.0);
   ran = counted_both (start_of config) v u p.lines h.0 0 s t a b c p.ran h.3;
 }
@@ -217,18 +337,24 @@ unfinished [] = refl
 unfinished (b ∷ bs) = rw (ne_eqb (length (b ∷ bs)) 0 (λ e. absurd (omega (arith, e)))) refl
 
 -- what was read, where nothing follows it
-split_at_end : (config : Config) (i x : Option (List ℕ)) (begun : List ℕ) (n : ℕ) (v : World) (s : ℕ) (a b : Option (List ℕ)) (ended : Bool) (p : Progress config i x begun n v s a b) → lines_of ended p.text ≡ p.lines ++ lines_after ended begun []
+split_at_end : (config : Config) (i x : Option (List ℕ)) (begun : List ℕ) (n : ℕ) (v : World) (s : ℕ)
+    (a b : Option (List ℕ)) (ended : Bool) (p : Progress config i x begun n v s a b) →
+    lines_of ended p.text ≡ p.lines ++ lines_after ended begun []
 split_at_end config i x begun n v s a b ended p = ap (lines_after ended []) (sym (append-nil p.text)) ∙ p.split ended []
 
 -- the lines that were run are those that end in what was read
-all_run : (config : Config) (i x : Option (List ℕ)) (begun : List ℕ) (n : ℕ) (v : World) (s : ℕ) (a b : Option (List ℕ)) (p : Progress config i x begun n v s a b) → lines_of false p.text ≡ p.lines
-all_run config i x begun n v s a b p = split_at_end config i x begun n v s a b false p ∙ ap (λ (l : List (List ℕ)). p.lines ++ l) (unfinished begun) ∙ append-nil p.lines
+all_run : (config : Config) (i x : Option (List ℕ)) (begun : List ℕ) (n : ℕ) (v : World) (s : ℕ)
+    (a b : Option (List ℕ)) (p : Progress config i x begun n v s a b) → lines_of false p.text ≡ p.lines
+all_run config i x begun n v s a b p = split_at_end config i x begun n v s a b false p ∙
+    ap (λ (l : List (List ℕ)). p.lines ++ l) (unfinished begun) ∙ append-nil p.lines
 
 not_ended : {A : Type 0} → false ≡ true → A
 not_ended e = absurd (cc e)
 
 -- the lines that were run before and in the last bytes
-run_in_bytes : (config : Config) (i x : Option (List ℕ)) (begun bytes : List ℕ) (n : ℕ) (v : World) (s : ℕ) (a b : Option (List ℕ)) (lines : List (List ℕ)) → length bytes ≤ 4096 → (p : Progress config i x begun n v s a b) → RanBeforeMore (p.text ++ bytes) false (p.lines ++ lines)
+run_in_bytes : (config : Config) (i x : Option (List ℕ)) (begun bytes : List ℕ) (n : ℕ) (v : World) (s : ℕ)
+    (a b : Option (List ℕ)) (lines : List (List ℕ)) → length bytes ≤ 4096 →
+    (p : Progress config i x begun n v s a b) → RanBeforeMore (p.text ++ bytes) false (p.lines ++ lines)
 run_in_bytes config i x begun bytes n v s a b lines few p = record {
   before = p.text;
   given = bytes;
@@ -240,17 +366,25 @@ run_in_bytes config i x begun bytes n v s a b lines few p = record {
 }
 
 -- the line after those that were run, where it is among the last bytes
-line_in_bytes : (config : Config) (i x : Option (List ℕ)) (begun bytes line : List ℕ) (n : ℕ) (v : World) (s : ℕ) (a b : Option (List ℕ)) (lines others : List (List ℕ)) → lines_after false begun bytes ≡ lines ++ line ∷ others → (p : Progress config i x begun n v s a b) → lines_of false (p.text ++ bytes) ≡ (p.lines ++ lines) ++ line ∷ others
-line_in_bytes config i x begun bytes line n v s a b lines others is p = p.split false bytes ∙ ap (λ (l : List (List ℕ)). p.lines ++ l) is ∙ sym (append_assoc p.lines lines (line ∷ others))
+line_in_bytes : (config : Config) (i x : Option (List ℕ)) (begun bytes line : List ℕ) (n : ℕ) (v : World) (s : ℕ)
+    (a b : Option (List ℕ)) (lines others : List (List ℕ)) → lines_after false begun bytes ≡ lines ++ line ∷ others →
+    (p : Progress config i x begun n v s a b) → lines_of false (p.text ++ bytes) ≡ (p.lines ++ lines) ++ line ∷ others
+line_in_bytes config i x begun bytes line n v s a b lines others is p = p.split false bytes ∙
+    ap (λ (l : List (List ℕ)). p.lines ++ l) is ∙ sym (append_assoc p.lines lines (line ∷ others))
 
-pub progress_fault : (config : Config) (i x y : Option (List ℕ)) (begun bytes left : List ℕ) (n m : ℕ) (state : CoreState) (v u : World) (s t : ℕ) (a b c : Option (List ℕ)) (e : LineFault) → Progress config i x begun n v s a b → Consumes x y bytes → length bytes ≤ 4096 → BytesRan n m begun bytes left v u s t b c (Err e) → AllRan config i y state m t a c (Err (script_fault_of e))
+pub progress_fault : (config : Config) (i x y : Option (List ℕ)) (begun bytes left : List ℕ) (n m : ℕ)
+    (state : CoreState) (v u : World) (s t : ℕ) (a b c : Option (List ℕ)) (e : LineFault) →
+    Progress config i x begun n v s a b → Consumes x y bytes → length bytes ≤ 4096 →
+    BytesRan n m begun bytes left v u s t b c (Err e) → AllRan config i y state m t a c (Err (script_fault_of e))
 progress_fault config i x y begun bytes left n m state v u s t a b c (faults.Bad k) p eaten few h = record {
   text = p.text ++ bytes;
   ended = false;
   read = record { consumed = Consumes-trans i x y p.text bytes p.consumed eaten; at_end = not_ended };
   lines = p.lines ++ h.0;
   before_more = run_in_bytes config i x begun bytes n v s a b h.0 few p;
-  bad = λ more none. bad_later p.lines h.0 (lines_after true begun (bytes ++ more)) (lines_of true ((p.text ++ bytes) ++ more)) (ap (lines_after true []) (append_assoc p.text bytes more) ∙ p.split true (bytes ++ more)) (h.1 more);
+  bad = λ more none. bad_later p.lines h.0 (lines_after true begun (bytes ++ more))
+      (lines_of true ((p.text ++ bytes) ++ more))
+      (ap (lines_after true []) (append_assoc p.text bytes more) ∙ p.split true (bytes ++ more)) (h.1 more);
   number_is = omega (arith, h.2, p.counted, length-append p.lines h.0);
   last = u;
   ran = ran_both (start_of config) v u p.lines h.0 a b c p.ran.ran h.3;
@@ -288,12 +422,14 @@ progress_fault config i x y begun bytes left n m state v u s t a b c faults.NoMe
 }
 
 -- reading failed
-pub progress_unread : (config : Config) (i x y : Option (List ℕ)) (begun : List ℕ) (n : ℕ) (v : World) (s : ℕ) (a b : Option (List ℕ)) → Progress config i x begun n v s a b → Keeps x y → RanAllRead config i y a b
+pub progress_unread : (config : Config) (i x y : Option (List ℕ)) (begun : List ℕ) (n : ℕ) (v : World) (s : ℕ)
+    (a b : Option (List ℕ)) → Progress config i x begun n v s a b → Keeps x y → RanAllRead config i y a b
 progress_unread config i x y begun n v s a b p same = record {
   text = p.text;
   read = record { consumed = Consumes-kept i x y p.text p.consumed same; at_end = not_ended };
   last = v;
-  ran = subst (λ (l : List (List ℕ)). Ran (start_of config) l v a b) (sym (all_run config i x begun n v s a b p)) p.ran.ran;
+  ran = subst (λ (l : List (List ℕ)). Ran (start_of config) l v a b) (sym (all_run config i x begun n v s a b p))
+      p.ran.ran;
 }
 
 -- the end of the script
@@ -313,10 +449,13 @@ script_result (Err fault) = Err (script_fault_of fault)
 abbrev AtEnd : Option (List ℕ) → Option (List ℕ) → Type 0
 AtEnd x y = Keeps x y × IsAtEnd y
 
-read_to_end : (config : Config) (i x y : Option (List ℕ)) (begun : List ℕ) (n : ℕ) (v : World) (s : ℕ) (a b : Option (List ℕ)) → AtEnd x y → (p : Progress config i x begun n v s a b) → HasRead i y p.text true
-read_to_end config i x y begun n v s a b end p = record { consumed = Consumes-kept i x y p.text p.consumed end.0; at_end = λ e. end.1 }
+read_to_end : (config : Config) (i x y : Option (List ℕ)) (begun : List ℕ) (n : ℕ) (v : World) (s : ℕ)
+    (a b : Option (List ℕ)) → AtEnd x y → (p : Progress config i x begun n v s a b) → HasRead i y p.text true
+read_to_end config i x y begun n v s a b end p =
+    record { consumed = Consumes-kept i x y p.text p.consumed end.0; at_end = λ e. end.1 }
 
-run_to_end : (config : Config) (i x : Option (List ℕ)) (begun : List ℕ) (n : ℕ) (v : World) (s : ℕ) (a b : Option (List ℕ)) (p : Progress config i x begun n v s a b) → RanBeforeMore p.text true p.lines
+run_to_end : (config : Config) (i x : Option (List ℕ)) (begun : List ℕ) (n : ℕ) (v : World) (s : ℕ)
+    (a b : Option (List ℕ)) (p : Progress config i x begun n v s a b) → RanBeforeMore p.text true p.lines
 run_to_end config i x begun n v s a b p = record {
   before = p.text;
   given = [];
@@ -327,17 +466,24 @@ run_to_end config i x begun n v s a b p = record {
   lines_are = sym (append-nil (lines_of false p.text) ∙ all_run config i x begun n v s a b p);
 }
 
-last_of : (config : Config) (i x : Option (List ℕ)) (k : ℕ) (ks : List ℕ) (n : ℕ) (v : World) (s : ℕ) (a b : Option (List ℕ)) (p : Progress config i x (k ∷ ks) n v s a b) → lines_of true p.text ≡ p.lines ++ (k ∷ ks) ∷ []
-last_of config i x k ks n v s a b p = split_at_end config i x (k ∷ ks) n v s a b true p ∙ ap (λ (l : List (List ℕ)). p.lines ++ l) (last_line k ks)
+last_of : (config : Config) (i x : Option (List ℕ)) (k : ℕ) (ks : List ℕ) (n : ℕ) (v : World) (s : ℕ)
+    (a b : Option (List ℕ)) (p : Progress config i x (k ∷ ks) n v s a b) →
+    lines_of true p.text ≡ p.lines ++ (k ∷ ks) ∷ []
+last_of config i x k ks n v s a b p = split_at_end config i x (k ∷ ks) n v s a b true p ∙
+    ap (λ (l : List (List ℕ)). p.lines ++ l) (last_line k ks)
 
-line_end : (config : Config) (i x y : Option (List ℕ)) (k : ℕ) (ks : List ℕ) (n m : ℕ) (state : CoreState) (v u : World) (s t : ℕ) (a b c : Option (List ℕ)) (r : Result (Unit {0}) LineFault) → Progress config i x (k ∷ ks) n v s a b → AtEnd x y → StandsFor state u → LineRan (n + 1) (k ∷ ks) v u s t b c r → OnOk r (m ≡ n + 1) → AllRan config i y state m t a c (script_result r)
+line_end : (config : Config) (i x y : Option (List ℕ)) (k : ℕ) (ks : List ℕ) (n m : ℕ) (state : CoreState)
+    (v u : World) (s t : ℕ) (a b c : Option (List ℕ)) (r : Result (Unit {0}) LineFault) →
+    Progress config i x (k ∷ ks) n v s a b → AtEnd x y → StandsFor state u → LineRan (n + 1) (k ∷ ks) v u s t b c r →
+    OnOk r (m ≡ n + 1) → AllRan config i y state m t a c (script_result r)
 line_end config i x y k ks n m state v u s t a b c (Ok done) p end stands h more =
     let split = last_of config i x k ks n v s a b p in (
       p.text,
       read_to_end config i x y (k ∷ ks) n v s a b end p,
       record {
         last = u;
-        ran = subst (λ (l : List (List ℕ)). RanCounted (start_of config) l u 0 t a c) (sym split) (counted_both (start_of config) v u p.lines ((k ∷ ks) ∷ []) 0 s t a b c p.ran h);
+        ran = subst (λ (l : List (List ℕ)). RanCounted (start_of config) l u 0 t a c) (sym split)
+            (counted_both (start_of config) v u p.lines ((k ∷ ks) ∷ []) 0 s t a b c p.ran h);
         stands = stands;
         lines = omega (arith, more, p.counted, length-append p.lines ((k ∷ ks) ∷ [])) ∙ ap length (sym split);
       },
@@ -351,7 +497,8 @@ line_end config i x y k ks n m state v u s t a b c (Err (faults.Bad number)) p e
   bad = λ more none. record {
     bad = k ∷ ks;
     others = [];
-    parts = ap (λ (l : List ℕ). lines_of true (p.text ++ l)) (none refl) ∙ p.split true [] ∙ ap (λ (l : List (List ℕ)). p.lines ++ l) (last_line k ks);
+    parts = ap (λ (l : List ℕ). lines_of true (p.text ++ l)) (none refl) ∙ p.split true [] ∙
+        ap (λ (l : List (List ℕ)). p.lines ++ l) (last_line k ks);
     is_bad = h.1;
   };
   number_is = omega (arith, h.0, p.counted);
@@ -390,81 +537,139 @@ line_end config i x y k ks n m state v u s t a b c (Err faults.NoMemory) p end s
   };
 }
 
-pub progress_end : (config : Config) (i x y : Option (List ℕ)) (begun : List ℕ) (n m : ℕ) (state : CoreState) (v u : World) (s t : ℕ) (a b c : Option (List ℕ)) (r : Result (Unit {0}) LineFault) → Progress config i x begun n v s a b → AtEnd x y → StandsFor state u → Finishes n m begun v u s t b c r → AllRan config i y state m t a c (script_result r)
+pub progress_end : (config : Config) (i x y : Option (List ℕ)) (begun : List ℕ) (n m : ℕ) (state : CoreState)
+    (v u : World) (s t : ℕ) (a b c : Option (List ℕ)) (r : Result (Unit {0}) LineFault) →
+    Progress config i x begun n v s a b → AtEnd x y → StandsFor state u → Finishes n m begun v u s t b c r →
+    AllRan config i y state m t a c (script_result r)
 progress_end config i x y [] n m state v u s t a b c r p end stands h =
-    let all = split_at_end config i x [] n v s a b true p ∙ ap (λ (l : List (List ℕ)). p.lines ++ l) no_line ∙ append-nil p.lines in
+    let all = split_at_end config i x [] n v s a b true p ∙ ap (λ (l : List (List ℕ)). p.lines ++ l) no_line ∙
+    append-nil p.lines in
     rw h.0 (
       p.text,
       read_to_end config i x y [] n v s a b end p,
       record {
         last = u;
-        ran = subst (λ (n : ℕ). RanCounted (start_of config) (lines_of true p.text) u 0 n a c) (sym h.4) (subst (λ (l : List (List ℕ)). RanCounted (start_of config) l u 0 s a c) (sym all) (counted_kept (start_of config) v u p.lines 0 s a b c p.ran h.1 h.2));
+        ran = subst (λ (n : ℕ). RanCounted (start_of config) (lines_of true p.text) u 0 n a c) (sym h.4)
+            (subst (λ (l : List (List ℕ)). RanCounted (start_of config) l u 0 s a c) (sym all)
+            (counted_kept (start_of config) v u p.lines 0 s a b c p.ran h.1 h.2));
         stands = stands;
         lines = h.3 ∙ p.counted ∙ ap length (sym all);
       },
     )
-progress_end config i x y (k ∷ ks) n m state v u s t a b c r p end stands h = line_end config i x y k ks n m state v u s t a b c r p end stands h.0 h.1
+progress_end config i x y (k ∷ ks) n m state v u s t a b c r p end stands h =
+    line_end config i x y k ks n m state v u s t a b c r p end stands h.0 h.1
 
 -- the same steps by the index of a byte
 around : (bytes : List ℕ) (i : ℕ) → i < length bytes → take i bytes ++ (get_or bytes i 0 ∷ drop (i + 1) bytes) ≡ bytes
 around bytes i lt = ap (λ (l : List ℕ). take i bytes ++ l) (sym (drop_more bytes i 0 lt)) ∙ take-append-drop i bytes
 
 -- So far, the lines that end in the first bytes were run, by an engine that was entered for each world w.
-abbrev pub HasRun : ℕ → ℕ → List ℕ → List ℕ → List ℕ → CoreState → CoreState → ℕ → ℕ → Option (List ℕ) → Option (List ℕ) → Result (Unit {0}) LineFault → Type 0
-HasRun n m begun bytes left entered kept s t a b r = Leads StandsFor entered kept (λ w now. BytesRan n m begun bytes left w now s t a b r)
+abbrev pub HasRun : ℕ → ℕ → List ℕ → List ℕ → List ℕ → CoreState → CoreState → ℕ → ℕ → Option (List ℕ) →
+    Option (List ℕ) → Result (Unit {0}) LineFault → Type 0
+HasRun n m begun bytes left entered kept s t a b r =
+    Leads StandsFor entered kept (λ w now. BytesRan n m begun bytes left w now s t a b r)
 
-pub index_start : (n : ℕ) (begun : List ℕ) (kept : CoreState) (s : ℕ) (a : Option (List ℕ)) → HasRun n n begun [] begun kept kept s s a a (Ok tt)
+pub index_start : (n : ℕ) (begun : List ℕ) (kept : CoreState) (s : ℕ) (a : Option (List ℕ)) →
+    HasRun n n begun [] begun kept kept s s a a (Ok tt)
 index_start n begun kept s a w h = (w, bytes_start n begun w s a, h)
 
-pub index_plain : (n m : ℕ) (begun bytes left : List ℕ) (entered kept : CoreState) (s t : ℕ) (a b : Option (List ℕ)) (i : ℕ) → i < length bytes → get_or bytes i 0 ≢ 10 → HasRun n m begun (take i bytes) left entered kept s t a b (Ok tt) → HasRun n m begun (take (i + 1) bytes) (left ++ get_or bytes i 0 ∷ []) entered kept s t a b (Ok tt)
+pub index_plain : (n m : ℕ) (begun bytes left : List ℕ) (entered kept : CoreState) (s t : ℕ) (a b : Option (List ℕ))
+    (i : ℕ) → i < length bytes → get_or bytes i 0 ≢ 10 →
+    HasRun n m begun (take i bytes) left entered kept s t a b (Ok tt) →
+    HasRun n m begun (take (i + 1) bytes) (left ++ get_or bytes i 0 ∷ []) entered kept s t a b (Ok tt)
 index_plain n m begun bytes left entered kept s t a b i lt ne inside w h =
-    let (now, ran, stands) = inside w h in
-    (now, subst (λ (l : List ℕ). BytesRan n m begun l (left ++ get_or bytes i 0 ∷ []) w now s t a b (Ok tt)) (sym (take_more bytes i 0 lt)) (bytes_plain n m begun (take i bytes) left w now s t a b (get_or bytes i 0) ne ran), stands)
+    let (now, ran, stands) = inside w h in (
+      now,
+      subst (λ (l : List ℕ). BytesRan n m begun l (left ++ get_or bytes i 0 ∷ []) w now s t a b (Ok tt))
+          (sym (take_more bytes i 0 lt)) (bytes_plain n m begun (take i bytes) left w now s t a b (get_or bytes i 0) ne
+          ran),
+      stands,
+    )
 
-pub index_line : (n m : ℕ) (begun bytes left : List ℕ) (entered kept new : CoreState) (s t z : ℕ) (a b c : Option (List ℕ)) (i number : ℕ) → i < length bytes → get_or bytes i 0 ≡ 10 → HasRun n m begun (take i bytes) left entered kept s t a b (Ok tt) → Leads StandsFor kept new (λ w after. LineRan number (without_return left) w after t z b c (Ok tt)) → HasRun n (m + 1) begun (take (i + 1) bytes) [] entered new s z a c (Ok tt)
+pub index_line : (n m : ℕ) (begun bytes left : List ℕ) (entered kept new : CoreState) (s t z : ℕ)
+    (a b c : Option (List ℕ)) (i number : ℕ) → i < length bytes → get_or bytes i 0 ≡ 10 →
+    HasRun n m begun (take i bytes) left entered kept s t a b (Ok tt) →
+    Leads StandsFor kept new (λ w after. LineRan number (without_return left) w after t z b c (Ok tt)) →
+    HasRun n (m + 1) begun (take (i + 1) bytes) [] entered new s z a c (Ok tt)
 index_line n m begun bytes left entered kept new s t z a b c i number lt feed inside step w h =
     let (now, ran, stands) = inside w h in
-    let (after, line, last) = step now stands in
-    (after, subst (λ (l : List ℕ). BytesRan n (m + 1) begun l [] w after s z a c (Ok tt)) (sym (take_more bytes i 0 lt ∙ ap (λ (x : ℕ). take i bytes ++ x ∷ []) feed)) (bytes_line n m begun (take i bytes) left w now after s t z a b c number ran line), last)
+    let (after, line, last) = step now stands in (
+      after,
+      subst (λ (l : List ℕ). BytesRan n (m + 1) begun l [] w after s z a c (Ok tt))
+          (sym (take_more bytes i 0 lt ∙ ap (λ (x : ℕ). take i bytes ++ x ∷ []) feed))
+          (bytes_line n m begun (take i bytes) left w now after s t z a b c number ran line),
+      last,
+    )
 
-pub index_stop : (n m p : ℕ) (begun bytes left other : List ℕ) (entered kept new : CoreState) (s t z : ℕ) (a b c : Option (List ℕ)) (i : ℕ) (e : LineFault) → i < length bytes → get_or bytes i 0 ≡ 10 → HasRun n m begun (take i bytes) left entered kept s t a b (Ok tt) → Leads StandsFor kept new (λ w after. LineRan (m + 1) (without_return left) w after t z b c (Err e)) → HasRun n p begun bytes other entered new s z a c (Err e)
+pub index_stop : (n m p : ℕ) (begun bytes left other : List ℕ) (entered kept new : CoreState) (s t z : ℕ)
+    (a b c : Option (List ℕ)) (i : ℕ) (e : LineFault) → i < length bytes → get_or bytes i 0 ≡ 10 →
+    HasRun n m begun (take i bytes) left entered kept s t a b (Ok tt) →
+    Leads StandsFor kept new (λ w after. LineRan (m + 1) (without_return left) w after t z b c (Err e)) →
+    HasRun n p begun bytes other entered new s z a c (Err e)
 index_stop n m p begun bytes left other entered kept new s t z a b c i e lt feed inside step w h =
     let (now, ran, stands) = inside w h in
-    let (after, line, last) = step now stands in
-    (after, subst (λ (l : List ℕ). BytesRan n p begun l other w after s z a c (Err e)) (ap (λ (x : ℕ). take i bytes ++ (x ∷ drop (i + 1) bytes)) (sym feed) ∙ around bytes i lt) (bytes_stop n m p begun (take i bytes) left (drop (i + 1) bytes) other w now after s t z a b c e ran line), last)
+    let (after, line, last) = step now stands in (
+      after,
+      subst (λ (l : List ℕ). BytesRan n p begun l other w after s z a c (Err e))
+          (ap (λ (x : ℕ). take i bytes ++ (x ∷ drop (i + 1) bytes)) (sym feed) ∙ around bytes i lt)
+          (bytes_stop n m p begun (take i bytes) left (drop (i + 1) bytes) other w now after s t z a b c e ran line),
+      last,
+    )
 
-pub index_long : (n m p : ℕ) (begun bytes left other : List ℕ) (entered kept : CoreState) (s t z : ℕ) (a b : Option (List ℕ)) (i : ℕ) → i < length bytes → get_or bytes i 0 ≢ 10 → 140001 ≤ length left → HasRun n m begun (take i bytes) left entered kept s t a b (Ok tt) → HasRun n p begun bytes other entered kept s z a b (Err (faults.Bad (m + 1)))
+pub index_long : (n m p : ℕ) (begun bytes left other : List ℕ) (entered kept : CoreState) (s t z : ℕ)
+    (a b : Option (List ℕ)) (i : ℕ) → i < length bytes → get_or bytes i 0 ≢ 10 → 140001 ≤ length left →
+    HasRun n m begun (take i bytes) left entered kept s t a b (Ok tt) →
+    HasRun n p begun bytes other entered kept s z a b (Err (faults.Bad (m + 1)))
 index_long n m p begun bytes left other entered kept s t z a b i lt ne long inside w h =
-    let (now, ran, stands) = inside w h in
-    (now, subst (λ (l : List ℕ). BytesRan n p begun l other w now s z a b (Err (faults.Bad (m + 1)))) (around bytes i lt) (bytes_long n m p begun (take i bytes) left (drop (i + 1) bytes) other w now s t z a b (get_or bytes i 0) ne long ran), stands)
+    let (now, ran, stands) = inside w h in (
+      now,
+      subst (λ (l : List ℕ). BytesRan n p begun l other w now s z a b (Err (faults.Bad (m + 1))))
+          (around bytes i lt) (bytes_long n m p begun (take i bytes) left (drop (i + 1) bytes) other w now s t z a b
+          (get_or bytes i 0) ne long ran),
+      stands,
+    )
 
 -- ## How far a run has come, by an engine
 
 -- a run of the script came this far, and the engine stands for the world that it came to
-abbrev pub Comes : Config → Option (List ℕ) → Option (List ℕ) → List ℕ → ℕ → CoreState → ℕ → Option (List ℕ) → Option (List ℕ) → Type 0
-Comes config input remaining begun count kept s old new = (now : World) × Progress config input remaining begun count now s old new × StandsFor kept now
+abbrev pub Comes : Config → Option (List ℕ) → Option (List ℕ) → List ℕ → ℕ → CoreState → ℕ → Option (List ℕ) →
+    Option (List ℕ) → Type 0
+Comes config input remaining begun count kept s old new = (now : World) ×
+    Progress config input remaining begun count now s old new × StandsFor kept now
 
-pub comes_start : (config : Config) (input : Option (List ℕ)) (begun : List ℕ) (count : ℕ) (kept : CoreState) (s : ℕ) (a : Option (List ℕ)) → begun ≡ [] → count ≡ 0 → s ≡ 0 → StandsFor kept (start_of config) → Comes config input input begun count kept s a a
-comes_start config input begun count kept s a none zero_is unsent stands = (start_of config, progress_start config input begun count s a none zero_is unsent, stands)
+pub comes_start : (config : Config) (input : Option (List ℕ)) (begun : List ℕ) (count : ℕ) (kept : CoreState) (s : ℕ)
+    (a : Option (List ℕ)) → begun ≡ [] → count ≡ 0 → s ≡ 0 → StandsFor kept (start_of config) →
+    Comes config input input begun count kept s a a
+comes_start config input begun count kept s a none zero_is unsent stands =
+    (start_of config, progress_start config input begun count s a none zero_is unsent, stands)
 
-pub comes_bytes : (config : Config) (i x y : Option (List ℕ)) (begun bytes left : List ℕ) (n m : ℕ) (kept new : CoreState) (s t : ℕ) (a b c : Option (List ℕ)) → Comes config i x begun n kept s a b → Consumes x y bytes → HasRun n m begun bytes left kept new s t b c (Ok tt) → Comes config i y left m new t a c
+pub comes_bytes : (config : Config) (i x y : Option (List ℕ)) (begun bytes left : List ℕ) (n m : ℕ)
+    (kept new : CoreState) (s t : ℕ) (a b c : Option (List ℕ)) → Comes config i x begun n kept s a b →
+    Consumes x y bytes → HasRun n m begun bytes left kept new s t b c (Ok tt) → Comes config i y left m new t a c
 comes_bytes config i x y begun bytes left n m kept new s t a b c come eaten step =
     let (now, p, stands) = come in
     let (after, h, last) = step now stands in
     (after, progress_bytes config i x y begun bytes left n m now after s t a b c p eaten h, last)
 
-pub comes_unread : (config : Config) (i x y : Option (List ℕ)) (begun : List ℕ) (n : ℕ) (kept : CoreState) (s : ℕ) (a b : Option (List ℕ)) → Comes config i x begun n kept s a b → Keeps x y → RanAllRead config i y a b
+pub comes_unread : (config : Config) (i x y : Option (List ℕ)) (begun : List ℕ) (n : ℕ) (kept : CoreState) (s : ℕ)
+    (a b : Option (List ℕ)) → Comes config i x begun n kept s a b → Keeps x y → RanAllRead config i y a b
 comes_unread config i x y begun n kept s a b come same =
     let (now, p, stands) = come in
     progress_unread config i x y begun n now s a b p same
 
-pub comes_fault : (config : Config) (i x y : Option (List ℕ)) (begun bytes left : List ℕ) (n m : ℕ) (kept new : CoreState) (s t : ℕ) (a b c : Option (List ℕ)) (e : LineFault) → Comes config i x begun n kept s a b → Consumes x y bytes → length bytes ≤ 4096 → HasRun n m begun bytes left kept new s t b c (Err e) → AllRan config i y new m t a c (Err (script_fault_of e))
+pub comes_fault : (config : Config) (i x y : Option (List ℕ)) (begun bytes left : List ℕ) (n m : ℕ)
+    (kept new : CoreState) (s t : ℕ) (a b c : Option (List ℕ)) (e : LineFault) → Comes config i x begun n kept s a b →
+    Consumes x y bytes → length bytes ≤ 4096 → HasRun n m begun bytes left kept new s t b c (Err e) →
+    AllRan config i y new m t a c (Err (script_fault_of e))
 comes_fault config i x y begun bytes left n m kept new s t a b c e come eaten few step =
     let (now, p, stands) = come in
     let (next, h, last) = step now stands in
     progress_fault config i x y begun bytes left n m new now next s t a b c e p eaten few h
 
-pub comes_end : (config : Config) (i x y : Option (List ℕ)) (begun : List ℕ) (n m : ℕ) (kept new : CoreState) (s t : ℕ) (a b c : Option (List ℕ)) (r : Result (Unit {0}) LineFault) → Comes config i x begun n kept s a b → Keeps x y × IsAtEnd y → Leads StandsFor kept new (λ w next. Finishes n m begun w next s t b c r) → AllRan config i y new m t a c (script_result r)
+pub comes_end : (config : Config) (i x y : Option (List ℕ)) (begun : List ℕ) (n m : ℕ) (kept new : CoreState)
+    (s t : ℕ) (a b c : Option (List ℕ)) (r : Result (Unit {0}) LineFault) → Comes config i x begun n kept s a b →
+    Keeps x y × IsAtEnd y → Leads StandsFor kept new (λ w next. Finishes n m begun w next s t b c r) →
+    AllRan config i y new m t a c (script_result r)
 comes_end config i x y begun n m kept new s t a b c r come end step =
     let (now, p, stands) = come in
     let (next, h, last) = step now stands in

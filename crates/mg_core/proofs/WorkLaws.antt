@@ -17,49 +17,63 @@ use Rattle.mg_core.specs.aids.Steps.{Puts}
 
 -- the work rose by at most four for each edit, in each world that the state stood for
 abbrev pub IsPaid : CoreState → CoreState → (World → ℕ) → Type 0
-IsPaid old new edits = (w : World) → StandsFor old w → RisesAtMost (4 * edits w) old.engine.sums.work new.engine.sums.work
+IsPaid old new edits = (w : World) → StandsFor old w →
+    RisesAtMost (4 * edits w) old.engine.sums.work new.engine.sums.work
 
 abbrev edits_of : List ℕ → Request → Option (List ℕ) → World → ℕ
 edits_of source request kept w = edits_unless_kept kept (replied source request w.gateway).items
 
-kept_in : (state : CoreState) (w : World) (sender : List ℕ) (n : ℕ) (o : Option (List ℕ)) → StandsFor state w → kept_text state.kept sender n ≡ o → o ≡ kept_text w.replies sender n
+kept_in : (state : CoreState) (w : World) (sender : List ℕ) (n : ℕ) (o : Option (List ℕ)) → StandsFor state w →
+    kept_text state.kept sender n ≡ o → o ≡ kept_text w.replies sender n
 kept_in state w sender n o h is = sym is ∙ ap (λ (l : List KeptReply). kept_text l sender n) (sym h.replies)
 
 -- a request that was run
-pub request_paid : (source sender : List ℕ) (request : Request) (old new : CoreState) → kept_text old.kept sender request.number ≡ None
-    → IsPaid old new (λ w. edits_in (replied source request w.gateway).items) → IsPaid old new (edits_by_item source sender (items.Request request))
+pub request_paid : (source sender : List ℕ) (request : Request) (old new : CoreState) →
+    kept_text old.kept sender request.number ≡ None
+    → IsPaid old new (λ w. edits_in (replied source request w.gateway).items) →
+    IsPaid old new (edits_by_item source sender (items.Request request))
 request_paid source sender request old new none paid w h =
-    subst (λ (o : Option (List ℕ)). RisesAtMost (4 * edits_of source request o w) old.engine.sums.work new.engine.sums.work) (kept_in old w sender request.number None h none) (paid w h)
+    subst (λ (o : Option (List ℕ)). RisesAtMost (4 * edits_of source request o w) old.engine.sums.work
+    new.engine.sums.work) (kept_in old w sender request.number None h none) (paid w h)
 
 -- no row was touched
-pub nothing_paid : (old new : CoreState) (edits : World → ℕ) → new.engine.sums.work ≡ old.engine.sums.work → IsPaid old new edits
+pub nothing_paid : (old new : CoreState) (edits : World → ℕ) → new.engine.sums.work ≡ old.engine.sums.work →
+    IsPaid old new edits
 nothing_paid old new edits same w h = stays (4 * edits w) old.engine.sums.work new.engine.sums.work same
 
 -- ## The loop over items
 
--- It was entered with a state that stood for each world w, and of the edits that f counts rest counts those that are left.
+-- It was entered with a state that stood for each world w, and of the edits that f counts rest counts those that are
+-- left.
 abbrev pub IsPaidSoFar : CoreState → CoreState → (World → ℕ) → (World → ℕ) → Type 0
-IsPaidSoFar entered kept f rest = (w : World) → StandsFor entered w → (now : World) × (done : ℕ) × (f w ≡ done + rest now) × RisesAtMost (4 * done) entered.engine.sums.work kept.engine.sums.work × StandsFor kept now
+IsPaidSoFar entered kept f rest = (w : World) → StandsFor entered w → (now : World) × (done : ℕ) ×
+    (f w ≡ done + rest now) × RisesAtMost (4 * done) entered.engine.sums.work kept.engine.sums.work × StandsFor kept now
 
 pub nothing_so_far : (kept : CoreState) (f : World → ℕ) → IsPaidSoFar kept kept f f
 nothing_so_far kept f w h = (w, 0, omega arith, stays 0 kept.engine.sums.work kept.engine.sums.work refl, h)
 
 -- the world after an item, whatever stands before its reply
-after_item : (source sender mark : List ℕ) (x : MessageItem) (w : World) → (item_replied source sender mark x w).1 ≡ (item_replied source sender [] x w).1
+after_item : (source sender mark : List ℕ) (x : MessageItem) (w : World) →
+    (item_replied source sender mark x w).1 ≡ (item_replied source sender [] x w).1
 after_item source sender mark (items.Request request) w = refl
 after_item source sender mark (items.Acknowledgement ranges) w = refl
 
-next_item : (source sender mark : List ℕ) (xs : List MessageItem) (i : ℕ) (x d : MessageItem) (w next : World) (out : List ℕ) → i < length xs → x ≡ get_or xs i d → item_replied source sender mark x w ≡ (out, next)
-    → edits_by_items source sender (drop i xs) w ≡ edits_by_item source sender x w + edits_by_items source sender (drop (i + 1) xs) next
+next_item : (source sender mark : List ℕ) (xs : List MessageItem) (i : ℕ) (x d : MessageItem) (w next : World)
+    (out : List ℕ) → i < length xs → x ≡ get_or xs i d → item_replied source sender mark x w ≡ (out, next)
+    → edits_by_items source sender (drop i xs) w ≡ edits_by_item source sender x w +
+    edits_by_items source sender (drop (i + 1) xs) next
 unfolding edits_by_items
 next_item source sender mark xs i x d w next out lt is did =
     let rest = drop (i + 1) xs in
     let left = sym (after_item source sender mark x w) ∙ ap (λ (p : List ℕ × World). p.1) did in
-    ap (λ (ys : List MessageItem). edits_by_items source sender ys w) (drop_more xs i d lt ∙ ap (λ (y : MessageItem). y ∷ rest) (sym is))
+    ap (λ (ys : List MessageItem). edits_by_items source sender ys w)
+    (drop_more xs i d lt ∙ ap (λ (y : MessageItem). y ∷ rest) (sym is))
     ∙ ap (λ (v : World). edits_by_item source sender x w + edits_by_items source sender rest v) left
 
-pub one_more : (source sender mark : List ℕ) (xs : List MessageItem) (i : ℕ) (x d : MessageItem) (entered kept new : CoreState) (text more : List ℕ) (f : World → ℕ) → i < length xs → x ≡ get_or xs i d
-    → IsPaidSoFar entered kept f (edits_by_items source sender (drop i xs)) → Puts kept new text more (item_replied source sender mark x) → IsPaid kept new (edits_by_item source sender x)
+pub one_more : (source sender mark : List ℕ) (xs : List MessageItem) (i : ℕ) (x d : MessageItem)
+    (entered kept new : CoreState) (text more : List ℕ) (f : World → ℕ) → i < length xs → x ≡ get_or xs i d
+    → IsPaidSoFar entered kept f (edits_by_items source sender (drop i xs)) →
+    Puts kept new text more (item_replied source sender mark x) → IsPaid kept new (edits_by_item source sender x)
     → IsPaidSoFar entered new f (edits_by_items source sender (drop (i + 1) xs))
 one_more source sender mark xs i x d entered kept new text more f lt is inside step paid w h =
     let (now, done, counted, rises, stands) = inside w h in
@@ -71,15 +85,19 @@ one_more source sender mark xs i x d entered kept new text more f lt is inside s
       next,
       done + one,
       omega (arith, counted, split),
-      rises_twice (4 * done) (4 * one) (4 * (done + one)) entered.engine.sums.work kept.engine.sums.work new.engine.sums.work (omega arith) rises (paid now stands),
+      rises_twice (4 * done) (4 * one) (4 * (done + one)) entered.engine.sums.work kept.engine.sums.work
+          new.engine.sums.work (omega arith) rises (paid now stands),
       left,
     )
 
-none_left : (source sender : List ℕ) (xs : List MessageItem) (i : ℕ) (w : World) → length xs ≤ i → edits_by_items source sender (drop i xs) w ≡ 0
+none_left : (source sender : List ℕ) (xs : List MessageItem) (i : ℕ) (w : World) → length xs ≤ i →
+    edits_by_items source sender (drop i xs) w ≡ 0
 unfolding edits_by_items
 none_left source sender xs i w le = rw (drop_all i xs le) refl
 
-pub all_paid : (source sender : List ℕ) (xs : List MessageItem) (i : ℕ) (entered kept : CoreState) (f : World → ℕ) → length xs ≤ i → IsPaidSoFar entered kept f (edits_by_items source sender (drop i xs)) → IsPaid entered kept f
+pub all_paid : (source sender : List ℕ) (xs : List MessageItem) (i : ℕ) (entered kept : CoreState) (f : World → ℕ) →
+    length xs ≤ i → IsPaidSoFar entered kept f (edits_by_items source sender (drop i xs)) → IsPaid entered kept f
 all_paid source sender xs i entered kept f le inside w h =
     let (now, done, counted, rises, stands) = inside w h in
-    subst (λ (n : ℕ). RisesAtMost (4 * n) entered.engine.sums.work kept.engine.sums.work) (omega (arith, counted, none_left source sender xs i now le)) rises
+    subst (λ (n : ℕ). RisesAtMost (4 * n) entered.engine.sums.work kept.engine.sums.work)
+    (omega (arith, counted, none_left source sender xs i now le)) rises

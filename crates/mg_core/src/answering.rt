@@ -100,7 +100,8 @@ fn run_request(
     ensures ran { Puts state.old state.new answer.old.text answer.new.text (λ w.
         run_and_kept sender.now request.now.number w (replied source.now request.now w.gateway)) }
     ensures work { (w : World) → StandsFor state.old w →
-        RisesAtMost (4 * edits_in (replied source.now request.now w.gateway).items) state.old.engine.sums.work state.new.engine.sums.work }
+        RisesAtMost (4 * edits_in (replied source.now request.now w.gateway).items) state.old.engine.sums.work
+        state.new.engine.sums.work }
     ensures total { answer.new.room + length answer.new.text ≡ answer.old.room + length answer.old.text }
     ensures short { length answer.new.text ≤ length answer.old.text + REPLY_LIMIT }
 {
@@ -124,9 +125,11 @@ fn put_request(
     requires proper { request_is_proper source.now request.now ≡ true }
     requires sender { length sender.now ≤ SENDER_LIMIT }
     requires room { REPLY_LIMIT ≤ answer.old.room }
-    ensures ran { Puts state.old state.new answer.old.text answer.new.text (request_replied source.now sender.now request.now) }
+    ensures ran { Puts state.old state.new answer.old.text answer.new.text
+        (request_replied source.now sender.now request.now) }
     ensures work { (w : World) → StandsFor state.old w →
-        RisesAtMost (4 * edits_by_item source.now sender.now (MessageItem.Request request.now) w) state.old.engine.sums.work state.new.engine.sums.work }
+        RisesAtMost (4 * edits_by_item source.now sender.now (MessageItem.Request request.now) w)
+        state.old.engine.sums.work state.new.engine.sums.work }
     ensures total { answer.new.room + length answer.new.text ≡ answer.old.room + length answer.old.text }
     ensures short { length answer.new.text ≤ length answer.old.text + REPLY_LIMIT }
 {
@@ -163,7 +166,8 @@ fn put_item<'m>(
     ensures ran { Puts state.old state.new answer.old.text answer.new.text
         (item_replied source.now sender.now mark.now item.now) }
     ensures work { (w : World) → StandsFor state.old w →
-        RisesAtMost (4 * edits_by_item source.now sender.now item.now w) state.old.engine.sums.work state.new.engine.sums.work }
+        RisesAtMost (4 * edits_by_item source.now sender.now item.now w) state.old.engine.sums.work
+        state.new.engine.sums.work }
     ensures mark { result.now ≡ mark_after mark.now item.now }
     ensures total { answer.new.room + length answer.new.text ≡ answer.old.room + length answer.old.text }
     ensures short { length answer.new.text + length result.now
@@ -182,8 +186,8 @@ fn put_item<'m>(
     }
 }
 
-/// Does what the items ask that came from a sender in the message that stands in `source`, and writes the replies to the
-/// requests among them, with a line feed between each two.
+/// Does what the items ask that came from a sender in the message that stands in `source`, and writes the replies to
+/// the requests among them, with a line feed between each two.
 #[tactic(auto, using(crate::proofs::ReplyLaws::replying))]
 pub fn put_replies(
     state: &mut CoreState,
@@ -199,7 +203,8 @@ pub fn put_replies(
     ensures ran { Puts state.old state.new answer.old.text answer.new.text
         (replied_to source.now sender.now [] items.now) }
     ensures work { (w : World) → StandsFor state.old w →
-        RisesAtMost (4 * edits_by_items source.now sender.now items.now w) state.old.engine.sums.work state.new.engine.sums.work }
+        RisesAtMost (4 * edits_by_items source.now sender.now items.now w) state.old.engine.sums.work
+        state.new.engine.sums.work }
     ensures total { answer.new.room + length answer.new.text ≡ answer.old.room + length answer.old.text }
 {
     let mut mark: &[u8] = b"";

@@ -36,16 +36,16 @@ pub fn outcomes_are_one()
     mg_engine::laws::one_arrival(b"");
 }
 
-/// What a refused command leaves is the gateway as it was, so no flow, total or later packet differs by it: these are of
-/// the gateway alone, whatever replies are kept.
+/// What a refused command leaves is the gateway as it was, so no flow, total or later packet differs by it: these are
+/// of the gateway alone, whatever replies are kept.
 pub fn refused_commands_change_no_packet()
     ensures law { OneGatewayOneFuture }
 {
     mg_engine::laws::one_arrival(b"");
 }
 
-/// A request that comes again while its reply is kept is answered alike, and nothing is done a second time; any other is
-/// run.
+/// A request that comes again while its reply is kept is answered alike, and nothing is done a second time; any other
+/// is run.
 pub fn repetitions_are_answered_alike()
     ensures kept { KeptRepliesAreSent }
     ensures again { RepetitionsAreAnsweredAlike }
@@ -54,8 +54,8 @@ pub fn repetitions_are_answered_alike()
     mg_kept::laws::kept_reply_is_found();
 }
 
-/// How long a request that comes again is answered alike: until an acknowledgement names its reply, or 32 other replies were
-/// kept. After that it is run again. The replies that are kept answer different requests.
+/// How long a request that comes again is answered alike: until an acknowledgement names its reply, or 32 other replies
+/// were kept. After that it is run again. The replies that are kept answer different requests.
 pub fn replies_last()
     ensures last { RepliesLast }
     ensures newest { NoneIsNewer }
@@ -69,8 +69,9 @@ pub fn replies_last()
     mg_kept::laws::replies_stay_while_few_are_newer();
 }
 
-/// After any events the terminations and contexts are consistent: within the limits, none with the number, slot or seat of
-/// another, members and records that agree. Their numbers rise in their lists, so a tick sends its packets by rising numbers.
+/// After any events the terminations and contexts are consistent: within the limits, none with the number, slot or seat
+/// of another, members and records that agree. Their numbers rise in their lists, so a tick sends its packets by rising
+/// numbers.
 pub fn worlds_are_consistent()
     ensures law { WorldsAreConsistent }
 {
@@ -92,9 +93,10 @@ pub fn order_of_ports_is_nothing()
     mg_commands::laws::requests_are_consistent();
 }
 
-/// What some terminations send changes nothing for whoever doesn't hear them, over any time: of two gateways to which the
-/// same comes, but for RTP datagrams at ports of these terminations, the same packets are sent, byte for byte, from the port
-/// of each that hears none of them. What is said of events, one at a time, adds up to lists, histories and scripts.
+/// What some terminations send changes nothing for whoever doesn't hear them, over any time: of two gateways to which
+/// the same comes, but for RTP datagrams at ports of these terminations, the same packets are sent, byte for byte, from
+/// the port of each that hears none of them. What is said of events, one at a time, adds up to lists, histories and
+/// scripts.
 pub fn unheard_changes_nothing()
     ensures event { SameEventKeepsAgreement }
     ensures one { OneArrivalKeepsAgreement }
@@ -109,17 +111,17 @@ pub fn unheard_changes_nothing()
     mg_commands::laws::requests_keep_agreement();
 }
 
-/// The counts are the numbers of the events that came: control datagrams, RTP datagrams, those of them that were placed in
-/// each way and dropped for each cause, ticks, and the frames that stood in for missing ones in them.
+/// The counts are the numbers of the events that came: control datagrams, RTP datagrams, those of them that were placed
+/// in each way and dropped for each cause, ticks, and the frames that stood in for missing ones in them.
 pub fn events_are_counted()
     ensures law { EventsAreCounted }
     ensures runs { RunsTake }
 {}
 
-/// The headline, joined. By its clauses `headline` and `packets` a [`Core`](crate::Core) answers and sends, after any list of
-/// events, what is computed anew from the world that they led to. This says the rest: that it is one world, what each packet
-/// of it carries, that what is refused changes nothing and no later packet, that nobody hears himself, and that who was
-/// isolated isn't heard.
+/// The headline, joined. By its clauses `headline` and `packets` a [`Core`](crate::Core) answers and sends, after any
+/// list of events, what is computed anew from the world that they led to. This says the rest: that it is one world,
+/// what each packet of it carries, that what is refused changes nothing and no later packet, that nobody hears himself,
+/// and that who was isolated isn't heard.
 pub fn headline()
     ensures world { EventsLeadToOneWorld }
     ensures packets { PayloadsAreMixes }

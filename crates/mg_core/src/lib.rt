@@ -1,5 +1,5 @@
-//! The core of a conference media gateway: control datagrams, RTP datagrams and ticks in, answers and packets out. What a
-//! controller asks for is done on the terminations and contexts of an [`Engine`](mg_engine::Engine).
+//! The core of a conference media gateway: control datagrams, RTP datagrams and ticks in, answers and packets out. What
+//! a controller asks for is done on the terminations and contexts of an [`Engine`](mg_engine::Engine).
 //!
 //! ```rust
 //! let mut core = Core::new(alloc, Config::default())?;
@@ -8,10 +8,10 @@
 //! }
 //! ```
 //!
-//! [`run`] does so for each line of a script. Contracts speak of the worlds that a core's state stands for (`StandsFor` in
-//! `specs/World.antt`): each call is a step from each of them to the next (`Step` in `specs/Step.antt`). So after any list of
-//! events its flows, totals and packets are those computed anew (`specs/Headline.antt`). A request that comes again is
-//! answered by the reply that was kept for it, and not run twice (`specs/Repeats.antt`).
+//! [`run`] does so for each line of a script. Contracts speak of the worlds that a core's state stands for (`StandsFor`
+//! in `specs/World.antt`): each call is a step from each of them to the next (`Step` in `specs/Step.antt`). So after
+//! any list of events its flows, totals and packets are those computed anew (`specs/Headline.antt`). A request that
+//! comes again is answered by the reply that was kept for it, and not run twice (`specs/Repeats.antt`).
 #![tactic(auto)]
 
 mod answer;

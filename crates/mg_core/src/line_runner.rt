@@ -57,7 +57,8 @@ impl LineRunner {
         writer: &mut W,
     ) -> Result<(), EventFault>
         ensures value { Leads StandsFor self.old.core.state self.new.core.state (λ w next.
-            EventRan (Event.Control source bytes.now) w next self.old.sent self.new.sent (W.contents writer.old) (W.contents writer.new) result) }
+            EventRan (Event.Control source bytes.now) w next self.old.sent self.new.sent (W.contents writer.old)
+            (W.contents writer.new) result) }
     {
         let Ok(answer) = self.core.control(alloc, source, bytes) else {
             return Err(EventFault::NoMemory);
@@ -87,7 +88,8 @@ impl LineRunner {
     #[tactic(auto, using(crate::proofs::AnswerLaws::totals))]
     fn take_tick<W: Write>(&mut self, writer: &mut W) -> Result<(), EventFault>
         ensures value { Leads StandsFor self.old.core.state self.new.core.state (λ w next.
-            EventRan Event.Tick w next self.old.sent self.new.sent (W.contents writer.old) (W.contents writer.new) result) }
+            EventRan Event.Tick w next self.old.sent self.new.sent (W.contents writer.old) (W.contents writer.new)
+            result) }
     {
         self.core.tick();
         self.output.clear();
@@ -106,7 +108,8 @@ impl LineRunner {
         writer: &mut W,
     ) -> Result<(), EventFault>
         ensures value { Leads StandsFor self.old.core.state self.new.core.state (λ w next.
-            EventRan event.now w next self.old.sent self.new.sent (W.contents writer.old) (W.contents writer.new) result) }
+            EventRan event.now w next self.old.sent self.new.sent (W.contents writer.old) (W.contents writer.new)
+            result) }
     {
         match event {
             Event::Tick => self.take_tick(writer),
@@ -129,7 +132,8 @@ impl LineRunner {
         writer: &mut W,
     ) -> Result<(), LineFault>
         ensures value { Leads StandsFor self.old.core.state self.new.core.state (λ w next.
-            LineRan number line.now w next self.old.sent self.new.sent (W.contents writer.old) (W.contents writer.new) result) }
+            LineRan number line.now w next self.old.sent self.new.sent (W.contents writer.old) (W.contents writer.new)
+            result) }
     {
         match event_of(alloc, line) {
             Err(ParseFault::Bad) => Err(LineFault::Bad(number)),

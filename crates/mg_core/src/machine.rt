@@ -34,8 +34,8 @@ pub const ANSWER_LIMIT: usize = 64036;
 /// The gateway as a machine of events: it is handed datagrams and ticks, and tells the answers and packets. It opens
 /// nothing, waits for nothing and knows no clock.
 ///
-/// It keeps no history. So contracts speak of each world that its state stood for before a call, and of the world that it
-/// stands for afterwards.
+/// It keeps no history. So contracts speak of each world that its state stood for before a call, and of the world that
+/// it stands for afterwards.
 #[derive(Drop)]
 pub struct Core {
     state: CoreState,
@@ -59,7 +59,8 @@ impl Core {
     /// A gateway with this configuration. This takes all the memory that it holds.
     pub fn new(alloc: Global, config: Config) -> Result<Self, StartFault>
         ensures bad { (result ≡ Err StartFault.BadConfig) ↔ ¬ IsValidConfig config }
-        ensures started { IfOk result (λ core. (core.answer ≡ []) × (core.outbox ≡ []) × StandsFor core.state (start_of config)) }
+        ensures started { IfOk result (λ core. (core.answer ≡ []) × (core.outbox ≡ []) ×
+            StandsFor core.state (start_of config)) }
         ensures headline { IfOk result (λ core. CameTo config [] [] (start_of config) core.state) }
         ensures sound { OnOk result (IsValidConfig config) }
     {
@@ -118,7 +119,8 @@ impl Core {
         ensures replied { Leads StandsFor self.old.state self.new.state (λ w next.
             to_message source.now message.now w ≡ (told result self.new.answer, next)) }
         ensures work { (w : World) → StandsFor self.old.state w →
-            RisesAtMost (4 * edits_by_items source.now (text_of source.now message.now.sender) (items_of message.now.body) w)
+            RisesAtMost (4 * edits_by_items source.now (text_of source.now message.now.sender)
+            (items_of message.now.body) w)
             self.old.state.engine.sums.work self.new.state.engine.sums.work }
         ensures silent { result ≡ Answer.Silent → self.new.answer ≡ [] }
         ensures outbox { self.new.outbox ≡ self.old.outbox }
@@ -186,7 +188,8 @@ impl Core {
         ensures next { (w : World) → StandsFor self.old.state w → StandsFor self.new.state (ticked w) }
         ensures packets { PacketsAreAnew self.old.state self.new.outbox }
         ensures headline { GoesOn self.old.state self.new.state events.Tick (map Packet self.new.outbox) }
-        ensures work { (w : World) → StandsFor self.old.state w → RisesAtMost (tick_work w.gateway) self.old.state.engine.sums.work self.new.state.engine.sums.work }
+        ensures work { (w : World) → StandsFor self.old.state w →
+            RisesAtMost (tick_work w.gateway) self.old.state.engine.sums.work self.new.state.engine.sums.work }
         ensures answer { self.new.answer ≡ self.old.answer }
     {
         let concealed = self.state.engine.tick(&mut self.outbox);

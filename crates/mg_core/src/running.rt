@@ -13,13 +13,14 @@ use std::io::{Read, Write};
 /// event are written before more is read. After 4,294,967,295 reads without an end of input it answers
 /// `Read`.
 ///
-/// `Ok` says that all of the input is a script, that what was written is the lines of the datagrams that its events have
-/// sent and nothing else, and that its lines, these events and these datagrams were counted. A fault speaks of what was read
-/// so far, which is the input without what the reader still has. At `Read` all lines that end in it were run, no more and no
-/// fewer. At the others all lines before one of it were run: before the first bad one, which has its number, at `Script`;
-/// before the one for which there was no memory, and which had no effect, at `NoMemory`, unless nothing was read; before the
-/// one whose own answers were written in part at `Write`. What the lines before it write was written whole, and they were run
-/// before more was read. `BadConfig` comes exactly where the configuration isn't sound, and nothing is read then.
+/// `Ok` says that all of the input is a script, that what was written is the lines of the datagrams that its events
+/// have sent and nothing else, and that its lines, these events and these datagrams were counted. A fault speaks of
+/// what was read so far, which is the input without what the reader still has. At `Read` all lines that end in it were
+/// run, no more and no fewer. At the others all lines before one of it were run: before the first bad one, which has
+/// its number, at `Script`; before the one for which there was no memory, and which had no effect, at `NoMemory`,
+/// unless nothing was read; before the one whose own answers were written in part at `Write`. What the lines before it
+/// write was written whole, and they were run before more was read. `BadConfig` comes exactly where the configuration
+/// isn't sound, and nothing is read then.
 pub fn run<R: Read, W: Write>(
     alloc: Global,
     config: Config,

@@ -93,7 +93,8 @@ impl ScriptRunner {
     fn finish<W: Write>(&mut self, alloc: Global, writer: &mut W) -> Result<(), LineFault>
         requires few { self.old.lines + 1 < 2 ^ 64 }
         ensures value { Leads StandsFor self.old.runner.core.state self.new.runner.core.state (λ w next.
-            Finishes self.old.lines self.new.lines self.old.begun.text w next self.old.runner.sent self.new.runner.sent (W.contents writer.old) (W.contents writer.new) result) }
+            Finishes self.old.lines self.new.lines self.old.begun.text w next self.old.runner.sent
+            self.new.runner.sent (W.contents writer.old) (W.contents writer.new) result) }
     {
         let line = self.begun.as_slice();
         if line.is_empty() {

@@ -29,7 +29,8 @@ impl CoreState {
     pub fn count_media(&mut self, taken: Taken)
         ensures engine { self.new.engine ≡ self.old.engine }
         ensures kept { self.new.kept ≡ self.old.kept }
-        ensures counted { (w : World) → StandsFor self.old w → StandsFor self.new (record w { tally = with_taken taken w.tally }) }
+        ensures counted { (w : World) → StandsFor self.old w →
+            StandsFor self.new (record w { tally = with_taken taken w.tally }) }
     {
         self.counts.count_media(taken);
     }

@@ -23,9 +23,11 @@ use Rattle.mg_engine.proofs.SendingLaws.{nobody}
 
 sum_by-map : {A B : Type 0} (f : B → ℕ) (g : A → B) (xs : List A) → sum_by f (map g xs) ≡ sum_by (λ x. f (g x)) xs
 sum_by-map f g [] = refl
-sum_by-map f g (x ∷ xs) = sum_by-cons f (g x) (map g xs) ∙ ap (λ (n : ℕ). f (g x) + n) (sum_by-map f g xs) ∙ sym (sum_by-cons (λ y. f (g y)) x xs)
+sum_by-map f g (x ∷ xs) = sum_by-cons f (g x) (map g xs) ∙ ap (λ (n : ℕ). f (g x) + n) (sum_by-map f g xs) ∙
+    sym (sum_by-cons (λ y. f (g y)) x xs)
 
-sum_by-cong : {A : Type 0} (f g : A → ℕ) (xs : List A) (d : A) → ((i : ℕ) → i < length xs → f (get_or xs i d) ≡ g (get_or xs i d)) → sum_by f xs ≡ sum_by g xs
+sum_by-cong : {A : Type 0} (f g : A → ℕ) (xs : List A) (d : A) →
+    ((i : ℕ) → i < length xs → f (get_or xs i d) ≡ g (get_or xs i d)) → sum_by f xs ≡ sum_by g xs
 sum_by-cong f g [] d h = refl
 sum_by-cong f g (x ∷ xs) d h =
     sum_by-cons f x xs
@@ -35,8 +37,11 @@ sum_by-cong f g (x ∷ xs) d h =
 
 -- ## Who is silenced
 
-module _ (k : EngineState) (w : Gateway) (one_room : OneRoom k.rooms) (one_seat : OneSeat k.rooms) (there : HaveContexts k.rooms) (by_number : ByNumber k.rooms) (members : HasMembers k.rooms k.flows) (h : StandsFor k w) where
-  silenced_is : (t l : Record) → record_at k.rooms t.number ≡ Some t → record_at k.rooms l.number ≡ Some l → is_silenced w t.number l.number ≡ is_silenced_between k.flows (place_of k.rooms t) (place_of k.rooms l)
+module _ (k : EngineState) (w : Gateway) (one_room : OneRoom k.rooms) (one_seat : OneSeat k.rooms)
+    (there : HaveContexts k.rooms) (by_number : ByNumber k.rooms) (members : HasMembers k.rooms k.flows)
+    (h : StandsFor k w) where
+  silenced_is : (t l : Record) → record_at k.rooms t.number ≡ Some t → record_at k.rooms l.number ≡ Some l →
+      is_silenced w t.number l.number ≡ is_silenced_between k.flows (place_of k.rooms t) (place_of k.rooms l)
   silenced_is t l first second =
       let (p, from) = on_place k.rooms t.number t there first in
       let (q, to) = on_place k.rooms l.number l there second in
@@ -49,7 +54,8 @@ module _ (k : EngineState) (w : Gateway) (one_room : OneRoom k.rooms) (one_seat 
       let rs = k.rooms.terminations in
       ap (λ (x : rooms.Registry). count_by (λ n. is_silenced w n l.number) (map (λ r. r.number) x.terminations)) h.rooms
       ∙ sum_by-map (λ n. cond (is_silenced w n l.number) 1 0) (λ (r : Record). r.number) rs
-      ∙ sum_by-cong (λ (r : Record). cond (is_silenced w r.number l.number) 1 0) (λ (r : Record). cond (is_silenced_between k.flows (place_of k.rooms r) (place_of k.rooms l)) 1 0) rs nobody
+      ∙ sum_by-cong (λ (r : Record). cond (is_silenced w r.number l.number) 1 0)
+      (λ (r : Record). cond (is_silenced_between k.flows (place_of k.rooms r) (place_of k.rooms l)) 1 0) rs nobody
       (λ i lt. ap {B = ℕ} (λ (b : Bool). cond b 1 0) (silenced_is (get_or rs i nobody) l (by_number i nobody lt) found))
 
   work_is : (r : Record) → record_at k.rooms r.number ≡ Some r → sending_work w r ≡ sending_work_now k r
@@ -59,4 +65,5 @@ module _ (k : EngineState) (w : Gateway) (one_room : OneRoom k.rooms) (one_seat 
   all_work_is =
       let rs = k.rooms.terminations in
       ap (λ (x : rooms.Registry). sum_by (sending_work w) x.terminations) h.rooms
-      ∙ sum_by-cong (sending_work w) (sending_work_now k) rs nobody (λ i lt. work_is (get_or rs i nobody) (by_number i nobody lt))
+      ∙ sum_by-cong (sending_work w) (sending_work_now k) rs nobody
+      (λ i lt. work_is (get_or rs i nobody) (by_number i nobody lt))

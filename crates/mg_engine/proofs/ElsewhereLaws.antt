@@ -32,10 +32,12 @@ keys_apart k n m at apart = ap (λ (i : ℕ). eqb i m) (eqb-true k n at) ∙ apa
 -- ## Members
 
 -- a termination that is no member of a context is in another
-in_another : (w : Registry) (c n : ℕ) (r : Record) → IsSound w → record_at w n ≡ Some r → has (members_at w c) n ≡ false → eqb r.context c ≡ false
+in_another : (w : Registry) (c n : ℕ) (r : Record) → IsSound w → record_at w n ≡ Some r →
+    has (members_at w c) n ≡ false → eqb r.context c ≡ false
 in_another w c n r h found out = ne_eqb r.context c (λ same. neither (sym ((h.members c n).1 (r, found, same)) ∙ out))
 
-newcomer_at : (w : Registry) (c n : ℕ) (b : Bool) → IsSound w → n ≡ w.next_termination → has (members_at w c) n ≡ b → has (members_at w c) n ≡ false
+newcomer_at : (w : Registry) (c n : ℕ) (b : Bool) → IsSound w → n ≡ w.next_termination → has (members_at w c) n ≡ b →
+    has (members_at w c) n ≡ false
 newcomer_at w c n true h next e =
     let (r, found, _) = (h.members c n).0 e in
     let (number, is) = h.termination n r found in
@@ -48,19 +50,24 @@ newcomer w c n h next = newcomer_at w c n (has (members_at w c) n) h next refl
 
 -- ## Contexts
 
-context_entered : (w : Registry) (place : Place) (n : ℕ) (made : Option ℕ) (c : ℕ) → eqb place.context c ≡ false → context_at (entered_at w place n made) c ≡ context_at w c
+context_entered : (w : Registry) (place : Place) (n : ℕ) (made : Option ℕ) (c : ℕ) → eqb place.context c ≡ false →
+    context_at (entered_at w place n made) c ≡ context_at w c
 context_entered w place n None c apart =
-    found_other (λ x. x.number) (λ x. Some (record x { members = x.members ++ n ∷ [] })) place.context c w.contexts (λ x ys at. let out = keys_apart x.number place.context c at apart in rw out refl)
+    found_other (λ x. x.number) (λ x. Some (record x { members = x.members ++ n ∷ [] })) place.context c w.contexts
+    (λ x ys at. let out = keys_apart x.number place.context c at apart in rw out refl)
 context_entered w place n (Some room) c apart =
-    found_push_other (λ x. x.number) c w.contexts (record { number = place.context; room = room; members = n ∷ [] }) apart
+    found_push_other (λ x. x.number) c w.contexts (record { number = place.context; room = room; members = n ∷ [] })
+    apart
 
-left_at : (c : ℕ) (x : Context) (ys : List Context) (ms : List ℕ) → eqb x.number c ≡ false → find (λ y. eqb y.number c) (option_to_list (with_members x ms) ++ ys) ≡ find (λ y. eqb y.number c) (x ∷ ys)
+left_at : (c : ℕ) (x : Context) (ys : List Context) (ms : List ℕ) → eqb x.number c ≡ false →
+    find (λ y. eqb y.number c) (option_to_list (with_members x ms) ++ ys) ≡ find (λ y. eqb y.number c) (x ∷ ys)
 left_at c x ys [] out = rw out refl
 left_at c x ys (m ∷ ms) out = rw out refl
 
 context_left : (w : Registry) (d n c : ℕ) → eqb d c ≡ false → context_at (left w d n) c ≡ context_at w c
 context_left w d n c apart =
-    found_other (λ x. x.number) (λ x. with_members x (without n x.members)) d c w.contexts (λ x ys at. left_at c x ys (without n x.members) (keys_apart x.number d c at apart))
+    found_other (λ x. x.number) (λ x. with_members x (without n x.members)) d c w.contexts
+    (λ x ys at. left_at c x ys (without n x.members) (keys_apart x.number d c at apart))
 
 -- ## The place that a termination enters
 
@@ -77,16 +84,19 @@ below_next w c h there =
     omega (arith, number, is.below)
 
 -- it is in another context than one that is there and that isn't the action's
-place_elsewhere : (w : Registry) (target : Target) (place : Place) (c : ℕ) → IsSound w → IsSome (context_at w c) → is_number target c ≡ false → new_place w target ≡ Ok place → eqb place.context c ≡ false
+place_elsewhere : (w : Registry) (target : Target) (place : Place) (c : ℕ) → IsSound w → IsSome (context_at w c) →
+    is_number target c ≡ false → new_place w target ≡ Ok place → eqb place.context c ≡ false
 place_elsewhere w Null place c h there apart e = absurd (cc e)
 place_elsewhere w New place c h there apart e =
-    after_ok (eqb place.context c ≡ false) (passes (nat_lt (length w.contexts) context_limit && has_context_left w) NoContextLeft) _ place e (λ _ one.
+    after_ok (eqb place.context c ≡ false) (passes (nat_lt (length w.contexts) context_limit && has_context_left w)
+    NoContextLeft) _ place e (λ _ one.
     after_ok (eqb place.context c ≡ false) (ok_or (free_room w) NoContextLeft) _ place one (λ room two.
     let is = ap (λ (p : Place). p.context) (place_is _ place two) in
     let below = below_next w c h there in
     ne_eqb place.context c (λ same. omega (arith, is, same, below))))
 place_elsewhere w (Number t) place c h there apart e =
-    after_ok (eqb place.context c ≡ false) (passes (nat_lt (length (members_at w t)) member_limit) ContextFull) _ place e (λ _ one.
+    after_ok (eqb place.context c ≡ false) (passes (nat_lt (length (members_at w t)) member_limit) ContextFull) _
+    place e (λ _ one.
     after_ok (eqb place.context c ≡ false) (ok_or (free_seat w t) ContextFull) _ place one (λ seat two.
     ap (λ (p : Place). eqb p.context c) (sym (place_is _ place two)) ∙ apart))
 
@@ -98,35 +108,45 @@ pub record Spares (w next : Registry) (c n : ℕ) : Type 0 where
   pub records : (m : ℕ) → eqb n m ≡ false → record_at next m ≡ record_at w m
   pub apart : has (members_at w c) n ≡ false
 
-entered_same : (w : Registry) (place : Place) (n : ℕ) (made : Option ℕ) (m : ℕ) → record_at (entered_at w place n made) m ≡ record_at w m
+entered_same : (w : Registry) (place : Place) (n : ℕ) (made : Option ℕ) (m : ℕ) →
+    record_at (entered_at w place n made) m ≡ record_at w m
 entered_same w place n (Some room) m = refl
 entered_same w place n None m = refl
 
-record_replaced : (w : Registry) (r : Record) (m : ℕ) → eqb r.number m ≡ false → record_at (replaced w r) m ≡ record_at w m
+record_replaced : (w : Registry) (r : Record) (m : ℕ) → eqb r.number m ≡ false →
+    record_at (replaced w r) m ≡ record_at w m
 record_replaced w r m apart =
-    found_other (λ x. x.number) (λ _. Some r) r.number m w.terminations (λ x ys at. let out = keys_apart x.number r.number m at apart in rw (out, apart) refl)
+    found_other (λ x. x.number) (λ _. Some r) r.number m w.terminations
+    (λ x ys at. let out = keys_apart x.number r.number m at apart in rw (out, apart) refl)
 
-spared : (w new : Registry) (c n : ℕ) (d : Record) (next : Registry) (r : Record) → r.number ≡ n → Spares w next c n → did (next, r) ≡ did (new, d) → Spares w new c d.number
+spared : (w new : Registry) (c n : ℕ) (d : Record) (next : Registry) (r : Record) → r.number ≡ n → Spares w next c n →
+    did (next, r) ≡ did (new, d) → Spares w new c d.number
 spared w new c n d next r number s e =
     let is = ok_is (next, r) (new, d) e in
-    subst (λ (p : Registry × Record). Spares w p.0 c p.1.number) is (subst (λ (k : ℕ). Spares w next c k) (sym number) s)
+    subst (λ (p : Registry × Record). Spares w p.0 c p.1.number) is
+    (subst (λ (k : ℕ). Spares w next c k) (sym number) s)
 
-pub add_spares : (w : Registry) (target : Target) (settings : Settings) (new : Registry) (d : Record) (c : ℕ) → IsSound w → IsSome (context_at w c) → is_number target c ≡ false → add w target settings ≡ did (new, d) → Spares w new c d.number
+pub add_spares : (w : Registry) (target : Target) (settings : Settings) (new : Registry) (d : Record) (c : ℕ) →
+    IsSound w → IsSome (context_at w c) → is_number target c ≡ false → add w target settings ≡ did (new, d) →
+    Spares w new c d.number
 unfolding add
 add_spares w target settings new d c h there apart e =
     after_ok (Spares w new c d.number) (may_enter w target) _ (new, d) e (λ _ one.
     after_ok (Spares w new c d.number) (new_slot w) _ (new, d) one (λ slot two.
     after_ok_is (Spares w new c d.number) (new_place w target) _ (new, d) two (λ place free three.
-    after_ok_is (Spares w new c d.number) (with_settings w.limits settings (fresh w.next_termination slot place)) _ (new, d) three (λ r set four.
+    after_ok_is (Spares w new c d.number) (with_settings w.limits settings (fresh w.next_termination slot place)) _
+    (new, d) three (λ r set four.
     let same = settings_keep w.limits settings (fresh w.next_termination slot place) r set in
     let elsewhere = place_elsewhere w target place c h there apart free in
     spared w new c r.number d (entered (inserted w r) place r.number) r refl (record {
       context = context_entered (inserted w r) place r.number place.made c elsewhere;
-      records = λ m other. entered_same (inserted w r) place r.number place.made m ∙ found_push_other (λ x. x.number) m w.terminations r other;
+      records = λ m other. entered_same (inserted w r) place r.number place.made m ∙
+          found_push_other (λ x. x.number) m w.terminations r other;
       apart = newcomer w c r.number h same.number;
     }) four))))
 
-pub modify_spares : (w : Registry) (target : Target) (n : ℕ) (settings : Settings) (new : Registry) (d : Record) (c : ℕ) → has (members_at w c) n ≡ false → modify w target n settings ≡ did (new, d) → Spares w new c d.number
+pub modify_spares : (w : Registry) (target : Target) (n : ℕ) (settings : Settings) (new : Registry) (d : Record)
+    (c : ℕ) → has (members_at w c) n ≡ false → modify w target n settings ≡ did (new, d) → Spares w new c d.number
 unfolding modify
 modify_spares w target n settings new d c out e =
     after_ok_is (Spares w new c d.number) (member w target n) _ (new, d) e (λ old found one.
@@ -139,26 +159,32 @@ modify_spares w target n settings new d c out e =
       apart = ap (has (members_at w c)) number ∙ out;
     }) two))
 
-pub move_spares : (w : Registry) (target : Target) (n : ℕ) (settings : Settings) (new : Registry) (d : Record) (c : ℕ) → IsSound w → IsSome (context_at w c) → is_number target c ≡ false → has (members_at w c) n ≡ false → move_to w target n settings ≡ did (new, d) → Spares w new c d.number
+pub move_spares : (w : Registry) (target : Target) (n : ℕ) (settings : Settings) (new : Registry) (d : Record) (c : ℕ)
+    → IsSound w → IsSome (context_at w c) → is_number target c ≡ false → has (members_at w c) n ≡ false →
+    move_to w target n settings ≡ did (new, d) → Spares w new c d.number
 unfolding move_to
 move_spares w target n settings new d c h there apart out e =
     after_ok_is (Spares w new c d.number) (named w n) _ (new, d) e (λ old found one.
-    after_ok (Spares w new c d.number) (passes (not (is_number target old.context)) AlreadyInContext) _ (new, d) one (λ _ two.
+    after_ok (Spares w new c d.number) (passes (not (is_number target old.context)) AlreadyInContext) _ (new, d) one
+    (λ _ two.
     after_ok (Spares w new c d.number) (may_enter w target) _ (new, d) two (λ _ three.
     after_ok_is (Spares w new c d.number) (new_place w target) _ (new, d) three (λ place free four.
-    after_ok_is (Spares w new c d.number) (with_settings w.limits settings (at_place old place)) _ (new, d) four (λ r set five.
+    after_ok_is (Spares w new c d.number) (with_settings w.limits settings (at_place old place)) _ (new, d) four
+    (λ r set five.
     let same = settings_keep w.limits settings (at_place old place) r set in
     let at = named_at (record_at w n) old found in
     let number = same.number ∙ found_key (λ x. x.number) n w.terminations old at in
     let elsewhere = place_elsewhere w target place c h there apart free in
     spared w new c r.number d (left (entered (replaced w r) place r.number) old.context r.number) r refl (record {
-      context = context_left (entered (replaced w r) place r.number) old.context r.number c (in_another w c n old h at out)
+      context = context_left (entered (replaced w r) place r.number) old.context r.number c
+          (in_another w c n old h at out)
           ∙ context_entered (replaced w r) place r.number place.made c elsewhere;
       records = λ m other. entered_same (replaced w r) place r.number place.made m ∙ record_replaced w r m other;
       apart = ap (has (members_at w c)) number ∙ out;
     }) five)))))
 
-pub subtract_spares : (w : Registry) (target : Target) (n : ℕ) (new : Registry) (d : Record) (c : ℕ) → IsSound w → has (members_at w c) n ≡ false → subtract w target n ≡ did (new, d) → Spares w new c d.number
+pub subtract_spares : (w : Registry) (target : Target) (n : ℕ) (new : Registry) (d : Record) (c : ℕ) → IsSound w →
+    has (members_at w c) n ≡ false → subtract w target n ≡ did (new, d) → Spares w new c d.number
 unfolding subtract
 subtract_spares w target n new d c h out e =
     after_ok_is (Spares w new c d.number) (member w target n) _ (new, d) e (λ r found one.
@@ -166,6 +192,7 @@ subtract_spares w target n new d c h out e =
     let number = found_key (λ x. x.number) n w.terminations r at in
     spared w new c r.number d (left (removed w r.number) r.context r.number) r refl (record {
       context = context_left (removed w r.number) r.context r.number c (in_another w c n r h at out);
-      records = λ m other. found_other (λ x. x.number) (λ _. None) r.number m w.terminations (λ x ys is. let none = keys_apart x.number r.number m is other in rw none refl);
+      records = λ m other. found_other (λ x. x.number) (λ _. None) r.number m w.terminations
+          (λ x ys is. let none = keys_apart x.number r.number m is other in rw none refl);
       apart = ap (has (members_at w c)) number ∙ out;
     }) one)

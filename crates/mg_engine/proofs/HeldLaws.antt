@@ -37,13 +37,15 @@ module _ (w : Registry) (held : List ℕ) (is : held ≡ map (λ r. r.slot) w.te
       let r = get_or w.terminations i nobody in
       omega (arith, slot_at i within, below r.number r (by_number i nobody within))
 
-  pub held_apart : ByNumber w → OneSlot w → ((n : ℕ) → count_by (λ (r : Record). eqb r.number n) w.terminations ≤ 1) → AreApart held
+  pub held_apart : ByNumber w → OneSlot w → ((n : ℕ) → count_by (λ (r : Record). eqb r.number n) w.terminations ≤ 1) →
+      AreApart held
   held_apart by_number one_slot once a b first second same =
       let i : a < length w.terminations = omega (arith, first, many) in
       let j : b < length w.terminations = omega (arith, second, many) in
       let x = get_or w.terminations a nobody in
       let y = get_or w.terminations b nobody in
-      let number = one_slot x.number y.number x y (by_number a nobody i) (by_number b nobody j) (sym (slot_at a i) ∙ same ∙ slot_at b j) in
+      let number = one_slot x.number y.number x y (by_number a nobody i) (by_number b nobody j)
+      (sym (slot_at a i) ∙ same ∙ slot_at b j) in
       one_place (λ (r : Record). r.number) w.terminations a b nobody once i j number
 
   pub held_at : (n : ℕ) (r : Record) → record_at w n ≡ Some r → HeldAt held r.slot

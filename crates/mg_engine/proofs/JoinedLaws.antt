@@ -18,9 +18,12 @@ no_room : (room : ℕ) → Option.Some room ≡ None → ⊥
 no_room room h = cc h
 
 -- one is on a place, with the slot that it had if it was there before
-module _ (old new : Registry) (n : ℕ) (r : Record) (p : Place) (before after : List (Option ℕ)) (slots : Slots new) (same : SameOthers old new n) (on : IsOnPlace new n r p)
-    (mine : (was : Record) → record_at old n ≡ Some was → was.slot ≡ r.slot) (set : SetsRow before after r.slot (room_for r.mode p.room)) (h : AreJoined old before) where
-  each_case : (m : ℕ) (x : Record) (q : Place) → IsOnPlace new m x q → (b : Bool) → eqb m n ≡ b → room_at after x.slot ≡ room_for x.mode q.room
+module _ (old new : Registry) (n : ℕ) (r : Record) (p : Place) (before after : List (Option ℕ)) (slots : Slots new)
+    (same : SameOthers old new n) (on : IsOnPlace new n r p)
+    (mine : (was : Record) → record_at old n ≡ Some was → was.slot ≡ r.slot)
+    (set : SetsRow before after r.slot (room_for r.mode p.room)) (h : AreJoined old before) where
+  each_case : (m : ℕ) (x : Record) (q : Place) → IsOnPlace new m x q → (b : Bool) → eqb m n ≡ b →
+      room_at after x.slot ≡ room_for x.mode q.room
   each_case m x q there true e =
       let at_n = eqb-true m n e in
       let is : x ≡ r = one_record new m n x r there.found on.found at_n in
@@ -33,15 +36,18 @@ module _ (old new : Registry) (n : ℕ) (r : Record) (p : Place) (before after :
   each_case m x q there false e =
       let apart = unequal m n e in
       set x.slot
-      ∙ ap (λ (b : Bool). cond b (room_for r.mode p.room) (room_at before x.slot)) (ne_eqb x.slot r.slot (λ equal. apart (slots m n x r there.found on.found equal)))
+      ∙ ap (λ (b : Bool). cond b (room_for r.mode p.room) (room_at before x.slot))
+      (ne_eqb x.slot r.slot (λ equal. apart (slots m n x r there.found on.found equal)))
       ∙ h.each m x q ((same m x q apart).1 there)
 
-  nobody_case : (row room : ℕ) → room_at after row ≡ Some room → (b : Bool) → eqb row r.slot ≡ b → (m : ℕ) × (x : Record) × (q : Place) × IsOnPlace new m x q × (x.slot ≡ row)
+  nobody_case : (row room : ℕ) → room_at after row ≡ Some room → (b : Bool) → eqb row r.slot ≡ b → (m : ℕ) ×
+      (x : Record) × (q : Place) × IsOnPlace new m x q × (x.slot ≡ row)
   nobody_case row room joined true e = (n, r, p, on, sym (eqb-true row r.slot e))
   nobody_case row room joined false e =
       let was = sym (set row ∙ ap (λ (b : Bool). cond b (room_for r.mode p.room) (room_at before row)) e) ∙ joined in
       let (m, x, q, there, slot) = h.nobody row room was in
-      let apart : m ≢ n = λ (equal : m ≡ n). unequal row r.slot e (sym slot ∙ mine x (ap (record_at old) (sym equal) ∙ there.found)) in
+      let apart : m ≢ n = λ (equal : m ≡ n). unequal row r.slot e
+      (sym slot ∙ mine x (ap (record_at old) (sym equal) ∙ there.found)) in
       (m, x, q, (same m x q apart).0 there, slot)
 
   pub joined_changed : AreJoined new after
@@ -51,22 +57,27 @@ module _ (old new : Registry) (n : ℕ) (r : Record) (p : Place) (before after :
   }
 
 -- one is there no longer
-module _ (old new : Registry) (n : ℕ) (was : Record) (before after : List (Option ℕ)) (slots : Slots old) (same : SameOthers old new n) (there : record_at old n ≡ Some was) (gone : record_at new n ≡ None)
+module _ (old new : Registry) (n : ℕ) (was : Record) (before after : List (Option ℕ)) (slots : Slots old)
+    (same : SameOthers old new n) (there : record_at old n ≡ Some was) (gone : record_at new n ≡ None)
     (set : SetsRow before after was.slot None) (h : AreJoined old before) where
   each_left : (m : ℕ) (x : Record) (q : Place) → IsOnPlace new m x q → room_at after x.slot ≡ room_for x.mode q.room
   each_left m x q on =
       let apart : m ≢ n = λ (equal : m ≡ n). no_record x (sym on.found ∙ ap (record_at new) equal ∙ gone) in
       let at_first = (same m x q apart).1 on in
       set x.slot
-      ∙ ap (λ (b : Bool). cond b None (room_at before x.slot)) (ne_eqb x.slot was.slot (λ equal. apart (slots m n x was at_first.found there equal)))
+      ∙ ap (λ (b : Bool). cond b None (room_at before x.slot))
+      (ne_eqb x.slot was.slot (λ equal. apart (slots m n x was at_first.found there equal)))
       ∙ h.each m x q at_first
 
-  nobody_left : (row room : ℕ) → room_at after row ≡ Some room → (b : Bool) → eqb row was.slot ≡ b → (m : ℕ) × (x : Record) × (q : Place) × IsOnPlace new m x q × (x.slot ≡ row)
-  nobody_left row room joined true e = absurd (no_room room (sym joined ∙ set row ∙ ap (λ (b : Bool). cond b None (room_at before row)) e))
+  nobody_left : (row room : ℕ) → room_at after row ≡ Some room → (b : Bool) → eqb row was.slot ≡ b → (m : ℕ) ×
+      (x : Record) × (q : Place) × IsOnPlace new m x q × (x.slot ≡ row)
+  nobody_left row room joined true e = absurd
+      (no_room room (sym joined ∙ set row ∙ ap (λ (b : Bool). cond b None (room_at before row)) e))
   nobody_left row room joined false e =
       let at_first = sym (set row ∙ ap (λ (b : Bool). cond b None (room_at before row)) e) ∙ joined in
       let (m, x, q, on, slot) = h.nobody row room at_first in
-      let apart : m ≢ n = λ (equal : m ≡ n). unequal row was.slot e (sym slot ∙ ap (λ (y : Record). y.slot) (one_record old m n x was on.found there equal)) in
+      let apart : m ≢ n = λ (equal : m ≡ n). unequal row was.slot e
+      (sym slot ∙ ap (λ (y : Record). y.slot) (one_record old m n x was on.found there equal)) in
       (m, x, q, (same m x q apart).0 on, slot)
 
   pub joined_left : AreJoined new after
@@ -76,7 +87,8 @@ module _ (old new : Registry) (n : ℕ) (was : Record) (before after : List (Opt
   }
 
 -- nobody is there, and no row is joined
-pub joined_nowhere : (w : Registry) (limits : Limits) (joined : List (Option ℕ)) → w ≡ start_of limits → ((row : ℕ) → room_at joined row ≡ None) → AreJoined w joined
+pub joined_nowhere : (w : Registry) (limits : Limits) (joined : List (Option ℕ)) → w ≡ start_of limits →
+    ((row : ℕ) → room_at joined row ≡ None) → AreJoined w joined
 joined_nowhere w limits joined e none = record {
   each = λ n r p on. absurd (no_record r (sym on.found ∙ ap (λ (x : Registry). record_at x n) e));
   nobody = λ row room at_room. absurd (no_room room (sym at_room ∙ none row));

@@ -49,12 +49,14 @@ somewhere seat None h e = absurd (cc h)
 -- ## Who sits on the seats of a mask
 
 -- a test tells the seats of the mask, and nobody in another room
-module _ (p : Place) (mask : ℕ) (test : Place → Bool) (kept : (seat : ℕ) → has_seat mask seat ≡ test (beside p seat)) (apart : (q : Place) → eqb q.room p.room ≡ false → test q ≡ false) where
+module _ (p : Place) (mask : ℕ) (test : Place → Bool) (kept : (seat : ℕ) → has_seat mask seat ≡ test (beside p seat))
+    (apart : (q : Place) → eqb q.room p.room ≡ false → test q ≡ false) where
   here : (q : Place) → q.room ≡ p.room → beside p q.seat ≡ q
   here q same = ap (λ (r : ℕ). let x : Place = record { room = r; seat = q.seat } in x) (sym same)
 
   seated_by : (q : Place) (b : Bool) → eqb q.room p.room ≡ b → (eqb q.room p.room && has_seat mask q.seat) ≡ test q
-  seated_by q true e = ap (λ (b : Bool). b && has_seat mask q.seat) e ∙ kept q.seat ∙ ap test (here q (eqb-true q.room p.room e))
+  seated_by q true e = ap (λ (b : Bool). b && has_seat mask q.seat) e ∙ kept q.seat ∙
+      ap test (here q (eqb-true q.room p.room e))
   seated_by q false e = ap (λ (b : Bool). b && has_seat mask q.seat) e ∙ sym (apart q e)
 
   pub seated_is : (q : Place) → is_seated_in p.room mask (Some q) ≡ test q
@@ -65,7 +67,8 @@ module _ (p : Place) (mask : ℕ) (test : Place → Bool) (kept : (seat : ℕ) �
 pub flows_apart : (table : List flow.Room) (p q : Place) → eqb p.room q.room ≡ false → flow.flows table p q ≡ false
 flows_apart table p q e = no_hearing table p q (hears_apart table p q e)
 
-module _ (k : EngineState) (l : Record) (p : Place) (mask : ℕ) (on : place_of k.rooms l ≡ Some p) (kept : (seat : ℕ) → has_seat mask seat ≡ flow.flows k.flows (beside p seat) p) where
+module _ (k : EngineState) (l : Record) (p : Place) (mask : ℕ) (on : place_of k.rooms l ≡ Some p)
+    (kept : (seat : ℕ) → has_seat mask seat ≡ flow.flows k.flows (beside p seat) p) where
   flows_by : (o : Option Place) → flows_between k.flows o (Some p) ≡ is_seated_in p.room mask o
   flows_by (Some q) = sym (seated_is p mask (λ x. flow.flows k.flows x p) kept (λ x e. flows_apart k.flows x p e) q)
   flows_by None = refl
@@ -73,12 +76,16 @@ module _ (k : EngineState) (l : Record) (p : Place) (mask : ℕ) (on : place_of 
   -- it is what those on the open seats say
   pub heard_is_on : (i : ℕ) → heard_now k l i ≡ heard_on k p.room mask i
   heard_is_on i = sum_of-same _ _ k.rooms.terminations (λ t.
-      ap (λ (o : Option Place). cond (flows_between k.flows (place_of k.rooms t) o) (sample_at k.sums.frames t.slot i) (pos 0)) on
+      ap (λ (o : Option Place). cond (flows_between k.flows (place_of k.rooms t) o) (sample_at k.sums.frames t.slot i)
+      (pos 0)) on
       ∙ ap (λ (b : Bool). cond b (sample_at k.sums.frames t.slot i) (pos 0)) (flows_by (place_of k.rooms t)))
 
   -- and the payload is that of them
-  pub payload_is_on : (law : Law) → map (byte_of law) (map (λ i. nearest_sample (heard_now k l i)) (range_with_len 0 160)) ≡ payload_on k p.room mask law
-  payload_is_on law = ap (λ (xs : List ℤ). map (byte_of law) xs) (map_agree (λ i. nearest_sample (heard_now k l i)) (λ i. nearest_sample (heard_on k p.room mask i)) (range_with_len 0 160) (λ i. ap nearest_sample (heard_is_on i)))
+  pub payload_is_on : (law : Law) → map (byte_of law)
+      (map (λ i. nearest_sample (heard_now k l i)) (range_with_len 0 160)) ≡ payload_on k p.room mask law
+  payload_is_on law = ap (λ (xs : List ℤ). map (byte_of law) xs)
+      (map_agree (λ i. nearest_sample (heard_now k l i)) (λ i. nearest_sample (heard_on k p.room mask i))
+      (range_with_len 0 160) (λ i. ap nearest_sample (heard_is_on i)))
 
 -- ## Sums over seats
 
@@ -88,7 +95,11 @@ SeatWithin w = (n : ℕ) (r : Record) → record_at w n ≡ Some r → r.seat < 
 both_true : (a b : Bool) → a ≡ true → b ≡ true → (a && b) ≡ true
 both_true a b h k = ap (λ (x : Bool). x && b) h ∙ k
 
-module _ (w : rooms.Registry) (seating : List ℕ) (l : Record) (p : Place) (y : Context) (mask : ℕ) (sound : IsSound w) (seats : AreSeated w seating) (by_number : ByNumber w) (there : HaveContexts w) (one_room : OneRoom w) (within : SeatWithin w) (context : context_at w l.context ≡ Some y) (is : seated l.seat y ≡ p) (held : (seat : ℕ) → IsTrue (has_seat mask seat) → (n : ℕ) × (r : Record) × IsOnPlace w n r (beside p seat)) (f : ℕ → ℤ) where
+module _ (w : rooms.Registry) (seating : List ℕ) (l : Record) (p : Place) (y : Context) (mask : ℕ) (sound : IsSound w)
+    (seats : AreSeated w seating) (by_number : ByNumber w) (there : HaveContexts w) (one_room : OneRoom w)
+    (within : SeatWithin w) (context : context_at w l.context ≡ Some y) (is : seated l.seat y ≡ p)
+    (held : (seat : ℕ) → IsTrue (has_seat mask seat) → (n : ℕ) × (r : Record) × IsOnPlace w n r (beside p seat))
+    (f : ℕ → ℤ) where
   abbrev on_seat : ℕ → ℤ
   on_seat seat = f (slot_at seating (record { room = p.room; seat = seat }))
 
@@ -111,32 +122,43 @@ module _ (w : rooms.Registry) (seating : List ℕ) (l : Record) (p : Place) (y :
       ∙ ap (option_map (seated t.seat)) context
       ∙ ap (λ (r : ℕ). place (record { room = r; seat = t.seat })) room_is
 
-  part_is : (t : Record) (b : Bool) → record_at w t.number ≡ Some t → eqb t.context l.context ≡ b → seated_part t ≡ cond b (seat_part t.seat) (pos 0)
+  part_is : (t : Record) (b : Bool) → record_at w t.number ≡ Some t → eqb t.context l.context ≡ b →
+      seated_part t ≡ cond b (seat_part t.seat) (pos 0)
   part_is t true found e =
       let on = beside_it t (eqb-true t.context l.context e) in
-      let slot : slot_at seating (beside p t.seat) ≡ t.slot = seats t.number t (beside p t.seat) (record { found = found; place = on }) in
+      let slot : slot_at seating (beside p t.seat) ≡ t.slot =
+      seats t.number t (beside p t.seat) (record { found = found; place = on }) in
       ap (λ (o : Option Place). cond (is_seated_in p.room mask o) (f t.slot) (pos 0)) on
       ∙ ap (λ (b : Bool). cond (b && has_seat mask t.seat) (f t.slot) (pos 0)) (eq-eqb p.room p.room refl)
       ∙ ap (λ (s : ℕ). cond (has_seat mask t.seat) (f s) (pos 0)) (sym slot)
   part_is t false found e =
       let (x, is_there) = there_is (context_at w t.context) (there t.number t found) in
       let differ : eqb x.room p.room ≡ false = elim (cases_eq x.room p.room) [
-        | inl same ↦ absurd (let no : t.context ≡ l.context = one_room t.context l.context x y is_there context (same ∙ sym room_is) in let yes = eq-eqb t.context l.context no in cc (yes, e))
+        | inl same ↦ absurd (let no : t.context ≡ l.context =
+            one_room t.context l.context x y is_there context (same ∙ sym room_is) in let yes =
+            eq-eqb t.context l.context no in cc (yes, e))
         | inr other ↦ grind (arith, nat_tests)
       ] in
-      ap (λ (o : Option Context). cond (is_seated_in p.room mask (option_map (seated t.seat) o)) (f t.slot) (pos 0)) is_there
+      ap (λ (o : Option Context). cond (is_seated_in p.room mask (option_map (seated t.seat) o)) (f t.slot) (pos 0))
+      is_there
       ∙ ap (λ (b : Bool). cond (b && has_seat mask t.seat) (f t.slot) (pos 0)) differ
 
   -- a seat of the mask is that of a member of the listener's context
-  counted : (seat : ℕ) → IsTrue (has_seat mask seat) → 1 ≤ count_by (λ t. eqb t.context l.context && eqb t.seat seat) w.terminations
+  counted : (seat : ℕ) → IsTrue (has_seat mask seat) →
+      1 ≤ count_by (λ t. eqb t.context l.context && eqb t.seat seat) w.terminations
   counted seat h =
       let (n, r, on) = held seat h in
       let (x, at, placed) = seats_there r.seat (context_at w r.context) (beside p seat) on.place in
-      let same : r.context ≡ l.context = one_room r.context l.context x y at context (ap (λ (q : Place). q.room) placed ∙ sym room_is) in
+      let same : r.context ≡ l.context = one_room r.context l.context x y at context
+      (ap (λ (q : Place). q.room) placed ∙ sym room_is) in
       let sits : r.seat ≡ seat = ap (λ (q : Place). q.seat) placed in
-      found_counts (λ t. eqb t.number n) (λ t. eqb t.context l.context && eqb t.seat seat) r w.terminations on.found (both_true (eqb r.context l.context) (eqb r.seat seat) (eq-eqb r.context l.context same) (eq-eqb r.seat seat sits))
+      found_counts (λ t. eqb t.number n) (λ t. eqb t.context l.context && eqb t.seat seat) r w.terminations on.found
+      (both_true (eqb r.context l.context) (eqb r.seat seat) (eq-eqb r.context l.context same)
+      (eq-eqb r.seat seat sits))
 
-  silent_at : (seat : ℕ) (b : Bool) → has_seat mask seat ≡ b → count_by (λ t. eqb t.context l.context && eqb t.seat seat) w.terminations ≡ 0 → cond b (on_seat seat) (pos 0) ≡ pos 0
+  silent_at : (seat : ℕ) (b : Bool) → has_seat mask seat ≡ b →
+      count_by (λ t. eqb t.context l.context && eqb t.seat seat) w.terminations ≡ 0 →
+      cond b (on_seat seat) (pos 0) ≡ pos 0
   silent_at seat true e none = absurd (omega (arith, counted seat e, none))
   silent_at seat false e none = refl
 
@@ -145,6 +167,7 @@ module _ (w : rooms.Registry) (seating : List ℕ) (l : Record) (p : Place) (y :
       sum-seats_of mask on_seat
       ∙ seat_sums w.terminations is_in (λ t. t.seat) seat_limit seat_part seated_part nobody
       (λ j lt. within (get_or w.terminations j nobody).number (get_or w.terminations j nobody) (by_number j nobody lt))
-      (λ j lt. part_is (get_or w.terminations j nobody) (eqb (get_or w.terminations j nobody).context l.context) (by_number j nobody lt) refl)
+      (λ j lt. part_is (get_or w.terminations j nobody) (eqb (get_or w.terminations j nobody).context l.context)
+      (by_number j nobody lt) refl)
       (λ seat. sound.consistent.terminations.one_seat l.context seat)
       (λ seat none. silent_at seat (has_seat mask seat) refl none)

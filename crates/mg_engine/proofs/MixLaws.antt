@@ -70,7 +70,13 @@ and_false false = refl
 range_apart : (n : ℕ) → AllPairs (λ a b. a ≢ b) (range_with_len 0 n)
 range_apart n i j d lt within same =
     let below : j < n = omega (arith, within, length-range_with_len 0 n) in
-    omega (arith, same, lt, get_or-range_with_len 0 n i d (omega (arith, lt, below)), get_or-range_with_len 0 n j d below)
+    omega (
+      arith,
+      same,
+      lt,
+      get_or-range_with_len 0 n i d (omega (arith, lt, below)),
+      get_or-range_with_len 0 n j d below,
+    )
 
 seats_apart : (mask : ℕ) → AllPairs (λ a b. a ≢ b) (seats_of mask)
 unfolding seats_of
@@ -81,12 +87,14 @@ unfolding seats_of
 seats_pass mask = filter_passes (has_seat mask) (range_with_len 0 seat_limit)
 
 -- numbers that are different where those that they come from are
-mapped_apart : (f : ℕ → ℕ) (P : ℕ → Type 0) (xs : List ℕ) → All P xs → ((a b : ℕ) → P a → P b → f a ≡ f b → a ≡ b) → AllPairs (λ a b. a ≢ b) xs → AllPairs (λ a b. a ≢ b) (map f xs)
+mapped_apart : (f : ℕ → ℕ) (P : ℕ → Type 0) (xs : List ℕ) → All P xs → ((a b : ℕ) → P a → P b → f a ≡ f b → a ≡ b) →
+    AllPairs (λ a b. a ≢ b) xs → AllPairs (λ a b. a ≢ b) (map f xs)
 mapped_apart f P xs all inj apart i j d lt within same =
     let below : j < length xs = omega (arith, within, length-map xs f) in
     let first = get_or-map f xs i 0 d (omega (arith, lt, below)) in
     let second = get_or-map f xs j 0 d below in
-    apart i j 0 lt below (inj (get_or xs i 0) (get_or xs j 0) (all i 0 (omega (arith, lt, below))) (all j 0 below) (sym first ∙ same ∙ second))
+    apart i j 0 lt below (inj (get_or xs i 0) (get_or xs j 0) (all i 0 (omega (arith, lt, below))) (all j 0 below)
+    (sym first ∙ same ∙ second))
 
 -- as many as there are
 ones : {A : Type 0} (xs : List A) → sum_of (λ x. pos 1) xs ≡ pos (length xs)
@@ -97,7 +105,8 @@ one_more : (b : Bool) (n : ℕ) (rest : ℤ) → rest ≡ pos n → cond b (pos 
 one_more true n rest e = omega (arith, ints, e)
 one_more false n rest e = omega (arith, ints, e)
 
-counted_ones : {A : Type 0} (p : A → Bool) (xs : List A) → sum_of (λ x. cond (p x) (pos 1) (pos 0)) xs ≡ pos (count_by p xs)
+counted_ones : {A : Type 0} (p : A → Bool) (xs : List A) →
+    sum_of (λ x. cond (p x) (pos 1) (pos 0)) xs ≡ pos (count_by p xs)
 counted_ones p [] = sum_of-nil (λ x. cond (p x) (pos 1) (pos 0))
 counted_ones p (x ∷ xs) =
     sum_of-cons (λ y. cond (p y) (pos 1) (pos 0)) x xs
@@ -111,13 +120,21 @@ same_number m n e = cc e
 
 -- a total is the sum over the rows that are left out, and what is heard without them
 abbrev pub IsLeftAndHeard : SumsState → ℕ → List ℕ → Type 0
-IsLeftAndHeard kept room out = (i : ℕ) → total_of kept room i ≡ sum_of (sample_in kept.frames i) out +ℤ heard_of kept room out i
+IsLeftAndHeard kept room out = (i : ℕ) → total_of kept room i ≡
+    sum_of (sample_in kept.frames i) out +ℤ heard_of kept room out i
 
-module _ (k : EngineState) (seating : List ℕ) (l : Record) (p : Place) (y : Context) (mask : ℕ) (sound : IsSound k.rooms) (members : HasMembers k.rooms k.flows) (joined : AreJoined k.rooms k.sums.rooms) (seats : AreSeated k.rooms seating)
-    (by_number : ByNumber k.rooms) (there : HaveContexts k.rooms) (one_room : OneRoom k.rooms) (one_seat : OneSeat k.rooms) (within : SeatWithin k.rooms) (spots : Spots k.rooms) (long : length k.sums.rooms ≡ termination_limit)
-    (slots : (a b : ℕ) (r s : Record) → record_at k.rooms a ≡ Some r → record_at k.rooms b ≡ Some s → r.slot ≡ s.slot → a ≡ b)
-    (context : context_at k.rooms l.context ≡ Some y) (is : seated l.seat y ≡ p) (on : IsOnPlace k.rooms l.number l p) (listens : mode.listens l.mode ≡ true)
-    (kept : (seat : ℕ) → has_seat mask seat ≡ flow.is_silenced k.flows (beside p seat) p) (holds : (seat : ℕ) → IsTrue (has_seat mask seat) → IsTrue (flow.holds k.flows (beside p seat))) where
+module _ (k : EngineState) (seating : List ℕ) (l : Record) (p : Place) (y : Context) (mask : ℕ)
+    (sound : IsSound k.rooms) (members : HasMembers k.rooms k.flows) (joined : AreJoined k.rooms k.sums.rooms)
+    (seats : AreSeated k.rooms seating)
+    (by_number : ByNumber k.rooms) (there : HaveContexts k.rooms) (one_room : OneRoom k.rooms)
+    (one_seat : OneSeat k.rooms) (within : SeatWithin k.rooms) (spots : Spots k.rooms)
+    (long : length k.sums.rooms ≡ termination_limit)
+    (slots : (a b : ℕ) (r s : Record) → record_at k.rooms a ≡ Some r → record_at k.rooms b ≡ Some s →
+    r.slot ≡ s.slot → a ≡ b)
+    (context : context_at k.rooms l.context ≡ Some y) (is : seated l.seat y ≡ p) (on : IsOnPlace k.rooms l.number l p)
+    (listens : mode.listens l.mode ≡ true)
+    (kept : (seat : ℕ) → has_seat mask seat ≡ flow.is_silenced k.flows (beside p seat) p)
+    (holds : (seat : ℕ) → IsTrue (has_seat mask seat) → IsTrue (flow.holds k.flows (beside p seat))) where
   abbrev row_on : ℕ → ℕ
   row_on seat = slot_at seating (record { room = p.room; seat = seat })
 
@@ -131,13 +148,15 @@ module _ (k : EngineState) (seating : List ℕ) (l : Record) (p : Place) (y : Co
   held seat h = members.nobody (beside p seat) (holds seat h)
 
   silenced_is : (o : Option Place) → is_seated_in p.room mask o ≡ is_silenced_between k.flows o (Some p)
-  silenced_is (Some q) = seated_is p mask (λ x. flow.is_silenced k.flows x p) kept (λ x e. silenced_apart k.flows x p e) q
+  silenced_is (Some q) = seated_is p mask (λ x. flow.is_silenced k.flows x p) kept
+      (λ x e. silenced_apart k.flows x p e) q
   silenced_is None = refl
 
   -- ## Which rows are left out
 
   -- whose seat is silenced talks in the room
-  talks_there : (seat : ℕ) (n : ℕ) (r : Record) → IsTrue (has_seat mask seat) → IsOnPlace k.rooms n r (beside p seat) → mode.talks r.mode ≡ true
+  talks_there : (seat : ℕ) (n : ℕ) (r : Record) → IsTrue (has_seat mask seat) →
+      IsOnPlace k.rooms n r (beside p seat) → mode.talks r.mode ≡ true
   talks_there seat n r h at =
       sym (members.each n r (beside p seat) at).talks
       ∙ first_true (flow.talks k.flows (beside p seat)) _ (sym (kept seat) ∙ h) where
@@ -157,14 +176,18 @@ module _ (k : EngineState) (seating : List ℕ) (l : Record) (p : Place) (y : Co
   rows_differ a b h g same =
       let (m, r, at) = held a h in
       let (n, s, to) = held b g in
-      let equal = slots m n r s at.found to.found (sym (seats m r (beside p a) at) ∙ same ∙ seats n s (beside p b) to) in
+      let equal = slots m n r s at.found to.found (sym (seats m r (beside p a) at) ∙ same ∙ seats n s (beside p b) to)
+      in
       ap (λ (x : Place). x.seat) (one_place k.rooms m n r s (beside p a) (beside p b) at to equal)
 
   minus_joined : All (λ row. IsTrue (is_joined k.sums.rooms p.room row)) minus
-  minus_joined = All-map (λ row. IsTrue (is_joined k.sums.rooms p.room row)) row_on (seats_of mask) (All-weaker (λ seat. IsTrue (has_seat mask seat)) (λ seat. IsTrue (is_joined k.sums.rooms p.room (row_on seat))) row_joined (seats_of mask) (seats_pass mask))
+  minus_joined = All-map (λ row. IsTrue (is_joined k.sums.rooms p.room row)) row_on (seats_of mask)
+      (All-weaker (λ seat. IsTrue (has_seat mask seat)) (λ seat. IsTrue (is_joined k.sums.rooms p.room (row_on seat)))
+      row_joined (seats_of mask) (seats_pass mask))
 
   minus_apart : AllPairs (λ a b. a ≢ b) minus
-  minus_apart = mapped_apart row_on (λ seat. IsTrue (has_seat mask seat)) (seats_of mask) (seats_pass mask) rows_differ (seats_apart mask)
+  minus_apart = mapped_apart row_on (λ seat. IsTrue (has_seat mask seat)) (seats_of mask) (seats_pass mask)
+      rows_differ (seats_apart mask)
 
   -- a listener isn't silenced for itself
   own_apart : (seat : ℕ) → IsTrue (has_seat mask seat) → l.slot ≢ row_on seat
@@ -176,10 +199,16 @@ module _ (k : EngineState) (seating : List ℕ) (l : Record) (p : Place) (y : Co
       let never : true ≡ false = sym h ∙ kept seat ∙ false_too in
       cc never
 
-  out_by : (b : Bool) → mode.talks l.mode ≡ b → AreOfRoom k.sums.rooms p.room (left_out_by (cond b (Some l.slot) None) minus)
+  out_by : (b : Bool) → mode.talks l.mode ≡ b →
+      AreOfRoom k.sums.rooms p.room (left_out_by (cond b (Some l.slot) None) minus)
   out_by true e = record {
-    joined = All-cons (λ row. IsTrue (is_joined k.sums.rooms p.room row)) l.slot minus (joined_is k.sums.rooms l p p.room (joined.each l.number l p on) ∙ ap (λ (b : Bool). b && eqb p.room p.room) e ∙ eq-eqb p.room p.room refl) minus_joined;
-    different = AllPairs-cons (λ a b. a ≢ b) l.slot minus (All-map (λ row. l.slot ≢ row) row_on (seats_of mask) (All-weaker (λ seat. IsTrue (has_seat mask seat)) (λ seat. l.slot ≢ row_on seat) own_apart (seats_of mask) (seats_pass mask))) minus_apart;
+    joined = All-cons (λ row. IsTrue (is_joined k.sums.rooms p.room row)) l.slot minus
+        (joined_is k.sums.rooms l p p.room (joined.each l.number l p on) ∙
+        ap (λ (b : Bool). b && eqb p.room p.room) e ∙ eq-eqb p.room p.room refl) minus_joined;
+    different = AllPairs-cons (λ a b. a ≢ b) l.slot minus
+        (All-map (λ row. l.slot ≢ row) row_on (seats_of mask)
+        (All-weaker (λ seat. IsTrue (has_seat mask seat)) (λ seat. l.slot ≢ row_on seat) own_apart (seats_of mask)
+        (seats_pass mask))) minus_apart;
   }
   out_by false e = record { joined = minus_joined; different = minus_apart }
 
@@ -193,10 +222,16 @@ module _ (k : EngineState) (seating : List ℕ) (l : Record) (p : Place) (y : Co
       length-map (seats_of mask) row_on
       ∙ same_number (length (seats_of mask)) (silenced_now k l)
       (sym (ones (seats_of mask))
-      ∙ sum_on_seats k.rooms seating l p y mask sound seats by_number there one_room within context is held (λ slot. pos 1)
-      ∙ sum_of-same (λ (t : Record). cond (sits_among k.rooms p.room mask t) (pos 1) (pos 0)) (λ (t : Record). cond (is_silenced_between k.flows (place_of k.rooms t) (place_of k.rooms l)) (pos 1) (pos 0)) k.rooms.terminations
-      (λ t. ap (λ (b : Bool). cond b (pos 1) (pos 0)) (silenced_is (place_of k.rooms t) ∙ ap (λ (o : Option Place). is_silenced_between k.flows (place_of k.rooms t) o) (sym on.place)))
-      ∙ counted_ones (λ (t : Record). is_silenced_between k.flows (place_of k.rooms t) (place_of k.rooms l)) k.rooms.terminations)
+      ∙ sum_on_seats k.rooms seating l p y mask sound seats by_number there one_room within context is held
+      (λ slot. pos 1)
+      ∙ sum_of-same (λ (t : Record). cond (sits_among k.rooms p.room mask t) (pos 1) (pos 0))
+      (λ (t : Record). cond (is_silenced_between k.flows (place_of k.rooms t) (place_of k.rooms l)) (pos 1)
+      (pos 0)) k.rooms.terminations
+      (λ t. ap (λ (b : Bool). cond b (pos 1) (pos 0))
+      (silenced_is (place_of k.rooms t) ∙ ap (λ (o : Option Place). is_silenced_between k.flows
+      (place_of k.rooms t) o) (sym on.place)))
+      ∙ counted_ones (λ (t : Record). is_silenced_between k.flows (place_of k.rooms t) (place_of k.rooms l))
+      k.rooms.terminations)
 
   -- ## What is left
 
@@ -213,14 +248,18 @@ module _ (k : EngineState) (seating : List ℕ) (l : Record) (p : Place) (y : Co
     abbrev silenced_part : Record → ℤ
     silenced_part t = cond (sits_among k.rooms p.room mask t) (sample_of t) (pos 0)
 
-    split_at : (t : Record) (q : Place) → IsOnPlace k.rooms t.number t q → (b : Bool) → eqb t.number l.number ≡ b → (c : Bool) → eqb q.room p.room ≡ c
-        → Splits (sample_of t) (mode.talks t.mode && eqb q.room p.room) (b && mode.talks l.mode) (flow.is_silenced k.flows q p) (flow.flows k.flows q p)
+    split_at : (t : Record) (q : Place) → IsOnPlace k.rooms t.number t q → (b : Bool) → eqb t.number l.number ≡ b →
+        (c : Bool) → eqb q.room p.room ≡ c
+        → Splits (sample_of t) (mode.talks t.mode && eqb q.room p.room) (b && mode.talks l.mode)
+        (flow.is_silenced k.flows q p) (flow.flows k.flows q p)
     split_at t q at true e c f =
         let equal = eqb-true t.number l.number e in
         let r : t ≡ l = one_record k.rooms t.number l.number t l at.found on.found equal in
         let here : q ≡ p = one_place k.rooms t.number l.number t l q p at on equal in
         splits (sample_of t) _ (mode.talks l.mode && true) _ (true && mode.talks l.mode) _ false _ false
-        (ap (λ (x : Record). mode.talks x.mode && eqb q.room p.room) r ∙ ap (λ (b : Bool). mode.talks l.mode && b) (ap (λ (x : Place). eqb x.room p.room) here ∙ eq-eqb p.room p.room refl))
+        (ap (λ (x : Record). mode.talks x.mode && eqb q.room p.room) r ∙
+        ap (λ (b : Bool). mode.talks l.mode && b)
+        (ap (λ (x : Place). eqb x.room p.room) here ∙ eq-eqb p.room p.room refl))
         refl
         (ap (λ (x : Place). flow.is_silenced k.flows x p) here ∙ not_itself k.flows p)
         (ap (λ (x : Place). flow.flows k.flows x p) here ∙ no_hearing k.flows p p (nobody_hears_itself k.flows p))
@@ -235,25 +274,38 @@ module _ (k : EngineState) (seating : List ℕ) (l : Record) (p : Place) (y : Co
     split_at t q at false e true f =
         let same = eqb-true q.room p.room f in
         let apart = unequal t.number l.number e in
-        let share : ShareContext k.rooms t.number l.number t l q p = record { first = at; second = on; same = in_one_context k.rooms t l q p one_room at.place on.place same; apart = apart } in
+        let share : ShareContext k.rooms t.number l.number t l q p =
+        record {
+          first = at;
+          second = on;
+          same = in_one_context k.rooms t l q p one_room at.place on.place same;
+          apart = apart;
+        } in
         let seat = seats_differ k.rooms t.number l.number t l q p one_room one_seat share in
         let from = members.each t.number t q at in
         let to = members.each l.number l p on in
-        let quiet : flow.is_silenced k.flows q p ≡ (mode.talks t.mode && not (flow.hears k.flows q p)) = rw (from.talks, from.held, to.held, f, seat) refl in
-        let loud : flow.flows k.flows q p ≡ (mode.talks t.mode && flow.hears k.flows q p) = rw (from.talks, to.listens, listens) refl in
-        splits (sample_of t) _ (mode.talks t.mode && true) _ false _ (mode.talks t.mode && not (flow.hears k.flows q p)) _ (mode.talks t.mode && flow.hears k.flows q p)
+        let quiet : flow.is_silenced k.flows q p ≡ (mode.talks t.mode && not (flow.hears k.flows q p)) =
+        rw (from.talks, from.held, to.held, f, seat) refl in
+        let loud : flow.flows k.flows q p ≡ (mode.talks t.mode && flow.hears k.flows q p) =
+        rw (from.talks, to.listens, listens) refl in
+        splits (sample_of t) _ (mode.talks t.mode && true) _ false _
+        (mode.talks t.mode && not (flow.hears k.flows q p)) _ (mode.talks t.mode && flow.hears k.flows q p)
         (ap (λ (b : Bool). mode.talks t.mode && b) f)
         refl
         quiet
         loud
         (other_splits (sample_of t) (mode.talks t.mode) (flow.hears k.flows q p))
 
-    split : (t : Record) → record_at k.rooms t.number ≡ Some t → total_part t ≡ (own_part t +ℤ silenced_part t) +ℤ part_now k l i t
+    split : (t : Record) → record_at k.rooms t.number ≡ Some t →
+        total_part t ≡ (own_part t +ℤ silenced_part t) +ℤ part_now k l i t
     split t found =
         let (q, at) = on_place k.rooms t.number t there found in
         let z = sample_of t in
-        let heard : flows_between k.flows (place_of k.rooms t) (place_of k.rooms l) ≡ flow.flows k.flows q p = ap (λ (o : Option Place). flows_between k.flows o (place_of k.rooms l)) at.place ∙ ap (λ (o : Option Place). flows_between k.flows (Some q) o) on.place in
-        splits z _ (mode.talks t.mode && eqb q.room p.room) _ (eqb t.number l.number && mode.talks l.mode) _ (flow.is_silenced k.flows q p) _ (flow.flows k.flows q p)
+        let heard : flows_between k.flows (place_of k.rooms t) (place_of k.rooms l) ≡ flow.flows k.flows q p =
+        ap (λ (o : Option Place). flows_between k.flows o (place_of k.rooms l)) at.place ∙
+        ap (λ (o : Option Place). flows_between k.flows (Some q) o) on.place in
+        splits z _ (mode.talks t.mode && eqb q.room p.room) _ (eqb t.number l.number && mode.talks l.mode) _
+        (flow.is_silenced k.flows q p) _ (flow.flows k.flows q p)
         (joined_is k.sums.rooms t q p.room (joined.each t.number t q at))
         refl
         (ap (λ (o : Option Place). is_seated_in p.room mask o) at.place ∙ silenced_is (Some q))
@@ -262,47 +314,67 @@ module _ (k : EngineState) (seating : List ℕ) (l : Record) (p : Place) (y : Co
 
     -- ## The listener itself
 
-    own_by : (b : Bool) → sum_of (λ (t : Record). cond (eqb t.number l.number && b) (sample_of t) (pos 0)) k.rooms.terminations ≡ cond b (sample_at k.sums.frames l.slot i) (pos 0)
+    own_by : (b : Bool) → sum_of (λ (t : Record). cond (eqb t.number l.number && b) (sample_of t) (pos 0))
+        k.rooms.terminations ≡ cond b (sample_at k.sums.frames l.slot i) (pos 0)
     own_by true =
         let rs = k.rooms.terminations in
         let z = sample_at k.sums.frames l.slot i in
-        let least = found_counts (λ (t : Record). eqb t.number l.number) (λ (t : Record). eqb t.number l.number) l rs on.found (eq-eqb l.number l.number refl) in
+        let least = found_counts (λ (t : Record). eqb t.number l.number) (λ (t : Record). eqb t.number l.number) l rs
+        on.found (eq-eqb l.number l.number refl) in
         let most = sound.consistent.terminations.one_number l.number in
         let once : count_by (λ (t : Record). eqb t.number l.number) rs ≡ 1 = omega (arith, least, most) in
-        sum-cong (λ (t : Record). cond (eqb t.number l.number && true) (sample_of t) (pos 0)) (λ (t : Record). cond (eqb t.number l.number) z (pos 0)) rs nobody (λ j lt. own_at (get_or rs j nobody) (by_number j nobody lt) (eqb (get_or rs j nobody).number l.number) refl)
+        sum-cong (λ (t : Record). cond (eqb t.number l.number && true) (sample_of t) (pos 0))
+        (λ (t : Record). cond (eqb t.number l.number) z (pos 0)) rs nobody
+        (λ j lt. own_at (get_or rs j nobody) (by_number j nobody lt) (eqb (get_or rs j nobody).number l.number)
+        refl)
         ∙ one_passes (λ (t : Record). eqb t.number l.number) z rs once where
-          own_at : (t : Record) → record_at k.rooms t.number ≡ Some t → (b : Bool) → eqb t.number l.number ≡ b → cond (b && true) (sample_of t) (pos 0) ≡ cond b (sample_at k.sums.frames l.slot i) (pos 0)
-          own_at t found true e = ap (λ (x : Record). sample_of x) (one_record k.rooms t.number l.number t l found on.found (eqb-true t.number l.number e))
+          own_at : (t : Record) → record_at k.rooms t.number ≡ Some t → (b : Bool) → eqb t.number l.number ≡ b →
+              cond (b && true) (sample_of t) (pos 0) ≡ cond b (sample_at k.sums.frames l.slot i) (pos 0)
+          own_at t found true e = ap (λ (x : Record). sample_of x)
+              (one_record k.rooms t.number l.number t l found on.found (eqb-true t.number l.number e))
           own_at t found false e = refl
-    own_by false = sum_of-none (λ (t : Record). cond (eqb t.number l.number && false) (sample_of t) (pos 0)) k.rooms.terminations (λ t. ap (λ (b : Bool). cond b (sample_of t) (pos 0)) (and_false (eqb t.number l.number)))
+    own_by false = sum_of-none (λ (t : Record). cond (eqb t.number l.number && false) (sample_of t) (pos 0))
+        k.rooms.terminations (λ t. ap (λ (b : Bool). cond b (sample_of t) (pos 0)) (and_false (eqb t.number l.number)))
 
-    out_sum : (b : Bool) → sum_of (sample_in k.sums.frames i) (left_out_by (cond b (Some l.slot) None) minus) ≡ cond b (sample_at k.sums.frames l.slot i) (pos 0) +ℤ sum_of (sample_in k.sums.frames i) minus
+    out_sum : (b : Bool) → sum_of (sample_in k.sums.frames i) (left_out_by (cond b (Some l.slot) None) minus) ≡
+        cond b (sample_at k.sums.frames l.slot i) (pos 0) +ℤ sum_of (sample_in k.sums.frames i) minus
     out_sum true = sum_of-cons (sample_in k.sums.frames i) l.slot minus
     out_sum false = omega (arith, ints)
 
     silenced_sum : sum_of (sample_in k.sums.frames i) minus ≡ sum_of silenced_part k.rooms.terminations
     silenced_sum =
         sum_of-map (sample_in k.sums.frames i) row_on (seats_of mask)
-        ∙ sum_on_seats k.rooms seating l p y mask sound seats by_number there one_room within context is held (λ slot. sample_at k.sums.frames slot i)
+        ∙ sum_on_seats k.rooms seating l p y mask sound seats by_number there one_room within context is held
+        (λ slot. sample_at k.sums.frames slot i)
 
-    total_splits : total_of k.sums p.room i ≡ sum_of (sample_in k.sums.frames i) (left_out_by base minus) +ℤ heard_now k l i
+    total_splits : total_of k.sums p.room i ≡
+        sum_of (sample_in k.sums.frames i) (left_out_by base minus) +ℤ heard_now k l i
     total_splits =
         let rs = k.rooms.terminations in
         let all = total_by_terminations k.rooms k.sums p.room i sound joined spots long in
-        let parted = sum-cong total_part (λ (t : Record). (own_part t +ℤ silenced_part t) +ℤ part_now k l i t) rs nobody (λ j lt. split (get_or rs j nobody) (by_number j nobody lt)) in
-        let first = sum_of-plus (λ (t : Record). (own_part t +ℤ silenced_part t) +ℤ part_now k l i t) (λ (t : Record). own_part t +ℤ silenced_part t) (part_now k l i) rs (λ t. refl) in
-        let second = sum_of-plus (λ (t : Record). own_part t +ℤ silenced_part t) own_part silenced_part rs (λ t. refl) in
+        let parted = sum-cong total_part (λ (t : Record). (own_part t +ℤ silenced_part t) +ℤ part_now k l i t) rs
+        nobody (λ j lt. split (get_or rs j nobody) (by_number j nobody lt)) in
+        let first = sum_of-plus (λ (t : Record). (own_part t +ℤ silenced_part t) +ℤ part_now k l i t)
+        (λ (t : Record). own_part t +ℤ silenced_part t) (part_now k l i) rs (λ t. refl) in
+        let second = sum_of-plus (λ (t : Record). own_part t +ℤ silenced_part t) own_part silenced_part rs (λ t. refl)
+        in
         let own = own_by (mode.talks l.mode) in
         let out = out_sum (mode.talks l.mode) in
         all ∙ parted ∙ first
-        ∙ ap (λ (z : ℤ). z +ℤ heard_now k l i) (second ∙ ap (λ (z : ℤ). z +ℤ sum_of silenced_part rs) own ∙ ap (λ (z : ℤ). cond (mode.talks l.mode) (sample_at k.sums.frames l.slot i) (pos 0) +ℤ z) (sym silenced_sum) ∙ sym out)
+        ∙ ap (λ (z : ℤ). z +ℤ heard_now k l i) (second ∙ ap (λ (z : ℤ). z +ℤ sum_of silenced_part rs) own ∙
+        ap (λ (z : ℤ). cond (mode.talks l.mode) (sample_at k.sums.frames l.slot i) (pos 0) +ℤ z)
+        (sym silenced_sum) ∙ sym out)
 
   same_rest : (a b c d : ℤ) → a ≡ b +ℤ c → a ≡ b +ℤ d → c ≡ d
   same_rest a b c d e f = omega (arith, ints, e, f)
 
   -- what is left of the total is what the listener hears
   pub mix_is : IsLeftAndHeard k.sums p.room (left_out_by base minus)
-      → mix_of k.sums p.room (left_out_by base minus) ≡ map (λ i. nearest_sample (heard_now k l i)) (range_with_len 0 160)
+      → mix_of k.sums p.room (left_out_by base minus) ≡
+      map (λ i. nearest_sample (heard_now k l i)) (range_with_len 0 160)
   unfolding mix_of
-  mix_is law = map_agree (λ i. nearest_sample (heard_of k.sums p.room (left_out_by base minus) i)) (λ i. nearest_sample (heard_now k l i)) (range_with_len 0 160) (λ i.
-      ap (λ (z : ℤ). nearest_sample z) (same_rest (total_of k.sums p.room i) (sum_of (sample_in k.sums.frames i) (left_out_by base minus)) (heard_of k.sums p.room (left_out_by base minus) i) (heard_now k l i) (law i) (total_splits i)))
+  mix_is law = map_agree (λ i. nearest_sample (heard_of k.sums p.room (left_out_by base minus) i))
+      (λ i. nearest_sample (heard_now k l i)) (range_with_len 0 160) (λ i.
+      ap (λ (z : ℤ). nearest_sample z) (same_rest (total_of k.sums p.room i)
+      (sum_of (sample_in k.sums.frames i) (left_out_by base minus))
+      (heard_of k.sums p.room (left_out_by base minus) i) (heard_now k l i) (law i) (total_splits i)))

@@ -32,7 +32,8 @@ OneRoom w = (c d : ℕ) (x y : Context) → context_at w c ≡ Some x → contex
 
 -- each termination in the list is found by its number
 abbrev pub ByNumber : Registry → Type 0
-ByNumber w = (i : ℕ) (d : Record) → i < length w.terminations → record_at w (get_or w.terminations i d).number ≡ Some (get_or w.terminations i d)
+ByNumber w = (i : ℕ) (d : Record) → i < length w.terminations →
+    record_at w (get_or w.terminations i d).number ≡ Some (get_or w.terminations i d)
 
 -- no two contexts are in one room, and each termination is in a context that is there
 abbrev pub AreApart : Registry → Type 0
@@ -72,10 +73,16 @@ pub record At (w : Registry) (r : Record) (p : Place) : Type 0 where
   pub room : p.room ≡ context.room
   pub seat : p.seat ≡ r.seat
 
-at_by : (w : Registry) (r : Record) (p : Place) (o : Option Context) → context_at w r.context ≡ o → option_map (seated r.seat) o ≡ Some p → At w r p
+at_by : (w : Registry) (r : Record) (p : Place) (o : Option Context) → context_at w r.context ≡ o →
+    option_map (seated r.seat) o ≡ Some p → At w r p
 at_by w r p (Some x) is h =
     let same = same_Some (seated r.seat x) p h in
-    record { context = x; found = is; room = ap (λ (q : Place). q.room) (sym same); seat = ap (λ (q : Place). q.seat) (sym same) }
+    record {
+      context = x;
+      found = is;
+      room = ap (λ (q : Place). q.room) (sym same);
+      seat = ap (λ (q : Place). q.seat) (sym same);
+    }
 at_by w r p None is h = absurd (cc h)
 
 pub at : (w : Registry) (r : Record) (p : Place) → place_of w r ≡ Some p → At w r p
@@ -95,36 +102,44 @@ within w n r p h termination context =
 pub on_its_place : (w : Registry) (n : ℕ) (m : Member) → IsThereAs w n m → IsOnPlace w n m.record (member_place m)
 on_its_place w n m h = record { found = h.found; place = at_room (context_at w m.record.context) h.room }
   where
-    at_room : (o : Option Context) → option_map (λ x. x.room) o ≡ Some m.room → option_map (seated m.record.seat) o ≡ Some (member_place m)
-    at_room (Some x) room = ap (λ (k : ℕ). let p : Place = record { room = k; seat = m.record.seat } in Some p) (same_Some x.room m.room room)
+    at_room : (o : Option Context) → option_map (λ x. x.room) o ≡ Some m.room →
+        option_map (seated m.record.seat) o ≡ Some (member_place m)
+    at_room (Some x) room = ap (λ (k : ℕ). let p : Place = record { room = k; seat = m.record.seat } in Some p)
+        (same_Some x.room m.room room)
     at_room None room = absurd (cc room)
 
 -- a member's place is within the limits
 pub member_within : (w : Registry) (n : ℕ) (m : Member) → IsSound w → IsThereAs w n m → IsWithinLimits (member_place m)
-member_within w n m sound h = within w n m.record (member_place m) (on_its_place w n m h) sound.termination sound.context
+member_within w n m sound h = within w n m.record (member_place m) (on_its_place w n m h) sound.termination
+    sound.context
 
 -- ## Two members
 
 -- one termination has one record
-pub one_record : (w : Registry) (m n : ℕ) (r q : Record) → record_at w m ≡ Some r → record_at w n ≡ Some q → m ≡ n → r ≡ q
+pub one_record : (w : Registry) (m n : ℕ) (r q : Record) → record_at w m ≡ Some r → record_at w n ≡ Some q → m ≡ n →
+    r ≡ q
 one_record w m n r q found there same = same_Some r q (sym found ∙ ap (record_at w) same ∙ there)
 
 -- members of one context are in one room
-pub in_one_room : (w : Registry) (a b : Record) (p q : Place) → place_of w a ≡ Some p → place_of w b ≡ Some q → a.context ≡ b.context → p.room ≡ q.room
+pub in_one_room : (w : Registry) (a b : Record) (p q : Place) → place_of w a ≡ Some p → place_of w b ≡ Some q →
+    a.context ≡ b.context → p.room ≡ q.room
 in_one_room w a b p q first second same =
     let x = at w a p first in
     let y = at w b q second in
-    x.room ∙ ap (λ (z : Context). z.room) (same_Some x.context y.context (sym x.found ∙ ap (context_at w) same ∙ y.found)) ∙ sym y.room
+    x.room ∙ ap (λ (z : Context). z.room) (same_Some x.context y.context
+    (sym x.found ∙ ap (context_at w) same ∙ y.found)) ∙ sym y.room
 
 -- members in one room are in one context
-pub in_one_context : (w : Registry) (a b : Record) (p q : Place) → OneRoom w → place_of w a ≡ Some p → place_of w b ≡ Some q → p.room ≡ q.room → a.context ≡ b.context
+pub in_one_context : (w : Registry) (a b : Record) (p q : Place) → OneRoom w → place_of w a ≡ Some p →
+    place_of w b ≡ Some q → p.room ≡ q.room → a.context ≡ b.context
 in_one_context w a b p q rooms first second same =
     let x = at w a p first in
     let y = at w b q second in
     rooms a.context b.context x.context y.context x.found y.found (sym x.room ∙ same ∙ y.room)
 
 -- a place is that of one member
-pub one_member : (w : Registry) (m n : ℕ) (a b : Record) (p q : Place) → OneRoom w → OneSeat w → IsOnPlace w m a p → IsOnPlace w n b q → p.room ≡ q.room → p.seat ≡ q.seat → m ≡ n
+pub one_member : (w : Registry) (m n : ℕ) (a b : Record) (p q : Place) → OneRoom w → OneSeat w → IsOnPlace w m a p →
+    IsOnPlace w n b q → p.room ≡ q.room → p.seat ≡ q.seat → m ≡ n
 one_member w m n a b p q rooms seats first second room seat =
     seats m n a b first.found second.found (in_one_context w a b p q rooms first.place second.place room)
     (sym (at w a p first.place).seat ∙ seat ∙ (at w b q second.place).seat)
@@ -134,25 +149,33 @@ both true true h = (refl, refl)
 both true false h = absurd (cc h)
 both false b h = absurd (cc h)
 
-same_case : (w : Registry) (m n : ℕ) (a b : Record) (p q : Place) → OneRoom w → OneSeat w → IsOnPlace w m a p → IsOnPlace w n b q → m ≢ n → (x : Bool) → is_same_place p q ≡ x → x ≡ false
+same_case : (w : Registry) (m n : ℕ) (a b : Record) (p q : Place) → OneRoom w → OneSeat w → IsOnPlace w m a p →
+    IsOnPlace w n b q → m ≢ n → (x : Bool) → is_same_place p q ≡ x → x ≡ false
 same_case w m n a b p q rooms seats first second apart true e =
     let (room, seat) = both (eqb p.room q.room) (eqb p.seat q.seat) e in
-    absurd (apart (one_member w m n a b p q rooms seats first second (eqb-true p.room q.room room) (eqb-true p.seat q.seat seat)))
+    absurd (apart (one_member w m n a b p q rooms seats first second (eqb-true p.room q.room room)
+    (eqb-true p.seat q.seat seat)))
 same_case w m n a b p q rooms seats first second apart false e = refl
 
 -- different members are on different places
-pub apart_places : (w : Registry) (m n : ℕ) (a b : Record) (p q : Place) → OneRoom w → OneSeat w → IsOnPlace w m a p → IsOnPlace w n b q → m ≢ n → is_same_place p q ≡ false
-apart_places w m n a b p q rooms seats first second apart = same_case w m n a b p q rooms seats first second apart (is_same_place p q) refl
+pub apart_places : (w : Registry) (m n : ℕ) (a b : Record) (p q : Place) → OneRoom w → OneSeat w → IsOnPlace w m a p →
+    IsOnPlace w n b q → m ≢ n → is_same_place p q ≡ false
+apart_places w m n a b p q rooms seats first second apart =
+    same_case w m n a b p q rooms seats first second apart (is_same_place p q) refl
 
 -- one member is on one place
-pub one_place : (w : Registry) (m n : ℕ) (a b : Record) (p q : Place) → IsOnPlace w m a p → IsOnPlace w n b q → m ≡ n → p ≡ q
+pub one_place : (w : Registry) (m n : ℕ) (a b : Record) (p q : Place) → IsOnPlace w m a p → IsOnPlace w n b q →
+    m ≡ n → p ≡ q
 one_place w m n a b p q first second same =
-    same_Some p q (sym first.place ∙ ap (place_of w) (one_record w m n a b first.found second.found same) ∙ second.place)
+    same_Some p q (sym first.place ∙ ap (place_of w) (one_record w m n a b first.found second.found same) ∙
+    second.place)
 
-seated_by : (w : Registry) (n : ℕ) (r : Record) (o : Option Place) → place_of w r ≡ o → HaveContexts w → record_at w n ≡ Some r → (p : Place) × IsOnPlace w n r p
+seated_by : (w : Registry) (n : ℕ) (r : Record) (o : Option Place) → place_of w r ≡ o → HaveContexts w →
+    record_at w n ≡ Some r → (p : Place) × IsOnPlace w n r p
 seated_by w n r (Some p) is has found = (p, record { found = found; place = is })
 seated_by w n r None is has found = absurd (has_place w n r has found is)
 
 -- each termination is on a place
-pub on_place : (w : Registry) (n : ℕ) (r : Record) → HaveContexts w → record_at w n ≡ Some r → (p : Place) × IsOnPlace w n r p
+pub on_place : (w : Registry) (n : ℕ) (r : Record) → HaveContexts w → record_at w n ≡ Some r → (p : Place) ×
+    IsOnPlace w n r p
 on_place w n r has found = seated_by w n r (place_of w r) refl has found

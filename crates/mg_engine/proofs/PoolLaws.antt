@@ -31,8 +31,11 @@ record IsFound (p : ℕ → Bool) (k n s : ℕ) : Type 0 where
   passes : p s ≡ true
   below : s < n + k
 
-found_first : (p : ℕ → Bool) (k n s : ℕ) (b : Bool) → p k ≡ b → cond b (number_of_slot k) (find p (range_with_len (k + 1) n)) ≡ Some s → (find p (range_with_len (k + 1) n) ≡ Some s → IsFound p (k + 1) n s) → IsFound p k (suc n) s
-found_first p k n s true e h rest = let is : k ≡ s = cc in record { passes = ap p (sym is) ∙ e; below = omega (arith, is) }
+found_first : (p : ℕ → Bool) (k n s : ℕ) (b : Bool) → p k ≡ b →
+    cond b (number_of_slot k) (find p (range_with_len (k + 1) n)) ≡ Some s →
+    (find p (range_with_len (k + 1) n) ≡ Some s → IsFound p (k + 1) n s) → IsFound p k (suc n) s
+found_first p k n s true e h rest = let is : k ≡ s = cc in
+    record { passes = ap p (sym is) ∙ e; below = omega (arith, is) }
 found_first p k n s false e h rest = let r = rest h in record { passes = r.passes; below = omega (arith, r.below) }
 
 found : (p : ℕ → Bool) (k n s : ℕ) → find p (range_with_len k n) ≡ Some s → IsFound p k n s
@@ -49,12 +52,15 @@ none_before base n port (Some s) e is =
     let f = found (λ s. eqb (base + 2 * s) port) 0 n s e in
     absurd (omega (arith, eqb-true (base + 2 * s) port f.passes, f.below, is))
 
-one_more : (base n port : ℕ) (o : Option ℕ) (b : Bool) → slot_below base n port ≡ o → eqb (base + 2 * n) port ≡ b → option_or o (cond b (Some n) None) ≡ cond b (Some n) o
-one_more base n port o true e is = ap (λ (x : Option ℕ). option_or x (Some n)) (none_before base n port o e (eqb-true (base + 2 * n) port is))
+one_more : (base n port : ℕ) (o : Option ℕ) (b : Bool) → slot_below base n port ≡ o → eqb (base + 2 * n) port ≡ b →
+    option_or o (cond b (Some n) None) ≡ cond b (Some n) o
+one_more base n port o true e is = ap (λ (x : Option ℕ). option_or x (Some n))
+    (none_before base n port o e (eqb-true (base + 2 * n) port is))
 one_more base n port None false e is = refl
 one_more base n port (Some s) false e is = refl
 
-pub slot_more : (base n port : ℕ) → slot_below base (n + 1) port ≡ cond (eqb (base + 2 * n) port) (Some n) (slot_below base n port)
+pub slot_more : (base n port : ℕ) → slot_below base (n + 1) port ≡
+    cond (eqb (base + 2 * n) port) (Some n) (slot_below base n port)
 slot_more base n port =
     let p = λ (s : ℕ). eqb (base + 2 * s) port in
     ap (find p) (range_last 0 n n (omega arith))
@@ -67,7 +73,10 @@ found_record r = Some r
 same_or_more : (k s : ℕ) → k ≤ s → (k ≡ s) ⊎ (k + 1 ≤ s)
 same_or_more k s le = grind arith
 
-none_at : (p : ℕ → Bool) (k n s : ℕ) (b : Bool) → p k ≡ b → cond b (number_of_slot k) (find p (range_with_len (k + 1) n)) ≡ None → (find p (range_with_len (k + 1) n) ≡ None → k + 1 ≤ s → s < n + (k + 1) → p s ≡ false) → k ≤ s → s < suc n + k → p s ≡ false
+none_at : (p : ℕ → Bool) (k n s : ℕ) (b : Bool) → p k ≡ b →
+    cond b (number_of_slot k) (find p (range_with_len (k + 1) n)) ≡ None →
+    (find p (range_with_len (k + 1) n) ≡ None → k + 1 ≤ s → s < n + (k + 1) → p s ≡ false) → k ≤ s → s < suc n + k →
+    p s ≡ false
 none_at p k n s true e h rest le lt = absurd (cc h)
 none_at p k n s false e h rest le lt = elim (same_or_more k s le) [
   | inl same ↦ ap p (sym same) ∙ e
@@ -93,22 +102,28 @@ module _ (limits : Limits) where
 
   find-same : (f g : Record → Bool) (rs : List Record) → ((r : Record) → f r ≡ g r) → find f rs ≡ find g rs
   find-same f g [] h = refl
-  find-same f g (r ∷ rs) h = ap (λ (b : Bool). cond b (found_record r) (find f rs)) (h r) ∙ ap (λ (o : Option Record). cond (g r) (found_record r) o) (find-same f g rs h)
+  find-same f g (r ∷ rs) h = ap (λ (b : Bool). cond b (found_record r) (find f rs)) (h r) ∙
+      ap (λ (o : Option Record). cond (g r) (found_record r) o) (find-same f g rs h)
 
-  find-nowhere : (f : Record → Bool) (P : Record → Type 0) (rs : List Record) → AllByRecursion P rs → ((r : Record) → P r → f r ≡ false) → find f rs ≡ None
+  find-nowhere : (f : Record → Bool) (P : Record → Type 0) (rs : List Record) → AllByRecursion P rs →
+      ((r : Record) → P r → f r ≡ false) → find f rs ≡ None
   find-nowhere f P [] all h = refl
   find-nowhere f P (r ∷ rs) all h = rw (h r all.0) (find-nowhere f P rs all.1 h)
 
 -- the slot of a port is that of the termination that has it
-pub at_slot_of : (w : rooms.Registry) (port slot : ℕ) → slot_of w.limits port ≡ Some slot → holder_of w slot ≡ at_port w port
+pub at_slot_of : (w : rooms.Registry) (port slot : ℕ) → slot_of w.limits port ≡ Some slot →
+    holder_of w slot ≡ at_port w port
 unfolding slot_of
 at_slot_of w port slot h =
     let f = found (λ s. eqb (slot_port w.limits s) port) 0 w.limits.slots slot h in
     let is = eqb-true (slot_port w.limits slot) port f.passes in
-    sym (find-same w.limits (here w.limits port) (λ r. eqb r.slot slot) w.terminations (λ r. same_slot w.limits port slot r is))
+    sym (find-same w.limits (here w.limits port) (λ r. eqb r.slot slot) w.terminations
+    (λ r. same_slot w.limits port slot r is))
 
 pub at_no_slot : (w : rooms.Registry) (port : ℕ) → IsSound w → slot_of w.limits port ≡ None → at_port w port ≡ None
 unfolding slot_of
 at_no_slot w port sound h =
-    find-nowhere w.limits (here w.limits port) (IsTermination w.limits w.next_termination) w.terminations sound.consistent.terminations.each
-    (λ r is. none_of (λ s. eqb (slot_port w.limits s) port) 0 w.limits.slots r.slot h (omega arith) (omega (arith, is.slot)))
+    find-nowhere w.limits (here w.limits port) (IsTermination w.limits w.next_termination) w.terminations
+    sound.consistent.terminations.each
+    (λ r is. none_of (λ s. eqb (slot_port w.limits s) port) 0 w.limits.slots r.slot h (omega arith)
+    (omega (arith, is.slot)))

@@ -19,12 +19,14 @@ use Rattle.mg_engine.proofs.SeatSums.{found_counts, seat_sums}
 
 -- ## Rows that are joined to a room
 
-joined_by : (mode : Mode) (b : Bool) (at room : ℕ) → talks mode ≡ b → is_room (room_for mode at) room ≡ (b && eqb at room)
+joined_by : (mode : Mode) (b : Bool) (at room : ℕ) → talks mode ≡ b →
+    is_room (room_for mode at) room ≡ (b && eqb at room)
 joined_by mode true at room e = ap (λ (b : Bool). is_room (cond b (Some at) None) room) e
 joined_by mode false at room e = ap (λ (b : Bool). is_room (cond b (Some at) None) room) e
 
 -- the row of one on a place is joined to a room where it talks and the place is in it
-pub joined_is : (joined : List (Option ℕ)) (r : Record) (p : Place) (room : ℕ) → room_at joined r.slot ≡ room_for r.mode p.room → is_joined joined room r.slot ≡ (talks r.mode && eqb p.room room)
+pub joined_is : (joined : List (Option ℕ)) (r : Record) (p : Place) (room : ℕ) →
+    room_at joined r.slot ≡ room_for r.mode p.room → is_joined joined room r.slot ≡ (talks r.mode && eqb p.room room)
 joined_is joined r p room h = ap (λ (o : Option ℕ). is_room o room) h ∙ joined_by r.mode (talks r.mode) p.room room refl
 
 some_room : (o : Option ℕ) (room : ℕ) → is_room o room ≡ true → (at : ℕ) × (o ≡ Some at)
@@ -34,7 +36,8 @@ some_room None room h = absurd (cc h)
 abbrev pub Spots : Registry → Type 0
 Spots w = (i : ℕ) (d : Record) → i < length w.terminations → (get_or w.terminations i d).slot < termination_limit
 
-module _ (w : Registry) (kept : SumsState) (room i : ℕ) (sound : IsSound w) (joined : AreJoined w kept.rooms) (spots : Spots w) (long : length kept.rooms ≡ termination_limit) where
+module _ (w : Registry) (kept : SumsState) (room i : ℕ) (sound : IsSound w) (joined : AreJoined w kept.rooms)
+    (spots : Spots w) (long : length kept.rooms ≡ termination_limit) where
   abbrev row_part : ℕ → ℤ
   row_part row = cond (is_joined kept.rooms room row) (sample_at kept.frames row i) (pos 0)
 
@@ -42,11 +45,17 @@ module _ (w : Registry) (kept : SumsState) (room i : ℕ) (sound : IsSound w) (j
   joined_part t = cond (is_joined kept.rooms room t.slot) (sample_at kept.frames t.slot i) (pos 0)
 
   -- a row whose slot nobody holds is joined nowhere
-  silent_row : (row : ℕ) (b : Bool) → is_joined kept.rooms room row ≡ b → count_by (λ t. eqb t.slot row) w.terminations ≡ 0 → cond b (sample_at kept.frames row i) (pos 0) ≡ pos 0
+  silent_row : (row : ℕ) (b : Bool) → is_joined kept.rooms room row ≡ b →
+      count_by (λ t. eqb t.slot row) w.terminations ≡ 0 → cond b (sample_at kept.frames row i) (pos 0) ≡ pos 0
   silent_row row true e none =
       let (at, is) = some_room (room_at kept.rooms row) room e in
       let (n, r, p, on, slot) = joined.nobody row at is in
-      absurd (omega (arith, none, found_counts (λ t. eqb t.number n) (λ t. eqb t.slot row) r w.terminations on.found (eq-eqb r.slot row slot)))
+      absurd (omega (
+        arith,
+        none,
+        found_counts (λ t. eqb t.number n) (λ t. eqb t.slot row) r w.terminations on.found
+            (eq-eqb r.slot row slot),
+      ))
   silent_row row false e none = refl
 
   total_by_rows : total_of kept room i ≡ sum_of row_part (range_with_len 0 termination_limit)

@@ -13,15 +13,19 @@ use Rattle.mg_engine.proofs.SumLaws.{sum-cong}
 
 -- ## Sums of sums
 
-swapped : {A : Type 0} (f : A → ℕ → ℤ) (rs : List A) (ks : List ℕ) → sum_of (λ k. sum_of (λ t. f t k) rs) ks ≡ sum_of (λ t. sum_of (f t) ks) rs
-swapped f [] ks = sum_of-none (λ k. sum_of (λ t. f t k) []) ks (λ k. sum_of-nil (λ t. f t k)) ∙ sym (sum_of-nil (λ t. sum_of (f t) ks))
+swapped : {A : Type 0} (f : A → ℕ → ℤ) (rs : List A) (ks : List ℕ) →
+    sum_of (λ k. sum_of (λ t. f t k) rs) ks ≡ sum_of (λ t. sum_of (f t) ks) rs
+swapped f [] ks = sum_of-none (λ k. sum_of (λ t. f t k) []) ks (λ k. sum_of-nil (λ t. f t k)) ∙
+    sym (sum_of-nil (λ t. sum_of (f t) ks))
 swapped f (r ∷ rs) ks =
-    sum_of-plus (λ k. sum_of (λ t. f t k) (r ∷ rs)) (f r) (λ k. sum_of (λ t. f t k) rs) ks (λ k. sum_of-cons (λ t. f t k) r rs)
+    sum_of-plus (λ k. sum_of (λ t. f t k) (r ∷ rs)) (f r) (λ k. sum_of (λ t. f t k) rs) ks
+    (λ k. sum_of-cons (λ t. f t k) r rs)
     ∙ ap (λ (z : ℤ). sum_of (f r) ks +ℤ z) (swapped f rs ks)
     ∙ sym (sum_of-cons (λ t. sum_of (f t) ks) r rs)
 
 -- what seats of a mask add up to, over all seats
-pub sum-seats_of : (mask : ℕ) (f : ℕ → ℤ) → sum_of f (seats_of mask) ≡ sum_of (λ seat. cond (has_seat mask seat) (f seat) (pos 0)) (range_with_len 0 seat_limit)
+pub sum-seats_of : (mask : ℕ) (f : ℕ → ℤ) →
+    sum_of f (seats_of mask) ≡ sum_of (λ seat. cond (has_seat mask seat) (f seat) (pos 0)) (range_with_len 0 seat_limit)
 unfolding seats_of
 sum-seats_of mask f = sum_of-filter (has_seat mask) f (range_with_len 0 seat_limit)
 
@@ -55,17 +59,20 @@ one_among h s a (suc n) l r = elim (cases_eq s a) [
       sum_of-cons (alone h s) a (range_with_len (a + 1) n) ∙ omega (arith, ints, here, rest))
 ]
 
-part_among : (b : Bool) (h : ℕ → ℤ) (s n : ℕ) → s < n → sum_of (λ k. cond (b && eqb s k) (h k) (pos 0)) (range_with_len 0 n) ≡ cond b (h s) (pos 0)
+part_among : (b : Bool) (h : ℕ → ℤ) (s n : ℕ) → s < n →
+    sum_of (λ k. cond (b && eqb s k) (h k) (pos 0)) (range_with_len 0 n) ≡ cond b (h s) (pos 0)
 part_among true h s n lt = one_among h s 0 n (omega arith) (omega (arith, lt))
 part_among false h s n lt = sum_of-none (λ (k : ℕ). pos 0) (range_with_len 0 n) (λ k. refl)
 
 -- ## One that passes a test
 
-none_at : (b : Bool) (z rest : ℤ) (n : ℕ) → cond b 1 0 + n ≡ 0 → (n ≡ 0 → rest ≡ pos 0) → cond b z (pos 0) +ℤ rest ≡ pos 0
+none_at : (b : Bool) (z rest : ℤ) (n : ℕ) → cond b 1 0 + n ≡ 0 → (n ≡ 0 → rest ≡ pos 0) →
+    cond b z (pos 0) +ℤ rest ≡ pos 0
 none_at true z rest n e h = absurd (omega (arith, e))
 none_at false z rest n e h = omega (arith, ints, h (omega (arith, e)))
 
-one_at : (b : Bool) (z rest : ℤ) (n : ℕ) → cond b 1 0 + n ≡ 1 → (n ≡ 0 → rest ≡ pos 0) → (n ≡ 1 → rest ≡ z) → cond b z (pos 0) +ℤ rest ≡ z
+one_at : (b : Bool) (z rest : ℤ) (n : ℕ) → cond b 1 0 + n ≡ 1 → (n ≡ 0 → rest ≡ pos 0) → (n ≡ 1 → rest ≡ z) →
+    cond b z (pos 0) +ℤ rest ≡ z
 one_at true z rest n e none one = omega (arith, ints, none (omega (arith, e)))
 one_at false z rest n e none one = omega (arith, ints, one (omega (arith, e)))
 
@@ -75,11 +82,14 @@ module _ {A : Type 0} (p : A → Bool) (z : ℤ) where
 
   pub none_pass : (rs : List A) → count_by p rs ≡ 0 → sum_of at rs ≡ pos 0
   none_pass [] e = sum_of-nil at
-  none_pass (r ∷ rs) e = sum_of-cons at r rs ∙ none_at (p r) z (sum_of at rs) (count_by p rs) (sym (sum_by-cons (λ x. cond (p x) 1 0) r rs) ∙ e) (none_pass rs)
+  none_pass (r ∷ rs) e = sum_of-cons at r rs ∙
+      none_at (p r) z (sum_of at rs) (count_by p rs) (sym (sum_by-cons (λ x. cond (p x) 1 0) r rs) ∙ e) (none_pass rs)
 
   pub one_passes : (rs : List A) → count_by p rs ≡ 1 → sum_of at rs ≡ z
   one_passes [] e = absurd (omega (arith, e))
-  one_passes (r ∷ rs) e = sum_of-cons at r rs ∙ one_at (p r) z (sum_of at rs) (count_by p rs) (sym (sum_by-cons (λ x. cond (p x) 1 0) r rs) ∙ e) (none_pass rs) (one_passes rs)
+  one_passes (r ∷ rs) e = sum_of-cons at r rs ∙
+      one_at (p r) z (sum_of at rs) (count_by p rs) (sym (sum_by-cons (λ x. cond (p x) 1 0) r rs) ∙ e) (none_pass rs)
+      (one_passes rs)
 
   by_count : (rs : List A) (n : ℕ) → count_by p rs ≡ n → n ≤ 1 → (n ≡ 0 → z ≡ pos 0) → z ≡ sum_of at rs
   by_count rs zero e few none = none refl ∙ sym (none_pass rs e)
@@ -91,14 +101,16 @@ counts_first p y xs e = omega (arith, sum_by-cons (λ x. cond (p x) 1 0) y xs, a
 counts_later : {A : Type 0} (p : A → Bool) (y : A) (xs : List A) → 1 ≤ count_by p xs → 1 ≤ count_by p (y ∷ xs)
 counts_later p y xs h = omega (arith, sum_by-cons (λ x. cond (p x) 1 0) y xs, h)
 
-found_at : {A : Type 0} (p : A → Bool) (b : Bool) (x y : A) (xs : List A) (later : Option A) → cond b (Some y) later ≡ Some x → p x ≡ true → (later ≡ Some x → 1 ≤ count_by p xs) → 1 ≤ count_by p (y ∷ xs)
+found_at : {A : Type 0} (p : A → Bool) (b : Bool) (x y : A) (xs : List A) (later : Option A) →
+    cond b (Some y) later ≡ Some x → p x ≡ true → (later ≡ Some x → 1 ≤ count_by p xs) → 1 ≤ count_by p (y ∷ xs)
 found_at p true x y xs later e h rest =
     let same : y ≡ x = cc e in
     counts_first p y xs (ap p same ∙ h)
 found_at p false x y xs later e h rest = counts_later p y xs (rest e)
 
 -- what is found is counted by a test that it passes
-pub found_counts : {A : Type 0} (q p : A → Bool) (x : A) (xs : List A) → find q xs ≡ Some x → p x ≡ true → 1 ≤ count_by p xs
+pub found_counts : {A : Type 0} (q p : A → Bool) (x : A) (xs : List A) → find q xs ≡ Some x → p x ≡ true →
+    1 ≤ count_by p xs
 found_counts q p x [] e h = absurd (cc e)
 found_counts q p x (y ∷ ys) e h = found_at p (q y) x y ys (find q ys) e h (λ later. found_counts q p x ys later h)
 
@@ -114,7 +126,9 @@ pub seat_sums : {A : Type 0} (rs : List A) (is_in : A → Bool) (seat : A → �
     → sum_of h (range_with_len 0 n) ≡ sum_of g rs
 seat_sums {A} rs is_in seat n h g d below parts once none =
     let part = λ (t : A). λ (k : ℕ). cond (is_in t && eqb (seat t) k) (h k) (pos 0) in
-    sum_of-same h (λ k. sum_of (λ t. part t k) rs) (range_with_len 0 n) (λ k. by_count (λ t. is_in t && eqb (seat t) k) (h k) rs (count_by (λ t. is_in t && eqb (seat t) k) rs) refl (once k) (none k))
+    sum_of-same h (λ k. sum_of (λ t. part t k) rs) (range_with_len 0 n)
+    (λ k. by_count (λ t. is_in t && eqb (seat t) k) (h k) rs (count_by (λ t. is_in t && eqb (seat t) k) rs) refl
+    (once k) (none k))
     ∙ swapped part rs (range_with_len 0 n)
     ∙ sum-cong (λ t. sum_of (part t) (range_with_len 0 n)) g rs d
     (λ i lt. let t = get_or rs i d in part_among (is_in t) h (seat t) n (below i lt) ∙ sym (parts i lt))

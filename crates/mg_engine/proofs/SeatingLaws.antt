@@ -18,11 +18,14 @@ AreWithin w = (n : ℕ) (r : Record) (p : Place) → IsOnPlace w n r p → IsWit
 abbrev pub OthersSeated : Registry → ℕ → List ℕ → Type 0
 OthersSeated w n seating = (m : ℕ) (x : Record) (q : Place) → m ≢ n → IsOnPlace w m x q → slot_at seating q ≡ x.slot
 
-pub carry_seats : (old new : Registry) (n : ℕ) (seating : List ℕ) → SameOthers old new n → AreSeated old seating → OthersSeated new n seating
+pub carry_seats : (old new : Registry) (n : ℕ) (seating : List ℕ) → SameOthers old new n → AreSeated old seating →
+    OthersSeated new n seating
 carry_seats old new n seating same h m x q apart on = h m x q ((same m x q apart).1 on)
 
-module _ (w : Registry) (n : ℕ) (r : Record) (p : Place) (seating : List ℕ) (long : length seating ≡ place_count) (rooms : OneRoom w) (seats : OneSeat w) (within : AreWithin w) (on : IsOnPlace w n r p) where
-  put_case : OthersSeated w n seating → (m : ℕ) (x : Record) (q : Place) → IsOnPlace w m x q → (b : Bool) → eqb m n ≡ b → slot_at (set seating (index_of p) r.slot) q ≡ x.slot
+module _ (w : Registry) (n : ℕ) (r : Record) (p : Place) (seating : List ℕ) (long : length seating ≡ place_count)
+    (rooms : OneRoom w) (seats : OneSeat w) (within : AreWithin w) (on : IsOnPlace w n r p) where
+  put_case : OthersSeated w n seating → (m : ℕ) (x : Record) (q : Place) → IsOnPlace w m x q → (b : Bool) →
+      eqb m n ≡ b → slot_at (set seating (index_of p) r.slot) q ≡ x.slot
   put_case h m x q there true e =
       let same = eqb-true m n e in
       let inside = within n r p on in
@@ -43,12 +46,15 @@ module _ (w : Registry) (n : ℕ) (r : Record) (p : Place) (seating : List ℕ) 
   seated_put h m x q there = put_case h m x q there (eqb m n) refl
 
 -- where one isn't there, the others are all
-pub seated_all : (w : Registry) (n : ℕ) (seating : List ℕ) → record_at w n ≡ None → OthersSeated w n seating → AreSeated w seating
+pub seated_all : (w : Registry) (n : ℕ) (seating : List ℕ) → record_at w n ≡ None → OthersSeated w n seating →
+    AreSeated w seating
 seated_all w n seating none h m x q on = h m x q (λ same. no_record x (sym on.found ∙ ap (record_at w) same ∙ none)) on
 
 -- one has another record, with the same slot
-module _ (old new : Registry) (n : ℕ) (was r : Record) (p : Place) (seating : List ℕ) (same : SameOthers old new n) (there : IsOnPlace old n was p) (on : IsOnPlace new n r p) (slot : r.slot ≡ was.slot) where
-  mode_case : AreSeated old seating → (m : ℕ) (x : Record) (q : Place) → IsOnPlace new m x q → (b : Bool) → eqb m n ≡ b → slot_at seating q ≡ x.slot
+module _ (old new : Registry) (n : ℕ) (was r : Record) (p : Place) (seating : List ℕ) (same : SameOthers old new n)
+    (there : IsOnPlace old n was p) (on : IsOnPlace new n r p) (slot : r.slot ≡ was.slot) where
+  mode_case : AreSeated old seating → (m : ℕ) (x : Record) (q : Place) → IsOnPlace new m x q → (b : Bool) →
+      eqb m n ≡ b → slot_at seating q ≡ x.slot
   mode_case h m x q at true e =
       let at_n = eqb-true m n e in
       ap (slot_at seating) (one_place new m n x r q p at on at_n)

@@ -22,16 +22,20 @@ datagram to from bytes = record { from = from; to = record { address = to.addres
 abbrev ssrc_of : EngineState → Record → ℕ
 ssrc_of k r = (k.config.ssrc + r.number) % 2 ^ 32
 
-pub packet_is : (k : EngineState) (r : Record) (to : Chosen) (from : ℕ) (bytes payload : List ℕ) (header : Header) (m : media.SlotMedia)
-    → from ≡ slot_port k.rooms.limits r.slot → bytes ≡ header_bytes plain header ++ payload → payload ≡ map (byte_of to.law) (mixed_now k r)
+pub packet_is : (k : EngineState) (r : Record) (to : Chosen) (from : ℕ) (bytes payload : List ℕ) (header : Header)
+    (m : media.SlotMedia)
+    → from ≡ slot_port k.rooms.limits r.slot → bytes ≡ header_bytes plain header ++ payload →
+    payload ≡ map (byte_of to.law) (mixed_now k r)
     → header ≡ media.header m (type_of to.law) (ssrc_of k r) → m ≡ media_at k.media r.slot
     → datagram to from bytes ≡ packet_now k r to
 packet_is k r to from bytes payload header m port joined body headed kept =
     let head = headed ∙ ap (λ (x : media.SlotMedia). media.header x (type_of to.law) (ssrc_of k r)) kept in
     let whole = joined
     ∙ ap (λ (h : Header). header_bytes plain h ++ payload) head
-    ∙ ap (λ (p : List ℕ). header_bytes plain (media.header (media_at k.media r.slot) (type_of to.law) (ssrc_of k r)) ++ p) body in
-    ap (λ (f : ℕ). datagram to f bytes) port ∙ ap (λ (b : List ℕ). datagram to (slot_port k.rooms.limits r.slot) b) whole
+    ∙ ap (λ (p : List ℕ). header_bytes plain (media.header (media_at k.media r.slot) (type_of to.law) (ssrc_of k r))
+    ++ p) body in
+    ap (λ (f : ℕ). datagram to f bytes) port ∙
+    ap (λ (b : List ℕ). datagram to (slot_port k.rooms.limits r.slot) b) whole
 
 abbrev found : Record → Option Record
 found r = Some r
@@ -48,7 +52,8 @@ one_of f x (Some y) e = rw e refl
 one_of f x None e = rw e refl
 
 -- what is gathered of one more part
-pub one_more : {A B : Type 0} (f : A → Option B) (xs : List A) (k : ℕ) (d : A) → k < length xs → filter_map f (take (k + 1) xs) ≡ filter_map f (take k xs) ++ option_to_list (f (get_or xs k d))
+pub one_more : {A B : Type 0} (f : A → Option B) (xs : List A) (k : ℕ) (d : A) → k < length xs →
+    filter_map f (take (k + 1) xs) ≡ filter_map f (take k xs) ++ option_to_list (f (get_or xs k d))
 one_more f xs k d lt =
     let x = get_or xs k d in
     ap (filter_map f) (take_more xs k d lt)

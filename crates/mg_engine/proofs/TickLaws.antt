@@ -31,7 +31,8 @@ with_frames k kept frames = record k { media = kept; sums = frames }
 
 -- ## The frames are played
 
-played_is : (config : Config) (m : media.SlotMedia) (row : List ℤ) (s : TerminationMedia) → IsMediaOf config m row s → IsMediaOf config (media.played m) (media.frame_played m) (played s)
+played_is : (config : Config) (m : media.SlotMedia) (row : List ℤ) (s : TerminationMedia) → IsMediaOf config m row s →
+    IsMediaOf config (media.played m) (media.frame_played m) (played s)
 played_is config m row s h = record {
   play = ap (λ (p : PlayList). (play_lists.ticked p).0) h.play;
   frame = ap (λ (p : PlayList). frame_or_silence (sound_of ((play_lists.ticked p).1))) h.play;
@@ -41,7 +42,8 @@ played_is config m row s h = record {
   is_sending = h.is_sending;
 }
 
-from_mapped : (f : TerminationMedia → TerminationMedia) (P : TerminationMedia → Type 0) (o : Option TerminationMedia) (s : TerminationMedia) → option_map f o ≡ Some s → ((t : TerminationMedia) → o ≡ Some t → P (f t)) → P s
+from_mapped : (f : TerminationMedia → TerminationMedia) (P : TerminationMedia → Type 0) (o : Option TerminationMedia)
+    (s : TerminationMedia) → option_map f o ≡ Some s → ((t : TerminationMedia) → o ≡ Some t → P (f t)) → P s
 from_mapped f P (Some t) s e h = subst P (same_Some (f t) s e) (h t refl)
 from_mapped f P None s e h = absurd (cc e)
 
@@ -49,7 +51,8 @@ from_mapped f P None s e h = absurd (cc e)
 abbrev pub ArePlayed : EngineState → List media.SlotMedia → List (List ℤ) → Type 0
 ArePlayed k new frames = (n : ℕ) (r : Record) → record_at k.rooms n ≡ Some r → IsPlayed k.media new frames r.slot
 
-pub played_stands : (k : EngineState) (w : Gateway) (new : List media.SlotMedia) (kept : sums.SumsState) → ArePlayed k new kept.frames → StandsFor k w → StandsFor (with_frames k new kept) (all_played w)
+pub played_stands : (k : EngineState) (w : Gateway) (new : List media.SlotMedia) (kept : sums.SumsState) →
+    ArePlayed k new kept.frames → StandsFor k w → StandsFor (with_frames k new kept) (all_played w)
 played_stands k w new kept all h = record {
   config = h.config;
   rooms = h.rooms;
@@ -57,14 +60,18 @@ played_stands k w new kept all h = record {
   media = λ n r s found there.
       let p = all n r found in
       let row = get_or kept.frames r.slot [] in
-      from_mapped played (λ t. IsMediaOf k.config (media_at new r.slot) row t) (media_of w n) s (sym (found_in_map (λ s. s.number) played n w.media (λ t. refl)) ∙ there)
-      (λ t was. media_is k.config (media_at new r.slot) (media.played (media_at k.media r.slot)) row (media.frame_played (media_at k.media r.slot)) (played t) p.ticked p.frame (played_is k.config (media_at k.media r.slot) (get_or k.sums.frames r.slot []) t (h.media n r t found was)));
+      from_mapped played (λ t. IsMediaOf k.config (media_at new r.slot) row t) (media_of w n) s
+      (sym (found_in_map (λ s. s.number) played n w.media (λ t. refl)) ∙ there)
+      (λ t was. media_is k.config (media_at new r.slot) (media.played (media_at k.media r.slot)) row
+      (media.frame_played (media_at k.media r.slot)) (played t) p.ticked p.frame
+      (played_is k.config (media_at k.media r.slot) (get_or k.sums.frames r.slot []) t (h.media n r t found was)));
   hears = h.hears;
 }
 
 -- ## Packets are sent
 
-ended_is : (config : Config) (b : Bool) (m : media.SlotMedia) (row : List ℤ) (s : TerminationMedia) → IsMediaOf config m row s → IsMediaOf config (media.ended b m) row (sent b s)
+ended_is : (config : Config) (b : Bool) (m : media.SlotMedia) (row : List ℤ) (s : TerminationMedia) →
+    IsMediaOf config m row s → IsMediaOf config (media.ended b m) row (sent b s)
 ended_is config true m row s h = record {
   play = h.play;
   frame = h.frame;
@@ -90,7 +97,8 @@ abbrev sent_at : rooms.Registry → TerminationMedia → TerminationMedia
 sent_at w s = sent (sends_at w s.number) s
 
 -- whether a termination sends, by its slot and by its number
-same_sender : (w : rooms.Registry) (n : ℕ) (r : Record) → record_at w n ≡ Some r → holder_of w r.slot ≡ Some r → slot_sends w r.slot ≡ sends_at w n
+same_sender : (w : rooms.Registry) (n : ℕ) (r : Record) → record_at w n ≡ Some r → holder_of w r.slot ≡ Some r →
+    slot_sends w r.slot ≡ sends_at w n
 same_sender w n r by_number by_slot = ap has_destination (by_slot ∙ sym by_number)
 
 -- what is kept of each termination's media after the packets of a tick
@@ -100,31 +108,50 @@ AreEnded w old new = (n : ℕ) (r : Record) → record_at w n ≡ Some r → IsE
 abbrev pub BySlot : rooms.Registry → Type 0
 BySlot w = (n : ℕ) (r : Record) → record_at w n ≡ Some r → holder_of w r.slot ≡ Some r
 
-found_number : (n : ℕ) (ss : List TerminationMedia) (s : TerminationMedia) → find (λ x. eqb x.number n) ss ≡ Some s → s.number ≡ n
+found_number : (n : ℕ) (ss : List TerminationMedia) (s : TerminationMedia) → find (λ x. eqb x.number n) ss ≡ Some s →
+    s.number ≡ n
 found_number n ss s e = found_key (λ x. x.number) n ss s e
 
-numbers_kept : (w : rooms.Registry) (ss : List TerminationMedia) → map (λ s. (sent_at w s).number) ss ≡ map (λ s. s.number) ss
+numbers_kept : (w : rooms.Registry) (ss : List TerminationMedia) →
+    map (λ s. (sent_at w s).number) ss ≡ map (λ s. s.number) ss
 numbers_kept w [] = refl
-numbers_kept w (s ∷ ss) = ap (λ (n : ℕ). n ∷ map (λ s. (sent_at w s).number) ss) (sent_number (sends_at w s.number) s) ∙ ap (λ (ns : List ℕ). s.number ∷ ns) (numbers_kept w ss)
+numbers_kept w (s ∷ ss) = ap (λ (n : ℕ). n ∷ map (λ s. (sent_at w s).number) ss) (sent_number (sends_at w s.number) s)
+    ∙ ap (λ (ns : List ℕ). s.number ∷ ns) (numbers_kept w ss)
 
-pub ended_stands : (k : EngineState) (w : Gateway) (new : List media.SlotMedia) → BySlot k.rooms → AreEnded k.rooms k.media new → StandsFor k w → StandsFor (with_media k new) (all_ended w)
+pub ended_stands : (k : EngineState) (w : Gateway) (new : List media.SlotMedia) → BySlot k.rooms →
+    AreEnded k.rooms k.media new → StandsFor k w → StandsFor (with_media k new) (all_ended w)
 ended_stands k w new by_slot ended h = record {
   config = h.config;
   rooms = h.rooms;
   numbers = map-map (λ s. s.number) (sent_at w.rooms) w.media ∙ numbers_kept w.rooms w.media ∙ h.numbers;
   media = λ n r s found there.
-      from_mapped (sent_at w.rooms) (λ t. IsMediaOf k.config (media_at new r.slot) (get_or k.sums.frames r.slot []) t) (media_of w n) s (sym (found_in_map (λ s. s.number) (sent_at w.rooms) n w.media (λ t. sent_number (sends_at w.rooms t.number) t)) ∙ there)
+      from_mapped (sent_at w.rooms) (λ t. IsMediaOf k.config (media_at new r.slot) (get_or k.sums.frames r.slot []) t)
+      (media_of w n) s (sym (found_in_map (λ s. s.number) (sent_at w.rooms) n w.media
+      (λ t. sent_number (sends_at w.rooms t.number) t)) ∙ there)
       (λ t was.
-      let b : slot_sends k.rooms r.slot ≡ sends_at w.rooms t.number = same_sender k.rooms n r found (by_slot n r found) ∙ ap (λ (x : rooms.Registry). sends_at x n) (sym h.rooms) ∙ ap (sends_at w.rooms) (sym (found_number n w.media t was)) in
+      let b : slot_sends k.rooms r.slot ≡ sends_at w.rooms t.number =
+      same_sender k.rooms n r found (by_slot n r found) ∙
+      ap (λ (x : rooms.Registry). sends_at x n) (sym h.rooms) ∙
+      ap (sends_at w.rooms) (sym (found_number n w.media t was)) in
       let m = ended n r found ∙ ap (λ (x : Bool). media.ended x (media_at k.media r.slot)) b in
-      subst (λ (x : media.SlotMedia). IsMediaOf k.config x (get_or k.sums.frames r.slot []) (sent_at w.rooms t)) (sym m) (ended_is k.config (sends_at w.rooms t.number) (media_at k.media r.slot) (get_or k.sums.frames r.slot []) t (h.media n r t found was)));
+      subst (λ (x : media.SlotMedia). IsMediaOf k.config x (get_or k.sums.frames r.slot []) (sent_at w.rooms t))
+      (sym m) (ended_is k.config (sends_at w.rooms t.number) (media_at k.media r.slot)
+      (get_or k.sums.frames r.slot []) t (h.media n r t found was)));
   hears = h.hears;
 }
 
 -- mixes and packets that lend their payloads change nothing that the world has
-pub mixed_stands : (k : EngineState) (w : Gateway) (work : ℕ) (shares : List (List Share)) → StandsFor k w → StandsFor (with_mixes k work shares) w
-mixed_stands k w work shares h = record { config = h.config; rooms = h.rooms; numbers = h.numbers; media = h.media; hears = h.hears }
+pub mixed_stands : (k : EngineState) (w : Gateway) (work : ℕ) (shares : List (List Share)) → StandsFor k w →
+    StandsFor (with_mixes k work shares) w
+mixed_stands k w work shares h = record {
+  config = h.config;
+  rooms = h.rooms;
+  numbers = h.numbers;
+  media = h.media;
+  hears = h.hears;
+}
 
 -- a stream whose frame was played is a tick old at least
 pub played_old : (w : Gateway) → AreOld (all_played w)
-played_old w n s there = from_mapped played (λ t. 1 ≤ t.ticks) (media_of w n) s (sym (found_in_map (λ x. x.number) played n w.media (λ t. refl)) ∙ there) (λ t was. omega arith)
+played_old w n s there = from_mapped played (λ t. 1 ≤ t.ticks) (media_of w n) s
+    (sym (found_in_map (λ x. x.number) played n w.media (λ t. refl)) ∙ there) (λ t was. omega arith)

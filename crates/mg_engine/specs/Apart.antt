@@ -1,5 +1,5 @@
--- What some terminations receive, and all that it leaves as it is: whoever doesn't hear them is sent
--- the same, whatever comes to them.
+-- What some terminations receive, and all that it leaves as it is: whoever doesn't hear them is
+-- sent the same, whatever comes to them.
 use Rattle.std.specs.Prelude.{◌≡◌, ℕ, ◌&&◌, true, false, List, map, Some, Result, Ok, Err}
 use Rattle.std.specs.Prelude.{if◌then◌else◌}
 use Rattle.std.specs.Option.{option_map}

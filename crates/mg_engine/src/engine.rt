@@ -64,8 +64,8 @@ use mg_words::{SAMPLES, Stats};
 use std::alloc::{AllocError, Global};
 use std::marker::Model;
 
-/// The terminations and contexts of a gateway, with their media, with who hears whom, and with what each context's members
-/// say in this tick.
+/// The terminations and contexts of a gateway, with their media, with who hears whom, and with what each context's
+/// members say in this tick.
 #[derive(Drop)]
 pub struct Engine {
     config: Config,
@@ -91,9 +91,17 @@ impl Model for Engine {
 
     ghost Value = { EngineState };
 
-    ghost view = { λ e. record { config = e.config; rooms = e.rooms; media = e.media.items; flows = e.flows; sums = e.sums; shares = e.shares } };
+    ghost view = { λ e. record {
+      config = e.config;
+      rooms = e.rooms;
+      media = e.media.items;
+      flows = e.flows;
+      sums = e.sums;
+      shares = e.shares;
+    } };
 
-    ghost invariant = { λ e. IsWhole e.config e.rooms e.ports e.media.items e.held.items e.flows e.seating e.sums.rooms };
+    ghost invariant = { λ e. IsWhole e.config e.rooms e.ports e.media.items e.held.items e.flows e.seating
+        e.sums.rooms };
 }
 
 /// Media of nobody for so many slots.
@@ -173,7 +181,8 @@ impl Engine {
     pub fn edit(&mut self, edit: &Edit) -> Result<Done, ErrorNumber>
         ensures outcome { (w : Gateway) → StandsFor self.old w → IsOutcome self.new result (outcome w edit.now) }
         ensures refused { OnErr result (self.new ≡ self.old) }
-        ensures others { (w next : Gateway) (done : Done) (c : ℕ) → StandsFor self.old w → outcome w edit.now ≡ Ok (next, done) →
+        ensures others { (w next : Gateway) (done : Done) (c : ℕ) → StandsFor self.old w →
+            outcome w edit.now ≡ Ok (next, done) →
             IsSome (context_at w.rooms c) → IsEditElsewhere w c edit.now → IsLeftAlone w next c }
         ensures work { RisesAtMost 4 self.old.sums.work self.new.sums.work }
     {
@@ -213,7 +222,8 @@ impl Engine {
     pub fn add(&mut self, target: Target, settings: &Settings) -> Result<Record, ErrorNumber>
         ensures outcome { (w : Gateway) → StandsFor self.old w → IsOutcome self.new result (add w target settings.now) }
         ensures refused { OnErr result (self.new ≡ self.old) }
-        ensures others { (w next : Gateway) (r : Record) (c : ℕ) → StandsFor self.old w → add w target settings.now ≡ Ok (next, r) →
+        ensures others { (w next : Gateway) (r : Record) (c : ℕ) → StandsFor self.old w →
+            add w target settings.now ≡ Ok (next, r) →
             IsSome (context_at w.rooms c) → is_number target c ≡ false → IsLeftAlone w next c }
         ensures work { RisesAtMost 4 self.old.sums.work self.new.sums.work }
     {
@@ -233,9 +243,11 @@ impl Engine {
         number: u32,
         settings: &Settings,
     ) -> Result<Record, ErrorNumber>
-        ensures outcome { (w : Gateway) → StandsFor self.old w → IsOutcome self.new result (modify w target number settings.now) }
+        ensures outcome { (w : Gateway) → StandsFor self.old w →
+            IsOutcome self.new result (modify w target number settings.now) }
         ensures refused { OnErr result (self.new ≡ self.old) }
-        ensures others { (w next : Gateway) (r : Record) (c : ℕ) → StandsFor self.old w → modify w target number settings.now ≡ Ok (next, r) →
+        ensures others { (w next : Gateway) (r : Record) (c : ℕ) → StandsFor self.old w →
+            modify w target number settings.now ≡ Ok (next, r) →
             IsElsewhere w c target number → IsLeftAlone w next c }
         ensures work { RisesAtMost 4 self.old.sums.work self.new.sums.work }
     {
@@ -253,9 +265,11 @@ impl Engine {
         number: u32,
         settings: &Settings,
     ) -> Result<Record, ErrorNumber>
-        ensures outcome { (w : Gateway) → StandsFor self.old w → IsOutcome self.new result (move_to w target number settings.now) }
+        ensures outcome { (w : Gateway) → StandsFor self.old w →
+            IsOutcome self.new result (move_to w target number settings.now) }
         ensures refused { OnErr result (self.new ≡ self.old) }
-        ensures others { (w next : Gateway) (r : Record) (c : ℕ) → StandsFor self.old w → move_to w target number settings.now ≡ Ok (next, r) →
+        ensures others { (w next : Gateway) (r : Record) (c : ℕ) → StandsFor self.old w →
+            move_to w target number settings.now ≡ Ok (next, r) →
             IsSome (context_at w.rooms c) → IsElsewhere w c target number → IsLeftAlone w next c }
         ensures work { RisesAtMost 4 self.old.sums.work self.new.sums.work }
     {
@@ -271,7 +285,8 @@ impl Engine {
     pub fn subtract(&mut self, target: Target, number: u32) -> Result<Record, ErrorNumber>
         ensures outcome { (w : Gateway) → StandsFor self.old w → IsOutcome self.new result (subtract w target number) }
         ensures refused { OnErr result (self.new ≡ self.old) }
-        ensures others { (w next : Gateway) (r : Record) (c : ℕ) → StandsFor self.old w → subtract w target number ≡ Ok (next, r) →
+        ensures others { (w next : Gateway) (r : Record) (c : ℕ) → StandsFor self.old w →
+            subtract w target number ≡ Ok (next, r) →
             IsElsewhere w c target number → IsLeftAlone w next c }
         ensures work { RisesAtMost 4 self.old.sums.work self.new.sums.work }
     {
@@ -289,9 +304,11 @@ impl Engine {
         target: Target,
         triples: &TopologyTriples,
     ) -> Result<u32, ErrorNumber>
-        ensures outcome { (w : Gateway) → StandsFor self.old w → IsOutcome self.new result (apply_triples w target triples.now.items) }
+        ensures outcome { (w : Gateway) → StandsFor self.old w →
+            IsOutcome self.new result (apply_triples w target triples.now.items) }
         ensures refused { OnErr result (self.new ≡ self.old) }
-        ensures others { (w next : Gateway) (context c : ℕ) → StandsFor self.old w → apply_triples w target triples.now.items ≡ Ok (next, context) →
+        ensures others { (w next : Gateway) (context c : ℕ) → StandsFor self.old w →
+            apply_triples w target triples.now.items ≡ Ok (next, context) →
             is_number target c ≡ false → IsLeftAlone w next c }
         ensures work { self.new.sums.work ≡ self.old.sums.work }
     {
@@ -303,8 +320,8 @@ impl Engine {
         }
     }
 
-    /// The context that triples of an action would be applied to: the action's, if it is there. This is what becomes of a
-    /// topology without a triple, or of none.
+    /// The context that triples of an action would be applied to: the action's, if it is there. This is what becomes of
+    /// a topology without a triple, or of none.
     pub fn topology_context(&self, target: Target) -> Result<u32, ErrorNumber>
         ensures outcome { (w : Gateway) → StandsFor self.now w → IsOutcome self.now result (apply_triples w target []) }
     {
@@ -338,7 +355,8 @@ impl Engine {
         ensures flows { self.new.flows ≡ self.old.flows }
         ensures sums { self.new.sums ≡ self.old.sums }
         ensures shares { self.new.shares ≡ self.old.shares }
-        ensures taken { PlacedAt self.old.media self.new.media termination.now.slot (arrived termination.now source.address (reading_of packet.entry)) result }
+        ensures taken { PlacedAt self.old.media self.new.media termination.now.slot
+            (arrived termination.now source.address (reading_of packet.entry)) result }
     {
         let law = match law_for(termination, source) {
             Ok(law) => law,
@@ -358,7 +376,8 @@ impl Engine {
     pub fn media(&mut self, port: u16, source: Peer, bytes: &[u8]) -> Taken
         ensures taken { (w : Gateway) → StandsFor self.old w → (after : Gateway)
             × Takes w port source.address bytes.now after result × StandsFor self.new after }
-        ensures others { (w next : Gateway) (c : ℕ) → StandsFor self.old w → Takes w port source.address bytes.now next result →
+        ensures others { (w next : Gateway) (c : ℕ) → StandsFor self.old w →
+            Takes w port source.address bytes.now next result →
             IsPortElsewhere w c port → IsLeftAlone w next c }
         ensures work { self.new.sums.work ≡ self.old.sums.work }
     {
@@ -401,7 +420,8 @@ impl Engine {
     /// The members of a context with their places, in the order of their entry: for who asks of many pairs of them
     /// whether one hears the other.
     pub fn seated(&self, context: u32) -> ArrayVec<SeatedMember, MEMBERS>
-        ensures numbers { (w : Gateway) → StandsFor self.now w → map (λ m. m.number) result.items ≡ members_at w.rooms context }
+        ensures numbers { (w : Gateway) → StandsFor self.now w →
+            map (λ m. m.number) result.items ≡ members_at w.rooms context }
         ensures places { All (IsOnSeat self.now.rooms) result.items }
     {
         seated_members(&self.rooms, self.rooms.members(context))
@@ -454,7 +474,8 @@ impl Engine {
         ensures concealed { (w : Gateway) → StandsFor self.old w → result ≡ concealed_in_tick w }
         ensures sent { (w : Gateway) → StandsFor self.old w → outbox.new.items ≡ sent_in_tick w }
         ensures after { (w : Gateway) → StandsFor self.old w → StandsFor self.new (after_tick w) }
-        ensures work { (w : Gateway) → StandsFor self.old w → RisesAtMost (tick_work w) self.old.sums.work self.new.sums.work }
+        ensures work { (w : Gateway) → StandsFor self.old w →
+            RisesAtMost (tick_work w) self.old.sums.work self.new.sums.work }
     {
         let concealed = self.play_all();
         self.send_all(outbox);
@@ -476,7 +497,8 @@ impl Engine {
     fn send_all(&mut self, outbox: &mut Outbox)
         ensures sent { (w : Gateway) → AreOld w → StandsFor self.old w → outbox.new.items ≡ packets w }
         ensures after { (w : Gateway) → StandsFor self.old w → StandsFor self.new w }
-        ensures work { (w : Gateway) → StandsFor self.old w → RisesAtMost (sum_by (sending_work w) w.rooms.terminations) self.old.sums.work self.new.sums.work }
+        ensures work { (w : Gateway) → StandsFor self.old w →
+            RisesAtMost (sum_by (sending_work w) w.rooms.terminations) self.old.sums.work self.new.sums.work }
     {
         outbox.clear();
         self.shares.clear();
@@ -529,7 +551,8 @@ impl Engine {
         ensures put { (before : List Datagram) (last : Datagram) → outbox.old.items ≡ before ++ last ∷ [] →
             payload_of last ≡ map (byte_of to.law) (mixed_now self.now sender.now) →
             outbox.new.items ≡ before ++ packet_now self.now sender.now to ∷ [] }
-        ensures payload { payload_of (packet_now self.now sender.now to) ≡ map (byte_of to.law) (mixed_now self.now sender.now) }
+        ensures payload { payload_of (packet_now self.now sender.now to) ≡
+            map (byte_of to.law) (mixed_now self.now sender.now) }
     {
         let media = self.media.as_slice();
         let ssrc = self.config.ssrc.wrapping_add(sender.number);
@@ -540,8 +563,8 @@ impl Engine {
         address_last(outbox, from, Peer { address, port }, header);
     }
 
-    /// Puts a packet with the payload of what a member is sent: itself in a loopback, else all that flow to it. Its header
-    /// and its addresses are to come.
+    /// Puts a packet with the payload of what a member is sent: itself in a loopback, else all that flow to it. Its
+    /// header and its addresses are to come.
     fn put_payload(&mut self, sender: &Record, law: Law, outbox: &mut Outbox)
         requires member { record_at self.old.rooms sender.now.number ≡ Some sender.now }
         requires sends { IsTrue (sends sender.now.mode) }
@@ -564,15 +587,17 @@ impl Engine {
         }
     }
 
-    /// Puts a packet with the payload of what a member on a place hears. Who hears the same, by the same law, has the same
-    /// payload, which is made once.
+    /// Puts a packet with the payload of what a member on a place hears. Who hears the same, by the same law, has the
+    /// same payload, which is made once.
     fn put_heard(&mut self, listener: &Record, place: Place, law: Law, outbox: &mut Outbox)
         requires place { IsOnPlace self.old.rooms listener.now.number listener.now place }
         requires listens { IsTrue (listens listener.now.mode) }
         requires room { length outbox.old.items < TERMINATIONS }
         requires shared { AreShared self.old outbox.old.items }
-        ensures put { IsPut outbox.old.items outbox.new.items (map (byte_of law) (map (λ i. nearest_sample (heard_now self.old listener.now i)) (range_with_len 0 160))) }
-        ensures shared { (sent : Datagram) → payload_of sent ≡ map (byte_of law) (map (λ i. nearest_sample (heard_now self.old listener.now i)) (range_with_len 0 160)) →
+        ensures put { IsPut outbox.old.items outbox.new.items
+            (map (byte_of law) (map (λ i. nearest_sample (heard_now self.old listener.now i)) (range_with_len 0 160))) }
+        ensures shared { (sent : Datagram) → payload_of sent ≡
+            map (byte_of law) (map (λ i. nearest_sample (heard_now self.old listener.now i)) (range_with_len 0 160)) →
             AreShared self.new (outbox.old.items ++ sent ∷ []) }
         ensures same { self.new ≡ with_mixes self.old self.new.sums.work self.new.shares }
         ensures work { RisesAtMost (1 + silenced_now self.old listener.now) self.old.sums.work self.new.sums.work }
@@ -599,7 +624,8 @@ impl Engine {
     fn mix(&mut self, listener: &Record, place: Place, law: Law) -> [u8; SAMPLES]
         requires place { IsOnPlace self.old.rooms listener.now.number listener.now place }
         requires listens { IsTrue (listens listener.now.mode) }
-        ensures value { result ≡ map (byte_of law) (map (λ i. nearest_sample (heard_now self.old listener.now i)) (range_with_len 0 160)) }
+        ensures value { result ≡ map (byte_of law)
+            (map (λ i. nearest_sample (heard_now self.old listener.now i)) (range_with_len 0 160)) }
         ensures same { self.new ≡ with_mixes self.old self.new.sums.work self.old.shares }
         ensures work { RisesAtMost (1 + silenced_now self.old listener.now) self.old.sums.work self.new.sums.work }
     {
@@ -622,7 +648,8 @@ fn fill(engine: &mut Engine, count: usize, outbox: &mut Outbox)
     requires unshared { engine.old.shares ≡ replicate context_limit [] }
     ensures value { outbox.new.items ≡ packets_now engine.old }
     ensures same { engine.new ≡ with_mixes engine.old engine.new.sums.work engine.new.shares }
-    ensures work { RisesAtMost (sum_by (sending_work_now engine.old) engine.old.rooms.terminations) engine.old.sums.work engine.new.sums.work }
+    ensures work { RisesAtMost (sum_by (sending_work_now engine.old) engine.old.rooms.terminations)
+        engine.old.sums.work engine.new.sums.work }
 {
     for i in 0..count {
         let slot = engine.held_at(i);
@@ -657,7 +684,8 @@ fn play_slots(held: &[u8], media: &mut Vec<Media>, sums: &mut Sums) -> usize
     requires few { length media.old.items ≤ TERMINATIONS }
     requires apart { AreApart held.now }
     ensures long { length media.new.items ≡ length media.old.items }
-    ensures each { EachIndex held.now (λ i. IsPlayed media.old.items media.new.items sums.new.frames (slice_index_or held.now i 0)) }
+    ensures each { EachIndex held.now (λ i. IsPlayed media.old.items media.new.items sums.new.frames
+        (slice_index_or held.now i 0)) }
     ensures concealed { result ≡ count_by (λ slot. is_concealing (media_at media.old.items slot)) held.now }
     ensures rooms { sums.new.rooms ≡ sums.old.rooms }
     ensures work { RisesAtMost (2 * length held.now) sums.old.work sums.new.work }
@@ -682,7 +710,8 @@ fn sends_in(rooms: &Rooms, slot: u8) -> bool
 /// Ends a tick of the termination that holds a slot, in which it has sent a packet if it sends.
 fn end_slot(rooms: &Rooms, media: &mut Vec<Media>, slot: u8)
     requires slot { slot < length media.old.items }
-    ensures value { media.new.items ≡ slice_set media.old.items slot (ended (slot_sends rooms.now slot) (media_at media.old.items slot)) }
+    ensures value { media.new.items ≡ slice_set media.old.items slot
+        (ended (slot_sends rooms.now slot) (media_at media.old.items slot)) }
 {
     let is_sent = sends_in(rooms, slot);
     media[usize::from(slot)].end_tick(is_sent);
@@ -693,7 +722,8 @@ fn end_slots(rooms: &Rooms, held: &[u8], media: &mut Vec<Media>)
     requires slots { EachIndex held.now (λ i. slice_index_or held.now i 0 < length media.old.items) }
     requires apart { AreApart held.now }
     ensures long { length media.new.items ≡ length media.old.items }
-    ensures each { EachIndex held.now (λ i. IsEnded rooms.now media.old.items media.new.items (slice_index_or held.now i 0)) }
+    ensures each { EachIndex held.now (λ i. IsEnded rooms.now media.old.items media.new.items
+        (slice_index_or held.now i 0)) }
 {
     for slot in held {
         end_slot(rooms, media, *slot);
@@ -736,7 +766,8 @@ fn slot_of(rooms: &Rooms, number: u32) -> Option<u8>
 /// Sets the depth of the play list of a slot, where a command names one.
 fn tune(media: &mut Vec<Media>, slot: u8, depth: Option<u16>)
     requires slot { slot < length media.old.items }
-    ensures tuned { media.new.items ≡ slice_set media.old.items slot (tuned_media depth (media_at media.old.items slot)) }
+    ensures tuned { media.new.items ≡ slice_set media.old.items slot
+        (tuned_media depth (media_at media.old.items slot)) }
 {
     media[usize::from(slot)].tune(depth);
 }

@@ -40,7 +40,8 @@ pub fn nobody_hears_himself()
 {}
 
 /// An isolated participant isn't heard: after an Isolate on two, until one of them enters a context or another triple
-/// speaks of the two, the speech of neither goes to the other, and the packets to one are the same whatever the other says.
+/// speaks of the two, the speech of neither goes to the other, and the packets to one are the same whatever the other
+/// says.
 pub fn isolated_are_not_heard()
     ensures flow { IsolatedAreNotHeard }
     ensures packets { UnheardChangesNoPacket }
@@ -64,9 +65,11 @@ pub fn worlds_are_consistent()
         IsConsistent (start_of config).rooms }
     ensures add { (w next : Gateway) (target : Target) (settings : Settings) (r : Record) → IsConsistent w.rooms →
         add w target settings ≡ Ok (next, r) → IsConsistent next.rooms }
-    ensures modify { (w next : Gateway) (target : Target) (n : ℕ) (settings : Settings) (r : Record) → IsConsistent w.rooms →
+    ensures modify { (w next : Gateway) (target : Target) (n : ℕ) (settings : Settings) (r : Record) →
+        IsConsistent w.rooms →
         modify w target n settings ≡ Ok (next, r) → IsConsistent next.rooms }
-    ensures move_to { (w next : Gateway) (target : Target) (n : ℕ) (settings : Settings) (r : Record) → IsConsistent w.rooms →
+    ensures move_to { (w next : Gateway) (target : Target) (n : ℕ) (settings : Settings) (r : Record) →
+        IsConsistent w.rooms →
         move_to w target n settings ≡ Ok (next, r) → IsConsistent next.rooms }
     ensures subtract { (w next : Gateway) (target : Target) (n : ℕ) (r : Record) → IsConsistent w.rooms →
         subtract w target n ≡ Ok (next, r) → IsConsistent next.rooms }
@@ -78,15 +81,15 @@ pub fn worlds_are_consistent()
     mg_rooms::laws::outcomes_are_consistent();
 }
 
-/// Which of two RTP datagrams came first makes no difference where they came to two ports: the same becomes of each, and
-/// of the gateway.
+/// Which of two RTP datagrams came first makes no difference where they came to two ports: the same becomes of each,
+/// and of the gateway.
 pub fn order_of_ports_is_nothing()
     ensures law { OrderOfTwoIsNothing }
 {}
 
-/// An edit leaves the other contexts alone, and so does an RTP datagram: the members and their order, the record and the
-/// media of each, who of them hears whom, what flows between them, and the total. An edit is about the action's context and
-/// that of the termination that it names, a datagram about that of the termination that has its port.
+/// An edit leaves the other contexts alone, and so does an RTP datagram: the members and their order, the record and
+/// the media of each, who of them hears whom, what flows between them, and the total. An edit is about the action's
+/// context and that of the termination that it names, a datagram about that of the termination that has its port.
 pub fn other_contexts_are_left_alone()
     ensures edits { EditsLeaveOthersAlone }
     ensures media { DatagramsLeaveOthersAlone }
@@ -94,9 +97,9 @@ pub fn other_contexts_are_left_alone()
     mg_rooms::laws::what_is_consistent_is_sound();
 }
 
-/// Two gateways that agree outside some terminations do so after the same edit, after the same RTP datagram, after an RTP
-/// datagram at a port of one of these terminations that came to one of the gateways alone, and after a tick. The counters of
-/// each termination are the same in both, but for what was received.
+/// Two gateways that agree outside some terminations do so after the same edit, after the same RTP datagram, after an
+/// RTP datagram at a port of one of these terminations that came to one of the gateways alone, and after a tick. The
+/// counters of each termination are the same in both, but for what was received.
 pub fn agreement_lasts()
     ensures edits { SameEditsKeepAgreement }
     ensures media { SameArrivalKeepsAgreement }
@@ -108,8 +111,8 @@ pub fn agreement_lasts()
     one_reading(b"");
 }
 
-/// A packet is a function of what its listener hears and of where its packets stand. So in a tick two gateways that agree
-/// outside some terminations send the same packet, byte for byte, to each that hears none of these.
+/// A packet is a function of what its listener hears and of where its packets stand. So in a tick two gateways that
+/// agree outside some terminations send the same packet, byte for byte, to each that hears none of these.
 pub fn packets_are_of_what_is_heard()
     ensures law { PacketsAreOfWhatIsHeard }
     ensures packets { SamePackets }

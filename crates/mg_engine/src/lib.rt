@@ -9,13 +9,14 @@
 //! assert_eq!(rt; engine.rooms().members(done.context), [done.termination].as_slice());
 //! ```
 //!
-//! What an engine's tick costs grows with its terminations and packets, not with the pairs of those who hear each other.
-//! It keeps the frame of each termination and a total for each context, in [`Sums`], and counts each row of 160 samples
-//! that is added to a total, taken away from one, or written ([`Engine::work`]). A tick takes two rows for each termination
-//! that talks, whose old frame leaves the total and whose new one comes in. A packet takes one, the total without the listener itself,
-//! and one more for each talker whom the topology keeps from the listener. One in Loopback is sent its own frame, which takes none.
-//! Listeners of one context who hear the same, by the same law, share one payload. `specs/Work.antt` has the bound that
-//! each tick is proved to keep. An edit takes at most four rows, and an RTP datagram none.
+//! What an engine's tick costs grows with its terminations and packets, not with the pairs of those who hear each
+//! other. It keeps the frame of each termination and a total for each context, in [`Sums`], and counts each row of 160
+//! samples that is added to a total, taken away from one, or written ([`Engine::work`]). A tick takes two rows for each
+//! termination that talks, whose old frame leaves the total and whose new one comes in. A packet takes one, the total
+//! without the listener itself, and one more for each talker whom the topology keeps from the listener. One in Loopback
+//! is sent its own frame, which takes none. Listeners of one context who hear the same, by the same law, share one
+//! payload. `specs/Work.antt` has the bound that each tick is proved to keep. An edit takes at most four rows, and an
+//! RTP datagram none.
 //!
 //! The engine keeps no history, and what it keeps may be shorter than what it stands for. So its contracts speak of
 //! each `Gateway` (`specs/Gateway.antt`) that it stood for before a call, and say which one it stands for afterwards

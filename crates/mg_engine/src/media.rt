@@ -26,7 +26,13 @@ impl Model for Media {
 
     ghost Value = { SlotMedia };
 
-    ghost view = { λ m. record { play = m.play; stats = m.stats; timestamp = m.timestamp; sequence = m.sequence; is_sending = m.is_sending } };
+    ghost view = { λ m. record {
+      play = m.play;
+      stats = m.stats;
+      timestamp = m.timestamp;
+      sequence = m.sequence;
+      is_sending = m.is_sending;
+    } };
 }
 
 impl Media {

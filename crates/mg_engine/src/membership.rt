@@ -44,7 +44,8 @@ pub fn enter(flows: &mut FlowTable, seating: &mut Seating, sums: &mut Sums, memb
     requires free { IsFalse (table.holds flows.old (member_place member)) }
     ensures entered { Enters flows.old flows.new (member_place member) member.record.mode }
     ensures seated { seating.new ≡ slice_set seating.old (index_of (member_place member)) member.record.slot }
-    ensures joined { SetsRow sums.old.rooms sums.new.rooms member.record.slot (room_for member.record.mode member.room) }
+    ensures joined { SetsRow sums.old.rooms sums.new.rooms member.record.slot
+        (room_for member.record.mode member.room) }
     ensures rows { length sums.new.rooms ≡ termination_limit }
     ensures frames { sums.new.frames ≡ sums.old.frames }
     ensures work { RisesAtMost 2 sums.old.work sums.new.work }
@@ -70,7 +71,8 @@ pub fn take_mode(flows: &mut FlowTable, sums: &mut Sums, member: Member)
     requires slot { member.record.slot < termination_limit }
     requires held { IsTrue (table.holds flows.old (member_place member)) }
     ensures taken { TakesMode flows.old flows.new (member_place member) member.record.mode }
-    ensures joined { SetsRow sums.old.rooms sums.new.rooms member.record.slot (room_for member.record.mode member.room) }
+    ensures joined { SetsRow sums.old.rooms sums.new.rooms member.record.slot
+        (room_for member.record.mode member.room) }
     ensures rows { length sums.new.rooms ≡ termination_limit }
     ensures frames { sums.new.frames ≡ sums.old.frames }
     ensures work { RisesAtMost 2 sums.old.work sums.new.work }

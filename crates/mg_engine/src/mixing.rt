@@ -29,8 +29,10 @@ pub fn own_row(listener: &Record) -> Option<Row>
 /// The rows of those on some seats of a room.
 pub fn rows_on(seating: &Seating, room: u8, seats: Mask) -> ArrayVec<Row, SEATS>
     requires room { room < context_limit }
-    requires slots { (seat : ℕ) → IsTrue (has_seat seats seat) → slot_at seating.now (record { room = room; seat = seat }) < termination_limit }
-    ensures value { result.items ≡ map (λ seat. slot_at seating.now (record { room = room; seat = seat })) (seats_of seats) }
+    requires slots { (seat : ℕ) → IsTrue (has_seat seats seat) →
+        slot_at seating.now (record { room = room; seat = seat }) < termination_limit }
+    ensures value { result.items ≡ map (λ seat. slot_at seating.now (record { room = room; seat = seat }))
+        (seats_of seats) }
 {
     let mut rows = ArrayVec::new();
     for seat in mask::seats(seats) {

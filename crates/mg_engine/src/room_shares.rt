@@ -8,6 +8,9 @@ use mg_topology::mask::Mask;
 use mg_words::MEMBERS;
 use std::marker::Model;
 
+/// How many of the newest packets of a room are looked at.
+const NEWEST: usize = 8;
+
 /// The packets of one room that lend their payloads: at most one for each of its members.
 #[derive(Drop)]
 pub struct RoomShares {
@@ -40,16 +43,22 @@ impl RoomShares {
         self.shares.clear();
     }
 
-    /// A packet that lends its payload, of a law, to those who hear these seats.
+    /// A packet that lends its payload, of a law, to those who hear these seats, if there is one among the newest.
+    ///
+    /// Who talks hears what nobody else does. So a room of talkers has as many of these packets as members, and to look
+    /// at all of them for each would cost by their pairs. Those who listen alone find theirs among the newest.
     pub fn find(&self, talkers: Mask, law: Law) -> Option<u8>
         ensures found { IfSome result (λ packet. Contains self.now (record { talkers = talkers; law = law; packet = packet })) }
     {
-        packet_among(self.shares.as_slice(), talkers, law)
+        let shares = self.shares.as_slice();
+        let older = shares.len().saturating_sub(NEWEST);
+        packet_among(&shares[older..], talkers, law)
     }
 
     /// A packet lends its payload, where there is room for one more.
     pub fn put(&mut self, share: Share)
-        ensures value { self.new ≡ (if nat_lt (length self.old) member_limit then self.old ++ share ∷ [] else self.old) }
+        ensures value { self.new ≡ (if nat_lt (length self.old) member_limit then self.old ++ share ∷ [] else
+            self.old) }
     {
         if !self.shares.is_full() {
             self.shares.push(share);
@@ -59,7 +68,8 @@ impl RoomShares {
 
 /// The first of some packets whose payload is of a law and for those who hear these seats.
 fn packet_among(shares: &[Share], talkers: Mask, law: Law) -> Option<u8>
-    ensures found { IfSome result (λ packet. Contains shares.now (record { talkers = talkers; law = law; packet = packet })) }
+    ensures found { IfSome result (λ packet. Contains shares.now
+        (record { talkers = talkers; law = law; packet = packet })) }
 {
     for share in shares {
         if share.talkers == talkers && share.law == law {

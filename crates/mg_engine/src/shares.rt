@@ -50,7 +50,8 @@ impl Shares {
     /// A packet to a room that lends its payload, of a law, to those who hear these seats.
     pub fn find(&self, room: u8, talkers: Mask, law: Law) -> Option<u8>
         requires room { room < context_limit }
-        ensures found { IfSome result (λ packet. Contains (shares_in self.now room) (record { talkers = talkers; law = law; packet = packet })) }
+        ensures found { IfSome result (λ packet. Contains (shares_in self.now room)
+            (record { talkers = talkers; law = law; packet = packet })) }
     {
         self.rooms[usize::from(room)].find(talkers, law)
     }

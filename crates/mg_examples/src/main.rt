@@ -1,5 +1,5 @@
-//! Runs each script of the examples and of the rules on a new gateway, and tells whether what it writes is the output that is
-//! stored beside it.
+//! Runs each script of the examples and of the rules on a new gateway, and tells whether what it writes is the output
+//! that is stored beside it.
 #![tactic(auto)]
 
 use anyhow::{Result, anyhow};

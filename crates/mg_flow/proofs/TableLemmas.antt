@@ -27,7 +27,8 @@ room_at-other : (table : List Room) (i k : ℕ) (r : Room) → k ≢ i → room_
 room_at-other table i k r apart = rw get_or-set_other
 
 -- a room as the code reads it
-room_at-read : (table : List Room) (i : ℕ) (room : Room) → i < length table → room ≡ get_or table i room → room ≡ room_at table i
+room_at-read : (table : List Room) (i : ℕ) (room : Room) → i < length table → room ≡ get_or table i room →
+    room ≡ room_at table i
 room_at-read table i room within is = is ∙ get_or_default table i room vacant within
 
 -- the room of the place is read, which is the i-th, and s is the place's seat
@@ -37,32 +38,44 @@ pub record IsRead (table : List Room) (place : Place) (i s : ℕ) (room : Room) 
   pub within : i < length table
   pub is : room ≡ get_or table i room
 
-found_at : {table : List Room} {place : Place} {i s : ℕ} {room : Room} → IsRead table place i s room → room ≡ room_at table i
+found_at : {table : List Room} {place : Place} {i s : ℕ} {room : Room} → IsRead table place i s room →
+    room ≡ room_at table i
 found_at {table} {place} {i} {s} {room} read = room_at-read table i room read.within read.is
 
-found : {table : List Room} {place : Place} {i s : ℕ} {room : Room} → IsRead table place i s room → room ≡ room_at table place.room
+found : {table : List Room} {place : Place} {i s : ℕ} {room : Room} → IsRead table place i s room →
+    room ≡ room_at table place.room
 found {table} read = found_at read ∙ ap (room_at table) read.number
 
 -- a place that is held is in a room of the table
-pub held_within : (table : List Room) (place : Place) (i : ℕ) → i ≡ place.room → holds table place ≡ true → i < length table
+pub held_within : (table : List Room) (place : Place) (i : ℕ) → i ≡ place.room → holds table place ≡ true →
+    i < length table
 held_within table place i number held =
     elim (cases_lt i (length table)) [
       | inl below ↦ below
       | inr above ↦
-          (let at_end : room_at table place.room ≡ vacant = ap (room_at table) (sym number) ∙ get_or-eq_default table vacant above in
+          (let at_end : room_at table place.room ≡ vacant = ap (room_at table) (sym number) ∙
+          get_or-eq_default table vacant above in
           let no_seat = and_right (nat_lt place.seat seat_limit) (has_seat 0 place.seat) (has_seat-empty place.seat) in
           let free : holds table place ≡ false = ap (λ (r : Room). kept.holds r.topology place.seat) at_end ∙ no_seat in
           absurd (both_ways _ free held))
     ]
 
 -- one seat of one room is set, in the mask that f reads
-seat_set : (f : Room → ℕ) {table : List Room} {place : Place} {i s : ℕ} {old : Room} (new : Room) (b : Bool) → IsRead table place i s old
+seat_set : (f : Room → ℕ) {table : List Room} {place : Place} {i s : ℕ} {old : Room} (new : Room) (b : Bool) →
+    IsRead table place i s old
     → ((k : ℕ) → has_seat (f new) k ≡ cond (k == s) b (has_seat (f old) k)) → (p : Place)
-    → has_seat (f (room_at (slice_set table i new) p.room)) p.seat ≡ cond (is_same_place p place) b (has_seat (f (room_at table p.room)) p.seat)
+    → has_seat (f (room_at (slice_set table i new) p.room)) p.seat ≡
+    cond (is_same_place p place) b (has_seat (f (room_at table p.room)) p.seat)
 seat_set f {table} {place} {i} {s} {old} new b read seats p =
     elim (cases_eq p.room i) [
       | inl e ↦
-          rw (eq-eqb p.room place.room (e ∙ read.number), e, room_at-own table i new read.within, ← read.seat, ← found_at read) (seats p.seat)
+          rw (
+            eq-eqb p.room place.room (e ∙ read.number),
+            e,
+            room_at-own table i new read.within,
+            ← read.seat,
+            ← found_at read,
+          ) (seats p.seat)
       | inr ne ↦
           rw (ne_eqb p.room place.room (λ e. ne (e ∙ sym read.number)), room_at-other table i p.room new ne) refl
     ]
@@ -113,8 +126,10 @@ edited table i r es es' within own quiet talkers listeners h = record {
 
 -- The old room is read, and the new one is written.
 
-pub enter_stands : {table : List Room} {place : Place} {i s : ℕ} {old new : Room} {t l : Bool} → IsRead table place i s old
-    → ((edits : List topology.Edit) → kept.StandsFor old.topology edits → kept.StandsFor new.topology (topology.Enter s ∷ edits))
+pub enter_stands : {table : List Room} {place : Place} {i s : ℕ} {old new : Room} {t l : Bool} →
+    IsRead table place i s old
+    → ((edits : List topology.Edit) → kept.StandsFor old.topology edits →
+    kept.StandsFor new.topology (topology.Enter s ∷ edits))
     → SetsSeat old new s true t l
     → (es : List Edit) → StandsFor table es → StandsFor (slice_set table i new) (Enter place t l ∷ es)
 enter_stands {table} {place} {i} {s} {old} {new} {t} {l} read edits set es h =
@@ -122,22 +137,27 @@ enter_stands {table} {place} {i} {s} {old} {new} {t} {l} read edits set es h =
     (λ x. rw (eq-eqb place.room i (sym read.number), ← read.seat) (edits (edits_in i es) (rw (found_at read) x)))
     (λ k ne. rw (ne_eqb place.room k (λ e. ne (sym e ∙ sym read.number))) refl)
     (λ p. seat_set (λ (x : Room). x.talks) new t read set.talkers p ∙ ap (cond (is_same_place p place) t) (h.talkers p))
-    (λ p. seat_set (λ (x : Room). x.listens) new l read set.listeners p ∙ ap (cond (is_same_place p place) l) (h.listeners p))
+    (λ p. seat_set (λ (x : Room). x.listens) new l read set.listeners p ∙
+    ap (cond (is_same_place p place) l) (h.listeners p))
     h
 
 pub leave_stands : {table : List Room} {place : Place} {i s : ℕ} {old new : Room} → IsRead table place i s old
-    → ((edits : List topology.Edit) → kept.StandsFor old.topology edits → kept.StandsFor new.topology (topology.Leave s ∷ edits))
+    → ((edits : List topology.Edit) → kept.StandsFor old.topology edits →
+    kept.StandsFor new.topology (topology.Leave s ∷ edits))
     → SetsSeat old new s false false false
     → (es : List Edit) → StandsFor table es → StandsFor (slice_set table i new) (Leave place ∷ es)
 leave_stands {table} {place} {i} {s} {old} {new} read edits set es h =
     edited table i new es (Leave place ∷ es) read.within
     (λ x. rw (eq-eqb place.room i (sym read.number), ← read.seat) (edits (edits_in i es) (rw (found_at read) x)))
     (λ k ne. rw (ne_eqb place.room k (λ e. ne (sym e ∙ sym read.number))) refl)
-    (λ p. seat_set (λ (x : Room). x.talks) new false read set.talkers p ∙ ap (cond (is_same_place p place) false) (h.talkers p))
-    (λ p. seat_set (λ (x : Room). x.listens) new false read set.listeners p ∙ ap (cond (is_same_place p place) false) (h.listeners p))
+    (λ p. seat_set (λ (x : Room). x.talks) new false read set.talkers p ∙
+    ap (cond (is_same_place p place) false) (h.talkers p))
+    (λ p. seat_set (λ (x : Room). x.listens) new false read set.listeners p ∙
+    ap (cond (is_same_place p place) false) (h.listeners p))
     h
 
-pub mode_stands : {table : List Room} {place : Place} {i s : ℕ} {old new : Room} {t l : Bool} → IsRead table place i s old
+pub mode_stands : {table : List Room} {place : Place} {i s : ℕ} {old new : Room} {t l : Bool} →
+    IsRead table place i s old
     → new.topology ≡ old.topology → SetsSeat old new s true t l
     → (es : List Edit) → StandsFor table es → StandsFor (slice_set table i new) (SetMode place t l ∷ es)
 mode_stands {table} {place} {i} {s} {old} {new} {t} {l} read same set es h =
@@ -145,7 +165,8 @@ mode_stands {table} {place} {i} {s} {old} {new} {t} {l} read same set es h =
     (λ x. rw (same, found_at read) x)
     (λ k ne. refl)
     (λ p. seat_set (λ (x : Room). x.talks) new t read set.talkers p ∙ ap (cond (is_same_place p place) t) (h.talkers p))
-    (λ p. seat_set (λ (x : Room). x.listens) new l read set.listeners p ∙ ap (cond (is_same_place p place) l) (h.listeners p))
+    (λ p. seat_set (λ (x : Room). x.listens) new l read set.listeners p ∙
+    ap (cond (is_same_place p place) l) (h.listeners p))
     h
 
 -- ---- triples in order
@@ -155,7 +176,8 @@ pub own_triples : (room : ℕ) (triples : List Triple) (es : List Edit)
 own_triples room [] es = refl
 own_triples room (triple ∷ triples) es =
     own_triples room triples (Apply room triple ∷ es)
-    ∙ ap (λ x. topology.apply_all triples (cond x (topology.Apply triple ∷ edits_in room es) (edits_in room es))) (eq-eqb room room refl)
+    ∙ ap (λ x. topology.apply_all triples (cond x (topology.Apply triple ∷ edits_in room es) (edits_in room es)))
+    (eq-eqb room room refl)
 
 other_triples : (room k : ℕ) (triples : List Triple) (es : List Edit)
     → k ≢ room → edits_in k (apply_all room triples es) ≡ edits_in k es
@@ -174,7 +196,8 @@ listens_in-triples : (room : ℕ) (triples : List Triple) (es : List Edit) (p : 
 listens_in-triples room [] es p = refl
 listens_in-triples room (triple ∷ triples) es p = listens_in-triples room triples (Apply room triple ∷ es) p
 
-seat_kept : (f : Room → ℕ) (table : List Room) (i : ℕ) (r : Room) (p : Place) → i < length table → f r ≡ f (room_at table i)
+seat_kept : (f : Room → ℕ) (table : List Room) (i : ℕ) (r : Room) (p : Place) → i < length table →
+    f r ≡ f (room_at table i)
     → has_seat (f (room_at (slice_set table i r) p.room)) p.seat ≡ has_seat (f (room_at table p.room)) p.seat
 seat_kept f table i r p within same =
     elim (cases_eq p.room i) [
@@ -182,8 +205,10 @@ seat_kept f table i r p within same =
       | inr ne ↦ rw (room_at-other table i p.room r ne) refl
     ]
 
-pub triples_stand : (table : List Room) (room i : ℕ) (triples : List Triple) (old new : Room) → i ≡ room → i < length table → old ≡ get_or table i old
-    → ((edits : List topology.Edit) → kept.StandsFor old.topology edits → kept.StandsFor new.topology (topology.apply_all triples edits))
+pub triples_stand : (table : List Room) (room i : ℕ) (triples : List Triple) (old new : Room) → i ≡ room →
+    i < length table → old ≡ get_or table i old
+    → ((edits : List topology.Edit) → kept.StandsFor old.topology edits →
+    kept.StandsFor new.topology (topology.apply_all triples edits))
     → new.talks ≡ old.talks → new.listens ≡ old.listens
     → (es : List Edit) → StandsFor table es → StandsFor (slice_set table i new) (apply_all room triples es)
 triples_stand table room i triples old new number within is edits talkers listeners es h =
@@ -191,14 +216,17 @@ triples_stand table room i triples old new number within is edits talkers listen
     rw (← number) (edited table i new es (apply_all i triples es) within
     (λ x. rw (own_triples i triples es) (edits (edits_in i es) (rw here x)))
     (λ k ne. other_triples i k triples es ne)
-    (λ p. seat_kept (λ (x : Room). x.talks) table i new p within (rw (← here) talkers) ∙ h.talkers p ∙ sym (talks_in-triples i triples es p))
-    (λ p. seat_kept (λ (x : Room). x.listens) table i new p within (rw (← here) listeners) ∙ h.listeners p ∙ sym (listens_in-triples i triples es p))
+    (λ p. seat_kept (λ (x : Room). x.talks) table i new p within (rw (← here) talkers) ∙ h.talkers p ∙
+    sym (talks_in-triples i triples es p))
+    (λ p. seat_kept (λ (x : Room). x.listens) table i new p within (rw (← here) listeners) ∙ h.listeners p ∙
+    sym (listens_in-triples i triples es p))
     h)
 
 -- ---- there is a list of edits after each edit
 
 pub IsTable-edited : (table : List Room) (i : ℕ) (new : Room) (edit : List Edit → List Edit)
-    → ((es : List Edit) → StandsFor table es → StandsFor (slice_set table i new) (edit es)) → IsTable table → IsTable (slice_set table i new)
+    → ((es : List Edit) → StandsFor table es → StandsFor (slice_set table i new) (edit es)) → IsTable table →
+    IsTable (slice_set table i new)
 IsTable-edited table i new edit stands h = record {
   rooms = length-set table i new ∙ h.rooms;
   edits = ∥∥₁_map h.edits (λ (x : (es : List Edit) × StandsFor table es). (edit x.0, stands x.0 x.1));
@@ -216,12 +244,15 @@ same_stands table i old new within is same es h =
     (λ p. seat_kept (λ (x : Room). x.listens) table i new p within (ap (λ (x : Room). x.listens) here) ∙ h.listeners p)
     h
 
-pub IsTable-tried : (result : Result (Unit {0}) Overlap) (table : List Room) (i : ℕ) (old new : Room) (edit : List Edit → List Edit)
+pub IsTable-tried : (result : Result (Unit {0}) Overlap) (table : List Room) (i : ℕ) (old new : Room)
+    (edit : List Edit → List Edit)
     → i < length table → old ≡ get_or table i old
-    → OnOk result ((es : List Edit) → StandsFor table es → StandsFor (slice_set table i new) (edit es)) → OnErr result (new ≡ old)
+    → OnOk result ((es : List Edit) → StandsFor table es → StandsFor (slice_set table i new) (edit es)) →
+    OnErr result (new ≡ old)
     → IsTable table → IsTable (slice_set table i new)
 IsTable-tried (Ok u) table i old new edit within is ok err h = IsTable-edited table i new edit ok h
-IsTable-tried (Err e) table i old new edit within is ok err h = IsTable-edited table i new (λ es. es) (same_stands table i old new within is err) h
+IsTable-tried (Err e) table i old new edit within is ok err h =
+    IsTable-edited table i new (λ es. es) (same_stands table i old new within is err) h
 
 -- ---- what a table tells
 
@@ -240,7 +271,12 @@ not_both false w = refl
 pub is_silenced-stands : (table : List Room) (es : List Edit) (t l : Place) → StandsFor table es
     → is_silenced table t l ≡ is_silenced_in es t l
 is_silenced-stands table es t l h =
-    rw (h.talkers t, hears-stands table es t l h, (h.topologies t.room).seats t.seat, (h.topologies l.room).seats l.seat)
+    rw (
+      h.talkers t,
+      hears-stands table es t l h,
+      (h.topologies t.room).seats t.seat,
+      (h.topologies l.room).seats l.seat,
+    )
     (ap (λ x. talks_in es t && x) (not_both (are_together (is_held es) t l) (lets_hear es t l)))
 
 -- what the masks of a room that is read tell of a place, as the table tells it

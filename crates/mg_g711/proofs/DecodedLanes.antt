@@ -17,7 +17,8 @@ small_fits n h = let small : n < 32768 = grind (arith, nat_tests) in omega (arit
 
 -- A magnitude with its sign: turned bytes from 128 on are negative.
 abbrev with_sign : ℕ → ℕ → ℤ
-with_sign turned magnitude = to_z w16 (cond (top 15 (cond (ltb turned 128) 65535 0)) magnitude (magnitude * 65535 % 65536))
+with_sign turned magnitude = to_z w16 (cond (top 15 (cond (ltb turned 128) 65535 0)) magnitude
+    (magnitude * 65535 % 65536))
 
 -- Mu-law.
 abbrev pub mu_factors : List ℕ
@@ -27,7 +28,8 @@ abbrev mu_exponent : ℕ → ℕ
 mu_exponent b = bit_and (bit_xor b 255 / 16) 7
 
 abbrev mu_magnitude : ℕ → ℕ
-mu_magnitude b = ((bit_and (bit_xor b 255) 15 * 8 % 256 + 132) % 256 * get_or mu_factors (mu_exponent b) 0 % 65536 + 65404) % 65536
+mu_magnitude b = ((bit_and (bit_xor b 255) 15 * 8 % 256 + 132) % 256 * get_or mu_factors (mu_exponent b) 0 % 65536 +
+    65404) % 65536
 
 abbrev mu_sample : ℕ → ℤ
 mu_sample b = with_sign (bit_xor b 255) (mu_magnitude b)
@@ -40,7 +42,8 @@ mu_magnitude_fits b h = small_fits (mu_magnitude b) (holds_below (λ i. nat_lt (
 
 pub mu_sample_is : (b : ℕ) → b < 256 → mu_sample b ≡ sample_of Mu b
 unfolding sample_of
-mu_sample_is b h = (Decides-int_eq (mu_sample b) (sample_of Mu b)).0 (holds_below (λ i. int_eq (mu_sample i) (sample_of Mu i)) 256 refl b h)
+mu_sample_is b h = (Decides-int_eq (mu_sample b) (sample_of Mu b)).0
+    (holds_below (λ i. int_eq (mu_sample i) (sample_of Mu i)) 256 refl b h)
 
 -- A-law.
 abbrev pub a_factors : List ℕ
@@ -53,7 +56,8 @@ abbrev a_exponent : ℕ → ℕ
 a_exponent b = bit_and (bit_xor b 213 / 16) 7
 
 abbrev a_magnitude : ℕ → ℕ
-a_magnitude b = (bit_and (bit_xor b 213) 15 * 8 % 256 + get_or a_starts (a_exponent b) 0) % 256 * get_or a_factors (a_exponent b) 0 % 65536
+a_magnitude b = (bit_and (bit_xor b 213) 15 * 8 % 256 + get_or a_starts (a_exponent b) 0) % 256 * get_or a_factors
+    (a_exponent b) 0 % 65536
 
 abbrev a_sample : ℕ → ℤ
 a_sample b = with_sign (bit_xor b 213) (a_magnitude b)
@@ -66,4 +70,5 @@ a_magnitude_fits b h = small_fits (a_magnitude b) (holds_below (λ i. nat_lt (a_
 
 pub a_sample_is : (b : ℕ) → b < 256 → a_sample b ≡ sample_of A b
 unfolding sample_of
-a_sample_is b h = (Decides-int_eq (a_sample b) (sample_of A b)).0 (holds_below (λ i. int_eq (a_sample i) (sample_of A i)) 256 refl b h)
+a_sample_is b h = (Decides-int_eq (a_sample b) (sample_of A b)).0
+    (holds_below (λ i. int_eq (a_sample i) (sample_of A i)) 256 refl b h)

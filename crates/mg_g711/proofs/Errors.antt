@@ -13,7 +13,8 @@ use Rattle.mg_g711.proofs.Levels.{LiesIn, LiesIn-level_of, level_of_lies}
 use Rattle.mg_g711.proofs.Quantized.{quantized_is}
 
 -- The error is the difference of two magnitudes, since the sign is kept.
-signed_apart : (is_negative : Bool) (m n : ℕ) → unsigned_abs (signed is_negative m -ℤ signed is_negative n) ≡ (m - n) + (n - m)
+signed_apart : (is_negative : Bool) (m n : ℕ) →
+    unsigned_abs (signed is_negative m -ℤ signed is_negative n) ≡ (m - n) + (n - m)
 signed_apart true m n = omega (arith, ints)
 signed_apart false m n = omega (arith, ints)
 
@@ -21,7 +22,8 @@ signed_abs : (v : ℤ) → signed (int_lt v (pos 0)) (unsigned_abs v) ≡ v
 signed_abs (pos n) = let above : nat_lt n 0 ≡ false = le-ltb n 0 (omega arith) in rw above
 signed_abs (negsuc n) = refl
 
-error_is : (law : Law) (v : ℤ) (k : ℕ) → level_of law (unsigned_abs v) ≡ k → error_of law v ≡ (unsigned_abs v - magnitude_of law k) + (magnitude_of law k - unsigned_abs v)
+error_is : (law : Law) (v : ℤ) (k : ℕ) → level_of law (unsigned_abs v) ≡ k →
+    error_of law v ≡ (unsigned_abs v - magnitude_of law k) + (magnitude_of law k - unsigned_abs v)
 error_is law v k is =
     let s : Bool = int_lt v (pos 0) in
     ap (λ (x : ℤ). unsigned_abs (x -ℤ quantized_of law v)) (sym (signed_abs v))
@@ -48,12 +50,21 @@ pub record IsCentred (law : Law) (k : ℕ) : Type 0 where
   pub narrow : half_step_of law k ≤ 512
   pub middle : 1 ≤ k → least_of law k + half_step_of law k ≡ magnitude_of law k
 
-centred_parts : (k next least value half : ℕ) → nat_eq next (value + half) && (nat_le value (least + half) && (nat_le half 512 && (nat_eq k 0 || nat_eq (least + half) value))) ≡ true → (next ≡ value + half) × (value ≤ least + half) × (half ≤ 512) × (1 ≤ k → least + half ≡ value)
-centred_parts k next least value half h = (grind (arith, nat_tests), grind (arith, nat_tests), grind (arith, nat_tests), λ l. grind (arith, nat_tests))
+centred_parts : (k next least value half : ℕ) →
+    nat_eq next (value + half) && (nat_le value (least + half) &&
+    (nat_le half 512 && (nat_eq k 0 || nat_eq (least + half) value))) ≡ true → (next ≡ value + half) ×
+    (value ≤ least + half) × (half ≤ 512) × (1 ≤ k → least + half ≡ value)
+centred_parts k next least value half h = (
+  grind (arith, nat_tests),
+  grind (arith, nat_tests),
+  grind (arith, nat_tests),
+  λ l. grind (arith, nat_tests),
+)
 
 pub centred : (law : Law) (k : ℕ) → k ≤ 127 → IsCentred law k
 centred law k h =
-    let parts = centred_parts k (least_of law (suc k)) (least_of law k) (magnitude_of law k) (half_step_of law k) (holds_below (is_centred law) 128 (centred_all law) k (omega arith)) in
+    let parts = centred_parts k (least_of law (suc k)) (least_of law k) (magnitude_of law k) (half_step_of law k)
+    (holds_below (is_centred law) 128 (centred_all law) k (omega arith)) in
     record { to = parts.0; from = parts.1; narrow = parts.2; middle = parts.3 }
 
 end_is : (law : Law) → end_of law ≡ least_of law 128
@@ -64,7 +75,8 @@ last_below_end : (law : Law) → least_of law 127 ≤ end_of law
 last_below_end Mu = omega arith
 last_below_end A = omega arith
 
-pub near : (law : Law) (v : ℤ) → unsigned_abs v ≤ end_of law → error_of law v ≤ half_step_of law (level_of law (unsigned_abs v))
+pub near : (law : Law) (v : ℤ) → unsigned_abs v ≤ end_of law →
+    error_of law v ≤ half_step_of law (level_of law (unsigned_abs v))
 near law v within =
     let n : ℕ = unsigned_abs v in
     let k : ℕ = level_of law n in
@@ -80,7 +92,11 @@ near law v within =
 pub clipped : (law : Law) (v : ℤ) → end_of law ≤ unsigned_abs v → error_of law v + magnitude_of law 127 ≡ unsigned_abs v
 clipped law v past =
     let n : ℕ = unsigned_abs v in
-    let lies : LiesIn law n 127 = record { small = omega arith; from = omega (arith, last_below_end law, past); to = λ h. absurd (omega arith) } in
+    let lies : LiesIn law n 127 = record {
+      small = omega arith;
+      from = omega (arith, last_below_end law, past);
+      to = λ h. absurd (omega arith);
+    } in
     let apart = error_is law v 127 (LiesIn-level_of law n 127 lies) in
     let mid : IsCentred law 127 = centred law 127 (omega arith) in
     omega (arith, apart, mid.to, end_is law, past)

@@ -46,4 +46,5 @@ all_fit Mu = refl
 all_fit A = refl
 
 pub decoded_fits : (law : Law) (b : ℕ) → b < 256 → FitsSigned w16 (sample_of law b)
-decoded_fits law b h = fits_by_size (sample_of law b) (holds_below (λ i. nat_lt (unsigned_abs (sample_of law i)) 32768) 256 (all_fit law) b h)
+decoded_fits law b h = fits_by_size (sample_of law b)
+    (holds_below (λ i. nat_lt (unsigned_abs (sample_of law i)) 32768) 256 (all_fit law) b h)

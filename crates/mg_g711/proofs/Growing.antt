@@ -11,7 +11,10 @@ pub record GrowsUpTo (n : ℕ) (f : ℕ → ℕ) : Type 0 where
   pub step : (k : ℕ) → k < n → f k < f (suc k)
 
 pub GrowsUpTo-tested : (n : ℕ) (f : ℕ → ℕ) → each_below (λ k. nat_lt (f k) (f (suc k))) n ≡ true → GrowsUpTo n f
-GrowsUpTo-tested n f h = record { step = λ k l. ltb-true (f k) (f (suc k)) (holds_below (λ i. nat_lt (f i) (f (suc i))) n h k l) }
+GrowsUpTo-tested n f h = record {
+  step = λ k l. ltb-true (f k) (f (suc k))
+      (holds_below (λ i. nat_lt (f i) (f (suc i))) n h k l);
+}
 
 pub grows : (n : ℕ) (f : ℕ → ℕ) → GrowsUpTo n f → (j k : ℕ) → j ≤ k → k ≤ n → f j ≤ f k
 grows n f up j zero h l = let same : j ≡ 0 = omega arith in subst (λ (i : ℕ). f j ≤ f i) same (omega arith)
@@ -50,22 +53,30 @@ last_within f v (suc n) low =
     ]
 
 -- One number more at the front of a range.
-count_step : (b : Bool) (x v k n a rest : ℕ) → ((b ≡ true) × (x ≤ v)) ⊎ ((b ≡ false) × (v < x)) → (a ≤ k → x ≤ v) → (k < a → v < x) → rest + (a + 1) ≡ max (a + 1) (min (k + 1) (a + 1 + n)) → cond b 1 0 + rest + a ≡ max a (min (k + 1) (a + suc n))
+count_step : (b : Bool) (x v k n a rest : ℕ) → ((b ≡ true) × (x ≤ v)) ⊎ ((b ≡ false) × (v < x)) → (a ≤ k → x ≤ v) →
+    (k < a → v < x) → rest + (a + 1) ≡ max (a + 1) (min (k + 1) (a + 1 + n)) →
+    cond b 1 0 + rest + a ≡ max a (min (k + 1) (a + suc n))
 count_step b x v k n a rest tells below above e = grind arith
 
 -- Of a range, the numbers at which f is at most v, where these are the numbers up to k.
-count_split : (f : ℕ → ℕ) (v k n a : ℕ) → ((j : ℕ) → j ≤ k → f j ≤ v) → ((j : ℕ) → k < j → j < a + n → v < f j) → count_by (λ j. nat_le (f j) v) (range_with_len a n) + a ≡ max a (min (k + 1) (a + n))
+count_split : (f : ℕ → ℕ) (v k n a : ℕ) → ((j : ℕ) → j ≤ k → f j ≤ v) → ((j : ℕ) → k < j → j < a + n → v < f j) →
+    count_by (λ j. nat_le (f j) v) (range_with_len a n) + a ≡ max a (min (k + 1) (a + n))
 count_split f v k zero a below above = omega arith
 count_split f v k (suc n) a below above =
-    let rest : count_by (λ j. nat_le (f j) v) (range_with_len (a + 1) n) + (a + 1) ≡ max (a + 1) (min (k + 1) (a + 1 + n)) = count_split f v k n (a + 1) below (λ j h l. above j h (omega arith)) in
+    let rest : count_by (λ j. nat_le (f j) v) (range_with_len (a + 1) n) +
+    (a + 1) ≡ max (a + 1) (min (k + 1) (a + 1 + n)) =
+    count_split f v k n (a + 1) below (λ j h l. above j h (omega arith)) in
     rw (sum_by-cons (λ j. cond (nat_le (f j) v) 1 0) a (range_with_len (a + 1) n))
-    (count_step (nat_le (f a) v) (f a) v k n a (count_by (λ j. nat_le (f j) v) (range_with_len (a + 1) n)) (leb_tells (f a) v) (below a) (λ h. above a h (omega arith)) rest)
+    (count_step (nat_le (f a) v) (f a) v k n a (count_by (λ j. nat_le (f j) v) (range_with_len (a + 1) n))
+    (leb_tells (f a) v) (below a) (λ h. above a h (omega arith)) rest)
 
 -- How many of the numbers 1 to n have f at most v, where v lies from f at k up to f at the next.
-pub count_within : (n : ℕ) (f : ℕ → ℕ) → GrowsUpTo n f → (v k : ℕ) → k ≤ n → f k ≤ v → (k < n → v < f (suc k)) → count_by (λ j. nat_le (f j) v) (range_with_len 1 n) ≡ k
+pub count_within : (n : ℕ) (f : ℕ → ℕ) → GrowsUpTo n f → (v k : ℕ) → k ≤ n → f k ≤ v → (k < n → v < f (suc k)) →
+    count_by (λ j. nat_le (f j) v) (range_with_len 1 n) ≡ k
 count_within n f up v k small low high =
     let split : count_by (λ j. nat_le (f j) v) (range_with_len 1 n) + 1 ≡ max 1 (min (k + 1) (1 + n)) =
     count_split f v k n 1
     (λ j h. let below : f j ≤ f k = grows n f up j k h small in omega arith)
-    (λ j h l. let above : f (suc k) ≤ f j = grows n f up (suc k) j (omega arith) (omega arith) in let next : v < f (suc k) = high (omega arith) in omega arith) in
+    (λ j h l. let above : f (suc k) ≤ f j = grows n f up (suc k) j (omega arith) (omega arith) in
+    let next : v < f (suc k) = high (omega arith) in omega arith) in
     omega arith

@@ -9,7 +9,8 @@ use Rattle.mg_g711.proofs.Levels.{LiesIn, level_of_lies}
 
 -- The lines of the exponents from 1 to 7.
 abbrev upper_lines : ℕ → ℕ
-upper_lines x = min (min (min (min (min (min (x / 16) (x / 32 + 16)) (x / 64 + 32)) (x / 128 + 48)) (x / 256 + 64)) (x / 512 + 80)) (x / 1024 + 96)
+upper_lines x = min (min (min (min (min (min (x / 16) (x / 32 + 16)) (x / 64 + 32)) (x / 128 + 48)) (x / 256 + 64))
+    (x / 512 + 80)) (x / 1024 + 96)
 
 -- The least line, by each law.
 abbrev least_line : Law → ℕ → ℕ
@@ -21,10 +22,13 @@ min_grows a b c d g h = omega arith
 
 upper_lines_grows : (x y : ℕ) → x ≤ y → upper_lines x ≤ upper_lines y
 upper_lines_grows x y h =
-    min_grows _ _ _ _ (min_grows _ _ _ _ (min_grows _ _ _ _ (min_grows _ _ _ _ (min_grows _ _ _ _ (min_grows (x / 16) (x / 32 + 16) (y / 16) (y / 32 + 16) (omega arith) (omega arith)) (omega arith)) (omega arith)) (omega arith)) (omega arith)) (omega arith)
+    min_grows _ _ _ _ (min_grows _ _ _ _ (min_grows _ _ _ _
+    (min_grows _ _ _ _ (min_grows _ _ _ _ (min_grows (x / 16) (x / 32 + 16) (y / 16) (y / 32 + 16) (omega arith)
+    (omega arith)) (omega arith)) (omega arith)) (omega arith)) (omega arith)) (omega arith)
 
 least_line_grows : (law : Law) (v w : ℕ) → v ≤ w → least_line law v ≤ least_line law w
-least_line_grows Mu v w h = min_grows _ _ _ _ (omega arith) (upper_lines_grows (min (v + 132) 32767) (min (w + 132) 32767) (omega arith))
+least_line_grows Mu v w h = min_grows _ _ _ _ (omega arith)
+    (upper_lines_grows (min (v + 132) 32767) (min (w + 132) 32767) (omega arith))
 least_line_grows A v w h = upper_lines_grows (min v 32767) (min w 32767) (omega arith)
 
 least_line_small : (law : Law) (v : ℕ) → least_line law v ≤ 127
@@ -47,10 +51,12 @@ last_all Mu = refl
 last_all A = refl
 
 first_is : (law : Law) (k : ℕ) → k < 128 → least_line law (least_of law k) ≡ k
-first_is law k h = eqb-true (least_line law (least_of law k)) k (holds_below (right_at_first law) 128 (first_all law) k h)
+first_is law k h = eqb-true (least_line law (least_of law k)) k
+    (holds_below (right_at_first law) 128 (first_all law) k h)
 
 last_is : (law : Law) (k : ℕ) → k < 127 → least_line law (least_of law (suc k) - 1) ≡ k
-last_is law k h = eqb-true (least_line law (least_of law (suc k) - 1)) k (holds_below (right_at_last law) 127 (last_all law) k h)
+last_is law k h = eqb-true (least_line law (least_of law (suc k) - 1)) k
+    (holds_below (right_at_last law) 127 (last_all law) k h)
 
 -- So it is right between them, since it grows.
 right_in : (law : Law) (v k : ℕ) → LiesIn law v k → least_line law v ≡ k
@@ -60,7 +66,8 @@ right_in law v k lies =
     let top : least_line law v ≤ 127 = least_line_small law v in
     elim (cases_lt k 127) [
       | inl below ↦
-          let to : least_line law v ≤ least_line law (least_of law (suc k) - 1) = least_line_grows law v (least_of law (suc k) - 1) (let t = lies.to below in omega arith) in
+          let to : least_line law v ≤ least_line law (least_of law (suc k) - 1) =
+          least_line_grows law v (least_of law (suc k) - 1) (let t = lies.to below in omega arith) in
           let end : least_line law (least_of law (suc k) - 1) ≡ k = last_is law k below in
           omega arith
       | inr greatest ↦ omega arith

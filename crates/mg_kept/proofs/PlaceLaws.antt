@@ -12,18 +12,24 @@ use Rattle.mg_kept.specs.aids.Places.{IsFilled}
 use Rattle.mg_kept.proofs.FindLaws.{none_found, none_in_drop, fails_at}
 
 -- one more place holds a reply, to a request that the others don't answer
-pub one_more : (places : List KeptReply) (len n : ℕ) (old : List KeptReply) (reply : KeptReply) → IsFilled places len → take len places ≡ drop n old → length (take len places) < kept_limit → kept_text old reply.sender reply.number ≡ None → IsFilled (set places len reply) (len + 1)
+pub one_more : (places : List KeptReply) (len n : ℕ) (old : List KeptReply) (reply : KeptReply) →
+    IsFilled places len → take len places ≡ drop n old → length (take len places) < kept_limit →
+    kept_text old reply.sender reply.number ≡ None → IsFilled (set places len reply) (len + 1)
 one_more places len n old reply filled is room none =
     let within : len ≤ length places = omega arith in
     let count : length (take len places) ≡ len = length-take-le len places within in
     let short : len < length places = omega arith in
-    let one : take (len + 1) (set places len reply) ≡ take len places ++ reply ∷ [] = take_more_set places len reply short in
+    let one : take (len + 1) (set places len reply) ≡ take len places ++ reply ∷ [] =
+    take_more_set places len reply short in
     let absent : find (is_reply_to reply.sender reply.number) (take len places) ≡ None =
-    rw is (none_in_drop (is_reply_to reply.sender reply.number) n old (none_found old reply.sender reply.number none)) in
+    rw is (none_in_drop (is_reply_to reply.sender reply.number) n old (none_found old reply.sender reply.number none))
+    in
     record {
       many = length-set places len reply ∙ filled.many;
       within = omega arith;
-      distinct = rw one (all_pairs_push (λ older newer. is_reply_to newer.sender newer.number older ≡ false) (take len places) reply filled.distinct (λ k d lt. fails_at (is_reply_to reply.sender reply.number) (take len places) k d absent lt));
+      distinct = rw one (all_pairs_push (λ older newer. is_reply_to newer.sender newer.number older ≡ false)
+          (take len places) reply filled.distinct
+          (λ k d lt. fails_at (is_reply_to reply.sender reply.number) (take len places) k d absent lt));
     }
 
 -- a list that was written back whole
@@ -31,9 +37,12 @@ pub written_back : (n : ℕ) (xs ys : List KeptReply) → length xs ≡ n → ta
 written_back n xs ys e = rw (← e) (take-append_seam xs ys)
 
 -- those that stay stand first, and the other places are free
-pub some_stay : (places after : List KeptReply) (len stay : ℕ) (sender : List ℕ) (first last : ℕ) → IsFilled places len → length after ≡ length places → stay ≤ len → take stay after ≡ without_range sender first last (take len places) → IsFilled after stay
+pub some_stay : (places after : List KeptReply) (len stay : ℕ) (sender : List ℕ) (first last : ℕ) →
+    IsFilled places len → length after ≡ length places → stay ≤ len →
+    take stay after ≡ without_range sender first last (take len places) → IsFilled after stay
 some_stay places after len stay sender first last filled many fewer front = record {
   many = many ∙ filled.many;
   within = omega (arith, filled.within);
-  distinct = rw front (AllPairs-filter (λ older newer. is_reply_to newer.sender newer.number older ≡ false) (λ reply. not (is_in_range sender first last reply)) (take len places) filled.distinct);
+  distinct = rw front (AllPairs-filter (λ older newer. is_reply_to newer.sender newer.number older ≡ false)
+      (λ reply. not (is_in_range sender first last reply)) (take len places) filled.distinct);
 }

@@ -40,8 +40,8 @@ pub fn acknowledged_alone_is_gone()
     ensures numbers { OtherNumbersStay }
 {}
 
-/// How long a reply is kept: until as many newer ones are kept as may be, or an acknowledgement names it. Then it comes back by
-/// its own request alone.
+/// How long a reply is kept: until as many newer ones are kept as may be, or an acknowledgement names it. Then it comes
+/// back by its own request alone.
 pub fn replies_stay_while_few_are_newer()
     ensures few { FewNewerStay }
     ensures many { AsManyNewerPushOut }

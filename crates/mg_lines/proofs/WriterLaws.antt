@@ -28,9 +28,16 @@ nothing_keeps (Some a) None h = absurd h
 nothing_keeps (Some a) (Some b) h = h ∙ append-nil a
 
 -- the front of a text, and then more of it
-pub front_more : (a b c : Option (List ℕ)) (t part : List ℕ) (i n : ℕ) → i ≤ length t → part ≡ drop i t → Appends a b (take i t) → Appends b c (take n part) → Appends a c (take (i + n) t)
-front_more a b c t part i n le is h k = rw (take-add i n t) (appends_then a b c (take i t) (take n (drop i t)) h (rw is at k))
+pub front_more : (a b c : Option (List ℕ)) (t part : List ℕ) (i n : ℕ) → i ≤ length t → part ≡ drop i t →
+    Appends a b (take i t) → Appends b c (take n part) → Appends a c (take (i + n) t)
+front_more a b c t part i n le is h k = rw (take-add i n t)
+    (appends_then a b c (take i t) (take n (drop i t)) h (rw is at k))
 
 -- where a write failed, the front is there
 pub stops : (a b c : Option (List ℕ)) (t : List ℕ) (i : ℕ) → Appends a b (take i t) → Keeps b c → WritesFront t a c
-stops a b c t i h k = record { front = take i t; rest = drop i t; parts = sym (take-append-drop i t); written = appends_keeps a b c (take i t) h k }
+stops a b c t i h k = record {
+  front = take i t;
+  rest = drop i t;
+  parts = sym (take-append-drop i t);
+  written = appends_keeps a b c (take i t) h k;
+}

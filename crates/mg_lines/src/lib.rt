@@ -7,8 +7,8 @@
 //! }
 //! ```
 //!
-//! Contracts speak of readers that tell what remains of them and of writers that tell what they hold, as those over memory
-//! do. `specs/Lines.antt` says what the lines of a text are.
+//! Contracts speak of readers that tell what remains of them and of writers that tell what they hold, as those over
+//! memory do. `specs/Lines.antt` says what the lines of a text are.
 #![tactic(auto)]
 
 mod line;

@@ -25,13 +25,16 @@ digits_from (digit ∷ digits) all =
 abbrev is_below : ℕ → Text → Bool
 is_below limit digits = is_numeral digits && nat_lt (digits_value 10 digits) limit
 
-passes : (limit : ℕ) (digits : Text) → IsNumeral 10 digits → digits_value 10 digits < limit → is_below limit digits ≡ true
+passes : (limit : ℕ) (digits : Text) → IsNumeral 10 digits → digits_value 10 digits < limit →
+    is_below limit digits ≡ true
 passes limit digits numeral small =
     and_from (is_numeral digits) (nat_lt (digits_value 10 digits) limit)
-    (and_from (nat_lt 0 (length digits)) (list_all (λ d. nat_lt (digit_value d) 10) digits) (lt-ltb 0 (length digits) numeral.0) (digits_pass digits numeral.1))
+    (and_from (nat_lt 0 (length digits)) (list_all (λ d. nat_lt (digit_value d) 10) digits)
+    (lt-ltb 0 (length digits) numeral.0) (digits_pass digits numeral.1))
     (lt-ltb (digits_value 10 digits) limit small)
 
-passed : (limit : ℕ) (digits : Text) → is_below limit digits ≡ true → IsNumeral 10 digits × (digits_value 10 digits < limit)
+passed : (limit : ℕ) (digits : Text) → is_below limit digits ≡ true → IsNumeral 10 digits ×
+    (digits_value 10 digits < limit)
 passed limit digits e =
     let parts = and_parts (is_numeral digits) (nat_lt (digits_value 10 digits) limit) e in
     let numeral = and_parts (nat_lt 0 (length digits)) (list_all (λ d. nat_lt (digit_value d) 10) digits) parts.0 in
@@ -52,15 +55,19 @@ module _ (E : Type 0) (Gives : Text → Result ℕ E → Type 0) (bits limit : �
       go true is =
           let digits = without_leading_plus text in
           let both = passed limit digits is in
-          absurd (parses text (Err gives.0) gives.1 (both.0, subst (λ (most : ℕ). digits_value 10 digits < most) width both.1))
+          absurd (parses text (Err gives.0) gives.1
+          (both.0, subst (λ (most : ℕ). digits_value 10 digits < most) width both.1))
 
-  read_one : (one : Option Text) (value : Option ℕ) → (one ≡ None → value ≡ None) → ((text : Text) → one ≡ Some text → ReadsOne Gives text value)
+  read_one : (one : Option Text) (value : Option ℕ) → (one ≡ None → value ≡ None) →
+      ((text : Text) → one ≡ Some text → ReadsOne Gives text value)
       → value ≡ option_and_then (number_below limit) one
   read_one None value none some = none refl
   read_one (Some text) value none some = read_below text value (some text refl)
 
   -- what `get_one` answers is the number that the option was given
   pub given_is : (found : Found) (name : Text) (value : Option ℕ) → (one_text found name ≡ None → value ≡ None)
-      → ((text : Text) → one_text found name ≡ Some text → ReadsOne Gives text value) → value ≡ number_given limit name (rows_of found)
+      → ((text : Text) → one_text found name ≡ Some text → ReadsOne Gives text value) →
+      value ≡ number_given limit name (rows_of found)
   given_is found name value none some =
-      read_one (one_text found name) value none some ∙ ap (option_and_then (number_below limit)) (one_text-rows found name)
+      read_one (one_text found name) value none some ∙
+      ap (option_and_then (number_below limit)) (one_text-rows found name)

@@ -8,7 +8,8 @@ by_itself : asked [] ≡ run (record { ticks = 18446744073709551615; polls = 4 }
 unfolding asked command_line options_in clap_on_literals
 by_itself = refl
 
-with_both : asked (codes "--ticks" ∷ codes "3" ∷ codes "--polls" ∷ codes "2" ∷ []) ≡ run (record { ticks = 3; polls = 2 })
+with_both : asked (codes "--ticks" ∷ codes "3" ∷ codes "--polls" ∷ codes "2" ∷ []) ≡
+    run (record { ticks = 3; polls = 2 })
 unfolding asked command_line options_in clap_on_literals
 with_both = refl
 

@@ -28,7 +28,8 @@ is_local a simple =
     not_so a.global (rest (not a.last) _ last)
 
 -- an argument that is no other's matter is the last of the rules
-pub adds_rule : (old new : Command) (a : Arg) (line : App) (rule : Rule) → AddsArg old a new → app_of old ≡ line → rule_of a ≡ rule
+pub adds_rule : (old new : Command) (a : Arg) (line : App) (rule : Rule) → AddsArg old a new → app_of old ≡ line →
+    rule_of a ≡ rule
     → rule.is_simple ≡ true → app_of new ≡ with_rule line rule
 adds_rule old new a line rule added was is simple =
     added.shape (is_local a (ap (λ (r : Rule). r.is_simple) is ∙ simple)) ∙ ap₂ with_rule was is

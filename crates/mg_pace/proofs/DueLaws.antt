@@ -35,16 +35,19 @@ due_none polls =
     rw none refl
 
 module _ (p m : Pace) (t : ℕ) (step : Advances p t m) where
-  one_more : (ts : List ℕ) (q : Pace) → (q.polls ≡ m.polls) × (steps_past q ≡ max (steps_past m) (steps_due m.polls (latest ts)))
+  one_more : (ts : List ℕ) (q : Pace) → (q.polls ≡ m.polls) ×
+      (steps_past q ≡ max (steps_past m) (steps_due m.polls (latest ts)))
       → (q.polls ≡ p.polls) × (steps_past q ≡ max (steps_past p) (steps_due p.polls (max t (latest ts))))
   one_more ts q later =
-      let same : steps_due m.polls (latest ts) ≡ steps_due p.polls (latest ts) = ap (λ (n : ℕ). steps_due n (latest ts)) step.polls in
+      let same : steps_due m.polls (latest ts) ≡ steps_due p.polls (latest ts) =
+      ap (λ (n : ℕ). steps_due n (latest ts)) step.polls in
       (later.0 ∙ step.polls, omega (arith, later.1, same, step.all, due_latest p.polls t (latest ts)))
 
 none_more : (p : Pace) → (p.polls ≡ p.polls) × (steps_past p ≡ max (steps_past p) (steps_due p.polls (latest [])))
 none_more p = (refl, omega (arith, due_none p.polls))
 
-all_counted : (p : Pace) (ts ds : List ℕ) (q : Pace) → Paces p ts ds q → (q.polls ≡ p.polls) × (steps_past q ≡ max (steps_past p) (steps_due p.polls (latest ts)))
+all_counted : (p : Pace) (ts ds : List ℕ) (q : Pace) → Paces p ts ds q → (q.polls ≡ p.polls) ×
+    (steps_past q ≡ max (steps_past p) (steps_due p.polls (latest ts)))
 all_counted p [] [] q is = (ap (λ (x : Pace). x.polls) is, ap steps_past is ∙ omega (arith, due_none p.polls))
 all_counted p [] (d ∷ ds) q run = absurd run
 all_counted p (t ∷ []) [] q step = one_more p q t step [] q (none_more q)
@@ -52,7 +55,8 @@ all_counted p (t ∷ u ∷ ts) [] q run = absurd run
 all_counted p (t ∷ []) (d ∷ ds) q run = one_more p run.0 t run.1 [] q (all_counted run.0 [] ds q run.3)
 all_counted p (t ∷ u ∷ ts) (d ∷ ds) q run = one_more p run.0 t run.1 (u ∷ ts) q (all_counted run.0 (u ∷ ts) ds q run.3)
 
-all_due : (polls : ℕ) (ts ds : List ℕ) (q : Pace) → Paces (start polls) ts ds q → (q.polls ≡ polls) × (q.steps + q.left * polls ≡ steps_due polls (latest ts))
+all_due : (polls : ℕ) (ts ds : List ℕ) (q : Pace) → Paces (start polls) ts ds q → (q.polls ≡ polls) ×
+    (q.steps + q.left * polls ≡ steps_due polls (latest ts))
 all_due polls ts ds q run =
     let all = all_counted (start polls) ts ds q run in
     let turned : q.polls * q.left ≡ q.left * polls = ap (λ (n : ℕ). n * q.left) all.0 ∙ omega arith in
@@ -74,7 +78,8 @@ never_early polls ts ds q some run k le =
 
 pub bounded : Bounded
 bounded p q t some step =
-    let most : q.steps / p.polls ≤ (p.steps + 50 * p.polls) / p.polls = div_grows q.steps (p.steps + 50 * p.polls) p.polls some step.few in
+    let most : q.steps / p.polls ≤ (p.steps + 50 * p.polls) / p.polls =
+    div_grows q.steps (p.steps + 50 * p.polls) p.polls some step.few in
     let sum : (p.steps + 50 * p.polls) / p.polls ≡ p.steps / p.polls + 50 = add-mul-div_right p.steps 50 some in
     let same : q.steps / q.polls ≡ q.steps / p.polls = ap (λ (n : ℕ). q.steps / n) step.polls in
     omega (arith, most, sum, same)

@@ -27,7 +27,8 @@ pub few_polls : (found : List Row) → (options_in found).polls ≤ 1000
 unfolding options_in
 few_polls found = omega arith
 
-refused_by : (kinds : Kinds) (found : List Row) (kind : ErrorKind) → (kind ≡ OutOfMemory) ⊎ IsAmong kind kinds → IsRefused (asked_by kinds found) kind
+refused_by : (kinds : Kinds) (found : List Row) (kind : ErrorKind) → (kind ≡ OutOfMemory) ⊎ IsAmong kind kinds →
+    IsRefused (asked_by kinds found) kind
 refused_by [] found kind (inl memory) = memory
 refused_by [] found kind (inr among) = absurd among
 refused_by (first ∷ kinds) found kind why = why
@@ -41,10 +42,12 @@ module _ (line : App) (words : List Text) (is : line ≡ command_line) where
   no_fault passes = ap (λ (l : App). fault_of l words) (sym is) ∙ passes simple
 
   matches_are : (m : ArgMatches) → HasMatchesOf line words m → rows_of (found_of m) ≡ matches_of command_line words
-  matches_are m matches = (matches (and_parts (is_simple line) (is_free_app (built line)) simple).0).0 ∙ ap (λ (l : App). matches_of l words) is
+  matches_are m matches = (matches (and_parts (is_simple line) (is_free_app (built line)) simple).0).0 ∙
+      ap (λ (l : App). matches_of l words) is
 
   -- matches ask for a run by their options
-  pub asks_run : (m : ArgMatches) → (is_simple_and_free line ≡ true → fault_of line words ≡ []) → HasMatchesOf line words m
+  pub asks_run : (m : ArgMatches) → (is_simple_and_free line ≡ true → fault_of line words ≡ []) →
+      HasMatchesOf line words m
       → asked words ≡ run (options_in (rows_of (found_of m)))
   unfolding asked
   asks_run m passes matches =
@@ -52,12 +55,15 @@ module _ (line : App) (words : List Text) (is : line ≡ command_line) where
       ∙ ap (λ (rows : List Row). run (options_in rows)) (sym (matches_are m matches))
 
   -- an error says why they ask for none
-  pub asks_none : (kind : ErrorKind) → (is_simple_and_free line ≡ true → (kind ≡ OutOfMemory) ⊎ IsAmong kind (fault_of line words)) → IsRefused (asked words) kind
+  pub asks_none : (kind : ErrorKind) → (is_simple_and_free line ≡ true →
+      (kind ≡ OutOfMemory) ⊎ IsAmong kind (fault_of line words)) → IsRefused (asked words) kind
   unfolding asked
-  asks_none kind fails = refused_by _ _ kind (subst (λ (l : App). (kind ≡ OutOfMemory) ⊎ IsAmong kind (fault_of l words)) is (fails simple))
+  asks_none kind fails = refused_by _ _ kind
+      (subst (λ (l : App). (kind ≡ OutOfMemory) ⊎ IsAmong kind (fault_of l words)) is (fails simple))
 
 -- an error that was passed on
-pub passed_on : {T : Type 0} (r : Result T Error) (error : Error) (Q : ErrorKind → Type 0) → IsErrAnd r (λ e. e ≡ error) → Q (kind_of error)
+pub passed_on : {T : Type 0} (r : Result T Error) (error : Error) (Q : ErrorKind → Type 0) →
+    IsErrAnd r (λ e. e ≡ error) → Q (kind_of error)
     → IfErr r (λ e. Q (kind_of e))
 passed_on (Ok value) error Q is why = tt
 passed_on (Err e) error Q is why = subst (λ (x : Error). Q (kind_of x)) (sym is) why

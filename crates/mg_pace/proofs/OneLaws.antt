@@ -32,7 +32,8 @@ one_advance p m n t a b =
     let all : m.steps + m.polls * m.left ≡ n.steps + n.polls * n.left = a.all ∙ sym b.all in
     let products : m.polls * m.left ≡ n.polls * n.left = ap₂ (λ (i j : ℕ). i * j) polls left in
     let steps : m.steps ≡ n.steps = omega (arith, all, products) in
-    ap (λ (k : ℕ). pace_with k m.steps m.left) polls ∙ (ap (λ (k : ℕ). pace_with n.polls k m.left) steps ∙ ap (λ (k : ℕ). pace_with n.polls n.steps k) left)
+    ap (λ (k : ℕ). pace_with k m.steps m.left) polls ∙
+    (ap (λ (k : ℕ). pace_with n.polls k m.left) steps ∙ ap (λ (k : ℕ). pace_with n.polls n.steps k) left)
 
 not_longer : (p : Pace) (t d e : ℕ) → Waits p t d → Waits p t e → d < e → ⊥
 not_longer p t d e a b lt =
@@ -47,14 +48,20 @@ one_wait p t d e a b = go (cases_lt d e) (cases_lt e d)
     go (inr le) (inl lt) = absurd (not_longer p t e d b a lt)
     go (inr le) (inr ge) = omega (arith, le, ge)
 
-module _ (p m n : Pace) (t d e : ℕ) (ts ds es : List ℕ) (q r : Pace) (first : Advances p t m) (second : Advances p t n) where
-  one_more : Waits m t d → Waits n t e → Paces n ts es r → (Paces m ts es r → (ds ≡ es) × (q ≡ r)) → (d ∷ ds ≡ e ∷ es) × (q ≡ r)
+module _ (p m n : Pace) (t d e : ℕ) (ts ds es : List ℕ) (q r : Pace) (first : Advances p t m)
+    (second : Advances p t n) where
+  one_more : Waits m t d → Waits n t e → Paces n ts es r → (Paces m ts es r → (ds ≡ es) × (q ≡ r)) →
+      (d ∷ ds ≡ e ∷ es) × (q ≡ r)
   one_more wait other run rest =
       let same = one_advance p n m t second first in
-      let both = rest (subst (λ (x : Pace). Paces x ts es r) same run) in
-      (ap₂ (λ (x : ℕ) (xs : List ℕ). x ∷ xs) (one_wait m t d e wait (subst (λ (x : Pace). Waits x t e) same other)) both.0, both.1)
+      let both = rest (subst (λ (x : Pace). Paces x ts es r) same run) in (
+        ap₂ (λ (x : ℕ) (xs : List ℕ). x ∷ xs) (one_wait m t d e wait (subst (λ (x : Pace). Waits x t e) same other))
+            both.0,
+        both.1,
+      )
 
-paces_one : (p : Pace) (ts ds es : List ℕ) (q r : Pace) → length ds ≡ length es → Paces p ts ds q → Paces p ts es r → (ds ≡ es) × (q ≡ r)
+paces_one : (p : Pace) (ts ds es : List ℕ) (q r : Pace) → length ds ≡ length es → Paces p ts ds q → Paces p ts es r →
+    (ds ≡ es) × (q ≡ r)
 paces_one p [] [] [] q r even run other = (refl, run ∙ sym other)
 paces_one p [] [] (e ∷ es) q r even run other = absurd other
 paces_one p [] (d ∷ ds) es q r even run other = absurd run
@@ -62,7 +69,8 @@ paces_one p (t ∷ []) [] [] q r even run other = (refl, one_advance p q r t run
 paces_one p (t ∷ []) [] (e ∷ es) q r even run other = absurd (omega (arith, even))
 paces_one p (t ∷ []) (d ∷ ds) [] q r even run other = absurd (omega (arith, even))
 paces_one p (t ∷ []) (d ∷ ds) (e ∷ es) q r even run other =
-    one_more p run.0 other.0 t d e [] ds es q r run.1 other.1 run.2 other.2 other.3 (λ later. paces_one run.0 [] ds es q r (omega (arith, even)) run.3 later)
+    one_more p run.0 other.0 t d e [] ds es q r run.1 other.1 run.2 other.2 other.3
+    (λ later. paces_one run.0 [] ds es q r (omega (arith, even)) run.3 later)
 paces_one p (t ∷ u ∷ ts) [] es q r even run other = absurd run
 paces_one p (t ∷ u ∷ ts) (d ∷ ds) [] q r even run other = absurd other
 paces_one p (t ∷ u ∷ ts) (d ∷ ds) (e ∷ es) q r even run other =

@@ -13,12 +13,14 @@ frame_at-empty n i =
     ]
 
 -- after a fall each place has the frame that was so many places above
-pub frame_at-fallen : (places : FramePlaces) (count i : ℕ) → frame_at (fallen places count) i ≡ frame_at places (count + i)
+pub frame_at-fallen : (places : FramePlaces) (count i : ℕ) →
+    frame_at (fallen places count) i ≡ frame_at places (count + i)
 frame_at-fallen places count i =
     let rest : FramePlaces = drop count places in
     let long = length-drop count places in
     elim (cases_lt i (length rest)) [
-      | inl below ↦ get_or_append_left rest (empty_places (min count (length places))) None i below ∙ get_or-drop count places i None
+      | inl below ↦ get_or_append_left rest (empty_places (min count (length places))) None i below ∙
+          get_or-drop count places i None
       | inr past ↦ get_or-append_right rest (empty_places (min count (length places))) (length rest) i None refl past
           ∙ frame_at-empty (min count (length places)) (i - length rest)
           ∙ sym (get_or_past places (count + i) None (omega arith))
@@ -39,14 +41,16 @@ is_empty-drop (None ∷ places) (suc count) e = is_empty-drop places count e
 is_empty-drop (Some frame ∷ places) (suc count) e = cc
 
 -- the place has no frame, where no place from it on has one
-pub frame_at-none : (places : FramePlaces) (place : ℕ) → is_empty (drop place places) ≡ true → frame_at places place ≡ None
+pub frame_at-none : (places : FramePlaces) (place : ℕ) → is_empty (drop place places) ≡ true →
+    frame_at places place ≡ None
 frame_at-none [] place e = refl
 frame_at-none (None ∷ places) zero e = refl
 frame_at-none (Some frame ∷ places) zero e = cc
 frame_at-none (x ∷ places) (suc place) e = frame_at-none places place e
 
 -- a place without a frame more makes no difference
-pub is_empty-more : (places : FramePlaces) (place : ℕ) → is_empty (drop place (places ++ None ∷ [])) ≡ is_empty (drop place places)
+pub is_empty-more : (places : FramePlaces) (place : ℕ) →
+    is_empty (drop place (places ++ None ∷ [])) ≡ is_empty (drop place places)
 is_empty-more [] zero = refl
 is_empty-more [] (suc place) = is_empty-drop [] place refl
 is_empty-more (None ∷ places) zero = is_empty-more places zero
@@ -54,7 +58,8 @@ is_empty-more (Some frame ∷ places) zero = refl
 is_empty-more (x ∷ places) (suc place) = is_empty-more places place
 
 -- after a fall by one the places from one on are those from the next one on
-pub is_empty-fallen : (places : FramePlaces) (place : ℕ) → is_empty (drop place (fallen places 1)) ≡ is_empty (drop (suc place) places)
+pub is_empty-fallen : (places : FramePlaces) (place : ℕ) →
+    is_empty (drop place (fallen places 1)) ≡ is_empty (drop (suc place) places)
 is_empty-fallen [] zero = refl
 is_empty-fallen [] (suc place) = refl
 is_empty-fallen (x ∷ places) place =

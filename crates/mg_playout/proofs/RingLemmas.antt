@@ -10,10 +10,13 @@ use Rattle.mg_playout.specs.Places.{IsRingOfPlaces, empty_places, started_with}
 use Rattle.mg_words.specs.declared.limits.TheConstants.{MIN_DEPTH, MAX_DEPTH}
 
 -- places that start with a whole frame, after no last one
-pub started_is_ring : (ring : Buffer (Option (List ℤ))) (frame : List ℤ) (depth : ℕ) → MIN_DEPTH ≤ depth → depth ≤ MAX_DEPTH → IsFrame frame → ring ≡ buffer (None ∷ started_with frame depth) (MAX_DEPTH + 1) → IsRingOfPlaces ring
+pub started_is_ring : (ring : Buffer (Option (List ℤ))) (frame : List ℤ) (depth : ℕ) → MIN_DEPTH ≤ depth →
+    depth ≤ MAX_DEPTH → IsFrame frame → ring ≡ buffer (None ∷ started_with frame depth) (MAX_DEPTH + 1) →
+    IsRingOfPlaces ring
 started_is_ring ring frame depth low high whole is =
     let empty : List (Option (List ℤ)) = empty_places (depth - 1) in
-    let long : length (started_with frame depth) ≡ depth = omega (arith, length-replicate {A = Option (List ℤ)} (depth - 1) None) in
+    let long : length (started_with frame depth) ≡ depth =
+    omega (arith, length-replicate {A = Option (List ℤ)} (depth - 1) None) in
     let items : IsRingOfPlaces (buffer (None ∷ started_with frame depth) (MAX_DEPTH + 1)) = record {
       capacity = refl;
       at_least = omega arith;

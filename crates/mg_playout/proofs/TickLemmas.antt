@@ -20,13 +20,16 @@ list_in phase source places last = record { phase = phase; source = source; last
 
 -- what a turn gives, by whether there is one
 abbrev turn_step : FramePlaces → Option (List ℤ) → ℕ → Bool → Played
-turn_step places last place none = if none then Silence else given (frame_at places place) (frame_before places last place)
+turn_step places last place none = if none then Silence else
+    given (frame_at places place) (frame_before places last place)
 
-given_at-none : (places : FramePlaces) (last : Option (List ℤ)) (place : ℕ) → is_empty (drop place places) ≡ true → given_at places last place ≡ Silence
+given_at-none : (places : FramePlaces) (last : Option (List ℤ)) (place : ℕ) → is_empty (drop place places) ≡ true →
+    given_at places last place ≡ Silence
 given_at-none places last place e = ap (turn_step places last place) e
 
 -- the turns after a fall by one are those from the next one on
-given_at-fallen : (places : FramePlaces) (last : Option (List ℤ)) (place : ℕ) → given_at (fallen places 1) (frame_at places 0) place ≡ given_at places last (suc place)
+given_at-fallen : (places : FramePlaces) (last : Option (List ℤ)) (place : ℕ) →
+    given_at (fallen places 1) (frame_at places 0) place ≡ given_at places last (suc place)
 given_at-fallen places last place =
     ap (turn_step (fallen places 1) (frame_at places 0) place) (is_empty-fallen places place)
     ∙ ap (λ turn. if is_empty (drop (suc place) places) then Silence else turn) (turn place)
@@ -34,14 +37,17 @@ given_at-fallen places last place =
     next : (place : ℕ) → frame_at (fallen places 1) place ≡ frame_at places (suc place)
     next place = frame_at-fallen places 1 place ∙ ap (frame_at places) (omega arith)
 
-    turn : (place : ℕ) → given (frame_at (fallen places 1) place) (frame_before (fallen places 1) (frame_at places 0) place) ≡ given (frame_at places (suc place)) (frame_at places place)
+    turn : (place : ℕ) → given (frame_at (fallen places 1) place)
+        (frame_before (fallen places 1) (frame_at places 0) place) ≡
+        given (frame_at places (suc place)) (frame_at places place)
     turn zero = ap (λ frame. given frame (frame_at places 0)) (next 0)
     turn (suc place) =
         ap (λ frame. given frame (frame_at (fallen places 1) place)) (next (suc place))
         ∙ ap (given (frame_at places (suc (suc place)))) (next place)
 
 -- the turn of a place gives the frame that came for it
-pub frame_of-given_at : (places : FramePlaces) (last : Option (List ℤ)) (place : ℕ) → frame_of (given_at places last place) ≡ frame_at places place
+pub frame_of-given_at : (places : FramePlaces) (last : Option (List ℤ)) (place : ℕ) →
+    frame_of (given_at places last place) ≡ frame_at places place
 frame_of-given_at places last place = by (is_empty (drop place places)) refl
   where
     came : (frame before : Option (List ℤ)) → frame_of (given frame before) ≡ frame
@@ -49,12 +55,15 @@ frame_of-given_at places last place = by (is_empty (drop place places)) refl
     came None (Some before) = refl
     came None None = refl
 
-    by : (b : Bool) → is_empty (drop place places) ≡ b → frame_of (turn_step places last place (is_empty (drop place places))) ≡ frame_at places place
+    by : (b : Bool) → is_empty (drop place places) ≡ b →
+        frame_of (turn_step places last place (is_empty (drop place places))) ≡ frame_at places place
     by true e = ap (λ b. frame_of (turn_step places last place b)) e ∙ sym (frame_at-none places place e)
-    by false e = ap (λ b. frame_of (turn_step places last place b)) e ∙ came (frame_at places place) (frame_before places last place)
+    by false e = ap (λ b. frame_of (turn_step places last place b)) e ∙
+        came (frame_at places place) (frame_before places last place)
 
 -- an idle play list gives nothing
-given_after-idle : (ticks : ℕ) (source : Option Source) (places : FramePlaces) (last : Option (List ℤ)) → given_after ticks (list_in Idle source places last) ≡ Silence
+given_after-idle : (ticks : ℕ) (source : Option Source) (places : FramePlaces) (last : Option (List ℤ)) →
+    given_after ticks (list_in Idle source places last) ≡ Silence
 given_after-idle zero source places last = refl
 given_after-idle (suc ticks) source places last = given_after-idle ticks source places last
 
@@ -62,33 +71,41 @@ given_after-idle (suc ticks) source places last = given_after-idle ticks source 
 abbrev run_step : Option Source → FramePlaces → Option (List ℤ) → Bool → PlayList × Played
 run_step source places last empty =
     if empty then (list_in Idle source places None, Silence)
-    else (list_in Run (option_map (advanced 1) source) (fallen places 1) (frame_at places 0), given (frame_at places 0) last)
+    else (
+      list_in Run (option_map (advanced 1) source) (fallen places 1) (frame_at places 0),
+      given (frame_at places 0) last,
+    )
 
 -- one that runs gives what the turn of each place gives
-pub given_after-run : (ticks : ℕ) (source : Option Source) (places : FramePlaces) (last : Option (List ℤ)) → given_after ticks (list_in Run source places last) ≡ given_at places last ticks
+pub given_after-run : (ticks : ℕ) (source : Option Source) (places : FramePlaces) (last : Option (List ℤ)) →
+    given_after ticks (list_in Run source places last) ≡ given_at places last ticks
 given_after-run zero source places last = by (is_empty places) refl
   where
     by : (b : Bool) → is_empty places ≡ b → (run_step source places last (is_empty places)).1 ≡ given_at places last 0
     by true e = ap (λ b. (run_step source places last b).1) e ∙ sym (given_at-none places last 0 e)
     by false e = ap (λ b. (run_step source places last b).1) e ∙ sym (ap (turn_step places last 0) e)
 given_after-run (suc ticks) source places last =
-    by (is_empty places) refl (given_after-run ticks (option_map (advanced 1) source) (fallen places 1) (frame_at places 0))
+    by (is_empty places) refl (given_after-run ticks (option_map (advanced 1) source) (fallen places 1)
+    (frame_at places 0))
   where
     by : (b : Bool) → is_empty places ≡ b
-        → given_after ticks (list_in Run (option_map (advanced 1) source) (fallen places 1) (frame_at places 0)) ≡ given_at (fallen places 1) (frame_at places 0) ticks
+        → given_after ticks (list_in Run (option_map (advanced 1) source) (fallen places 1) (frame_at places 0)) ≡
+        given_at (fallen places 1) (frame_at places 0) ticks
         → given_after ticks (run_step source places last (is_empty places)).0 ≡ given_at places last (suc ticks)
     by true e rest =
         ap (λ b. given_after ticks (run_step source places last b).0) e
         ∙ given_after-idle ticks source places None
         ∙ sym (given_at-none places last (suc ticks) (is_empty-drop places (suc ticks) e))
-    by false e rest = ap (λ b. given_after ticks (run_step source places last b).0) e ∙ rest ∙ given_at-fallen places last ticks
+    by false e rest = ap (λ b. given_after ticks (run_step source places last b).0) e ∙ rest ∙
+        given_at-fallen places last ticks
 
 -- what a tick makes of a wait, by whether this is its last tick
 abbrev wait_step : ℕ → Option Source → FramePlaces → Option (List ℤ) → Bool → PlayList
 wait_step wait source places last over = list_in (if over then Run else Wait (wait - 1)) source places last
 
 -- one that waits gives nothing until the wait is over
-pub given_after-wait : (ticks wait : ℕ) (source : Option Source) (places : FramePlaces) (last : Option (List ℤ)) → ticks < wait → given_after ticks (list_in (Wait wait) source places last) ≡ Silence
+pub given_after-wait : (ticks wait : ℕ) (source : Option Source) (places : FramePlaces) (last : Option (List ℤ)) →
+    ticks < wait → given_after ticks (list_in (Wait wait) source places last) ≡ Silence
 given_after-wait zero wait source places last below = refl
 given_after-wait (suc ticks) wait source places last below =
     by (wait == 1) refl (given_after-wait ticks (wait - 1) source places last (omega arith))
@@ -100,10 +117,13 @@ given_after-wait (suc ticks) wait source places last below =
     by false e rest = ap (λ b. given_after ticks (wait_step wait source places last b)) e ∙ rest
 
 -- and then what the turn of each place gives
-pub given_after-waited : (total wait ticks : ℕ) (source : Option Source) (places : FramePlaces) (last : Option (List ℤ)) → 1 ≤ wait → total ≡ wait + ticks → given_after total (list_in (Wait wait) source places last) ≡ given_at places last ticks
+pub given_after-waited : (total wait ticks : ℕ) (source : Option Source) (places : FramePlaces)
+    (last : Option (List ℤ)) → 1 ≤ wait → total ≡ wait + ticks →
+    given_after total (list_in (Wait wait) source places last) ≡ given_at places last ticks
 given_after-waited zero wait ticks source places last positive is = absurd (omega arith)
 given_after-waited (suc total) wait ticks source places last positive is =
-    by (wait == 1) refl (λ more. given_after-waited total (wait - 1) ticks source places last (omega arith) (omega arith))
+    by (wait == 1) refl (λ more. given_after-waited total (wait - 1) ticks source places last (omega arith)
+    (omega arith))
   where
     by : (b : Bool) → (wait == 1) ≡ b
         → (1 < wait → given_after total (list_in (Wait (wait - 1)) source places last) ≡ given_at places last ticks)
@@ -118,20 +138,25 @@ given_after-waited (suc total) wait ticks source places last positive is =
         ap (λ b. given_after total (wait_step wait source places last b)) e ∙ rest more
 
 -- the same of lists whose phase is known by an equation
-pub given_after-running : (list : PlayList) (ticks : ℕ) → list.phase ≡ Run → given_after ticks list ≡ given_at list.places list.last ticks
+pub given_after-running : (list : PlayList) (ticks : ℕ) → list.phase ≡ Run →
+    given_after ticks list ≡ given_at list.places list.last ticks
 given_after-running list ticks is =
-    subst (λ phase. given_after ticks (list_in phase list.source list.places list.last) ≡ given_at list.places list.last ticks)
+    subst (λ phase. given_after ticks (list_in phase list.source list.places list.last) ≡
+    given_at list.places list.last ticks)
     (sym is)
     (given_after-run ticks list.source list.places list.last)
 
-pub given_after-waiting : (list : PlayList) (wait ticks : ℕ) → list.phase ≡ Wait wait → ticks < wait → given_after ticks list ≡ Silence
+pub given_after-waiting : (list : PlayList) (wait ticks : ℕ) → list.phase ≡ Wait wait → ticks < wait →
+    given_after ticks list ≡ Silence
 given_after-waiting list wait ticks is early =
     subst (λ phase. given_after ticks (list_in phase list.source list.places list.last) ≡ Silence)
     (sym is)
     (given_after-wait ticks wait list.source list.places list.last early)
 
-pub given_after-started : (list : PlayList) (wait ticks : ℕ) → list.phase ≡ Wait wait → 1 ≤ wait → given_after (wait + ticks) list ≡ given_at list.places list.last ticks
+pub given_after-started : (list : PlayList) (wait ticks : ℕ) → list.phase ≡ Wait wait → 1 ≤ wait →
+    given_after (wait + ticks) list ≡ given_at list.places list.last ticks
 given_after-started list wait ticks is positive =
-    subst (λ phase. given_after (wait + ticks) (list_in phase list.source list.places list.last) ≡ given_at list.places list.last ticks)
+    subst (λ phase. given_after (wait + ticks) (list_in phase list.source list.places list.last) ≡
+    given_at list.places list.last ticks)
     (sym is)
     (given_after-waited (wait + ticks) wait ticks list.source list.places list.last positive refl)

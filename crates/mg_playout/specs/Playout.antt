@@ -108,8 +108,10 @@ ticked_in (Wait ticks) list =
     (record list { phase = if ticks == 1 then Run else Wait (ticks - 1) }, Silence)
 ticked_in Run list =
     if is_empty list.places then (record list { phase = Idle; last = None }, Silence)
-    else
-    (record (shifted list 1) { last = frame_at list.places 0 }, given (frame_at list.places 0) list.last)
+    else (
+      record (shifted list 1) { last = frame_at list.places 0 },
+      given (frame_at list.places 0) list.last,
+    )
 
 abbrev pub ticked : PlayList → PlayList × Played
 ticked list = ticked_in list.phase list

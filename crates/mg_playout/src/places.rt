@@ -170,7 +170,8 @@ impl Places {
 
 /// What is given for the frame of a place, by the last frame.
 fn given(frame: Option<&Option<Frame>>, last: Option<&Option<Frame>>) -> Played
-    ensures value { result ≡ given (option_flatten (option_copied frame.entry)) (option_flatten (option_copied last.entry)) }
+    ensures value { result ≡ given (option_flatten (option_copied frame.entry))
+        (option_flatten (option_copied last.entry)) }
     ensures frame { IfSome (option_flatten (option_copied frame.entry)) IsFrame →
         IfSome (sound_of result) IsFrame }
 {

@@ -39,8 +39,8 @@ fn receipt_of(
 }
 
 impl FakePorts {
-    /// Ports at which these datagrams wait, in this order at each slot. The calls whose numbers, counted from 0 over all
-    /// slots, are among `failing` fail.
+    /// Ports at which these datagrams wait, in this order at each slot. The calls whose numbers, counted from 0 over
+    /// all slots, are among `failing` fail.
     pub fn new(alloc: Global, waiting: Vec<Arrival>, failing: Vec<u64>) -> Self {
         FakePorts {
             alloc,

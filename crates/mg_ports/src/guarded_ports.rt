@@ -9,8 +9,9 @@ use mg_engine::Peer;
 /// The most datagrams of strangers that one receive lets fall.
 const MOST_STRANGERS: usize = 64;
 
-/// Ports that give messages of some controllers alone: a datagram that came to the control port from another address is let
-/// fall. Where no controller is listed, anybody may send messages. Datagrams at media ports are given whoever sent them.
+/// Ports that give messages of some controllers alone: a datagram that came to the control port from another address is
+/// let fall. Where no controller is listed, anybody may send messages. Datagrams at media ports are given whoever sent
+/// them.
 #[derive(Drop)]
 pub struct GuardedPorts<'a, P: Ports> {
     ports: P,

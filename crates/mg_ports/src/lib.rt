@@ -1,8 +1,9 @@
-//! The UDP ports of a gateway, by their slots: slot 0 is the control port, and slot s + 1 the media port of slot s of the pool.
+//! The UDP ports of a gateway, by their slots: slot 0 is the control port, and slot s + 1 the media port of slot s of
+//! the pool.
 //!
-//! [`Ports`] is what a gateway needs of them: to receive a datagram without waiting, to send one, and to tell how many calls
-//! failed. [`FakePorts`] are ports in memory, for tests: datagrams wait at them, calls of chosen numbers fail, and each call is
-//! told. [`GuardedPorts`] give messages of some controllers alone.
+//! [`Ports`] is what a gateway needs of them: to receive a datagram without waiting, to send one, and to tell how many
+//! calls failed. [`FakePorts`] are ports in memory, for tests: datagrams wait at them, calls of chosen numbers fail,
+//! and each call is told. [`GuardedPorts`] give messages of some controllers alone.
 //!
 //! ```rust
 //! let mut ports = FakePorts::new(alloc, waiting, failing);
@@ -12,8 +13,8 @@
 //! }
 //! ```
 //!
-//! Contracts speak of ports by their calls (`specs/Calls.antt`): ports may tell each receive with what it gave, and each send
-//! with its arguments. Those of an operating system tell nothing.
+//! Contracts speak of ports by their calls (`specs/Calls.antt`): ports may tell each receive with what it gave, and
+//! each send with its arguments. Those of an operating system tell nothing.
 #![tactic(auto)]
 
 mod arrival;

@@ -18,8 +18,8 @@ pub trait Ports {
     // What is known of the source of a datagram that they give at a slot.
     ghost Gives: { Self → ℕ → Peer → Type 0 } = { λ _ _ _. ⊤ };
 
-    /// Receives a datagram, if one is there: answers how many of its bytes stand at the front of the buffer, and where it
-    /// came from. This doesn't wait. A datagram that is longer than the buffer loses its end.
+    /// Receives a datagram, if one is there: answers how many of its bytes stand at the front of the buffer, and where
+    /// it came from. This doesn't wait. A datagram that is longer than the buffer loses its end.
     fn receive(
         &mut self,
         slot: usize,

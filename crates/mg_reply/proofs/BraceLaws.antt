@@ -26,7 +26,8 @@ pub passed-append : (p q : List ℕ) → IsPassed p → IsPassed q → IsPassed 
 passed-append p q one two = λ d t. ap (after (suc d)) (append_assoc p q t) ∙ one d (q ++ t) ∙ two d t
 
 -- what stands in braces, after the opening one
-pub passed_inside : (p : List ℕ) → IsPassed p → (d : ℕ) (t : List ℕ) → after (suc (suc d)) ((p ++ codes "}") ++ t) ≡ after (suc d) t
+pub passed_inside : (p : List ℕ) → IsPassed p → (d : ℕ) (t : List ℕ) →
+    after (suc (suc d)) ((p ++ codes "}") ++ t) ≡ after (suc d) t
 passed_inside p one d t = ap (after (suc (suc d))) (append_assoc p (codes "}") t) ∙ one (suc d) (codes "}" ++ t)
 
 -- a byte that is no brace
@@ -41,7 +42,15 @@ plain_by false false h k = refl
 plain_step : (d c : ℕ) (cs : List ℕ) → is_plain c ≡ true → after d (c ∷ cs) ≡ after d cs
 plain_step d c cs h = by_tests (eqb c 123) (eqb c 125) h
   where
-    by_tests : (a b : Bool) → (not a && not b) ≡ true → elim a as (λ _. Option (List ℕ)) [ true ↦ after (suc d) cs | false ↦ elim b as (λ _. Option (List ℕ)) [ true ↦ elim d as (λ _. Option (List ℕ)) [ zero ↦ None | suc k ↦ elim k as (λ _. Option (List ℕ)) [ zero ↦ Some cs | suc j ↦ after (suc j) cs ] ] | false ↦ after d cs ] ] ≡ after d cs
+    by_tests : (a b : Bool) → (not a && not b) ≡ true →
+        elim a as (λ _. Option (List ℕ)) [
+          | true ↦ after (suc d) cs
+          | false ↦ elim b as (λ _. Option (List ℕ)) [
+            | true ↦ elim d as (λ _. Option (List ℕ))
+                [ zero ↦ None | suc k ↦ elim k as (λ _. Option (List ℕ)) [ zero ↦ Some cs | suc j ↦ after (suc j) cs ] ]
+            | false ↦ after d cs
+          ]
+        ] ≡ after d cs
     by_tests true b e = absurd cc
     by_tests false true e = absurd cc
     by_tests false false e = refl
@@ -57,16 +66,22 @@ glyph_plain : (d : ℕ) → d < 10 → is_plain (digit_glyph false d) ≡ true
 glyph_plain d h = by_test (ltb d 10) (lt-ltb d 10 h)
   where
     by_test : (b : Bool) → b ≡ true → is_plain (cond b (48 + d) (cond false (55 + d) (87 + d))) ≡ true
-    by_test true e = plain_by (eqb (48 + d) 123) (eqb (48 + d) 125) (ne_eqb (48 + d) 123 (λ e. absurd (omega arith))) (ne_eqb (48 + d) 125 (λ e. absurd (omega arith)))
+    by_test true e = plain_by (eqb (48 + d) 123) (eqb (48 + d) 125) (ne_eqb (48 + d) 123 (λ e. absurd (omega arith)))
+        (ne_eqb (48 + d) 125 (λ e. absurd (omega arith)))
     by_test false e = absurd cc
 
-digits_plain : (k n : ℕ) (acc : List ℕ) → list_all is_plain acc ≡ true → list_all is_plain (digits_onto k 10 false n acc) ≡ true
+digits_plain : (k n : ℕ) (acc : List ℕ) → list_all is_plain acc ≡ true →
+    list_all is_plain (digits_onto k 10 false n acc) ≡ true
 digits_plain zero n acc h = h
 digits_plain (suc k) n acc h =
-    let more = and_from (is_plain (digit_glyph false (n % 10))) (list_all is_plain acc) (glyph_plain (n % 10) (omega arith)) h in
+    let more = and_from (is_plain (digit_glyph false (n % 10))) (list_all is_plain acc)
+    (glyph_plain (n % 10) (omega arith)) h in
     by_test (eqb (n / 10) 0) more (digits_plain k (n / 10) (digit_glyph false (n % 10) ∷ acc) more)
   where
-    by_test : (b : Bool) → list_all is_plain (digit_glyph false (n % 10) ∷ acc) ≡ true → list_all is_plain (digits_onto k 10 false (n / 10) (digit_glyph false (n % 10) ∷ acc)) ≡ true → list_all is_plain (cond b (digit_glyph false (n % 10) ∷ acc) (digits_onto k 10 false (n / 10) (digit_glyph false (n % 10) ∷ acc))) ≡ true
+    by_test : (b : Bool) → list_all is_plain (digit_glyph false (n % 10) ∷ acc) ≡ true →
+        list_all is_plain (digits_onto k 10 false (n / 10) (digit_glyph false (n % 10) ∷ acc)) ≡ true →
+        list_all is_plain (cond b (digit_glyph false (n % 10) ∷ acc)
+        (digits_onto k 10 false (n / 10) (digit_glyph false (n % 10) ∷ acc))) ≡ true
     by_test true one other = one
     by_test false one other = other
 
@@ -91,7 +106,8 @@ word_plain : (p : List ℕ) → list_all is_word_byte p ≡ true → list_all is
 word_plain [] h = refl
 word_plain (c ∷ cs) h =
     let parts = and_parts (is_word_byte c) (list_all is_word_byte cs) h in
-    and_from (is_plain c) (list_all is_plain cs) (mark_by _ (eqb c 123) (eqb c 125) (eqb c 44) (eqb c 61) (eqb c 59) (eqb c 34) parts.0) (word_plain cs parts.1)
+    and_from (is_plain c) (list_all is_plain cs)
+    (mark_by _ (eqb c 123) (eqb c 125) (eqb c 44) (eqb c 61) (eqb c 59) (eqb c 34) parts.0) (word_plain cs parts.1)
 
 pub word_passed : (p : List ℕ) → list_all is_word_byte p ≡ true → IsPassed p
 word_passed p h = λ d t. plain_passed p (word_plain p h) (suc d) t
@@ -113,4 +129,5 @@ next_passed (x ∷ xs) all = passed-append x (listed (codes ",") xs) all.0 (next
 pub grouped_passed : (xs : List (List ℕ)) → ArePassed xs → IsPassed (grouped xs)
 unfolding listed
 grouped_passed [] all = λ d t. refl
-grouped_passed (x ∷ xs) all = passed_inside (x ++ listed (codes ",") xs) (passed-append x (listed (codes ",") xs) all.0 (next_passed xs all.1))
+grouped_passed (x ∷ xs) all = passed_inside (x ++ listed (codes ",") xs)
+    (passed-append x (listed (codes ",") xs) all.0 (next_passed xs all.1))

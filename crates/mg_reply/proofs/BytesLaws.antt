@@ -4,7 +4,9 @@ use Rattle.std.proofs.lemmas.List.{length-take-le, take-append-le}
 use Rattle.std.proofs.Math.Seq.{take-append-add}
 
 -- the text, then the part: what stands behind it is not seen
-pub part_seen : (len : ℕ) (bytes padded rest part : List ℕ) → len ≤ length bytes → length part ≤ length padded → take (length part) padded ≡ part → take (len + length part) (take len bytes ++ (padded ++ rest)) ≡ take len bytes ++ part
+pub part_seen : (len : ℕ) (bytes padded rest part : List ℕ) → len ≤ length bytes → length part ≤ length padded →
+    take (length part) padded ≡ part → take (len + length part) (take len bytes ++ (padded ++ rest)) ≡
+    take len bytes ++ part
 part_seen len bytes padded rest part within short begins =
     let xs = take len bytes in
     ap (λ (n : ℕ). take (n + length part) (xs ++ (padded ++ rest))) (sym (length-take-le len bytes within))

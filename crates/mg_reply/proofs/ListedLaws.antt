@@ -10,21 +10,26 @@ use Rattle.mg_reply.specs.aids.Marks.{is_empty, mark_of, closing}
 use Rattle.mg_reply.specs.Entries.{is_of, item_text, texts_of, topology_entry}
 use Rattle.mg_reply.proofs.DraftLaws.{drafted-drafted}
 
-pub listed-append : (xs ys : List (List ℕ)) → listed (codes ",") (xs ++ ys) ≡ listed (codes ",") xs ++ listed (codes ",") ys
+pub listed-append : (xs ys : List (List ℕ)) →
+    listed (codes ",") (xs ++ ys) ≡ listed (codes ",") xs ++ listed (codes ",") ys
 unfolding listed
 listed-append [] ys = refl
 listed-append (x ∷ xs) ys =
     ap (λ t. codes "," ++ (x ++ t)) (listed-append xs ys)
-    ∙ sym (append_assoc (codes ",") (x ++ listed (codes ",") xs) (listed (codes ",") ys) ∙ ap (λ t. codes "," ++ t) (append_assoc x (listed (codes ",") xs) (listed (codes ",") ys)))
+    ∙ sym (append_assoc (codes ",") (x ++ listed (codes ",") xs) (listed (codes ",") ys) ∙
+    ap (λ t. codes "," ++ t) (append_assoc x (listed (codes ",") xs) (listed (codes ",") ys)))
 
 -- after some parts the next is no longer the first
-pub listed-first-append : (opening : List ℕ) (first : Bool) (xs ys : List (List ℕ)) → listed (mark_of opening first) (xs ++ ys) ≡ listed (mark_of opening first) xs ++ listed (mark_of opening (first && is_empty xs)) ys
+pub listed-first-append : (opening : List ℕ) (first : Bool) (xs ys : List (List ℕ)) →
+    listed (mark_of opening first) (xs ++ ys) ≡ listed (mark_of opening first) xs ++
+    listed (mark_of opening (first && is_empty xs)) ys
 unfolding listed
 listed-first-append opening true [] ys = refl
 listed-first-append opening false [] ys = refl
 listed-first-append opening true (x ∷ xs) ys =
     ap (λ t. opening ++ (x ++ t)) (listed-append xs ys)
-    ∙ sym (append_assoc opening (x ++ listed (codes ",") xs) (listed (codes ",") ys) ∙ ap (λ t. opening ++ t) (append_assoc x (listed (codes ",") xs) (listed (codes ",") ys)))
+    ∙ sym (append_assoc opening (x ++ listed (codes ",") xs) (listed (codes ",") ys) ∙
+    ap (λ t. opening ++ t) (append_assoc x (listed (codes ",") xs) (listed (codes ",") ys)))
 listed-first-append opening false (x ∷ xs) ys = listed-append (x ∷ xs) ys
 
 pub listed-one : (mark x : List ℕ) → listed mark (x ∷ []) ≡ mark ++ x
@@ -44,12 +49,14 @@ pub and_assoc : (a b c : Bool) → ((a && b) && c) ≡ (a && (b && c))
 and_assoc true b c = refl
 and_assoc false b c = refl
 
-texts_by : (b : Bool) (x : Item) (xs : List Item) → map item_text (cond b (x ∷ xs) xs) ≡ map item_text (cond b (x ∷ []) []) ++ map item_text xs
+texts_by : (b : Bool) (x : Item) (xs : List Item) →
+    map item_text (cond b (x ∷ xs) xs) ≡ map item_text (cond b (x ∷ []) []) ++ map item_text xs
 texts_by true x xs = refl
 texts_by false x xs = refl
 
 -- the first item apart
-pub texts_of-cons : (kind : EntryKind) (x : Item) (xs : List Item) → texts_of kind (x ∷ xs) ≡ texts_of kind (x ∷ []) ++ texts_of kind xs
+pub texts_of-cons : (kind : EntryKind) (x : Item) (xs : List Item) →
+    texts_of kind (x ∷ xs) ≡ texts_of kind (x ∷ []) ++ texts_of kind xs
 texts_of-cons kind x xs = texts_by (is_of kind x) x (filter (is_of kind) xs)
 
 -- one item of another kind
@@ -58,42 +65,57 @@ unfolding listed
 other_by mark x true h = absurd cc
 other_by mark x false h = refl
 
-pub one_other : (mark : List ℕ) (kind : EntryKind) (x : Item) → is_of kind x ≡ false → listed mark (texts_of kind (x ∷ [])) ≡ []
+pub one_other : (mark : List ℕ) (kind : EntryKind) (x : Item) → is_of kind x ≡ false →
+    listed mark (texts_of kind (x ∷ [])) ≡ []
 one_other mark kind x e = other_by mark x (is_of kind x) e
 
 -- one item of the kind
-this_by : (mark : List ℕ) (x : Item) (b : Bool) → b ≡ true → listed mark (map item_text (cond b (x ∷ []) [])) ≡ mark ++ item_text x
+this_by : (mark : List ℕ) (x : Item) (b : Bool) → b ≡ true →
+    listed mark (map item_text (cond b (x ∷ []) [])) ≡ mark ++ item_text x
 this_by mark x true h = listed-one mark (item_text x)
 this_by mark x false h = absurd cc
 
-pub one_of : (mark : List ℕ) (kind : EntryKind) (x : Item) → is_of kind x ≡ true → listed mark (texts_of kind (x ∷ [])) ≡ mark ++ item_text x
+pub one_of : (mark : List ℕ) (kind : EntryKind) (x : Item) → is_of kind x ≡ true →
+    listed mark (texts_of kind (x ∷ [])) ≡ mark ++ item_text x
 one_of mark kind x e = this_by mark x (is_of kind x) e
 
 -- the loop over items: one more, and the end
-pub all_step : (d : Drafted) (opening : List ℕ) (first : Bool) (kind : EntryKind) (xs : List Item) (i : ℕ) (x : Item) → i < length xs → drafted (drafted d (listed (mark_of opening first) (texts_of kind (get_or xs i x ∷ [])))) (listed (mark_of opening (first && is_empty (texts_of kind (get_or xs i x ∷ [])))) (texts_of kind (drop (i + 1) xs))) ≡ drafted d (listed (mark_of opening first) (texts_of kind (drop i xs)))
+pub all_step : (d : Drafted) (opening : List ℕ) (first : Bool) (kind : EntryKind) (xs : List Item) (i : ℕ) (x : Item)
+    → i < length xs → drafted (drafted d (listed (mark_of opening first) (texts_of kind (get_or xs i x ∷ []))))
+    (listed (mark_of opening (first && is_empty (texts_of kind (get_or xs i x ∷ []))))
+    (texts_of kind (drop (i + 1) xs))) ≡ drafted d (listed (mark_of opening first) (texts_of kind (drop i xs)))
 all_step d opening first kind xs i x lt =
     let one = texts_of kind (get_or xs i x ∷ []) in
     let rest = texts_of kind (drop (i + 1) xs) in
     drafted-drafted d (listed (mark_of opening first) one) (listed (mark_of opening (first && is_empty one)) rest)
-    ∙ ap (drafted d) (sym (listed-first-append opening first one rest) ∙ ap (listed (mark_of opening first)) (sym (texts_of-cons kind (get_or xs i x) (drop (i + 1) xs)) ∙ ap (texts_of kind) (sym (drop_more xs i x lt))))
+    ∙ ap (drafted d) (sym (listed-first-append opening first one rest) ∙
+    ap (listed (mark_of opening first)) (sym (texts_of-cons kind (get_or xs i x) (drop (i + 1) xs)) ∙
+    ap (texts_of kind) (sym (drop_more xs i x lt))))
 
-pub first_step : (first : Bool) (kind : EntryKind) (xs : List Item) (i : ℕ) (x : Item) → i < length xs → ((first && is_empty (texts_of kind (get_or xs i x ∷ []))) && is_empty (texts_of kind (drop (i + 1) xs))) ≡ (first && is_empty (texts_of kind (drop i xs)))
+pub first_step : (first : Bool) (kind : EntryKind) (xs : List Item) (i : ℕ) (x : Item) → i < length xs →
+    ((first && is_empty (texts_of kind (get_or xs i x ∷ []))) && is_empty (texts_of kind (drop (i + 1) xs))) ≡
+    (first && is_empty (texts_of kind (drop i xs)))
 first_step first kind xs i x lt =
     let one = texts_of kind (get_or xs i x ∷ []) in
     let rest = texts_of kind (drop (i + 1) xs) in
     and_assoc first (is_empty one) (is_empty rest)
-    ∙ ap (λ b. first && b) (sym (is_empty-append one rest) ∙ ap is_empty (sym (texts_of-cons kind (get_or xs i x) (drop (i + 1) xs)) ∙ ap (texts_of kind) (sym (drop_more xs i x lt))))
+    ∙ ap (λ b. first && b) (sym (is_empty-append one rest) ∙
+    ap is_empty (sym (texts_of-cons kind (get_or xs i x) (drop (i + 1) xs)) ∙
+    ap (texts_of kind) (sym (drop_more xs i x lt))))
 
-pub all_end : (d : Drafted) (mark : List ℕ) (kind : EntryKind) (xs : List Item) (i : ℕ) → length xs ≤ i → drafted d (listed mark (texts_of kind (drop i xs))) ≡ drafted d []
+pub all_end : (d : Drafted) (mark : List ℕ) (kind : EntryKind) (xs : List Item) (i : ℕ) → length xs ≤ i →
+    drafted d (listed mark (texts_of kind (drop i xs))) ≡ drafted d []
 unfolding listed
 all_end d mark kind xs i le = rw (drop_all i xs le) refl
 
-pub first_end : (first : Bool) (kind : EntryKind) (xs : List Item) (i : ℕ) → length xs ≤ i → (first && is_empty (texts_of kind (drop i xs))) ≡ first
+pub first_end : (first : Bool) (kind : EntryKind) (xs : List Item) (i : ℕ) → length xs ≤ i →
+    (first && is_empty (texts_of kind (drop i xs))) ≡ first
 first_end true kind xs i le = rw (drop_all i xs le) refl
 first_end false kind xs i le = refl
 
 -- the topology with its braces as the first entry
-pub topology_is : (xs : List (List ℕ)) → listed (codes "{Topology{") xs ++ closing (is_empty xs) ≡ listed (codes "{") (topology_entry xs)
+pub topology_is : (xs : List (List ℕ)) → listed (codes "{Topology{") xs ++
+    closing (is_empty xs) ≡ listed (codes "{") (topology_entry xs)
 unfolding listed
 topology_is [] = refl
 topology_is (x ∷ xs) = sym (listed-one (codes "{") (listed (codes "Topology{") (x ∷ xs) ++ codes "}"))
@@ -103,12 +125,18 @@ is_empty-topology [] = refl
 is_empty-topology (x ∷ xs) = refl
 
 -- the topology, the commands and the errors, with the braces that they have together
-pub entries_are : (xs ys zs : List (List ℕ)) → ((listed (codes "{") xs ++ listed (mark_of (codes "{") (is_empty xs)) ys) ++ listed (mark_of (codes "{") (is_empty xs && is_empty ys)) zs) ++ closing ((is_empty xs && is_empty ys) && is_empty zs) ≡ grouped (xs ++ (ys ++ zs))
+pub entries_are : (xs ys zs : List (List ℕ)) →
+    ((listed (codes "{") xs ++ listed (mark_of (codes "{") (is_empty xs)) ys) ++
+    listed (mark_of (codes "{") (is_empty xs && is_empty ys)) zs) ++
+    closing ((is_empty xs && is_empty ys) && is_empty zs) ≡ grouped (xs ++ (ys ++ zs))
 entries_are xs ys zs =
     let both = is_empty-append xs ys in
-    ap (λ b. ((listed (codes "{") xs ++ listed (mark_of (codes "{") (is_empty xs)) ys) ++ listed (mark_of (codes "{") b) zs) ++ closing (b && is_empty zs)) (sym both)
-    ∙ ap (λ t. (t ++ listed (mark_of (codes "{") (is_empty (xs ++ ys))) zs) ++ closing (is_empty (xs ++ ys) && is_empty zs)) (sym (listed-first-append (codes "{") true xs ys))
-    ∙ ap (λ t. t ++ closing (is_empty (xs ++ ys) && is_empty zs)) (sym (listed-first-append (codes "{") true (xs ++ ys) zs))
+    ap (λ b. ((listed (codes "{") xs ++ listed (mark_of (codes "{") (is_empty xs)) ys) ++
+    listed (mark_of (codes "{") b) zs) ++ closing (b && is_empty zs)) (sym both)
+    ∙ ap (λ t. (t ++ listed (mark_of (codes "{") (is_empty (xs ++ ys))) zs) ++
+    closing (is_empty (xs ++ ys) && is_empty zs)) (sym (listed-first-append (codes "{") true xs ys))
+    ∙ ap (λ t. t ++ closing (is_empty (xs ++ ys) && is_empty zs))
+    (sym (listed-first-append (codes "{") true (xs ++ ys) zs))
     ∙ ap (λ b. listed (codes "{") ((xs ++ ys) ++ zs) ++ closing b) (sym (is_empty-append (xs ++ ys) zs))
     ∙ sym (grouped-closing ((xs ++ ys) ++ zs))
     ∙ ap grouped (append_assoc xs ys zs)

@@ -102,7 +102,8 @@ error_passed : (e : ErrorNumber) → IsPassed (error_text e)
 unfolding error_text
 error_passed e =
     let text = codes "{\"" ++ ((error_row e).1 ++ codes "\"}") in
-    passed-append (codes "Error=") (decimal (error_row e).0 ++ text) (λ d t. refl) (number_then (error_row e).0 text (quoted_passed (error_row e).1 (error_text_passed e)))
+    passed-append (codes "Error=") (decimal (error_row e).0 ++ text) (λ d t. refl)
+    (number_then (error_row e).0 text (quoted_passed (error_row e).1 (error_text_passed e)))
 
 context_passed : (id : ContextId) → IsPassed (context_text id)
 context_passed Null = λ d t. refl
@@ -111,7 +112,8 @@ context_passed All = λ d t. refl
 context_passed (Number n) = decimal_is_passed n
 
 term_passed : (t : List ℕ) → is_term t ≡ true → IsPassed t
-term_passed t h = word_passed t (and_parts (not (eqb (length t) 0) && nat_le (length t) 64) (list_all is_word_byte t) h).1
+term_passed t h = word_passed t (and_parts (not (eqb (length t) 0) && nat_le (length t) 64) (list_all is_word_byte t)
+    h).1
 
 -- session descriptions
 law_passed : (l : Law) → IsPassed (law_text l)
@@ -122,8 +124,11 @@ address_passed : (a : List ℕ) → IsPassed (address_text a)
 address_passed a =
     let last = decimal_is_passed (slice_index a 3) in
     let third = number_then (slice_index a 2) (codes "." ++ decimal (slice_index a 3)) last in
-    let second = number_then (slice_index a 1) (codes "." ++ (decimal (slice_index a 2) ++ (codes "." ++ decimal (slice_index a 3)))) third in
-    number_then (slice_index a 0) (codes "." ++ (decimal (slice_index a 1) ++ (codes "." ++ (decimal (slice_index a 2) ++ (codes "." ++ decimal (slice_index a 3)))))) second
+    let second = number_then (slice_index a 1)
+    (codes "." ++ (decimal (slice_index a 2) ++ (codes "." ++ decimal (slice_index a 3)))) third in
+    number_then (slice_index a 0) (codes "." ++
+    (decimal (slice_index a 1) ++ (codes "." ++
+    (decimal (slice_index a 2) ++ (codes "." ++ decimal (slice_index a 3)))))) second
 
 session_passed : (c : Chosen) → IsPassed (session_text c)
 session_passed c =
@@ -131,7 +136,8 @@ session_passed c =
     let law = passed-append (law_text c.law) tail (law_passed c.law) (λ d t. refl) in
     let media = codes " RTP/AVP " ++ (law_text c.law ++ tail) in
     let port = number_then c.port media law in
-    passed-append (address_text c.address) (codes "\r\n" ++ (codes "m=audio " ++ (decimal c.port ++ media))) (address_passed c.address) port
+    passed-append (address_text c.address) (codes "\r\n" ++ (codes "m=audio " ++ (decimal c.port ++ media)))
+    (address_passed c.address) port
 
 -- media and statistics
 control_passed : (c : Control) → IsPassed (control_text c)
@@ -151,14 +157,18 @@ remote_passed : (c : Chosen) → IsPassed (remote_text c)
 unfolding remote_text
 remote_passed c = passed_inside (session_text c) (session_passed c)
 
-optional_passed : {A : Type 0} (text : A → List ℕ) (o : Option A) → ((a : A) → IsPassed (text a)) → ArePassed (optional text o)
+optional_passed : {A : Type 0} (text : A → List ℕ) (o : Option A) → ((a : A) → IsPassed (text a)) →
+    ArePassed (optional text o)
 optional_passed text None each = tt
 optional_passed text (Some a) each = (each a, tt)
 
 stream_passed : (m : Media) → ArePassed (told_stream m)
 stream_passed (Local c) = (local_passed c, tt)
-stream_passed (Whole control local remote) =
-    (control_passed control, are_passed-append (optional local_text local) (optional remote_text remote) (optional_passed local_text local local_passed) (optional_passed remote_text remote remote_passed))
+stream_passed (Whole control local remote) = (
+  control_passed control,
+  are_passed-append (optional local_text local) (optional remote_text remote)
+      (optional_passed local_text local local_passed) (optional_passed remote_text remote remote_passed),
+)
 
 media_passed : (m : Media) → IsPassed (media_text m)
 unfolding media_text
@@ -181,7 +191,8 @@ statistics_passed s =
     ∙ passed_inside (decimal s.or_) (decimal_is_passed s.or_) d t
 
 parts_passed : (p : Parts) → ArePassed (told_parts p)
-parts_passed p = are_passed-append (optional media_text p.media) (optional statistics_text p.statistics) (optional_passed media_text p.media media_passed) (optional_passed statistics_text p.statistics statistics_passed)
+parts_passed p = are_passed-append (optional media_text p.media) (optional statistics_text p.statistics)
+    (optional_passed media_text p.media media_passed) (optional_passed statistics_text p.statistics statistics_passed)
 
 -- items
 outcome_passed : (o : Outcome) → IsPassed (outcome_text o)
@@ -191,7 +202,8 @@ outcome_passed (Done parts) = grouped_passed (told_parts parts) (parts_passed pa
 item_passed : (x : Item) → has_terms x ≡ true → IsPassed (item_text x)
 item_passed (Triple a b association) h =
     let both = and_parts (is_term a) (is_term b) h in
-    let second = passed-append b (codes "," ++ association_text association) (term_passed b both.1) (association_passed association) in
+    let second = passed-append b (codes "," ++ association_text association) (term_passed b both.1)
+    (association_passed association) in
     passed-append a (codes "," ++ (b ++ (codes "," ++ association_text association))) (term_passed a both.0) second
 item_passed (Command word term outcome) h =
     let named = passed-append term (outcome_text outcome) (term_passed term h) (outcome_passed outcome) in
@@ -206,7 +218,8 @@ texts_passed kind (x ∷ xs) h =
     let parts = and_parts (has_terms x) (list_all has_terms xs) h in
     by_test (is_of kind x) (item_passed x parts.0) (texts_passed kind xs parts.1)
   where
-    by_test : (b : Bool) → IsPassed (item_text x) → ArePassed (texts_of kind xs) → ArePassed (map item_text (cond b (x ∷ filter (is_of kind) xs) (filter (is_of kind) xs)))
+    by_test : (b : Bool) → IsPassed (item_text x) → ArePassed (texts_of kind xs) →
+        ArePassed (map item_text (cond b (x ∷ filter (is_of kind) xs) (filter (is_of kind) xs)))
     by_test true one rest = (one, rest)
     by_test false one rest = rest
 
@@ -219,28 +232,38 @@ topology_passed (x ∷ xs) all =
 
 entries_passed : (xs : List Item) → list_all has_terms xs ≡ true → ArePassed (entries_of xs)
 entries_passed xs h =
-    let rest = are_passed-append (texts_of Commands xs) (texts_of Faults xs) (texts_passed Commands xs h) (texts_passed Faults xs h) in
-    are_passed-append (topology_entry (texts_of Triples xs)) (texts_of Commands xs ++ texts_of Faults xs) (topology_passed (texts_of Triples xs) (texts_passed Triples xs h)) rest
+    let rest = are_passed-append (texts_of Commands xs) (texts_of Faults xs) (texts_passed Commands xs h)
+    (texts_passed Faults xs h) in
+    are_passed-append (topology_entry (texts_of Triples xs)) (texts_of Commands xs ++ texts_of Faults xs)
+    (topology_passed (texts_of Triples xs) (texts_passed Triples xs h)) rest
 
 action_passed : (id : ContextId) (xs : List Item) → list_all has_terms xs ≡ true → IsPassed (action_text id xs)
-action_passed id xs h = passed-append (context_text id) (grouped (entries_of xs)) (context_passed id) (grouped_passed (entries_of xs) (entries_passed xs h))
+action_passed id xs h = passed-append (context_text id) (grouped (entries_of xs)) (context_passed id)
+    (grouped_passed (entries_of xs) (entries_passed xs h))
 
 -- actions
-one_more : (xs : List Item) (x : Item) → list_all has_terms xs ≡ true → has_terms x ≡ true → list_all has_terms (xs ++ x ∷ []) ≡ true
-one_more xs x h one = list_all-append has_terms xs (x ∷ []) ∙ and_from (list_all has_terms xs) (has_terms x && true) h (and_from (has_terms x) true one refl)
+one_more : (xs : List Item) (x : Item) → list_all has_terms xs ≡ true → has_terms x ≡ true →
+    list_all has_terms (xs ++ x ∷ []) ≡ true
+one_more xs x h one = list_all-append has_terms xs (x ∷ []) ∙
+    and_from (list_all has_terms xs) (has_terms x && true) h (and_from (has_terms x) true one refl)
 
-actions_passed : (mark : List ℕ) (pending xs : List Item) → IsPassed mark → list_all has_terms pending ≡ true → list_all has_terms xs ≡ true → IsPassed (actions_text mark pending xs)
+actions_passed : (mark : List ℕ) (pending xs : List Item) → IsPassed mark → list_all has_terms pending ≡ true →
+    list_all has_terms xs ≡ true → IsPassed (actions_text mark pending xs)
 unfolding actions_text
 actions_passed mark pending [] first waiting rest = λ d t. refl
 actions_passed mark pending (Action id ∷ xs) first waiting rest =
     let others = actions_passed (codes ",") [] xs (λ d t. refl) refl rest in
-    passed-append mark (action_text id pending ++ actions_text (codes ",") [] xs) first (passed-append (action_text id pending) (actions_text (codes ",") [] xs) (action_passed id pending waiting) others)
+    passed-append mark (action_text id pending ++ actions_text (codes ",") [] xs) first
+    (passed-append (action_text id pending) (actions_text (codes ",") [] xs) (action_passed id pending waiting)
+    others)
 actions_passed mark pending (Triple a b association ∷ xs) first waiting rest =
     let parts = and_parts (has_terms (Triple a b association)) (list_all has_terms xs) rest in
-    actions_passed mark (pending ++ Triple a b association ∷ []) xs first (one_more pending (Triple a b association) waiting parts.0) parts.1
+    actions_passed mark (pending ++ Triple a b association ∷ []) xs first
+    (one_more pending (Triple a b association) waiting parts.0) parts.1
 actions_passed mark pending (Command word term outcome ∷ xs) first waiting rest =
     let parts = and_parts (has_terms (Command word term outcome)) (list_all has_terms xs) rest in
-    actions_passed mark (pending ++ Command word term outcome ∷ []) xs first (one_more pending (Command word term outcome) waiting parts.0) parts.1
+    actions_passed mark (pending ++ Command word term outcome ∷ []) xs first
+    (one_more pending (Command word term outcome) waiting parts.0) parts.1
 actions_passed mark pending (Fault e ∷ xs) first waiting rest =
     actions_passed mark (pending ++ Fault e ∷ []) xs first (one_more pending (Fault e) waiting refl) rest
 
@@ -249,11 +272,13 @@ items_passed [] h = actions_passed [] [] [] (λ d t. refl) refl h
 items_passed (Fault e ∷ []) h = error_passed e
 items_passed (Fault e ∷ (y ∷ ys)) h = actions_passed [] [] (Fault e ∷ (y ∷ ys)) (λ d t. refl) refl h
 items_passed (Triple a b association ∷ xs) h = actions_passed [] [] (Triple a b association ∷ xs) (λ d t. refl) refl h
-items_passed (Command word term outcome ∷ xs) h = actions_passed [] [] (Command word term outcome ∷ xs) (λ d t. refl) refl h
+items_passed (Command word term outcome ∷ xs) h =
+    actions_passed [] [] (Command word term outcome ∷ xs) (λ d t. refl) refl h
 items_passed (Action id ∷ xs) h = actions_passed [] [] (Action id ∷ xs) (λ d t. refl) refl h
 
 -- replies
-pub after_reply : (n : ℕ) (xs : List Item) (rest : List ℕ) → list_all has_terms xs ≡ true → after 0 (reply_text n xs ++ rest) ≡ Some rest
+pub after_reply : (n : ℕ) (xs : List Item) (rest : List ℕ) → list_all has_terms xs ≡ true →
+    after 0 (reply_text n xs ++ rest) ≡ Some rest
 after_reply n xs rest h =
     let inner = items_text xs ++ codes "}" in
     ap (after 0) (append_assoc (decimal n) (codes "{" ++ inner) rest)
@@ -265,5 +290,6 @@ pub no_proper_prefix : NoProperPrefix
 no_proper_prefix n m xs ys rest first second same =
     let whole = after_reply m ys [] second in
     let longer = after_reply n xs rest first in
-    let both : Some rest ≡ Some [] = sym longer ∙ ap (after 0) (sym same ∙ sym (append-nil (reply_text m ys))) ∙ whole in
+    let both : Some rest ≡ Some [] = sym longer ∙ ap (after 0) (sym same ∙ sym (append-nil (reply_text m ys))) ∙
+    whole in
     cc

@@ -4,7 +4,8 @@ use Rattle.mg_reply.specs.declared.item.Item.{Item}
 use Rattle.mg_reply.specs.declared.item.Item.TheVariants.{Triple, Command, Fault, Action}
 use Rattle.mg_reply.specs.Reply.{is_action, last_is_action, is_refusal}
 
-pub last_is_action-append : (before : Bool) (xs : List Item) (x : Item) → last_is_action before (xs ++ x ∷ []) ≡ is_action x
+pub last_is_action-append : (before : Bool) (xs : List Item) (x : Item) →
+    last_is_action before (xs ++ x ∷ []) ≡ is_action x
 last_is_action-append before [] x = refl
 last_is_action-append before (y ∷ ys) x = last_is_action-append (is_action y) ys x
 

@@ -9,12 +9,17 @@ use Rattle.mg_reply.specs.Media.{control_text, local_text, remote_text, optional
 use Rattle.mg_reply.proofs.DraftLaws.{drafted-drafted}
 use Rattle.mg_reply.proofs.ListedLaws.{listed-append}
 
-whole_is : (a : List ℕ) (xs ys : List (List ℕ)) → (((codes "{" ++ a) ++ listed (codes ",") xs) ++ listed (codes ",") ys) ++ codes "}" ≡ grouped (a ∷ (xs ++ ys))
+whole_is : (a : List ℕ) (xs ys : List (List ℕ)) →
+    (((codes "{" ++ a) ++ listed (codes ",") xs) ++ listed (codes ",") ys) ++ codes "}" ≡ grouped (a ∷ (xs ++ ys))
 unfolding listed
 whole_is a xs ys = simp (listed-append xs ys, append_assoc)
 
-pub whole_parts : (d : Drafted) (control : Control) (local remote : Option Chosen) → drafted (drafted (drafted (drafted (drafted d (codes "{")) (control_text control)) (listed (codes ",") (optional local_text local))) (listed (codes ",") (optional remote_text remote))) (codes "}") ≡ drafted d (grouped (told_stream (Whole control local remote)))
+pub whole_parts : (d : Drafted) (control : Control) (local remote : Option Chosen) →
+    drafted (drafted (drafted (drafted (drafted d (codes "{")) (control_text control))
+    (listed (codes ",") (optional local_text local))) (listed (codes ",") (optional remote_text remote))) (codes "}")
+    ≡ drafted d (grouped (told_stream (Whole control local remote)))
 whole_parts d control local remote =
-    simp (drafted-drafted) (ap (drafted d) (whole_is (control_text control) (optional local_text local) (optional remote_text remote)))
+    simp (drafted-drafted) (ap (drafted d) (whole_is (control_text control) (optional local_text local)
+    (optional remote_text remote)))
 
 pub ruleset whole = (whole_parts)

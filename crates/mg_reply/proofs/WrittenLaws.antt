@@ -18,10 +18,12 @@ appended-appended w a b =
     λ i. record { text = append_assoc w.text a b i; room = room i }
 
 -- a head takes at most 33 bytes
-pub head_short : (address : List ℕ) (port : ℕ) → length (address_text address) ≤ 15 → port < 2 ^ 16 → length (head_text address port) ≤ 33
+pub head_short : (address : List ℕ) (port : ℕ) → length (address_text address) ≤ 15 → port < 2 ^ 16 →
+    length (head_text address port) ≤ 33
 head_short address port short small = parts (address_text address) (decimal port) short (port_short port small)
   where
-    parts : (a p : List ℕ) → length a ≤ 15 → length p ≤ 5 → length (codes "MEGACO/1 [" ++ (a ++ (codes "]:" ++ (p ++ codes "\n")))) ≤ 33
+    parts : (a p : List ℕ) → length a ≤ 15 → length p ≤ 5 →
+        length (codes "MEGACO/1 [" ++ (a ++ (codes "]:" ++ (p ++ codes "\n")))) ≤ 33
     parts a p h k = simp length-append (omega arith)
 
 pub ruleset lengths = (port_short, number_short)

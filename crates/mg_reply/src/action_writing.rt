@@ -114,7 +114,8 @@ fn put_if_of(
     kind: EntryKind,
     item: &Item,
 ) -> bool
-    ensures value { draft.new ≡ drafted draft.old (listed (mark_of opening.now is_first) (texts_of kind (item.now ∷ []))) }
+    ensures value { draft.new ≡ drafted draft.old
+        (listed (mark_of opening.now is_first) (texts_of kind (item.now ∷ []))) }
     ensures first { result ≡ (is_first && is_empty (texts_of kind (item.now ∷ []))) }
 {
     if !item.is_of(kind) {
@@ -148,7 +149,8 @@ fn put_all(
 
 /// The topology, as the first entry. Tells whether the next entry is the first.
 fn put_topology(draft: &mut Draft, items: &[Item]) -> bool
-    ensures value { draft.new ≡ drafted draft.old (listed (codes "{") (topology_entry (texts_of EntryKind.Triples items.now))) }
+    ensures value { draft.new ≡ drafted draft.old
+        (listed (codes "{") (topology_entry (texts_of EntryKind.Triples items.now))) }
     ensures first { result ≡ is_empty (topology_entry (texts_of EntryKind.Triples items.now)) }
 {
     let is_empty = put_all(draft, b"{Topology{", true, EntryKind::Triples, items);

@@ -23,7 +23,11 @@ impl Model for Draft {
 
     ghost Value = { Drafted };
 
-    ghost view = { λ d. record { front = take d.start d.bytes.text; room = d.bytes.room + length d.bytes.text - d.start; text = text_of d.is_full (drop d.start d.bytes.text) } };
+    ghost view = { λ d. record {
+      front = take d.start d.bytes.text;
+      room = d.bytes.room + length d.bytes.text - d.start;
+      text = text_of d.is_full (drop d.start d.bytes.text);
+    } };
 
     ghost invariant = { λ d. IsDraft d.bytes d.start d.left d.is_full };
 }

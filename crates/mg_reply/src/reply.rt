@@ -24,7 +24,13 @@ impl Model for Reply {
 
     ghost Value = { Answered };
 
-    ghost view = { λ r. record { number = r.number; items = r.items.items; room = r.room; has_pending = r.has_pending; is_long = r.is_long } };
+    ghost view = { λ r. record {
+      number = r.number;
+      items = r.items.items;
+      room = r.room;
+      has_pending = r.has_pending;
+      is_long = r.is_long;
+    } };
 
     ghost use Rattle.std.specs.Prelude.{vec_capacity};
 

@@ -30,7 +30,8 @@ module _ {A : Type 0} where
   pub count-append : (p : A → Bool) (xs ys : List A) → count_by p (xs ++ ys) ≡ count_by p xs + count_by p ys
   count-append p xs ys = sum_by-append (λ y. cond (p y) 1 0) xs ys
 
-  pub count-zero : (P : A → Type 0) (p : A → Bool) (xs : List A) → AllByRecursion P xs → ((x : A) → P x → p x ≡ false) → count_by p xs ≡ 0
+  pub count-zero : (P : A → Type 0) (p : A → Bool) (xs : List A) → AllByRecursion P xs →
+      ((x : A) → P x → p x ≡ false) → count_by p xs ≡ 0
   count-zero P p [] all h = refl
   count-zero P p (x ∷ xs) all h =
       let first = one-false (p x) (h x all.0) in
@@ -46,7 +47,8 @@ module _ {A : Type 0} where
       count-cons p x xs ∙ omega arith
 
   -- what passes both tests passes the second
-  pub count-weaker : (p q : A → Bool) (xs : List A) → ((x : A) → p x ≡ true → q x ≡ true) → count_by p xs ≤ count_by q xs
+  pub count-weaker : (p q : A → Bool) (xs : List A) → ((x : A) → p x ≡ true → q x ≡ true) →
+      count_by p xs ≤ count_by q xs
   count-weaker p q [] h = omega arith
   count-weaker p q (x ∷ xs) h =
       let rest = count-weaker p q xs h in
@@ -83,7 +85,8 @@ module _ {A : Type 0} where
       omega arith
 
   -- the only one that passes is found, wherever it stands
-  pub find-at : (p : A → Bool) (xs : List A) (i : ℕ) (d : A) → i < length xs → p (get_or xs i d) ≡ true → count_by p xs ≤ 1 → find p xs ≡ Some (get_or xs i d)
+  pub find-at : (p : A → Bool) (xs : List A) (i : ℕ) (d : A) → i < length xs → p (get_or xs i d) ≡ true →
+      count_by p xs ≤ 1 → find p xs ≡ Some (get_or xs i d)
   find-at p [] i d lt e one_only = absurd (omega arith)
   find-at p (x ∷ xs) zero d lt e one_only = rw e refl
   find-at p (x ∷ xs) (suc i) d lt e one_only =
@@ -95,12 +98,14 @@ module _ {A : Type 0} where
       ]
 
   -- the only one that passes is found, where another test finds it
-  pub find-found : (p q : A → Bool) (xs : List A) (x : A) → find q xs ≡ Some x → p x ≡ true → count_by p xs ≤ 1 → find p xs ≡ Some x
+  pub find-found : (p q : A → Bool) (xs : List A) (x : A) → find q xs ≡ Some x → p x ≡ true → count_by p xs ≤ 1 →
+      find p xs ≡ Some x
   find-found p q [] x found e one_only = absurd (cc found)
   find-found p q (y ∷ ys) x found e one_only =
       let step = count-cons p y ys in
       elim (cases_Bool (q y)) [
-        | inl first ↦ let same : Some y ≡ Some x = rw first at found in let is : y ≡ x = cc in let passes : p y ≡ true = ap p is ∙ e in rw passes same
+        | inl first ↦ let same : Some y ≡ Some x = rw first at found in let is : y ≡ x = cc in
+            let passes : p y ≡ true = ap p is ∙ e in rw passes same
         | inr later ↦
             let rest : find q ys ≡ Some x = rw later at found in
             let some : 1 ≤ count_by p ys = count-found p q ys x rest e in
@@ -120,7 +125,8 @@ module _ {A : Type 0} where
       ]
 
   -- two that are found and pass a test that one passes at most are the same
-  pub same_found : (p q r : A → Bool) (xs : List A) (x y : A) → find q xs ≡ Some x → find r xs ≡ Some y → p x ≡ true → p y ≡ true → count_by p xs ≤ 1 → x ≡ y
+  pub same_found : (p q r : A → Bool) (xs : List A) (x y : A) → find q xs ≡ Some x → find r xs ≡ Some y → p x ≡ true →
+      p y ≡ true → count_by p xs ≤ 1 → x ≡ y
   same_found p q r [] x y fx fy px py few = absurd (cc)
   same_found p q r (z ∷ zs) x y fx fy px py few =
       let step = count-cons p z zs in
@@ -159,7 +165,8 @@ module _ {A : Type 0} where
         | inr e ↦ let later : find p zs ≡ Some y = rw e at h in rw e (find-push_some p zs x y later)
       ]
 
-  pub find-push_none : (p : A → Bool) (xs : List A) (x : A) → find p xs ≡ None → find p (xs ++ (x ∷ [])) ≡ cond (p x) (Some x) None
+  pub find-push_none : (p : A → Bool) (xs : List A) (x : A) → find p xs ≡ None →
+      find p (xs ++ (x ∷ [])) ≡ cond (p x) (Some x) None
   find-push_none p [] x h = refl
   find-push_none p (z ∷ zs) x h =
       elim (cases_Bool (p z)) [
@@ -187,12 +194,15 @@ module _ {A : Type 0} where
         | inr e ↦ let later : find p ys ≡ Some x = rw e at h in all-found P p ys x all.1 later
       ]
 
-  all-option : (P : A → Type 0) (o : Option A) (xs : List A) → IfSome o P → AllByRecursion P xs → AllByRecursion P (option_to_list o ++ xs)
+  all-option : (P : A → Type 0) (o : Option A) (xs : List A) → IfSome o P → AllByRecursion P xs →
+      AllByRecursion P (option_to_list o ++ xs)
   all-option P None xs h all = all
   all-option P (Some y) xs h all = (h, all)
 
 module _ {A : Type 0} (key : A → ℕ) where
-  pub all-change : (P : A → Type 0) (n : ℕ) (f : A → Option A) (xs : List A) (old : A) → find (λ x. key x == n) xs ≡ Some old → (P old → IfSome (f old) P) → AllByRecursion P xs → AllByRecursion P (change key n f xs)
+  pub all-change : (P : A → Type 0) (n : ℕ) (f : A → Option A) (xs : List A) (old : A) →
+      find (λ x. key x == n) xs ≡ Some old → (P old → IfSome (f old) P) → AllByRecursion P xs →
+      AllByRecursion P (change key n f xs)
   all-change P n f [] old h is all = tt
   all-change P n f (x ∷ xs) old h is all =
       elim (cases_Bool (key x == n)) [
@@ -205,7 +215,9 @@ module _ {A : Type 0} (key : A → ℕ) where
             rw e (all.0, all-change P n f xs old later is all.1)
       ]
 
-  pub count-change : (p : A → Bool) (n : ℕ) (f : A → Option A) (xs : List A) (old : A) → find (λ x. key x == n) xs ≡ Some old → count_by p (change key n f xs) + one (p old) ≡ count_by p xs + count_by p (option_to_list (f old))
+  pub count-change : (p : A → Bool) (n : ℕ) (f : A → Option A) (xs : List A) (old : A) →
+      find (λ x. key x == n) xs ≡ Some old → count_by p (change key n f xs) + one (p old) ≡ count_by p xs +
+      count_by p (option_to_list (f old))
   count-change p n f [] old h = absurd (cc)
   count-change p n f (x ∷ xs) old h =
       let step = count-cons p x xs in
@@ -222,28 +234,34 @@ module _ {A : Type 0} (key : A → ℕ) where
             rw e (omega arith)
       ]
 
-  pub count-change_some : (p : A → Bool) (n : ℕ) (new : A) (xs : List A) (old : A) → find (λ x. key x == n) xs ≡ Some old → count_by p (change key n (λ _. Some new) xs) + one (p old) ≡ count_by p xs + one (p new)
+  pub count-change_some : (p : A → Bool) (n : ℕ) (new : A) (xs : List A) (old : A) →
+      find (λ x. key x == n) xs ≡ Some old → count_by p (change key n (λ _. Some new) xs) +
+      one (p old) ≡ count_by p xs + one (p new)
   count-change_some p n new xs old h =
       let all = count-change p n (λ _. Some new) xs old h in
       let last = count-cons p new [] in
       omega arith
 
-  pub count-change_none : (p : A → Bool) (n : ℕ) (xs : List A) (old : A) → find (λ x. key x == n) xs ≡ Some old → count_by p (change key n (λ _. None) xs) + one (p old) ≡ count_by p xs
+  pub count-change_none : (p : A → Bool) (n : ℕ) (xs : List A) (old : A) → find (λ x. key x == n) xs ≡ Some old →
+      count_by p (change key n (λ _. None) xs) + one (p old) ≡ count_by p xs
   count-change_none p n xs old h =
       let all = count-change p n (λ _. None) xs old h in
       omega arith
 
-  find-option_other : (p : A → Bool) (o : Option A) (xs : List A) → IfSome o (λ y. p y ≡ false) → find p (option_to_list o ++ xs) ≡ find p xs
+  find-option_other : (p : A → Bool) (o : Option A) (xs : List A) → IfSome o (λ y. p y ≡ false) →
+      find p (option_to_list o ++ xs) ≡ find p xs
   find-option_other p None xs h = refl
   find-option_other p (Some y) xs h = rw h refl
 
-  other_key : (n d : ℕ) (x : A) (o : Option A) → (n == d) ≡ false → (key x == n) ≡ true → IfSome o (λ y. key y ≡ key x) → IfSome o (λ y. (key y == d) ≡ false)
+  other_key : (n d : ℕ) (x : A) (o : Option A) → (n == d) ≡ false → (key x == n) ≡ true →
+      IfSome o (λ y. key y ≡ key x) → IfSome o (λ y. (key y == d) ≡ false)
   other_key n d x None ne e k = tt
   other_key n d x (Some y) ne e k =
       let same : key y ≡ n = k ∙ eqb-true (key x) n e in
       rw same ne
 
-  pub find-change_other : (n d : ℕ) (f : A → Option A) (xs : List A) → KeepsKey key n f → (n == d) ≡ false → find (λ x. key x == d) (change key n f xs) ≡ find (λ x. key x == d) xs
+  pub find-change_other : (n d : ℕ) (f : A → Option A) (xs : List A) → KeepsKey key n f → (n == d) ≡ false →
+      find (λ x. key x == d) (change key n f xs) ≡ find (λ x. key x == d) xs
   find-change_other n d f [] keeps ne = refl
   find-change_other n d f (x ∷ xs) keeps ne =
       elim (cases_Bool (key x == n)) [
@@ -254,11 +272,15 @@ module _ {A : Type 0} (key : A → ℕ) where
         | inr e ↦ rw e (ap (cond (key x == d) (Some x)) (find-change_other n d f xs keeps ne))
       ]
 
-  find-option_same : (n : ℕ) (x : A) (o : Option A) (xs : List A) → (key x == n) ≡ true → IfSome o (λ y. key y ≡ key x) → find (λ y. key y == n) xs ≡ None → find (λ y. key y == n) (option_to_list o ++ xs) ≡ o
+  find-option_same : (n : ℕ) (x : A) (o : Option A) (xs : List A) → (key x == n) ≡ true →
+      IfSome o (λ y. key y ≡ key x) → find (λ y. key y == n) xs ≡ None →
+      find (λ y. key y == n) (option_to_list o ++ xs) ≡ o
   find-option_same n x None xs e k none = none
   find-option_same n x (Some y) xs e k none = let is : (key y == n) ≡ true = rw k e in rw is refl
 
-  pub find-change_same : (n : ℕ) (f : A → Option A) (xs : List A) → KeepsKey key n f → count_by (λ x. key x == n) xs ≤ 1 → find (λ x. key x == n) (change key n f xs) ≡ option_and_then f (find (λ x. key x == n) xs)
+  pub find-change_same : (n : ℕ) (f : A → Option A) (xs : List A) → KeepsKey key n f →
+      count_by (λ x. key x == n) xs ≤ 1 → find (λ x. key x == n) (change key n f xs) ≡
+      option_and_then f (find (λ x. key x == n) xs)
   find-change_same n f [] keeps few = refl
   find-change_same n f (x ∷ xs) keeps few =
       let step = count-cons (λ y. key y == n) x xs in

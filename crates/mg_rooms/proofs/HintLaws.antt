@@ -8,7 +8,8 @@ use Rattle.mg_rooms.proofs.OrderLaws.{IsFirst, find-in_order, first_at_zero}
 
 module _ {A : Type 0} where
   -- what passes a test somewhere is found
-  somewhere : (p : A → Bool) (k : ℕ) (t : List A) (s : ℕ) (o : A) → slice_get t s ≡ Some o → p o ≡ true → position_from p k t ≡ None → ⊥
+  somewhere : (p : A → Bool) (k : ℕ) (t : List A) (s : ℕ) (o : A) → slice_get t s ≡ Some o → p o ≡ true →
+      position_from p k t ≡ None → ⊥
   somewhere p k [] s o at e none = cc
   somewhere p k (x ∷ t) zero o at e none =
       let same : x ≡ o = cc in
@@ -27,7 +28,8 @@ module _ {A : Type 0} where
   first_passes p (x ∷ t) (suc s) o h at = first_passes p t s o h.1 at
 
 -- where a key is found, it is found first, since it is there once
-pub found_here : {A : Type 0} (key : A → ℕ) (t : List (Option A)) (s n : ℕ) (o : Option A) → HoldsOnce key t → slice_get t s ≡ Some o → has_key key n o ≡ true → Some s ≡ position_from (has_key key n) 0 t
+pub found_here : {A : Type 0} (key : A → ℕ) (t : List (Option A)) (s n : ℕ) (o : Option A) → HoldsOnce key t →
+    slice_get t s ≡ Some o → has_key key n o ≡ true → Some s ≡ position_from (has_key key n) 0 t
 found_here {A} key t s n None once at e = absurd (false≢true e)
 found_here {A} key t s n (Some y) once at e = by_first (position_from (has_key key n) 0 t) refl
   where

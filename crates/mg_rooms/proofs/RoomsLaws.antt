@@ -6,11 +6,14 @@ use Rattle.mg_rooms.specs.Registry.{Registry}
 use Rattle.mg_rooms.specs.Outcome.{Gives}
 
 -- a refused call changes nothing
-pub refused : {A : Type 0} (record_of : A → Record) (old new : Registry) (r : Result A ErrorNumber) (outcome : Result (Registry × Record) ErrorNumber) → Gives record_of old new r outcome → OnErr r (new ≡ old)
+pub refused : {A : Type 0} (record_of : A → Record) (old new : Registry) (r : Result A ErrorNumber)
+    (outcome : Result (Registry × Record) ErrorNumber) → Gives record_of old new r outcome → OnErr r (new ≡ old)
 refused record_of old new (Ok d) outcome h = tt
 refused record_of old new (Err e) outcome h = h.1
 
-pub gives_refusal : {A : Type 0} (record_of : A → Record) (old new : Registry) (r : Result A ErrorNumber) (outcome : Result (Registry × Record) ErrorNumber) (e : ErrorNumber) → r ≡ Err e → outcome ≡ Err e → new ≡ old → Gives record_of old new r outcome
+pub gives_refusal : {A : Type 0} (record_of : A → Record) (old new : Registry) (r : Result A ErrorNumber)
+    (outcome : Result (Registry × Record) ErrorNumber) (e : ErrorNumber) → r ≡ Err e → outcome ≡ Err e → new ≡ old →
+    Gives record_of old new r outcome
 gives_refusal record_of old new r outcome e is refused same = rw is (refused, same)
 
 pub ruleset laws = (refused)

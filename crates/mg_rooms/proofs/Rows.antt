@@ -14,7 +14,14 @@ use Rattle.mg_rooms.specs.Registry.{Registry, start_of, record_at, context_at, m
 use Rattle.mg_rooms.specs.Outcome.{add, modify, move_to, subtract}
 
 abbrev limits : ℕ → ℕ → ℕ → Limits
-limits slots first_termination first_context = record { address = 127 ∷ 0 ∷ 0 ∷ 1 ∷ []; base_port = 30000; slots = slots; first_termination = first_termination; first_context = first_context }
+limits slots first_termination first_context =
+    record {
+      address = 127 ∷ 0 ∷ 0 ∷ 1 ∷ [];
+      base_port = 30000;
+      slots = slots;
+      first_termination = first_termination;
+      first_context = first_context;
+    }
 
 -- a gateway with so many slots
 abbrev with_slots : ℕ → Registry
@@ -62,7 +69,8 @@ full c n = adds New ∷ replicate n (adds (Number c))
 
 -- ## Numbers, slots and contexts
 
-pub first_numbers : answers (adds New ∷ adds (Number 1) ∷ adds New ∷ []) (with_slots termination_limit) ≡ Ok (1, 1) ∷ Ok (1, 2) ∷ Ok (2, 3) ∷ []
+pub first_numbers : answers (adds New ∷ adds (Number 1) ∷ adds New ∷ []) (with_slots termination_limit) ≡ Ok (1, 1) ∷
+    Ok (1, 2) ∷ Ok (2, 3) ∷ []
 unfolding add
 first_numbers = refl
 
@@ -71,7 +79,8 @@ unfolding add
 no_slot_left = refl
 
 -- a slot is used again, a number is not
-pub slot_used_again : answers (full 1 1 ++ subtracts (Number 1) 2 ∷ adds (Number 1) ∷ []) (with_slots termination_limit) ≡ Ok (1, 1) ∷ Ok (1, 2) ∷ Ok (1, 2) ∷ Ok (1, 3) ∷ []
+pub slot_used_again : answers (full 1 1 ++ subtracts (Number 1) 2 ∷ adds (Number 1) ∷ [])
+    (with_slots termination_limit) ≡ Ok (1, 1) ∷ Ok (1, 2) ∷ Ok (1, 2) ∷ Ok (1, 3) ∷ []
 unfolding add subtract
 slot_used_again = refl
 
@@ -79,20 +88,24 @@ abbrev slot_of : Option Record → Option ℕ
 slot_of None = None
 slot_of (Some r) = Some r.slot
 
-pub least_slot : slot_of (record_at (run (full 1 3 ++ subtracts (Number 1) 3 ∷ subtracts (Number 1) 2 ∷ adds (Number 1) ∷ []) (with_slots termination_limit)) 5) ≡ Some 1
+pub least_slot : slot_of (record_at (run (full 1 3 ++ subtracts (Number 1) 3 ∷ subtracts (Number 1) 2 ∷
+    adds (Number 1) ∷ []) (with_slots termination_limit)) 5) ≡ Some 1
 unfolding add subtract
 least_slot = refl
 
-pub last_termination : answers (adds New ∷ adds (Number 1) ∷ []) (start_of (limits termination_limit 4294967295 1)) ≡ Ok (1, 4294967295) ∷ Err NoTerminationLeft ∷ []
+pub last_termination : answers (adds New ∷ adds (Number 1) ∷ []) (start_of (limits termination_limit 4294967295 1)) ≡
+    Ok (1, 4294967295) ∷ Err NoTerminationLeft ∷ []
 unfolding add
 last_termination = refl
 
-pub last_context : answers (adds New ∷ adds New ∷ []) (start_of (limits termination_limit 1 4294967293)) ≡ Ok (4294967293, 1) ∷ Err NoContextLeft ∷ []
+pub last_context : answers (adds New ∷ adds New ∷ []) (start_of (limits termination_limit 1 4294967293)) ≡
+    Ok (4294967293, 1) ∷ Err NoContextLeft ∷ []
 unfolding add
 last_context = refl
 
 -- a context that ended isn't made again, and its number isn't used again
-pub ends_with_last_member : answers (adds New ∷ subtracts (Number 1) 1 ∷ adds (Number 1) ∷ adds New ∷ []) (with_slots termination_limit) ≡ Ok (1, 1) ∷ Ok (1, 1) ∷ Err UnknownContext ∷ Ok (2, 2) ∷ []
+pub ends_with_last_member : answers (adds New ∷ subtracts (Number 1) 1 ∷ adds (Number 1) ∷ adds New ∷ [])
+    (with_slots termination_limit) ≡ Ok (1, 1) ∷ Ok (1, 1) ∷ Err UnknownContext ∷ Ok (2, 2) ∷ []
 unfolding add subtract
 ends_with_last_member = refl
 
@@ -102,37 +115,49 @@ ends_with_last_member = refl
 abbrev filled : List Command
 filled = full 1 (member_limit - 1)
 
-pub full_context : answers (adds (Number 1) ∷ moves New 5 ∷ adds (Number 1) ∷ []) (run filled (with_slots termination_limit)) ≡ Err ContextFull ∷ Ok (2, 5) ∷ Ok (1, member_limit + 1) ∷ []
+pub full_context : answers (adds (Number 1) ∷ moves New 5 ∷ adds (Number 1) ∷ [])
+    (run filled (with_slots termination_limit)) ≡ Err ContextFull ∷ Ok (2, 5) ∷ Ok (1, member_limit + 1) ∷ []
 unfolding add move_to
 full_context = refl
 
 -- where no slot is left either, that is what is told
-pub no_slot_before_full : answers (adds (Number 1) ∷ subtracts (Number 2) (member_limit + 1) ∷ adds (Number 2) ∷ []) (run (filled ++ full 2 1) (with_slots (member_limit + 2))) ≡ Err NoTerminationLeft ∷ Ok (2, member_limit + 1) ∷ Ok (2, member_limit + 3) ∷ []
+pub no_slot_before_full : answers (adds (Number 1) ∷ subtracts (Number 2) (member_limit + 1) ∷ adds (Number 2) ∷ [])
+    (run (filled ++ full 2 1) (with_slots (member_limit + 2))) ≡ Err NoTerminationLeft ∷ Ok (2, member_limit + 1) ∷
+    Ok (2, member_limit + 3) ∷ []
 unfolding add subtract
 no_slot_before_full = refl
 
-pub slot_of_the_last : slot_of (record_at (run (filled ++ (full 2 1 ++ subtracts (Number 2) (member_limit + 1) ∷ adds (Number 2) ∷ [])) (with_slots (member_limit + 2))) (member_limit + 3)) ≡ Some member_limit
+pub slot_of_the_last : slot_of (record_at (run
+    (filled ++ (full 2 1 ++ subtracts (Number 2) (member_limit + 1) ∷ adds (Number 2) ∷ []))
+    (with_slots (member_limit + 2))) (member_limit + 3)) ≡ Some member_limit
 unfolding add subtract
 slot_of_the_last = refl
 
 -- with all contexts there none can be made, not even for the only member of one
-pub no_context_left : answers (moves New 1 ∷ adds New ∷ []) (run (replicate context_limit (adds New)) (with_slots termination_limit)) ≡ Err NoContextLeft ∷ Err NoContextLeft ∷ []
+pub no_context_left : answers (moves New 1 ∷ adds New ∷ [])
+    (run (replicate context_limit (adds New)) (with_slots termination_limit)) ≡ Err NoContextLeft ∷
+    Err NoContextLeft ∷ []
 unfolding add move_to
 no_context_left = refl
 
 -- ## Names and contexts
 
-pub wrong_contexts : answers (moves Null 1 ∷ moves (Number 1) 1 ∷ modifies Null 1 ∷ modifies (Number 7) 1 ∷ modifies New 1 ∷ modifies New 9 ∷ modifies (Number 9) 9 ∷ subtracts (Number 2) 1 ∷ []) (run (adds New ∷ adds New ∷ []) (with_slots termination_limit))
-    ≡ Err UnknownContext ∷ Err AlreadyInContext ∷ Err NotInContext ∷ Err UnknownContext ∷ Err UnknownContext ∷ Err UnknownTermination ∷ Err UnknownTermination ∷ Err NotInContext ∷ []
+pub wrong_contexts : answers (moves Null 1 ∷ moves (Number 1) 1 ∷ modifies Null 1 ∷ modifies (Number 7) 1 ∷
+    modifies New 1 ∷ modifies New 9 ∷ modifies (Number 9) 9 ∷ subtracts (Number 2) 1 ∷ [])
+    (run (adds New ∷ adds New ∷ []) (with_slots termination_limit))
+    ≡ Err UnknownContext ∷ Err AlreadyInContext ∷ Err NotInContext ∷ Err UnknownContext ∷ Err UnknownContext ∷
+    Err UnknownTermination ∷ Err UnknownTermination ∷ Err NotInContext ∷ []
 unfolding add modify move_to subtract
 wrong_contexts = refl
 
 -- who moves in goes last; its old context ends when it was alone there
-pub moves_in_last : members_at (run (full 1 2 ++ moves New 1 ∷ moves (Number 1) 1 ∷ []) (with_slots termination_limit)) 1 ≡ 2 ∷ 3 ∷ 1 ∷ []
+pub moves_in_last : members_at (run (full 1 2 ++ moves New 1 ∷ moves (Number 1) 1 ∷ [])
+    (with_slots termination_limit)) 1 ≡ 2 ∷ 3 ∷ 1 ∷ []
 unfolding add move_to
 moves_in_last = refl
 
-pub moved_out_of_its_own : context_at (run (full 1 2 ++ moves New 1 ∷ moves (Number 1) 1 ∷ []) (with_slots termination_limit)) 2 ≡ None
+pub moved_out_of_its_own : context_at (run (full 1 2 ++ moves New 1 ∷ moves (Number 1) 1 ∷ [])
+    (with_slots termination_limit)) 2 ≡ None
 unfolding add move_to
 moved_out_of_its_own = refl
 
@@ -146,6 +171,7 @@ pub refused_media : modify (run (adds New ∷ []) (with_slots termination_limit)
 unfolding add modify
 refused_media = refl
 
-pub refused_media_makes_nothing : answers ((λ w. add w New unserved) ∷ adds New ∷ []) (with_slots termination_limit) ≡ Err NoMedia ∷ Ok (1, 1) ∷ []
+pub refused_media_makes_nothing : answers ((λ w. add w New unserved) ∷ adds New ∷ []) (with_slots termination_limit) ≡
+    Err NoMedia ∷ Ok (1, 1) ∷ []
 unfolding add
 refused_media_makes_nothing = refl

@@ -17,10 +17,12 @@ module _ {A : Type 0} (among : A → Bool) (seat : A → ℕ) where
   some_at p (x ∷ xs) h =
       elim (cases_Bool (p x)) [
         | inl e ↦ let step = count-cons p x xs in let here : one (p x) ≡ 1 = rw e refl in omega arith
-        | inr e ↦ let later : list_any p xs ≡ true = rw e at h in let more : 1 ≤ count_by p xs = some_at p xs later in let step = count-cons p x xs in omega arith
+        | inr e ↦ let later : list_any p xs ≡ true = rw e at h in let more : 1 ≤ count_by p xs = some_at p xs later in
+            let step = count-cons p x xs in omega arith
       ]
 
-  one_more : (b : Bool) (s k : ℕ) → cond (b && nat_le k s) 1 0 ≡ cond (b && (s == k)) 1 0 + cond (b && nat_le (k + 1) s) 1 0
+  one_more : (b : Bool) (s k : ℕ) → cond (b && nat_le k s) 1 0 ≡ cond (b && (s == k)) 1 0 +
+      cond (b && nat_le (k + 1) s) 1 0
   one_more false s k = refl
   one_more true s k =
       elim (cases_order s k) [
@@ -54,12 +56,14 @@ module _ {A : Type 0} (among : A → Bool) (seat : A → ℕ) where
       omega arith
 
   -- n seats from k on that are taken
-  all_taken : (k n : ℕ) (xs : List A) → find (λ s. not (list_any (λ x. among x && (seat x == s)) xs)) (range_with_len k n) ≡ None → n ≤ from k xs
+  all_taken : (k n : ℕ) (xs : List A) → find (λ s. not (list_any (λ x. among x && (seat x == s)) xs))
+      (range_with_len k n) ≡ None → n ≤ from k xs
   all_taken k zero xs h = omega arith
   all_taken k (suc n) xs h =
       elim (cases_Bool (list_any (λ x. among x && (seat x == k)) xs)) [
         | inl e ↦
-            let later : find (λ s. not (list_any (λ x. among x && (seat x == s)) xs)) (range_with_len (k + 1) n) ≡ None = rw e at h in
+            let later : find (λ s. not (list_any (λ x. among x && (seat x == s)) xs)) (range_with_len (k + 1) n) ≡
+            None = rw e at h in
             let more : n ≤ from (k + 1) xs = all_taken (k + 1) n xs later in
             let one : 1 ≤ at k xs = some_at (λ x. among x && (seat x == k)) xs e in
             omega (arith, from_next k xs)
@@ -81,11 +85,13 @@ module _ {A : Type 0} (among : A → Bool) (seat : A → ℕ) where
       omega arith
 
   -- fewer than n leave one of n seats free
-  pub seat_left : (n : ℕ) (xs : List A) → count_by among xs < n → IsSome (find (λ s. not (list_any (λ x. among x && (seat x == s)) xs)) (range_with_len 0 n))
+  pub seat_left : (n : ℕ) (xs : List A) → count_by among xs < n →
+      IsSome (find (λ s. not (list_any (λ x. among x && (seat x == s)) xs)) (range_with_len 0 n))
   seat_left n xs few =
       found (find (λ s. not (list_any (λ x. among x && (seat x == s)) xs)) (range_with_len 0 n)) refl
     where
-      found : (o : Option ℕ) → find (λ s. not (list_any (λ x. among x && (seat x == s)) xs)) (range_with_len 0 n) ≡ o → IsSome o
+      found : (o : Option ℕ) → find (λ s. not (list_any (λ x. among x && (seat x == s)) xs)) (range_with_len 0 n) ≡
+          o → IsSome o
       found None h = let taken : n ≤ from 0 xs = all_taken 0 n xs h in absurd (omega (arith, from_all 0 xs))
       found (Some s) h = refl
 
@@ -115,7 +121,8 @@ bit s k =
       ]
     ]
 
-below_next : {A : Type 0} (spot : A → ℕ) (k : ℕ) (xs : List A) → below spot (k + 1) xs ≡ count_by (λ x. spot x == k) xs + below spot k xs
+below_next : {A : Type 0} (spot : A → ℕ) (k : ℕ) (xs : List A) →
+    below spot (k + 1) xs ≡ count_by (λ x. spot x == k) xs + below spot k xs
 below_next spot k [] = refl
 below_next spot k (x ∷ xs) =
     let here = bit (spot x) k in
@@ -125,12 +132,15 @@ below_next spot k (x ∷ xs) =
     let lower = count-cons (λ y. nat_lt (spot y) k) x xs in
     omega arith
 
-below_few : {A : Type 0} (spot : A → ℕ) (k : ℕ) (xs : List A) → ((s : ℕ) → count_by (λ x. spot x == s) xs ≤ 1) → below spot k xs ≤ k
+below_few : {A : Type 0} (spot : A → ℕ) (k : ℕ) (xs : List A) → ((s : ℕ) → count_by (λ x. spot x == s) xs ≤ 1) →
+    below spot k xs ≤ k
 below_few spot zero xs once = let none : below spot 0 xs ≡ 0 = nothing xs in omega arith
   where
     nothing : (ys : List _) → below spot 0 ys ≡ 0
     nothing [] = refl
-    nothing (y ∷ ys) = let rest = nothing ys in let step = count-cons (λ z. nat_lt (spot z) 0) y ys in let none : nat_lt (spot y) 0 ≡ false = le-ltb (spot y) 0 (omega arith) in let bit : one (nat_lt (spot y) 0) ≡ 0 = rw none refl in omega arith
+    nothing (y ∷ ys) = let rest = nothing ys in let step = count-cons (λ z. nat_lt (spot z) 0) y ys in
+        let none : nat_lt (spot y) 0 ≡ false = le-ltb (spot y) 0 (omega arith) in
+        let bit : one (nat_lt (spot y) 0) ≡ 0 = rw none refl in omega arith
 below_few spot (suc k) xs once =
     let same : suc k ≡ k + 1 = omega arith in
     let step = ap (λ (n : ℕ). below spot n xs) same ∙ below_next spot k xs in
@@ -138,7 +148,8 @@ below_few spot (suc k) xs once =
     let here = once k in
     omega arith
 
-below_all : {A : Type 0} (spot : A → ℕ) (n : ℕ) (xs : List A) → AllByRecursion (λ x. spot x < n) xs → below spot n xs ≡ length xs
+below_all : {A : Type 0} (spot : A → ℕ) (n : ℕ) (xs : List A) → AllByRecursion (λ x. spot x < n) xs →
+    below spot n xs ≡ length xs
 below_all spot n [] all = refl
 below_all spot n (x ∷ xs) all =
     let here : nat_lt (spot x) n ≡ true = lt-ltb (spot x) n all.0 in
@@ -148,7 +159,8 @@ below_all spot n (x ∷ xs) all =
     omega arith
 
 -- there are not more than spots where each has a spot of its own
-pub no_more : {A : Type 0} (spot : A → ℕ) (n : ℕ) (xs : List A) → AllByRecursion (λ x. spot x < n) xs → ((s : ℕ) → count_by (λ x. spot x == s) xs ≤ 1) → length xs ≤ n
+pub no_more : {A : Type 0} (spot : A → ℕ) (n : ℕ) (xs : List A) → AllByRecursion (λ x. spot x < n) xs →
+    ((s : ℕ) → count_by (λ x. spot x == s) xs ≤ 1) → length xs ≤ n
 no_more spot n xs all once =
     let few = below_few spot n xs once in
     let every = below_all spot n xs all in

@@ -22,14 +22,16 @@ use Rattle.mg_rooms.proofs.OrderLaws.{found_key}
 use Rattle.mg_rooms.proofs.SeatLaws.{no_more}
 use Rattle.mg_rooms.proofs.StateLaws.{same_slot, same_seat, same_room, termination_within, context_within, members_in, members_once, is_in_a_context}
 
-below_slots : (w : Registry) (next : ℕ) (rs : List Record) → AllByRecursion (IsTermination w.limits next) rs → AllByRecursion (λ r. r.slot < w.limits.slots) rs
+below_slots : (w : Registry) (next : ℕ) (rs : List Record) → AllByRecursion (IsTermination w.limits next) rs →
+    AllByRecursion (λ r. r.slot < w.limits.slots) rs
 below_slots w next [] all = all
 below_slots w next (r ∷ rs) all = (all.0.slot, below_slots w next rs all.1)
 
 pub sound_if : (w : Registry) → IsConsistent w → IsSound w
 sound_if w h = record {
   consistent = h;
-  few = no_more (λ r. r.slot) w.limits.slots w.terminations (below_slots w w.next_termination w.terminations h.terminations.each) h.terminations.one_slot;
+  few = no_more (λ r. r.slot) w.limits.slots w.terminations
+      (below_slots w w.next_termination w.terminations h.terminations.each) h.terminations.one_slot;
   termination = λ n r. termination_within w n r h;
   context = λ c x. context_within w c x h;
   there = λ n r. is_in_a_context w n r h;
@@ -42,9 +44,11 @@ sound_if w h = record {
   by_slot = λ i d lt.
       let slot = (get_or w.terminations i d).slot in
       find-at (λ r. r.slot == slot) w.terminations i d lt (eq-eqb slot slot refl) (h.terminations.one_slot slot);
-  holder = λ n r found. find-found (λ x. x.slot == r.slot) (λ x. x.number == n) w.terminations r found (eq-eqb r.slot r.slot refl) (h.terminations.one_slot r.slot);
+  holder = λ n r found. find-found (λ x. x.slot == r.slot) (λ x. x.number == n) w.terminations r found
+      (eq-eqb r.slot r.slot refl) (h.terminations.one_slot r.slot);
   held = λ slot r found. (
-    find-found (λ x. x.number == r.number) (λ x. x.slot == slot) w.terminations r found (eq-eqb r.number r.number refl) (h.terminations.one_number r.number),
+    find-found (λ x. x.number == r.number) (λ x. x.slot == slot) w.terminations r found
+        (eq-eqb r.number r.number refl) (h.terminations.one_number r.number),
     eqb-true r.slot slot (found_key (λ x. x.slot == slot) w.terminations r found),
   );
   members = λ c n. members_in w c n h;
@@ -59,7 +63,8 @@ pub record Leaves (w after : Registry) (n c d : ℕ) (r : Record) : Type 0 where
   pub lasts : Lasts w after
   pub others : LeavesOthers w after n c d
 
-leaves : (w after : Registry) (n c d : ℕ) (r : Record) → IsConsistent after → record_at after n ≡ Some r → Lasts w after × LeavesOthers w after n c d → Leaves w after n c d r
+leaves : (w after : Registry) (n c d : ℕ) (r : Record) → IsConsistent after → record_at after n ≡ Some r →
+    Lasts w after × LeavesOthers w after n c d → Leaves w after n c d r
 leaves w after n c d r sound own rest = record {
   sound = sound_if after sound;
   own = own;
@@ -68,14 +73,24 @@ leaves w after n c d r sound own rest = record {
   others = rest.1;
 }
 
-pub add_leaves : (w after : Registry) (target : Target) (settings : Settings) (d : Record) → IsConsistent w → add w target settings ≡ Ok (after, d) → Leaves w after d.number d.context d.context d
-add_leaves w after target settings d h outcome = leaves w after d.number d.context d.context d (add_sound w after target settings d h outcome) (add_own w after target settings d h outcome) (add_lasts w after target settings d h outcome)
+pub add_leaves : (w after : Registry) (target : Target) (settings : Settings) (d : Record) → IsConsistent w →
+    add w target settings ≡ Ok (after, d) → Leaves w after d.number d.context d.context d
+add_leaves w after target settings d h outcome =
+    leaves w after d.number d.context d.context d (add_sound w after target settings d h outcome)
+    (add_own w after target settings d h outcome) (add_lasts w after target settings d h outcome)
 
-pub modify_leaves : (w after : Registry) (target : Target) (n : ℕ) (settings : Settings) (d : Record) → IsConsistent w → modify w target n settings ≡ Ok (after, d) → Leaves w after n d.context d.context d
-modify_leaves w after target n settings d h outcome = leaves w after n d.context d.context d (modify_sound w after target n settings d h outcome) (modify_own w after target n settings d h outcome) (modify_lasts w after target n settings d h outcome)
+pub modify_leaves : (w after : Registry) (target : Target) (n : ℕ) (settings : Settings) (d : Record) →
+    IsConsistent w → modify w target n settings ≡ Ok (after, d) → Leaves w after n d.context d.context d
+modify_leaves w after target n settings d h outcome =
+    leaves w after n d.context d.context d (modify_sound w after target n settings d h outcome)
+    (modify_own w after target n settings d h outcome) (modify_lasts w after target n settings d h outcome)
 
-pub move_leaves : (w after : Registry) (target : Target) (n : ℕ) (settings : Settings) (d old : Record) → IsConsistent w → record_at w n ≡ Some old → move_to w target n settings ≡ Ok (after, d) → Leaves w after n old.context d.context d
-move_leaves w after target n settings d old h found outcome = leaves w after n old.context d.context d (move_sound w after target n settings d h outcome) (move_own w after target n settings d h outcome) (move_lasts w after target n settings d old h found outcome)
+pub move_leaves : (w after : Registry) (target : Target) (n : ℕ) (settings : Settings) (d old : Record) →
+    IsConsistent w → record_at w n ≡ Some old → move_to w target n settings ≡ Ok (after, d) →
+    Leaves w after n old.context d.context d
+move_leaves w after target n settings d old h found outcome =
+    leaves w after n old.context d.context d (move_sound w after target n settings d h outcome)
+    (move_own w after target n settings d h outcome) (move_lasts w after target n settings d old h found outcome)
 
 -- what is left where a member of the action's context is ended
 pub record Ends (w after : Registry) (n : ℕ) (r : Record) : Type 0 where
@@ -85,7 +100,8 @@ pub record Ends (w after : Registry) (n : ℕ) (r : Record) : Type 0 where
   pub lasts : Lasts w after
   pub others : LeavesOthers w after n r.context r.context
 
-pub subtract_ends : (w after : Registry) (target : Target) (n : ℕ) (r : Record) → IsConsistent w → member w target n ≡ Ok r → after ≡ left (removed w r.number) r.context r.number → Ends w after n r
+pub subtract_ends : (w after : Registry) (target : Target) (n : ℕ) (r : Record) → IsConsistent w →
+    member w target n ≡ Ok r → after ≡ left (removed w r.number) r.context r.number → Ends w after n r
 subtract_ends w after target n r h found is =
     let outcome : subtract w target n ≡ Ok (after, r) = rw is (ended w target n r found) in
     let was = member_found w target n r found in
@@ -100,10 +116,12 @@ subtract_ends w after target n r h found is =
 
 -- ## What a call gives back
 
-pub there_as : (w : Registry) (n : ℕ) (r : Record) (m : Member) → record_at w n ≡ Some r → m.record ≡ r → option_map (λ x. x.room) (context_at w r.context) ≡ Some m.room → IsThereAs w n m
+pub there_as : (w : Registry) (n : ℕ) (r : Record) (m : Member) → record_at w n ≡ Some r → m.record ≡ r →
+    option_map (λ x. x.room) (context_at w r.context) ≡ Some m.room → IsThereAs w n m
 there_as w n r m found is room = record { found = rw is found; room = rw is room }
 
-pub made_as : (w : Registry) (r : Record) (m : Member) → record_at w r.number ≡ Some r → m.record ≡ r → option_map (λ x. x.room) (context_at w r.context) ≡ Some m.room → IsThereAs w m.record.number m
+pub made_as : (w : Registry) (r : Record) (m : Member) → record_at w r.number ≡ Some r → m.record ≡ r →
+    option_map (λ x. x.room) (context_at w r.context) ≡ Some m.room → IsThereAs w m.record.number m
 made_as w r m found is room = record { found = rw is found; room = rw is room }
 
 -- ## Moves
@@ -113,6 +131,7 @@ named_is w n r h =
     let at = ok_or_ok (record_at w n) refusals.UnknownTermination r (sym h) in
     (at, found_number w n r at)
 
-pub unnamed : (w : Registry) (target : Target) (n : ℕ) (settings : Settings) (e : ErrorNumber) → Err e ≡ named w n → move_to w target n settings ≡ Err e
+pub unnamed : (w : Registry) (target : Target) (n : ℕ) (settings : Settings) (e : ErrorNumber) → Err e ≡ named w n →
+    move_to w target n settings ≡ Err e
 unfolding move_to
 unnamed w target n settings e h = rw (← h) refl

@@ -45,7 +45,8 @@ pub fn outcomes_are_consistent()
         add w target settings ≡ Ok (next, r) → IsConsistent next }
     ensures modify { (w next : Registry) (target : Target) (n : ℕ) (settings : Settings) (r : Record) → IsConsistent w →
         modify w target n settings ≡ Ok (next, r) → IsConsistent next }
-    ensures move_to { (w next : Registry) (target : Target) (n : ℕ) (settings : Settings) (r : Record) → IsConsistent w →
+    ensures move_to { (w next : Registry) (target : Target) (n : ℕ) (settings : Settings) (r : Record) →
+        IsConsistent w →
         move_to w target n settings ≡ Ok (next, r) → IsConsistent next }
     ensures subtract { (w next : Registry) (target : Target) (n : ℕ) (r : Record) → IsConsistent w →
         subtract w target n ≡ Ok (next, r) → IsConsistent next }

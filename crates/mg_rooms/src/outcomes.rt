@@ -54,7 +54,8 @@ impl Tables {
     ) -> Result<Record, ErrorNumber>
         requires there { record_at self.old from.record.number ≡ Some from.record }
         requires slot { from.record.slot < self.old.limits.slots }
-        ensures outcome { Gives (λ r. r) self.old self.new result (move_to self.old target from.record.number settings.now) }
+        ensures outcome { Gives (λ r. r) self.old self.new result
+            (move_to self.old target from.record.number settings.now) }
     {
         let old = from.record;
         if target.is_number(old.context) {

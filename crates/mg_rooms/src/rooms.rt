@@ -118,7 +118,8 @@ impl Rooms {
         ensures sound { IsSound self.new }
         ensures member { IfOk result (λ m. IsThereAs self.new m.record.number m) }
         ensures lasts { Lasts self.old self.new }
-        ensures others { IfOk result (λ m. LeavesOthers self.old self.new m.record.number m.record.context m.record.context) }
+        ensures others { IfOk result (λ m. LeavesOthers self.old self.new m.record.number m.record.context
+            m.record.context) }
     {
         let made = self.tables.add(target, settings)?;
         Ok(self.tables.member_of(made))
@@ -154,13 +155,15 @@ impl Rooms {
         number: u32,
         settings: &Settings,
     ) -> Result<Moved, ErrorNumber>
-        ensures outcome { Gives (λ m. m.to.record) self.old self.new result (move_to self.old target number settings.now) }
+        ensures outcome { Gives (λ m. m.to.record) self.old self.new result
+            (move_to self.old target number settings.now) }
         ensures refused { OnErr result (self.new ≡ self.old) }
         ensures sound { IsSound self.new }
         ensures from { IfOk result (λ m. IsThereAs self.old number m.from) }
         ensures to { IfOk result (λ m. IsThereAs self.new number m.to) }
         ensures lasts { Lasts self.old self.new }
-        ensures others { IfOk result (λ m. LeavesOthers self.old self.new number m.from.record.context m.to.record.context) }
+        ensures others { IfOk result (λ m. LeavesOthers self.old self.new number m.from.record.context
+            m.to.record.context) }
     {
         let old = self.tables.named(number)?;
         let from = self.tables.member_of(old);

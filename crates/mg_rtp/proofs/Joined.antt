@@ -8,7 +8,8 @@ use Rattle.mg_rtp.specs.RtpFault.{EndsInExtension, HasBadPadding}
 
 -- what is behind fronts of one length
 pub same_behind : (a b r s : List ℕ) → length a ≡ length b → a ++ r ≡ b ++ s → r ≡ s
-same_behind a b r s len e = sym (drop_at a r (length a) refl) ∙ ap (drop (length a)) e ∙ drop_at b s (length a) (sym len)
+same_behind a b r s len e = sym (drop_at a r (length a) refl) ∙ ap (drop (length a)) e ∙
+    drop_at b s (length a) (sym len)
 
 -- what is before ends of one length
 pub same_before : (a b r s : List ℕ) → length r ≡ length s → a ++ r ≡ b ++ s → a ≡ b
@@ -21,7 +22,8 @@ pub three_parts : (xs a b ys c : List ℕ) → xs ≡ a ++ ys → ys ≡ b ++ c 
 three_parts xs a b ys c p q = p ∙ ap (λ (x : List ℕ). a ++ x) q ∙ sym (append_assoc a b c)
 
 pub four_parts : (xs a b ys c zs d : List ℕ) → xs ≡ a ++ ys → ys ≡ b ++ zs → zs ≡ c ++ d → xs ≡ a ++ b ++ c ++ d
-four_parts xs a b ys c zs d p q r = three_parts xs a b ys zs p q ∙ ap (λ (x : List ℕ). a ++ b ++ x) r ∙ sym (append_assoc (a ++ b) c d)
+four_parts xs a b ys c zs d p q r = three_parts xs a b ys zs p q ∙ ap (λ (x : List ℕ). a ++ b ++ x) r ∙
+    sym (append_assoc (a ++ b) c d)
 
 -- ---- extensions
 
@@ -36,13 +38,22 @@ count_of bytes r w =
 -- how long an extension is
 length_of : (bytes : List ℕ) (w : CountsWords bytes) → length bytes ≡ 4 + 4 * w.count
 length_of bytes w =
-    omega (arith, ap length w.joined, length-append (w.profile ++ big_bytes 2 w.count) w.words, length-append w.profile (big_bytes 2 w.count), length-bytes_high_first 2 w.count, w.two_bytes, w.all_words)
+    omega (
+      arith,
+      ap length w.joined,
+      length-append (w.profile ++ big_bytes 2 w.count) w.words,
+      length-append w.profile (big_bytes 2 w.count),
+      length-bytes_high_first 2 w.count,
+      w.two_bytes,
+      w.all_words,
+    )
 
 -- bytes begin with at most one extension
 pub extension_once : (x : Bool) (e f r s : List ℕ) → IsExtension x e → IsExtension x f → e ++ r ≡ f ++ s → r ≡ s
 extension_once false e f r s p q h = same_behind e f r s (ap length (p ∙ sym q)) h
 extension_once true e f r s p q h =
-    let counts : p.count ≡ q.count = sym (count_of e r p) ∙ ap (λ (b : List ℕ). big_number 2 (drop 2 b)) h ∙ count_of f s q in
+    let counts : p.count ≡ q.count = sym (count_of e r p) ∙ ap (λ (b : List ℕ). big_number 2 (drop 2 b)) h ∙
+    count_of f s q in
     same_behind e f r s (omega (arith, length_of e p, length_of f q, counts)) h
 
 -- an extension doesn't end too early
@@ -60,7 +71,8 @@ padding_once true a b p q h k e =
     let count = length h.filler + 1 in
     let other = length k.filler + 1 in
     let pushed : (a ++ h.filler) ++ count ∷ [] ≡ (b ++ k.filler) ++ other ∷ [] =
-    append_assoc a h.filler (count ∷ []) ∙ ap (λ (x : List ℕ). a ++ x) (sym h.joined) ∙ e ∙ ap (λ (x : List ℕ). b ++ x) k.joined ∙ sym (append_assoc b k.filler (other ∷ [])) in
+    append_assoc a h.filler (count ∷ []) ∙ ap (λ (x : List ℕ). a ++ x) (sym h.joined) ∙ e ∙
+    ap (λ (x : List ℕ). b ++ x) k.joined ∙ sym (append_assoc b k.filler (other ∷ [])) in
     let same = same_from_push (a ++ h.filler) (b ++ k.filler) count other pushed in
     same_before a b h.filler k.filler (omega (arith, same.1)) same.0
 
@@ -68,10 +80,13 @@ padding_once true a b p q h k e =
 pub padding_counts : (a p : List ℕ) → CountsItself p → HasBadPadding (a ++ p) → ⊥
 padding_counts a p h bad =
     let count = length h.filler + 1 in
-    let whole : a ++ p ≡ (a ++ h.filler) ++ count ∷ [] = ap (λ (x : List ℕ). a ++ x) h.joined ∙ sym (append_assoc a h.filler (count ∷ [])) in
+    let whole : a ++ p ≡ (a ++ h.filler) ++ count ∷ [] = ap (λ (x : List ℕ). a ++ x) h.joined ∙
+    sym (append_assoc a h.filler (count ∷ [])) in
     let len : length (a ++ p) ≡ length (a ++ h.filler) + 1 = ap length whole ∙ length_push (a ++ h.filler) count in
     let longer : length (a ++ p) ≡ length a + count = omega (arith, len, length-append a h.filler) in
-    let last : get_or (a ++ p) (length (a ++ p) - 1) 0 ≡ count = ap (λ (x : List ℕ). get_or x (length (a ++ p) - 1) 0) whole ∙ get_or_push (a ++ h.filler) count 0 (length (a ++ p) - 1) (omega arith) in
+    let last : get_or (a ++ p) (length (a ++ p) - 1) 0 ≡ count =
+    ap (λ (x : List ℕ). get_or x (length (a ++ p) - 1) 0) whole ∙
+    get_or_push (a ++ h.filler) count 0 (length (a ++ p) - 1) (omega arith) in
     elim bad [
       | inl nothing ↦ omega (arith, longer, ap length nothing)
       | inr (inl none) ↦ omega (arith, last, none)

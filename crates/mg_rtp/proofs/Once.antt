@@ -37,17 +37,20 @@ layout_once l m p q e =
     let extended : l.is_extended ≡ m.is_extended = bit_once _ _ (omega arith) in
     let count : l.source_count ≡ m.source_count = omega arith in
     let make : Bool → Bool → ℕ → Layout = λ a b n. record { is_padded = a; is_extended = b; source_count = n } in
-    let made : make l.is_padded l.is_extended l.source_count ≡ make m.is_padded m.is_extended m.source_count = rw (padded, extended, count) refl in
+    let made : make l.is_padded l.is_extended l.source_count ≡ make m.is_padded m.is_extended m.source_count =
+    rw (padded, extended, count) refl in
     made
 
 -- bytes are of one number that fits them
 number_once : (n x y : ℕ) → x < 256 ^ n → y < 256 ^ n → big_bytes n x ≡ big_bytes n y → x ≡ y
 number_once n x y p q e =
-    sym (big_number-reads_back n x [] p) ∙ ap (λ (bytes : List ℕ). big_number n (bytes ++ [])) e ∙ big_number-reads_back n y [] q
+    sym (big_number-reads_back n x [] p) ∙ ap (λ (bytes : List ℕ). big_number n (bytes ++ [])) e ∙
+    big_number-reads_back n y [] q
 
 -- bytes are of one header
 header_once : (h k : Header) → IsHeader h → IsHeader k → second_byte h ≡ second_byte k
-    → big_bytes 2 h.sequence ≡ big_bytes 2 k.sequence → big_bytes 4 h.timestamp ≡ big_bytes 4 k.timestamp → big_bytes 4 h.ssrc ≡ big_bytes 4 k.ssrc → h ≡ k
+    → big_bytes 2 h.sequence ≡ big_bytes 2 k.sequence → big_bytes 4 h.timestamp ≡ big_bytes 4 k.timestamp →
+    big_bytes 4 h.ssrc ≡ big_bytes 4 k.ssrc → h ≡ k
 header_once h k p q second a b c =
     let hm = bit_le h.marker in
     let km = bit_le k.marker in
@@ -56,12 +59,16 @@ header_once h k p q second a b c =
     let sequence = number_once 2 h.sequence k.sequence p.sequence q.sequence a in
     let timestamp = number_once 4 h.timestamp k.timestamp p.timestamp q.timestamp b in
     let ssrc = number_once 4 h.ssrc k.ssrc p.ssrc q.ssrc c in
-    let make : Bool → ℕ → ℕ → ℕ → ℕ → Header = λ m t s u v. record { marker = m; payload_type = t; sequence = s; timestamp = u; ssrc = v } in
-    let made : make h.marker h.payload_type h.sequence h.timestamp h.ssrc ≡ make k.marker k.payload_type k.sequence k.timestamp k.ssrc = rw (marker, payload_type, sequence, timestamp, ssrc) refl in
+    let make : Bool → ℕ → ℕ → ℕ → ℕ → Header =
+    λ m t s u v. record { marker = m; payload_type = t; sequence = s; timestamp = u; ssrc = v } in
+    let made : make h.marker h.payload_type h.sequence h.timestamp h.ssrc ≡
+    make k.marker k.payload_type k.sequence k.timestamp k.ssrc =
+    rw (marker, payload_type, sequence, timestamp, ssrc) refl in
     made
 
 -- one header, with one list behind it
-pub begins_once : (bytes : List ℕ) (l m : Layout) (h k : Header) (r s : List ℕ) → Begins bytes l h r → Begins bytes m k s → (l ≡ m) × (h ≡ k) × (r ≡ s)
+pub begins_once : (bytes : List ℕ) (l m : Layout) (h k : Header) (r s : List ℕ) → Begins bytes l h r →
+    Begins bytes m k s → (l ≡ m) × (h ≡ k) × (r ≡ s)
 begins_once bytes l m h k r s a b =
     let joined : header_bytes l h ++ r ≡ header_bytes m k ++ s = sym a.joined ∙ b.joined in
     let first : first_byte l ≡ first_byte m = ap (λ (x : List ℕ). get_or x 0 0) joined in
@@ -69,21 +76,30 @@ begins_once bytes l m h k r s a b =
     let sequence : big_bytes 2 h.sequence ≡ big_bytes 2 k.sequence = ap (λ (x : List ℕ). take 2 (drop 2 x)) joined in
     let timestamp : big_bytes 4 h.timestamp ≡ big_bytes 4 k.timestamp = ap (λ (x : List ℕ). take 4 (drop 4 x)) joined in
     let ssrc : big_bytes 4 h.ssrc ≡ big_bytes 4 k.ssrc = ap (λ (x : List ℕ). take 4 (drop 8 x)) joined in
-    let rest : r ≡ s = ap (λ (x : List ℕ). drop 12 x) joined in
-    (layout_once l m a.few_sources b.few_sources first, header_once h k a.in_range b.in_range second sequence timestamp ssrc, rest)
+    let rest : r ≡ s = ap (λ (x : List ℕ). drop 12 x) joined in (
+      layout_once l m a.few_sources b.few_sources first,
+      header_once h k a.in_range b.in_range second sequence timestamp ssrc,
+      rest,
+    )
 
 -- ---- packets
 
 -- bytes are of one packet
-pub packet_once : (bytes : List ℕ) (h k : Header) (p q : List ℕ) → IsPacket bytes h p → IsPacket bytes k q → (h ≡ k) × (p ≡ q)
+pub packet_once : (bytes : List ℕ) (h k : Header) (p q : List ℕ) → IsPacket bytes h p → IsPacket bytes k q → (h ≡ k) ×
+    (p ≡ q)
 packet_once bytes h k p q a b =
     let front = begins_once bytes a.layout b.layout h k _ _ a.begins b.begins in
     let counts = ap (λ (l : Layout). l.source_count) front.0 in
-    let extended : IsExtension a.layout.is_extended b.extension = subst (λ (l : Layout). IsExtension l.is_extended b.extension) (sym front.0) b.is_extension in
-    let padded : IsPadding a.layout.is_padded b.padding = subst (λ (l : Layout). IsPadding l.is_padded b.padding) (sym front.0) b.is_padding in
-    let rests : a.sources ++ (a.extension ++ (p ++ a.padding)) ≡ b.sources ++ (b.extension ++ (q ++ b.padding)) = simp append_assoc at front.2 in
-    let behind_sources = same_behind a.sources b.sources _ _ (a.are_sources ∙ ap (λ n. 4 * n) counts ∙ sym b.are_sources) rests in
-    let behind_extension = extension_once a.layout.is_extended a.extension b.extension _ _ a.is_extension extended behind_sources in
+    let extended : IsExtension a.layout.is_extended b.extension =
+    subst (λ (l : Layout). IsExtension l.is_extended b.extension) (sym front.0) b.is_extension in
+    let padded : IsPadding a.layout.is_padded b.padding =
+    subst (λ (l : Layout). IsPadding l.is_padded b.padding) (sym front.0) b.is_padding in
+    let rests : a.sources ++ (a.extension ++ (p ++ a.padding)) ≡ b.sources ++ (b.extension ++ (q ++ b.padding)) =
+    simp append_assoc at front.2 in
+    let behind_sources = same_behind a.sources b.sources _ _
+    (a.are_sources ∙ ap (λ n. 4 * n) counts ∙ sym b.are_sources) rests in
+    let behind_extension = extension_once a.layout.is_extended a.extension b.extension _ _ a.is_extension extended
+    behind_sources in
     (front.1, padding_once a.layout.is_padded p q a.padding b.padding a.is_padding padded behind_extension)
 
 -- ---- faults
@@ -93,7 +109,8 @@ twelve_at_least : (bytes : List ℕ) (l : Layout) (h : Header) (rest : List ℕ)
 twelve_at_least bytes l h rest b = omega (arith, ap length b.joined)
 
 -- and their version is 2
-version_is_2 : (bytes : List ℕ) (l : Layout) (h : Header) (rest : List ℕ) → Begins bytes l h rest → get_or bytes 0 0 / 64 ≡ 2
+version_is_2 : (bytes : List ℕ) (l : Layout) (h : Header) (rest : List ℕ) → Begins bytes l h rest →
+    get_or bytes 0 0 / 64 ≡ 2
 version_is_2 bytes l h rest b =
     let padded = bit_le l.is_padded in
     let extended = bit_le l.is_extended in
@@ -102,40 +119,52 @@ version_is_2 bytes l h rest b =
     omega arith
 
 -- what has room for its sources doesn't end in them
-enough_sources : (bytes : List ℕ) (a : LacksSources bytes) (l : Layout) (h : Header) (sources rest : List ℕ) → Begins bytes l h (sources ++ rest) → AreSources l.source_count sources → ⊥
+enough_sources : (bytes : List ℕ) (a : LacksSources bytes) (l : Layout) (h : Header) (sources rest : List ℕ) →
+    Begins bytes l h (sources ++ rest) → AreSources l.source_count sources → ⊥
 enough_sources bytes a l h sources rest b are =
     let front = begins_once bytes a.layout l a.header h a.rest (sources ++ rest) a.begins b in
     let counts = ap (λ (l : Layout). l.source_count) front.0 in
     omega (arith, a.few, ap length front.2, length-append sources rest, are, counts)
 
 -- what has an extension, where there is to be one, doesn't end in it
-whole_extension : (bytes : List ℕ) (a : LacksExtension bytes) (l : Layout) (h : Header) (sources extension rest : List ℕ) → Begins bytes l h (sources ++ (extension ++ rest)) → AreSources l.source_count sources → IsExtension l.is_extended extension → ⊥
+whole_extension : (bytes : List ℕ) (a : LacksExtension bytes) (l : Layout) (h : Header)
+    (sources extension rest : List ℕ) → Begins bytes l h (sources ++ (extension ++ rest)) →
+    AreSources l.source_count sources → IsExtension l.is_extended extension → ⊥
 whole_extension bytes a l h sources extension rest b are is =
     let front = begins_once bytes a.layout l a.header h (a.sources ++ a.rest) _ a.begins b in
     let counts = ap (λ (l : Layout). l.source_count) front.0 in
-    let behind : a.rest ≡ extension ++ rest = same_behind a.sources sources _ _ (a.are_sources ∙ ap (λ n. 4 * n) counts ∙ sym are) front.2 in
+    let behind : a.rest ≡ extension ++ rest =
+    same_behind a.sources sources _ _ (a.are_sources ∙ ap (λ n. 4 * n) counts ∙ sym are) front.2 in
     let extended : l.is_extended ≡ true = sym (ap (λ (l : Layout). l.is_extended) front.0) ∙ a.is_extended in
-    extension_ends extension rest (subst (λ (x : Bool). IsExtension x extension) extended is) (subst EndsInExtension behind a.ends)
+    extension_ends extension rest (subst (λ (x : Bool). IsExtension x extension) extended is)
+    (subst EndsInExtension behind a.ends)
 
 -- what ends in padding, where there is to be some, ends well
 whole_padding : (bytes : List ℕ) (a : LacksPadding bytes) (h : Header) (p : List ℕ) → IsPacket bytes h p → ⊥
 whole_padding bytes a h p b =
     let front = begins_once bytes a.layout b.layout a.header h _ _ a.begins b.begins in
     let counts = ap (λ (l : Layout). l.source_count) front.0 in
-    let extended : IsExtension a.layout.is_extended b.extension = subst (λ (l : Layout). IsExtension l.is_extended b.extension) (sym front.0) b.is_extension in
+    let extended : IsExtension a.layout.is_extended b.extension =
+    subst (λ (l : Layout). IsExtension l.is_extended b.extension) (sym front.0) b.is_extension in
     let padded : b.layout.is_padded ≡ true = sym (ap (λ (l : Layout). l.is_padded) front.0) ∙ a.is_padded in
-    let rests : a.sources ++ (a.extension ++ a.rest) ≡ b.sources ++ (b.extension ++ (p ++ b.padding)) = simp append_assoc at front.2 in
-    let behind_sources = same_behind a.sources b.sources _ _ (a.are_sources ∙ ap (λ n. 4 * n) counts ∙ sym b.are_sources) rests in
-    let behind : a.rest ≡ p ++ b.padding = extension_once a.layout.is_extended a.extension b.extension _ _ a.is_extension extended behind_sources in
-    padding_counts p b.padding (subst (λ (x : Bool). IsPadding x b.padding) padded b.is_padding) (subst HasBadPadding behind a.bad)
+    let rests : a.sources ++ (a.extension ++ a.rest) ≡ b.sources ++ (b.extension ++ (p ++ b.padding)) =
+    simp append_assoc at front.2 in
+    let behind_sources = same_behind a.sources b.sources _ _
+    (a.are_sources ∙ ap (λ n. 4 * n) counts ∙ sym b.are_sources) rests in
+    let behind : a.rest ≡ p ++ b.padding = extension_once a.layout.is_extended a.extension b.extension _ _
+    a.is_extension extended behind_sources in
+    padding_counts p b.padding (subst (λ (x : Bool). IsPadding x b.padding) padded b.is_padding)
+    (subst HasBadPadding behind a.bad)
 
 -- what has room for its sources isn't short
-no_short : (bytes : List ℕ) (l : Layout) (h : Header) (sources rest : List ℕ) → Begins bytes l h (sources ++ rest) → AreSources l.source_count sources → IsFault bytes Short → ⊥
+no_short : (bytes : List ℕ) (l : Layout) (h : Header) (sources rest : List ℕ) → Begins bytes l h (sources ++ rest) →
+    AreSources l.source_count sources → IsFault bytes Short → ⊥
 no_short bytes l h sources rest b are (inl few) = omega (arith, few, twelve_at_least bytes l h _ b)
 no_short bytes l h sources rest b are (inr a) = enough_sources bytes a l h sources rest b are
 
 -- what begins with a header has no other version
-no_version : (bytes : List ℕ) (l : Layout) (h : Header) (rest : List ℕ) → Begins bytes l h rest → IsFault bytes Version → ⊥
+no_version : (bytes : List ℕ) (l : Layout) (h : Header) (rest : List ℕ) → Begins bytes l h rest →
+    IsFault bytes Version → ⊥
 no_version bytes l h rest b a = a.1 (version_is_2 bytes l h rest b)
 
 -- what is short isn't of another version
@@ -147,30 +176,38 @@ short_not_version bytes (inr a) b = no_version bytes a.layout a.header a.rest a.
 pub fault_once : (bytes : List ℕ) (d e : RtpFault) → IsFault bytes d → IsFault bytes e → d ≡ e
 fault_once bytes Short Short a b = refl
 fault_once bytes Short Version a b = absurd (short_not_version bytes a b)
-fault_once bytes Short Extension a b = absurd (no_short bytes b.layout b.header b.sources b.rest b.begins b.are_sources a)
+fault_once bytes Short Extension a b = absurd
+    (no_short bytes b.layout b.header b.sources b.rest b.begins b.are_sources a)
 fault_once bytes Short Padding a b =
-    absurd (no_short bytes b.layout b.header b.sources (b.extension ++ b.rest) (begins_with bytes b.layout b.header _ _ (simp append_assoc) b.begins) b.are_sources a)
+    absurd (no_short bytes b.layout b.header b.sources (b.extension ++ b.rest)
+    (begins_with bytes b.layout b.header _ _ (simp append_assoc) b.begins) b.are_sources a)
 fault_once bytes Version Short a b = absurd (short_not_version bytes b a)
 fault_once bytes Version Version a b = refl
 fault_once bytes Version Extension a b = absurd (no_version bytes b.layout b.header _ b.begins a)
 fault_once bytes Version Padding a b = absurd (no_version bytes b.layout b.header _ b.begins a)
-fault_once bytes Extension Short a b = absurd (no_short bytes a.layout a.header a.sources a.rest a.begins a.are_sources b)
+fault_once bytes Extension Short a b = absurd
+    (no_short bytes a.layout a.header a.sources a.rest a.begins a.are_sources b)
 fault_once bytes Extension Version a b = absurd (no_version bytes a.layout a.header _ a.begins b)
 fault_once bytes Extension Extension a b = refl
 fault_once bytes Extension Padding a b =
-    absurd (whole_extension bytes a b.layout b.header b.sources b.extension b.rest (begins_with bytes b.layout b.header _ _ (simp append_assoc) b.begins) b.are_sources b.is_extension)
+    absurd (whole_extension bytes a b.layout b.header b.sources b.extension b.rest
+    (begins_with bytes b.layout b.header _ _ (simp append_assoc) b.begins) b.are_sources b.is_extension)
 fault_once bytes Padding Short a b =
-    absurd (no_short bytes a.layout a.header a.sources (a.extension ++ a.rest) (begins_with bytes a.layout a.header _ _ (simp append_assoc) a.begins) a.are_sources b)
+    absurd (no_short bytes a.layout a.header a.sources (a.extension ++ a.rest)
+    (begins_with bytes a.layout a.header _ _ (simp append_assoc) a.begins) a.are_sources b)
 fault_once bytes Padding Version a b = absurd (no_version bytes a.layout a.header _ a.begins b)
 fault_once bytes Padding Extension a b =
-    absurd (whole_extension bytes b a.layout a.header a.sources a.extension a.rest (begins_with bytes a.layout a.header _ _ (simp append_assoc) a.begins) a.are_sources a.is_extension)
+    absurd (whole_extension bytes b a.layout a.header a.sources a.extension a.rest
+    (begins_with bytes a.layout a.header _ _ (simp append_assoc) a.begins) a.are_sources a.is_extension)
 fault_once bytes Padding Padding a b = refl
 
 -- a packet has no fault
 pub no_fault : (bytes : List ℕ) (h : Header) (p : List ℕ) (e : RtpFault) → IsPacket bytes h p → IsFault bytes e → ⊥
 no_fault bytes h p Short a b =
-    no_short bytes a.layout h a.sources (a.extension ++ (p ++ a.padding)) (begins_with bytes a.layout h _ _ (simp append_assoc) a.begins) a.are_sources b
+    no_short bytes a.layout h a.sources (a.extension ++ (p ++ a.padding))
+    (begins_with bytes a.layout h _ _ (simp append_assoc) a.begins) a.are_sources b
 no_fault bytes h p Version a b = no_version bytes a.layout h _ a.begins b
 no_fault bytes h p Extension a b =
-    whole_extension bytes b a.layout h a.sources a.extension (p ++ a.padding) (begins_with bytes a.layout h _ _ (simp append_assoc) a.begins) a.are_sources a.is_extension
+    whole_extension bytes b a.layout h a.sources a.extension (p ++ a.padding)
+    (begins_with bytes a.layout h _ _ (simp append_assoc) a.begins) a.are_sources a.is_extension
 no_fault bytes h p Padding a b = whole_padding bytes b h p a

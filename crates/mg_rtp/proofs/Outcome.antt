@@ -10,23 +10,35 @@ use Rattle.mg_rtp.proofs.Once.{packet_once, fault_once, no_fault}
 
 -- a packet that the bytes are, or a fault that they have
 abbrev pub IsOutcome : List ℕ → Result Packet RtpFault → Type 0
-IsOutcome bytes r = MatchResult r (λ packet. IsPacket bytes packet.header packet.payload.now) (λ fault. IsFault bytes fault)
+IsOutcome bytes r = MatchResult r (λ packet. IsPacket bytes packet.header packet.payload.now)
+    (λ fault. IsFault bytes fault)
 
 -- a fault that the bytes have
-pub err_outcome : (bytes : List ℕ) (r : Result Packet RtpFault) (fault : RtpFault) → r ≡ Err fault → IsFault bytes fault → IsOutcome bytes r
+pub err_outcome : (bytes : List ℕ) (r : Result Packet RtpFault) (fault : RtpFault) → r ≡ Err fault →
+    IsFault bytes fault → IsOutcome bytes r
 err_outcome bytes r fault e h = subst (IsOutcome bytes) (sym e) h
 
 -- what is read is the packet
-pub found_packet : (bytes : List ℕ) (r : Result Packet RtpFault) → IsOutcome bytes r → IfOk r (λ packet. IsPacket bytes packet.header packet.payload.now)
+pub found_packet : (bytes : List ℕ) (r : Result Packet RtpFault) → IsOutcome bytes r →
+    IfOk r (λ packet. IsPacket bytes packet.header packet.payload.now)
 found_packet bytes (Ok packet) a = a
 found_packet bytes (Err fault) a = tt
 
 -- whatever packet the bytes are, it is read
-pub only_packet : (bytes : List ℕ) (r : Result Packet RtpFault) → IsOutcome bytes r → (h : Header) (p : List ℕ) → IsPacket bytes h p → IsOkAnd r (λ packet. (packet.header ≡ h) × (packet.payload.now ≡ p))
+pub only_packet : (bytes : List ℕ) (r : Result Packet RtpFault) → IsOutcome bytes r → (h : Header) (p : List ℕ) →
+    IsPacket bytes h p → IsOkAnd r (λ packet. (packet.header ≡ h) × (packet.payload.now ≡ p))
 only_packet bytes (Ok packet) a h p b = packet_once bytes packet.header h packet.payload.now p a b
 only_packet bytes (Err fault) a h p b = absurd (no_fault bytes h p fault b a)
 
 -- a fault comes exactly where the bytes have it
-pub only_fault : (bytes : List ℕ) (r : Result Packet RtpFault) → IsOutcome bytes r → (fault : RtpFault) → (r ≡ Err fault) ↔ IsFault bytes fault
-only_fault bytes (Ok packet) a fault = (λ e. absurd cc, λ b. absurd (no_fault bytes packet.header packet.payload.now fault a b))
-only_fault bytes (Err other) a fault = (λ e. let same : other ≡ fault = cc in subst (IsFault bytes) same a, λ b. ap (λ (x : RtpFault). Err x) (fault_once bytes other fault a b))
+pub only_fault : (bytes : List ℕ) (r : Result Packet RtpFault) → IsOutcome bytes r → (fault : RtpFault) →
+    (r ≡ Err fault) ↔ IsFault bytes fault
+only_fault bytes (Ok packet) a fault = (
+  λ e. absurd cc,
+  λ b. absurd (no_fault bytes packet.header packet.payload.now fault a b),
+)
+only_fault bytes (Err other) a fault = (
+  λ e. let same : other ≡ fault = cc in
+      subst (IsFault bytes) same a,
+  λ b. ap (λ (x : RtpFault). Err x) (fault_once bytes other fault a b),
+)

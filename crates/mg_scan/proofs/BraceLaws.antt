@@ -28,13 +28,15 @@ same_byte : (b : ℕ) (bs : List ℕ) (k : ℕ) → escaped_at (b == 92) bs k �
 same_byte b bs zero = refl
 same_byte b bs (suc k) = refl
 
-one_more : (t : Bool) (b : ℕ) (bs : List ℕ) (k : ℕ) → option_map (λ n. 1 + n) (at_brace t bs k) ≡ at_brace t (b ∷ bs) (suc k)
+one_more : (t : Bool) (b : ℕ) (bs : List ℕ) (k : ℕ) →
+    option_map (λ n. 1 + n) (at_brace t bs k) ≡ at_brace t (b ∷ bs) (suc k)
 one_more false b bs k = let e : 1 + k ≡ suc k = omega arith in ap (λ (n : ℕ). Some n) e
 one_more true b bs k =
     let e : suc k + 1 ≡ suc (k + 1) = omega arith in
     rw e (moved-suc (k + 1) (suc (k + 1)) (content_len false (drop (k + 1) bs)) (omega arith))
 
-here : (escaped : Bool) (b : ℕ) (bs : List ℕ) → (b == 125) ≡ true → (b == 92) ≡ false → content_len escaped (b ∷ bs) ≡ at_brace escaped (b ∷ bs) 0
+here : (escaped : Bool) (b : ℕ) (bs : List ℕ) → (b == 125) ≡ true → (b == 92) ≡ false →
+    content_len escaped (b ∷ bs) ≡ at_brace escaped (b ∷ bs) 0
 unfolding content_len
 here false b bs e ne = rw e refl
 here true b bs e ne = rw (e, ne) refl
@@ -43,16 +45,20 @@ no_backslash : (b : ℕ) → (b == 125) ≡ true → (b == 92) ≡ false
 no_backslash b e = rw (eqb-true b 125 e) refl
 
 -- the first brace decides
-pub first_brace : (escaped : Bool) (bs : List ℕ) (n : ℕ) → n < length bs → ((k : ℕ) → k < n → (get_or bs k 0 == 125) ≡ false) → (get_or bs n 0 == 125) ≡ true → content_len escaped bs ≡ at_brace (escaped_at escaped bs n) bs n
+pub first_brace : (escaped : Bool) (bs : List ℕ) (n : ℕ) → n < length bs →
+    ((k : ℕ) → k < n → (get_or bs k 0 == 125) ≡ false) → (get_or bs n 0 == 125) ≡ true →
+    content_len escaped bs ≡ at_brace (escaped_at escaped bs n) bs n
 unfolding content_len
 first_brace escaped [] n lt before is = absurd (omega arith)
 first_brace escaped (b ∷ bs) zero lt before is = here escaped b bs is (no_backslash b is)
 first_brace escaped (b ∷ bs) (suc n) lt before is =
     let first : (b == 125) ≡ false = before 0 (omega arith) in
     let later = first_brace (b == 92) bs n (omega arith) (λ k lt. before (suc k) (omega arith)) is in
-    rw first (ap (option_map (λ n. 1 + n)) (later ∙ ap (λ (t : Bool). at_brace t bs n) (same_byte b bs n)) ∙ one_more (get_or (b ∷ bs) n 0 == 92) b bs n)
+    rw first (ap (option_map (λ n. 1 + n)) (later ∙ ap (λ (t : Bool). at_brace t bs n) (same_byte b bs n)) ∙
+    one_more (get_or (b ∷ bs) n 0 == 92) b bs n)
 
-pub no_brace : (escaped : Bool) (bs : List ℕ) → ((k : ℕ) → k < length bs → (get_or bs k 0 == 125) ≡ false) → content_len escaped bs ≡ None
+pub no_brace : (escaped : Bool) (bs : List ℕ) → ((k : ℕ) → k < length bs → (get_or bs k 0 == 125) ≡ false) →
+    content_len escaped bs ≡ None
 unfolding content_len
 no_brace escaped [] h = refl
 no_brace escaped (b ∷ bs) h =
@@ -61,24 +67,33 @@ no_brace escaped (b ∷ bs) h =
 
 -- one step of the search, in the bytes from a place on
 module _ (bytes : List ℕ) (from : ℕ) (rest : List ℕ) (is_rest : rest ≡ drop from bytes) where
-  found-cases : (t : Bool) (n : ℕ) → IsFirstByte (is_byte 125) rest (Some n) → escaped_at false rest n ≡ t → content_len false (drop from bytes) ≡ at_brace t rest n
+  found-cases : (t : Bool) (n : ℕ) → IsFirstByte (is_byte 125) rest (Some n) → escaped_at false rest n ≡ t →
+      content_len false (drop from bytes) ≡ at_brace t rest n
   found-cases t n first is =
-      ap (content_len false) (sym is_rest) ∙ first_brace false rest n first.0.high (λ k lt. false_from_ne_true _ (first.0.before k (omega arith) lt)) first.1 ∙ ap (λ (t : Bool). at_brace t rest n) is
+      ap (content_len false) (sym is_rest) ∙ first_brace false rest n first.0.high
+      (λ k lt. false_from_ne_true _ (first.0.before k (omega arith) lt)) first.1 ∙
+      ap (λ (t : Bool). at_brace t rest n) is
 
-  pub closes : (n : ℕ) → IsFirstByte (is_byte 125) rest (Some n) → escaped_at false rest n ≡ false → moved from (content_len false (drop from bytes)) ≡ Some (from + n)
+  pub closes : (n : ℕ) → IsFirstByte (is_byte 125) rest (Some n) → escaped_at false rest n ≡ false →
+      moved from (content_len false (drop from bytes)) ≡ Some (from + n)
   closes n first is = ap (moved from) (found-cases false n first is)
 
-  pub passes : (n next : ℕ) → IsFirstByte (is_byte 125) rest (Some n) → escaped_at false rest n ≡ true → next ≡ from + (n + 1) → moved from (content_len false (drop from bytes)) ≡ moved next (content_len false (drop next bytes))
+  pub passes : (n next : ℕ) → IsFirstByte (is_byte 125) rest (Some n) → escaped_at false rest n ≡ true →
+      next ≡ from + (n + 1) → moved from (content_len false (drop from bytes)) ≡
+      moved next (content_len false (drop next bytes))
   passes n next first is e =
-      let after : drop (n + 1) rest ≡ drop next bytes = ap (drop (n + 1)) is_rest ∙ drop-drop (n + 1) from bytes ∙ ap (λ (i : ℕ). drop i bytes) (sym e) in
-      ap (moved from) (found-cases true n first is ∙ ap (λ (l : List ℕ). moved (n + 1) (content_len false l)) after) ∙ twice from (n + 1) next (content_len false (drop next bytes)) e
+      let after : drop (n + 1) rest ≡ drop next bytes = ap (drop (n + 1)) is_rest ∙ drop-drop (n + 1) from bytes ∙
+      ap (λ (i : ℕ). drop i bytes) (sym e) in
+      ap (moved from) (found-cases true n first is ∙ ap (λ (l : List ℕ). moved (n + 1) (content_len false l)) after) ∙
+      twice from (n + 1) next (content_len false (drop next bytes)) e
     where
       twice : (i j k : ℕ) (o : Option ℕ) → k ≡ i + j → moved i (moved j o) ≡ moved k o
       twice i j k None e = refl
       twice i j k (Some n) e = let s : i + (j + n) ≡ k + n = omega arith in ap (λ (k : ℕ). Some k) s
 
   pub runs_out : IsFirstByte (is_byte 125) rest None → moved from (content_len false (drop from bytes)) ≡ None
-  runs_out none = ap (moved from) (ap (content_len false) (sym is_rest) ∙ no_brace false rest (λ k lt. false_from_ne_true _ (none k (omega arith) lt)))
+  runs_out none = ap (moved from) (ap (content_len false) (sym is_rest) ∙
+      no_brace false rest (λ k lt. false_from_ne_true _ (none k (omega arith) lt)))
 
 -- the byte before a brace, as the code looks at it
 pub not_escaped : (rest : List ℕ) (n : ℕ) → (n ≡ 0) ⊎ (get_or rest (n - 1) 0 ≢ 92) → escaped_at false rest n ≡ false

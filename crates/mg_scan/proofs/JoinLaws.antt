@@ -20,10 +20,13 @@ abbrev HasFront : Bool → List ℕ → List ℕ → Type 0
 HasFront inside bs rest = (white : List ℕ) × IsWhite inside white × (bs ≡ white ++ rest)
 
 -- one byte more in front
-grown : (was inside : Bool) (b : ℕ) (bs rest : List ℕ) → ((white : List ℕ) → IsWhite inside white → IsWhite was (b ∷ white)) → HasFront inside bs rest → HasFront was (b ∷ bs) rest
+grown : (was inside : Bool) (b : ℕ) (bs rest : List ℕ) →
+    ((white : List ℕ) → IsWhite inside white → IsWhite was (b ∷ white)) → HasFront inside bs rest →
+    HasFront was (b ∷ bs) rest
 grown was inside b bs rest more h = (b ∷ h.0, more h.0 h.1, ap (λ (l : List ℕ). b ∷ l) h.2)
 
-either_front : (t : Bool) (inside : Bool) (bs x y : List ℕ) → (t ≡ true → HasFront inside bs x) → (t ≡ false → HasFront inside bs y) → HasFront inside bs (cond t x y)
+either_front : (t : Bool) (inside : Bool) (bs x y : List ℕ) → (t ≡ true → HasFront inside bs x) →
+    (t ≡ false → HasFront inside bs y) → HasFront inside bs (cond t x y)
 either_front true inside bs x y h k = h refl
 either_front false inside bs x y h k = k refl
 
@@ -60,14 +63,16 @@ read_as kind text rest = record { piece = record { kind = kind; text = text }; r
 abbrev Joins : List ℕ → TokenAndRest → Type 0
 Joins bs x = bs ≡ spelled x.piece.kind x.piece.text ++ x.rest
 
-done : (bs : List ℕ) (k : TokenKind) (text rest : List ℕ) (x : TokenAndRest) → bs ≡ spelled k text ++ rest → token_and_rest k text rest ≡ Some (Ok x) → Joins bs x
+done : (bs : List ℕ) (k : TokenKind) (text rest : List ℕ) (x : TokenAndRest) → bs ≡ spelled k text ++ rest →
+    token_and_rest k text rest ≡ Some (Ok x) → Joins bs x
 done bs k text rest x h e = let same : read_as k text rest ≡ x = cc in subst (Joins bs) same h
 
 closed_joins : (text bs : List ℕ) (x : TokenAndRest) → closed_at text bs ≡ Some (Ok x) → Joins (34 ∷ (text ++ bs)) x
 closed_joins text [] x e = absurd cc
 closed_joins text (b ∷ bs) x e =
     elim (chosen (eqb b 34) _ _ _ e) [
-      | inl quote ↦ done _ Quoted text bs x (rw (eqb-true _ _ quote.0) (ap (λ (l : List ℕ). 34 ∷ l) (sym (append_assoc text (34 ∷ []) bs)))) quote.1
+      | inl quote ↦ done _ Quoted text bs x (rw (eqb-true _ _ quote.0)
+          (ap (λ (l : List ℕ). 34 ∷ l) (sym (append_assoc text (34 ∷ []) bs)))) quote.1
       | inr other ↦ absurd (cc other.1)
     ]
 
@@ -88,8 +93,10 @@ token_joins (b ∷ bs) x e =
               | inr g ↦ elim (chosen (eqb b 34) _ _ _ g.1) [
                 | inl quote ↦
                     let n = position_or_len is_quote_end bs in
-                    let whole : Joins (34 ∷ (take n bs ++ drop n bs)) x = closed_joins (take n bs) (drop n bs) x quote.1 in
-                    let front : b ∷ bs ≡ 34 ∷ (take n bs ++ drop n bs) = rw (eqb-true _ _ quote.0, take-append-drop n bs) refl in
+                    let whole : Joins (34 ∷ (take n bs ++ drop n bs)) x =
+                    closed_joins (take n bs) (drop n bs) x quote.1 in
+                    let front : b ∷ bs ≡ 34 ∷ (take n bs ++ drop n bs) =
+                    rw (eqb-true _ _ quote.0, take-append-drop n bs) refl in
                     front ∙ whole
                 | inr bad ↦ absurd (cc bad.1)
               ]
@@ -104,13 +111,15 @@ some_is : (o : Option ℕ) (n : ℕ) → option_map (λ k. 1 + k) o ≡ Some n �
 some_is None n e = absurd cc
 some_is (Some k) n e = (k, refl, cc)
 
-one_after : (b : ℕ) (bs : List ℕ) (n k : ℕ) → n ≡ 1 + k → drop k bs ≡ 125 ∷ drop (k + 1) bs → drop n (b ∷ bs) ≡ 125 ∷ drop (n + 1) (b ∷ bs)
+one_after : (b : ℕ) (bs : List ℕ) (n k : ℕ) → n ≡ 1 + k → drop k bs ≡ 125 ∷ drop (k + 1) bs →
+    drop n (b ∷ bs) ≡ 125 ∷ drop (n + 1) (b ∷ bs)
 one_after b bs n k e h =
     let one : n ≡ suc k = omega arith in
     let two : n + 1 ≡ suc (k + 1) = omega arith in
     rw (two, one) h
 
-brace_after : (escaped : Bool) (bs : List ℕ) (n : ℕ) → content_len escaped bs ≡ Some n → drop n bs ≡ 125 ∷ drop (n + 1) bs
+brace_after : (escaped : Bool) (bs : List ℕ) (n : ℕ) → content_len escaped bs ≡ Some n →
+    drop n bs ≡ 125 ∷ drop (n + 1) bs
 unfolding content_len
 brace_after escaped [] n e = absurd cc
 brace_after escaped (b ∷ bs) n e =
@@ -123,15 +132,19 @@ brace_after escaped (b ∷ bs) n e =
           one_after b bs n k.0 k.2 (brace_after (eqb b 92) bs k.0 k.1)
     ]
 
-octets_join : (bs : List ℕ) (o : Option ℕ) (x : TokenAndRest) → content_len false bs ≡ o → octets_closed bs o ≡ Some (Ok x) → Joins (123 ∷ bs) x
+octets_join : (bs : List ℕ) (o : Option ℕ) (x : TokenAndRest) → content_len false bs ≡ o →
+    octets_closed bs o ≡ Some (Ok x) → Joins (123 ∷ bs) x
 octets_join bs None x is e =
     elim (chosen (has_null bs) _ _ _ e) [ inl bad ↦ absurd (cc bad.1) | inr bad ↦ absurd (cc bad.1) ]
 octets_join bs (Some n) x is e =
     elim (chosen (has_null (take n bs)) _ _ _ e) [
       | inl bad ↦ absurd (cc bad.1)
       | inr good ↦
-          let parts : bs ≡ take n bs ++ (125 ∷ drop (n + 1) bs) = sym (take-append-drop n bs) ∙ ap (λ (l : List ℕ). take n bs ++ l) (brace_after false bs n is) in
-          done _ Octets (take n bs) (drop (n + 1) bs) x (ap (λ (l : List ℕ). 123 ∷ l) (parts ∙ sym (append_assoc (take n bs) (125 ∷ []) (drop (n + 1) bs)))) good.1
+          let parts : bs ≡ take n bs ++ (125 ∷ drop (n + 1) bs) = sym (take-append-drop n bs) ∙
+          ap (λ (l : List ℕ). take n bs ++ l) (brace_after false bs n is) in
+          done _ Octets (take n bs) (drop (n + 1) bs) x
+          (ap (λ (l : List ℕ). 123 ∷ l) (parts ∙ sym (append_assoc (take n bs) (125 ∷ []) (drop (n + 1) bs))))
+          good.1
     ]
 
 after_joins : (named : Bool) (bs : List ℕ) (x : TokenAndRest) → token_after named bs ≡ Some (Ok x) → Joins bs x
@@ -139,12 +152,14 @@ unfolding token_after
 after_joins named [] x e = absurd cc
 after_joins named (b ∷ bs) x e =
     elim (chosen (named && eqb b 123) _ _ _ e) [
-      | inl octets ↦ ap (λ (c : ℕ). c ∷ bs) (eqb-true _ _ (and_parts _ _ octets.0).1) ∙ octets_join bs (content_len false bs) x refl octets.1
+      | inl octets ↦ ap (λ (c : ℕ). c ∷ bs) (eqb-true _ _ (and_parts _ _ octets.0).1) ∙
+          octets_join bs (content_len false bs) x refl octets.1
       | inr other ↦ token_joins (b ∷ bs) x other.1
     ]
 
 -- The bytes are white space, the first token, and what stands after it.
-pub first_joins : (named : Bool) (bytes : List ℕ) (x : TokenAndRest) → first_token named bytes ≡ Some (Ok x) → (white : List ℕ) × IsWhite false white × (bytes ≡ white ++ (spelled x.piece.kind x.piece.text ++ x.rest))
+pub first_joins : (named : Bool) (bytes : List ℕ) (x : TokenAndRest) → first_token named bytes ≡ Some (Ok x) →
+    (white : List ℕ) × IsWhite false white × (bytes ≡ white ++ (spelled x.piece.kind x.piece.text ++ x.rest))
 first_joins named bytes x e =
     let front = white_front false bytes in
     (front.0, front.1, front.2 ∙ ap (λ (l : List ℕ). front.0 ++ l) (after_joins named (after_white false bytes) x e))

@@ -8,7 +8,9 @@ use Rattle.mg_words.specs.WordByte.{is_word_byte}
 use Rattle.mg_scan.specs.Tokens.{token_at}
 use Rattle.mg_scan.specs.aids.Places.{Places}
 
-pub word_token : (bytes : List ℕ) (n : ℕ) → 0 < length bytes → is_word_byte (get_or bytes 0 0) ≡ true → n ≡ prefix_len is_word_byte bytes → Places bytes (token_at bytes) (record { kind = Word; start = 0; end = n; next = n })
+pub word_token : (bytes : List ℕ) (n : ℕ) → 0 < length bytes → is_word_byte (get_or bytes 0 0) ≡ true →
+    n ≡ prefix_len is_word_byte bytes → Places bytes (token_at bytes)
+    (record { kind = Word; start = 0; end = n; next = n })
 unfolding token_at
 word_token [] n nonempty e is = absurd (omega arith)
 word_token (b ∷ bs) n nonempty e is = record {

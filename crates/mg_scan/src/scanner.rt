@@ -10,7 +10,7 @@ use crate::span::Span;
 use crate::token::Token;
 use std::marker::Model;
 
-/// IsNext the tokens of a source, one after the other.
+/// Finds the tokens of a source, one after the other.
 #[derive(Drop)]
 pub struct Scanner<'a> {
     source: &'a [u8],

@@ -14,5 +14,7 @@ port_short n h = length-decimal-le 5 n (omega arith) (omega arith) (omega arith)
 pub ruleset lengths = (byte_short, port_short, append_assoc)
 
 -- the parts of the text, one after another
-pub parts_joined : (chosen : Chosen) → (((((([] ++ codes "v=0\r\nc=IN IP4 ") ++ address_text chosen.address) ++ codes "\r\nm=audio ") ++ decimal chosen.port) ++ codes " RTP/AVP ") ++ law_text chosen.law) ++ codes "\r\na=ptime:20\r\n" ≡ session_text chosen
+pub parts_joined : (chosen : Chosen) → (((((([] ++ codes "v=0\r\nc=IN IP4 ") ++ address_text chosen.address) ++
+    codes "\r\nm=audio ") ++ decimal chosen.port) ++ codes " RTP/AVP ") ++ law_text chosen.law) ++
+    codes "\r\na=ptime:20\r\n" ≡ session_text chosen
 parts_joined chosen = simp append_assoc

@@ -23,15 +23,20 @@ use Rattle.mg_serve.proofs.Taking.{each_both, each_one}
 not_command : (line : List ℕ) → 5 < length line → line_command line ≡ Unknown
 not_command line long =
     rw (
-      false_from_ne_true (bytes_eq line (codes "poll")) (λ t. absurd (omega (arith, long, ap length ((bytes_eq-Decides line (codes "poll")).0 t)))),
-      false_from_ne_true (bytes_eq line (codes "tick")) (λ t. absurd (omega (arith, long, ap length ((bytes_eq-Decides line (codes "tick")).0 t)))),
-      false_from_ne_true (bytes_eq line (codes "stats")) (λ t. absurd (omega (arith, long, ap length ((bytes_eq-Decides line (codes "stats")).0 t)))),
-      false_from_ne_true (bytes_eq line (codes "quit")) (λ t. absurd (omega (arith, long, ap length ((bytes_eq-Decides line (codes "quit")).0 t)))),
+      false_from_ne_true (bytes_eq line (codes "poll"))
+          (λ t. absurd (omega (arith, long, ap length ((bytes_eq-Decides line (codes "poll")).0 t)))),
+      false_from_ne_true (bytes_eq line (codes "tick"))
+          (λ t. absurd (omega (arith, long, ap length ((bytes_eq-Decides line (codes "tick")).0 t)))),
+      false_from_ne_true (bytes_eq line (codes "stats"))
+          (λ t. absurd (omega (arith, long, ap length ((bytes_eq-Decides line (codes "stats")).0 t)))),
+      false_from_ne_true (bytes_eq line (codes "quit"))
+          (λ t. absurd (omega (arith, long, ap length ((bytes_eq-Decides line (codes "quit")).0 t)))),
     ) refl
 
 -- whether a line has more than 8 bytes
 cut_by : (long : Bool) (line : List ℕ) → ltb 8 (length line) ≡ long → line_command (take 8 line) ≡ line_command line
-cut_by true line is = not_command (take 8 line) (omega (arith, length-take 8 line, ltb-true 8 (length line) is)) ∙ sym (not_command line (omega (arith, ltb-true 8 (length line) is)))
+cut_by true line is = not_command (take 8 line) (omega (arith, length-take 8 line, ltb-true 8 (length line) is)) ∙
+    sym (not_command line (omega (arith, ltb-true 8 (length line) is)))
 cut_by false line is = ap line_command (take_all 8 line (ltb-false 8 (length line) is))
 
 pub cut_command : (line : List ℕ) → line_command (take 8 line) ≡ line_command line
@@ -42,16 +47,22 @@ return_long true line long = omega (arith, long, length-take (length line - 1) l
 return_long false line long = omega (arith, long)
 
 long_unknown : (line : List ℕ) → 7 < length line → line_command (without_return line) ≡ Unknown
-long_unknown line long = not_command (without_return line) (return_long (eqb (slice_index line (length line - 1)) 13) line long)
+long_unknown line long = not_command (without_return line)
+    (return_long (eqb (slice_index line (length line - 1)) 13) line long)
 
-cut_return_by : (long : Bool) (line : List ℕ) → ltb 8 (length line) ≡ long → line_command (without_return (take 8 line)) ≡ line_command (without_return line)
-cut_return_by true line is = long_unknown (take 8 line) (omega (arith, length-take 8 line, ltb-true 8 (length line) is)) ∙ sym (long_unknown line (omega (arith, ltb-true 8 (length line) is)))
-cut_return_by false line is = ap (λ (l : List ℕ). line_command (without_return l)) (take_all 8 line (ltb-false 8 (length line) is))
+cut_return_by : (long : Bool) (line : List ℕ) → ltb 8 (length line) ≡ long →
+    line_command (without_return (take 8 line)) ≡ line_command (without_return line)
+cut_return_by true line is = long_unknown (take 8 line)
+    (omega (arith, length-take 8 line, ltb-true 8 (length line) is)) ∙
+    sym (long_unknown line (omega (arith, ltb-true 8 (length line) is)))
+cut_return_by false line is = ap (λ (l : List ℕ). line_command (without_return l))
+    (take_all 8 line (ltb-false 8 (length line) is))
 
 pub cut_return : (line : List ℕ) → line_command (without_return (take 8 line)) ≡ line_command (without_return line)
 cut_return line = cut_return_by (ltb 8 (length line)) line refl
 
-cut_push_by : (long : Bool) (line : List ℕ) (b : ℕ) → ltb 8 (length line) ≡ long → take 8 (take 8 line ++ b ∷ []) ≡ take 8 (line ++ b ∷ [])
+cut_push_by : (long : Bool) (line : List ℕ) (b : ℕ) → ltb 8 (length line) ≡ long →
+    take 8 (take 8 line ++ b ∷ []) ≡ take 8 (line ++ b ∷ [])
 cut_push_by true line b is =
     let le : 8 ≤ length line = omega (arith, ltb-true 8 (length line) is) in
     take_at (take 8 line) (b ∷ []) 8 (length-take-le 8 line le) ∙ sym (take-append-le 8 line (b ∷ []) le)
@@ -62,19 +73,23 @@ cut_push line b = cut_push_by (ltb 8 (length line)) line b refl
 
 -- ## One byte
 
-one_byte : (ended : Bool) (x : ℕ) (begun bytes : List ℕ) → x ≢ 10 → lines_after ended begun (x ∷ bytes) ≡ lines_after ended (begun ++ x ∷ []) bytes
+one_byte : (ended : Bool) (x : ℕ) (begun bytes : List ℕ) → x ≢ 10 →
+    lines_after ended begun (x ∷ bytes) ≡ lines_after ended (begun ++ x ∷ []) bytes
 unfolding lines_after
 one_byte ended x begun bytes ne = rw (ne_eqb x 10 ne) refl
 
-line_feed : (ended : Bool) (begun bytes : List ℕ) → lines_after ended begun (10 ∷ bytes) ≡ without_return begun ∷ lines_after ended [] bytes
+line_feed : (ended : Bool) (begun bytes : List ℕ) →
+    lines_after ended begun (10 ∷ bytes) ≡ without_return begun ∷ lines_after ended [] bytes
 unfolding lines_after
 line_feed ended begun bytes = refl
 
-pub first_line : (q : Bool) (line : List ℕ) (lines : List (List ℕ)) → is_quit (line_command line) ≡ q → before_quit (line ∷ lines) ≡ cond q [] (line ∷ before_quit lines)
+pub first_line : (q : Bool) (line : List ℕ) (lines : List (List ℕ)) → is_quit (line_command line) ≡ q →
+    before_quit (line ∷ lines) ≡ cond q [] (line ∷ before_quit lines)
 unfolding before_quit
 first_line q line lines is = rw is refl
 
-pub quit_idle : (config : Config) (command : Command) (w next : World) (p : List Call) → is_quit command ≡ true → Does config command w p next → (p ≡ []) × (next ≡ w)
+pub quit_idle : (config : Config) (command : Command) (w next : World) (p : List Call) → is_quit command ≡ true →
+    Does config command w p next → (p ≡ []) × (next ≡ w)
 quit_idle config Poll w next p is h = absurd cc
 quit_idle config Tick w next p is h = absurd cc
 quit_idle config Stats w next p is h = absurd cc
@@ -82,19 +97,42 @@ quit_idle config Quit w next p is h = h
 quit_idle config Unknown w next p is h = absurd cc
 
 -- a byte that ends no line
-pub plain_byte : (config : Config) (left : List ℕ) (b : ℕ) (w : World) → b ≢ 10 → BytesTaken config left (b ∷ []) (take 8 (take 8 left ++ b ∷ [])) (Ok false) w [] w
-plain_byte config left b w ne = ([], left ++ b ∷ [], cut_push left b, λ ended more. ap before_quit (one_byte ended b left more ne), (refl, refl))
+pub plain_byte : (config : Config) (left : List ℕ) (b : ℕ) (w : World) → b ≢ 10 →
+    BytesTaken config left (b ∷ []) (take 8 (take 8 left ++ b ∷ [])) (Ok false) w [] w
+plain_byte config left b w ne = (
+  [],
+  left ++ b ∷ [],
+  cut_push left b,
+  λ ended more. ap before_quit (one_byte ended b left more ne),
+  (refl, refl),
+)
 
 -- one that ends a line
-feed_split : (q ended : Bool) (left more : List ℕ) → is_quit (line_command (without_return left)) ≡ q → before_quit (lines_after ended left (10 ∷ more)) ≡ cond q [] (without_return left ∷ before_quit (lines_after ended [] more))
-feed_split q ended left more is = ap before_quit (line_feed ended left more) ∙ first_line q (without_return left) (lines_after ended [] more) is
+feed_split : (q ended : Bool) (left more : List ℕ) → is_quit (line_command (without_return left)) ≡ q →
+    before_quit (lines_after ended left (10 ∷ more)) ≡
+    cond q [] (without_return left ∷ before_quit (lines_after ended [] more))
+feed_split q ended left more is = ap before_quit (line_feed ended left more) ∙
+    first_line q (without_return left) (lines_after ended [] more) is
 
-pub line_done : (config : Config) (line : List ℕ) (w next : World) (p : List Call) → Does config (line_command line) w p next → Session config (line ∷ []) w p next
+pub line_done : (config : Config) (line : List ℕ) (w next : World) (p : List Call) →
+    Does config (line_command line) w p next → Session config (line ∷ []) w p next
 line_done config line w next p h = each_one (λ (l : List ℕ). Does config (line_command l)) line w next p h
 
-pub feed_byte : (config : Config) (q : Bool) (left : List ℕ) (w next : World) (p : List Call) → is_quit (line_command (without_return left)) ≡ q → Does config (line_command (without_return left)) w p next → BytesTaken config left (10 ∷ []) [] (Ok q) w p next
-feed_byte config false left w next p is h = (without_return left ∷ [], [], refl, λ ended more. feed_split false ended left more is, line_done config (without_return left) w next p h)
-feed_byte config true left w next p is h = ([], λ ended more. feed_split true ended left more is, quit_idle config (line_command (without_return left)) w next p is h)
+pub feed_byte : (config : Config) (q : Bool) (left : List ℕ) (w next : World) (p : List Call) →
+    is_quit (line_command (without_return left)) ≡ q → Does config (line_command (without_return left)) w p next →
+    BytesTaken config left (10 ∷ []) [] (Ok q) w p next
+feed_byte config false left w next p is h = (
+  without_return left ∷ [],
+  [],
+  refl,
+  λ ended more. feed_split false ended left more is,
+  line_done config (without_return left) w next p h,
+)
+feed_byte config true left w next p is h = (
+  [],
+  λ ended more. feed_split true ended left more is,
+  quit_idle config (line_command (without_return left)) w next p is h,
+)
 
 pub no_more : before_quit [] ≡ []
 unfolding before_quit
@@ -112,14 +150,18 @@ quit_prints_nothing Stats quit printed = absurd (true≢false (sym quit))
 quit_prints_nothing Quit quit printed = absurd (true≢false (sym printed))
 quit_prints_nothing Unknown quit printed = absurd (true≢false (sym quit))
 
-pub feed_fault_by : (config : Config) (q : Bool) (left kept : List ℕ) (failed : WriteFailed) (w next : World) (p : List Call) → is_quit (line_command (without_return left)) ≡ q → prints (line_command (without_return left)) ≡ true → Does config (line_command (without_return left)) w p next → BytesTaken config left (10 ∷ []) kept (Err failed) w p next
+pub feed_fault_by : (config : Config) (q : Bool) (left kept : List ℕ) (failed : WriteFailed) (w next : World)
+    (p : List Call) → is_quit (line_command (without_return left)) ≡ q →
+    prints (line_command (without_return left)) ≡ true → Does config (line_command (without_return left)) w p next →
+    BytesTaken config left (10 ∷ []) kept (Err failed) w p next
 feed_fault_by config false left kept failed w next p is printed h = (
   without_return left ∷ [],
   λ ended more. (before_quit (lines_after ended [] more), feed_split false ended left more is),
   record { front = []; line = without_return left; is = refl; printed = printed },
   line_done config (without_return left) w next p h,
 )
-feed_fault_by config true left kept failed w next p is printed h = absurd (quit_prints_nothing (line_command (without_return left)) is printed)
+feed_fault_by config true left kept failed w next p is printed h =
+    absurd (quit_prints_nothing (line_command (without_return left)) is printed)
 
 -- a line that is answered by one, and has no line feed
 pub last_stands : (kept left : List ℕ) → kept ≡ take 8 left → 0 < length kept → prints (line_command kept) ≡ true
@@ -129,43 +171,81 @@ last_stands kept (x ∷ xs) is some printed =
     let line = x ∷ xs in
     let same : line_command kept ≡ line_command line = ap line_command is ∙ cut_command line in
     let answered : prints (line_command line) ≡ true = ap prints (sym same) ∙ printed in
-    let on : is_quit (line_command line) ≡ false = false_from_ne_true (is_quit (line_command line)) (λ quit. quit_prints_nothing (line_command line) quit answered) in
-    (ap before_quit (last_line x xs) ∙ first_line false line [] on ∙ ap (λ (l : List (List ℕ)). line ∷ l) no_more, answered)
+    let on : is_quit (line_command line) ≡ false =
+    false_from_ne_true (is_quit (line_command line))
+    (λ quit. quit_prints_nothing (line_command line) quit answered) in (
+      ap before_quit (last_line x xs) ∙ first_line false line [] on ∙
+          ap (λ (l : List (List ℕ)). line ∷ l) no_more,
+      answered,
+    )
 
 -- ## Bytes, and then more
 
-pub session_both : (config : Config) (xs ys : List (List ℕ)) (w mid next : World) (p q : List Call) → Session config xs w p mid → Session config ys mid q next → Session config (xs ++ ys) w (p ++ q) next
-session_both config xs ys w mid next p q h k = each_both (λ (l : List ℕ). Does config (line_command l)) xs ys w mid next p q h k
+pub session_both : (config : Config) (xs ys : List (List ℕ)) (w mid next : World) (p q : List Call) →
+    Session config xs w p mid → Session config ys mid q next → Session config (xs ++ ys) w (p ++ q) next
+session_both config xs ys w mid next p q h k =
+    each_both (λ (l : List ℕ). Does config (line_command l)) xs ys w mid next p q h k
 
-pub bytes_then : (config : Config) (begun a left b kept : List ℕ) (lines : List (List ℕ)) (r : Result Bool WriteFailed) (w mid next : World) (p q : List Call) → ((ended : Bool) (more : List ℕ) → before_quit (lines_after ended begun (a ++ more)) ≡ lines ++ before_quit (lines_after ended left more)) → Session config lines w p mid → BytesTaken config left b kept r mid q next → BytesTaken config begun (a ++ b) kept r w (p ++ q) next
+pub bytes_then : (config : Config) (begun a left b kept : List ℕ) (lines : List (List ℕ))
+    (r : Result Bool WriteFailed) (w mid next : World) (p q : List Call) →
+    ((ended : Bool) (more : List ℕ) → before_quit (lines_after ended begun (a ++ more)) ≡ lines ++
+    before_quit (lines_after ended left more)) → Session config lines w p mid →
+    BytesTaken config left b kept r mid q next → BytesTaken config begun (a ++ b) kept r w (p ++ q) next
 bytes_then config begun a left b kept lines (Ok false) w mid next p q split ran h = (
   lines ++ h.0,
   h.1,
   h.2,
-  λ ended more. ap (λ (l : List ℕ). before_quit (lines_after ended begun l)) (append_assoc a b more) ∙ split ended (b ++ more) ∙ ap (λ (l : List (List ℕ)). lines ++ l) (h.3 ended more) ∙ sym (append_assoc lines h.0 (before_quit (lines_after ended h.1 more))),
+  λ ended more. ap (λ (l : List ℕ). before_quit (lines_after ended begun l)) (append_assoc a b more) ∙
+      split ended (b ++ more) ∙ ap (λ (l : List (List ℕ)). lines ++ l) (h.3 ended more) ∙
+      sym (append_assoc lines h.0 (before_quit (lines_after ended h.1 more))),
   session_both config lines h.0 w mid next p q ran h.4,
 )
 bytes_then config begun a left b kept lines (Ok true) w mid next p q split ran h = (
   lines ++ h.0,
-  λ ended more. ap (λ (l : List ℕ). before_quit (lines_after ended begun l)) (append_assoc a b more) ∙ split ended (b ++ more) ∙ ap (λ (l : List (List ℕ)). lines ++ l) (h.1 ended more),
+  λ ended more. ap (λ (l : List ℕ). before_quit (lines_after ended begun l)) (append_assoc a b more) ∙
+      split ended (b ++ more) ∙ ap (λ (l : List (List ℕ)). lines ++ l) (h.1 ended more),
   session_both config lines h.0 w mid next p q ran h.2,
 )
 bytes_then config begun a left b kept lines (Err failed) w mid next p q split ran h = (
   lines ++ h.0,
   λ ended more. (
     (h.1 ended more).0,
-    ap (λ (l : List ℕ). before_quit (lines_after ended begun l)) (append_assoc a b more) ∙ split ended (b ++ more) ∙ ap (λ (l : List (List ℕ)). lines ++ l) (h.1 ended more).1 ∙ sym (append_assoc lines h.0 (h.1 ended more).0),
+    ap (λ (l : List ℕ). before_quit (lines_after ended begun l)) (append_assoc a b more) ∙ split ended (b ++ more) ∙
+        ap (λ (l : List (List ℕ)). lines ++ l) (h.1 ended more).1 ∙ sym (append_assoc lines h.0 (h.1 ended more).0),
   ),
-  record { front = lines ++ h.2.front; line = h.2.line; is = ap (λ (l : List (List ℕ)). lines ++ l) h.2.is ∙ sym (append_assoc lines h.2.front (h.2.line ∷ [])); printed = h.2.printed },
+  record {
+    front = lines ++ h.2.front;
+    line = h.2.line;
+    is = ap (λ (l : List (List ℕ)). lines ++ l) h.2.is ∙
+        sym (append_assoc lines h.2.front (h.2.line ∷ []));
+    printed = h.2.printed;
+  },
   session_both config lines h.0 w mid next p q ran h.3,
 )
 
-pub no_bytes : (config : Config) (begun kept : List ℕ) (w : World) → kept ≡ take 8 begun → BytesTaken config begun [] kept (Ok false) w [] w
+pub no_bytes : (config : Config) (begun kept : List ℕ) (w : World) → kept ≡ take 8 begun →
+    BytesTaken config begun [] kept (Ok false) w [] w
 no_bytes config begun kept w is = ([], begun, is, λ ended more. refl, (refl, refl))
 
 -- where no line is to follow, or a print failed, more bytes change nothing
-pub whatever_follows : (config : Config) (begun a b kept : List ℕ) (w next : World) (p : List Call) → BytesTaken config begun a kept (Ok true) w p next → BytesTaken config begun (a ++ b) kept (Ok true) w p next
-whatever_follows config begun a b kept w next p h = (h.0, λ ended more. ap (λ (l : List ℕ). before_quit (lines_after ended begun l)) (append_assoc a b more) ∙ h.1 ended (b ++ more), h.2)
+pub whatever_follows : (config : Config) (begun a b kept : List ℕ) (w next : World) (p : List Call) →
+    BytesTaken config begun a kept (Ok true) w p next → BytesTaken config begun (a ++ b) kept (Ok true) w p next
+whatever_follows config begun a b kept w next p h = (
+  h.0,
+  λ ended more. ap (λ (l : List ℕ). before_quit (lines_after ended begun l)) (append_assoc a b more) ∙
+      h.1 ended (b ++ more),
+  h.2,
+)
 
-pub faulty_follows : (config : Config) (begun a b kept : List ℕ) (failed : WriteFailed) (w next : World) (p : List Call) → BytesTaken config begun a kept (Err failed) w p next → BytesTaken config begun (a ++ b) kept (Err failed) w p next
-faulty_follows config begun a b kept failed w next p h = (h.0, λ ended more. ((h.1 ended (b ++ more)).0, ap (λ (l : List ℕ). before_quit (lines_after ended begun l)) (append_assoc a b more) ∙ (h.1 ended (b ++ more)).1), h.2, h.3)
+pub faulty_follows : (config : Config) (begun a b kept : List ℕ) (failed : WriteFailed) (w next : World)
+    (p : List Call) → BytesTaken config begun a kept (Err failed) w p next →
+    BytesTaken config begun (a ++ b) kept (Err failed) w p next
+faulty_follows config begun a b kept failed w next p h = (
+  h.0,
+  λ ended more. (
+    (h.1 ended (b ++ more)).0,
+    ap (λ (l : List ℕ). before_quit (lines_after ended begun l)) (append_assoc a b more) ∙ (h.1 ended (b ++ more)).1,
+  ),
+  h.2,
+  h.3,
+)

@@ -23,51 +23,73 @@ told_none (Some a) = sym (append-nil a)
 
 -- ## Each of a list
 
-pub each_both : {A : Type 0} (R : A → World → List Call → World → Type 0) (xs ys : List A) (w mid next : World) (a b : List Call) → Each R xs w a mid → Each R ys mid b next → Each R (xs ++ ys) w (a ++ b) next
-each_both R [] ys w mid next a b h k = subst (λ (v : World). Each R ys v (a ++ b) next) h.1 (subst (λ (l : List Call). Each R ys mid l next) (ap (λ (l : List Call). l ++ b) (sym h.0)) k)
-each_both R (x ∷ xs) ys w mid next a b h k =
-    (h.0, h.1 ++ b, h.2, ap (λ (l : List Call). l ++ b) h.3 ∙ append_assoc h.0 h.1 b, h.4, each_both R xs ys h.2 mid next h.1 b h.5 k)
+pub each_both : {A : Type 0} (R : A → World → List Call → World → Type 0) (xs ys : List A) (w mid next : World)
+    (a b : List Call) → Each R xs w a mid → Each R ys mid b next → Each R (xs ++ ys) w (a ++ b) next
+each_both R [] ys w mid next a b h k = subst (λ (v : World). Each R ys v (a ++ b) next) h.1
+    (subst (λ (l : List Call). Each R ys mid l next) (ap (λ (l : List Call). l ++ b) (sym h.0)) k)
+each_both R (x ∷ xs) ys w mid next a b h k = (
+  h.0,
+  h.1 ++ b,
+  h.2,
+  ap (λ (l : List Call). l ++ b) h.3 ∙
+      append_assoc h.0 h.1 b,
+  h.4,
+  each_both R xs ys h.2 mid next h.1 b h.5 k,
+)
 
-pub each_one : {A : Type 0} (R : A → World → List Call → World → Type 0) (x : A) (w next : World) (a : List Call) → R x w a next → Each R (x ∷ []) w a next
+pub each_one : {A : Type 0} (R : A → World → List Call → World → Type 0) (x : A) (w next : World) (a : List Call) →
+    R x w a next → Each R (x ∷ []) w a next
 each_one R x w next a h = (a, [], next, sym (append-nil a), h, (refl, refl))
 
-pub each_more : {A : Type 0} (R : A → World → List Call → World → Type 0) (xs : List A) (x : A) (w mid next : World) (a b : List Call) → Each R xs w a mid → R x mid b next → Each R (xs ++ x ∷ []) w (a ++ b) next
+pub each_more : {A : Type 0} (R : A → World → List Call → World → Type 0) (xs : List A) (x : A) (w mid next : World)
+    (a b : List Call) → Each R xs w a mid → R x mid b next → Each R (xs ++ x ∷ []) w (a ++ b) next
 each_more R xs x w mid next a b h k = each_both R xs (x ∷ []) w mid next a b h (each_one R x mid next b k)
 
 pub range_more : (n : ℕ) → range_with_len 0 (n + 1) ≡ range_with_len 0 n ++ n ∷ []
 range_more n =
-    sym (map-id (range_with_len 0 (n + 1))) ∙ map-range_with_len_more (λ (k : ℕ). k) 0 n n (omega arith) ∙ ap (λ (l : List ℕ). l ++ n ∷ []) (map-id (range_with_len 0 n))
+    sym (map-id (range_with_len 0 (n + 1))) ∙ map-range_with_len_more (λ (k : ℕ). k) 0 n n (omega arith) ∙
+    ap (λ (l : List ℕ). l ++ n ∷ []) (map-id (range_with_len 0 n))
 
 -- ## From a core to a core
 
-pub takes_then : (a b c : CoreState) (x y z : Option (List Call)) (R S T : World → List Call → World → Type 0) → Takes a b x y R → Takes b c y z S → ((w mid next : World) (p q : List Call) → R w p mid → S mid q next → T w (p ++ q) next) → Takes a c x z T
+pub takes_then : (a b c : CoreState) (x y z : Option (List Call)) (R S T : World → List Call → World → Type 0) →
+    Takes a b x y R → Takes b c y z S → ((w mid next : World) (p q : List Call) → R w p mid → S mid q next →
+    T w (p ++ q) next) → Takes a c x z T
 takes_then a b c x y z R S T first second join w stands =
     let (p, mid, told, r, held) = first w stands in
     let (q, next, more, s, kept) = second mid held in
     (p ++ q, next, told_both x y z p q told more, join w mid next p q r s, kept)
 
-pub takes_as : (a b : CoreState) (x y : Option (List Call)) (R T : World → List Call → World → Type 0) → Takes a b x y R → ((w next : World) (p : List Call) → R w p next → T w p next) → Takes a b x y T
+pub takes_as : (a b : CoreState) (x y : Option (List Call)) (R T : World → List Call → World → Type 0) →
+    Takes a b x y R → ((w next : World) (p : List Call) → R w p next → T w p next) → Takes a b x y T
 takes_as a b x y R T first map w stands =
     let (p, next, told, r, held) = first w stands in
     (p, next, told, map w next p r, held)
 
 -- nothing was done
-pub takes_none : (a : CoreState) (x : Option (List Call)) (R : World → List Call → World → Type 0) → ((w : World) → R w [] w) → Takes a a x x R
+pub takes_none : (a : CoreState) (x : Option (List Call)) (R : World → List Call → World → Type 0) →
+    ((w : World) → R w [] w) → Takes a a x x R
 takes_none a x R same w stands = ([], w, told_none x, same w, stands)
 
 -- calls alone
-pub takes_told : (a : CoreState) (x y : Option (List Call)) (calls : List Call) (R : World → List Call → World → Type 0) → Told x y calls → ((w : World) → R w calls w) → Takes a a x y R
+pub takes_told : (a : CoreState) (x y : Option (List Call)) (calls : List Call)
+    (R : World → List Call → World → Type 0) → Told x y calls → ((w : World) → R w calls w) → Takes a a x y R
 takes_told a x y calls R told same w stands = (calls, w, told, same w, stands)
 
 -- calls, and then a step of the core
-pub takes_after : (a b : CoreState) (x y z : Option (List Call)) (calls : List Call) (S T : World → List Call → World → Type 0) → Told x y calls → Takes a b y z S → ((w next : World) (q : List Call) → S w q next → T w (calls ++ q) next) → Takes a b x z T
+pub takes_after : (a b : CoreState) (x y z : Option (List Call)) (calls : List Call)
+    (S T : World → List Call → World → Type 0) → Told x y calls → Takes a b y z S →
+    ((w next : World) (q : List Call) → S w q next → T w (calls ++ q) next) → Takes a b x z T
 takes_after a b x y z calls S T told second join w stands =
     let (q, next, more, s, kept) = second w stands in
     (calls ++ q, next, told_both x y z calls q told more, join w next q s, kept)
 
 -- a slot's turn more
-pub one_turn_more : (a b c : CoreState) (x y z : Option (List Call)) (config : Config) (slot : ℕ) → Takes a b x y (Each (SlotTurn config) (range_with_len 0 slot)) → Takes b c y z (SlotTurn config slot) → Takes a c x z (Each (SlotTurn config) (range_with_len 0 (slot + 1)))
+pub one_turn_more : (a b c : CoreState) (x y z : Option (List Call)) (config : Config) (slot : ℕ) →
+    Takes a b x y (Each (SlotTurn config) (range_with_len 0 slot)) → Takes b c y z (SlotTurn config slot) →
+    Takes a c x z (Each (SlotTurn config) (range_with_len 0 (slot + 1)))
 one_turn_more a b c x y z config slot first second =
     let turn = SlotTurn config in
     subst (λ (l : List ℕ). Takes a c x z (Each turn l)) (sym (range_more slot))
-    (takes_then a b c x y z (Each turn (range_with_len 0 slot)) (turn slot) (Each turn (range_with_len 0 slot ++ slot ∷ [])) first second (each_more turn (range_with_len 0 slot) slot))
+    (takes_then a b c x y z (Each turn (range_with_len 0 slot)) (turn slot)
+    (Each turn (range_with_len 0 slot ++ slot ∷ [])) first second (each_more turn (range_with_len 0 slot) slot))

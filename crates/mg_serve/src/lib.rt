@@ -1,13 +1,15 @@
-//! A gateway on UDP ports, driven by lines: `poll` takes what came to the ports, `tick` passes on by 20 ms and sends the
-//! packets, `stats` prints what was counted, and `quit` ends the run. Who writes the lines gives the gateway its clock.
+//! A gateway on UDP ports, driven by lines: `poll` takes what came to the ports, `tick` passes on by 20 ms and sends
+//! the packets, `stats` prints what was counted, and `quit` ends the run. Who writes the lines gives the gateway its
+//! clock.
 //!
 //! ```rust
 //! let counts = serve(alloc, Config::default(), &mut ports, &mut input, &mut output)?;
 //! ```
 //!
-//! [`serve`] is proved for any [`Ports`](mg_ports::Ports): at every exit the lines that were read whole and the calls of the
-//! ports are a session (`specs/Session.antt`). So it drops no datagram that it received, takes the ports in their order, and
-//! sends each answer and each packet once; [`laws`] says that what it sends is what a run of the gateway's events sends.
+//! [`serve`] is proved for any [`Ports`](mg_ports::Ports): at every exit the lines that were read whole and the calls
+//! of the ports are a session (`specs/Session.antt`). So it drops no datagram that it received, takes the ports in
+//! their order, and sends each answer and each packet once; [`laws`] says that what it sends is what a run of the
+//! gateway's events sends.
 #![tactic(auto)]
 
 mod command;

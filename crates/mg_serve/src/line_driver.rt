@@ -56,7 +56,8 @@ impl<'a, E: Write> LineDriver<'a, E> {
         ensures begun { OnOk result (self.new.begun ≡ []) }
         ensures quit { IfOk result (λ quit. quit ≡ is_quit (line_command (without_return self.old.begun))) }
         ensures printed { IfErr result (λ failed. prints (line_command (without_return self.old.begun)) ≡ true) }
-        ensures value { Takes self.old.server.core.state self.new.server.core.state (P.calls ports.old) (P.calls ports.new)
+        ensures value { Takes self.old.server.core.state self.new.server.core.state (P.calls ports.old)
+            (P.calls ports.new)
             (Does config (line_command (without_return self.old.begun))) }
     {
         let command = Command::of(without_return(self.begun.as_slice()));
@@ -104,7 +105,8 @@ impl<'a, E: Write> LineDriver<'a, E> {
         writer: &mut W,
     ) -> Result<(), WriteFailed>
         requires sound { IsValidConfig config }
-        ensures value { Takes self.old.server.core.state self.new.server.core.state (P.calls ports.old) (P.calls ports.new)
+        ensures value { Takes self.old.server.core.state self.new.server.core.state (P.calls ports.old)
+            (P.calls ports.new)
             (Finished config self.old.begun) }
         ensures some { IfErr result (λ failed. 0 < length self.old.begun) }
         ensures printed { IfErr result (λ failed. prints (line_command self.old.begun) ≡ true) }
@@ -132,7 +134,8 @@ impl<'a, E: Write> LineDriver<'a, E> {
         requires sound { IsValidConfig config }
         requires begun { self.old.begun ≡ [] }
         ensures started { result ≢ Err RunFault.BadConfig }
-        ensures value { Takes self.old.server.core.state self.new.server.core.state (P.calls ports.old) (P.calls ports.new)
+        ensures value { Takes self.old.server.core.state self.new.server.core.state (P.calls ports.old)
+            (P.calls ports.new)
             (RanLines config (R.remaining reader.old) (R.remaining reader.new) result) }
     {
         let mut bytes = [0; READ_SIZE];

@@ -10,8 +10,8 @@ pub fn print_line<W: Write>(text: &str, writer: &mut W) -> Result<(), WriteFaile
     }
 }
 
-/// Prints what was counted: the datagrams of the control port, those of the media ports, the ticks, the sends, the failures,
-/// the RTP datagrams that were dropped, by their cause, and the frames that stood in for missing ones.
+/// Prints what was counted: the datagrams of the control port, those of the media ports, the ticks, the sends, the
+/// failures, the RTP datagrams that were dropped, by their cause, and the frames that stood in for missing ones.
 pub fn print_counts<W: Write>(counts: &Counts, writer: &mut W) -> Result<(), WriteFailed> {
     let Counts {
         control,

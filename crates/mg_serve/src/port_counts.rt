@@ -27,8 +27,8 @@ impl PortCounts {
         }
     }
 
-    /// For how many ticks no packet was taken of the caller of a termination of whom some are expected now: since the report from
-    /// which on they were, if none came yet.
+    /// For how many ticks no packet was taken of the caller of a termination of whom some are expected now: since the
+    /// report from which on they were, if none came yet.
     pub fn silent_ticks(&mut self, expected: Option<u32>, ticks: u64) -> u64 {
         if self.expected != expected {
             self.expected = expected;

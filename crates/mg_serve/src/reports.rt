@@ -11,8 +11,8 @@ const TICKS: u64 = 50;
 /// A line of a report, as it is made up before it is written at once.
 type Text = ArrayVec<u8, 512>;
 
-/// What is printed for an operator every so many seconds: the totals since the start, and a line for each media port that had
-/// trouble since the last report. A print that fails is passed over.
+/// What is printed for an operator every so many seconds: the totals since the start, and a line for each media port
+/// that had trouble since the last report. A print that fails is passed over.
 #[derive(Drop)]
 pub struct Reports<'a, E: Write> {
     every: u64,
@@ -30,7 +30,8 @@ impl<'a, E: Write> Reports<'a, E> {
         })
     }
 
-    /// Counts what became of an RTP datagram that came to a slot of the ports, the first of which is 1, after so many ticks.
+    /// Counts what became of an RTP datagram that came to a slot of the ports, the first of which is 1, after so many
+    /// ticks.
     pub fn count(&mut self, slot: u16, taken: Taken, ticks: u64) {
         if let Some(port) = self.ports.get_mut(usize::from(slot).wrapping_sub(1)) {
             port.count(taken, ticks);

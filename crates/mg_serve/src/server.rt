@@ -54,7 +54,8 @@ fn slot_of(config: Config, packet: &Datagram) -> usize
 
 /// Sends packets in order. One whose send fails is lost alone.
 fn send_packets<P: Ports>(ports: &mut P, config: Config, packets: &[Datagram], sent: &mut u64)
-    ensures told { Told (P.calls ports.old) (P.calls ports.new) (map (λ packet. send_of config (Packet packet)) packets.now) }
+    ensures told { Told (P.calls ports.old) (P.calls ports.new)
+        (map (λ packet. send_of config (Packet packet)) packets.now) }
 {
     for packet in packets {
         send(
@@ -107,7 +108,8 @@ impl<'a, E: Write> Server<'a, E> {
         source: Peer,
         bytes: &[u8],
     )
-        ensures value { Takes self.old.core.state self.new.core.state (P.calls ports.old) (P.calls ports.new) (λ w calls next.
+        ensures value { Takes self.old.core.state self.new.core.state (P.calls ports.old) (P.calls ports.new)
+            (λ w calls next.
             Happens config (events.Control source bytes.now) w calls next ⊎ IsNoEvent 0 w calls next) }
     {
         match self.core.control(alloc, source, bytes) {
@@ -168,7 +170,8 @@ impl<'a, E: Write> Server<'a, E> {
     )
         requires sound { IsValidConfig config }
         requires last { slot ≤ config.slots }
-        ensures value { Takes self.old.core.state self.new.core.state (P.calls ports.old) (P.calls ports.new) (SlotTurn config slot) }
+        ensures value { Takes self.old.core.state self.new.core.state (P.calls ports.old) (P.calls ports.new)
+            (SlotTurn config slot) }
     {
         for _ in 0..TURN {
             if !self.receive(alloc, config, ports, slot, buffer) {

@@ -15,19 +15,19 @@ const DATAGRAM_LIMIT: usize = 65535;
 /// Serves a new gateway over some ports: prints `ready`, and does what the lines of the input ask for, up to the first
 /// `quit` or the end of the input. Ports beyond those of the configuration are not touched.
 ///
-/// - `poll` takes what waits at the control port and then at each media port in rising order, at most 64 datagrams of each.
-///   A control message is answered at once. A failed receive ends that port's turn.
+/// - `poll` takes what waits at the control port and then at each media port in rising order, at most 64 datagrams of
+///   each. A control message is answered at once. A failed receive ends that port's turn.
 /// - `tick` passes on by 20 ms, and sends the packets. A failed send loses that packet alone.
-/// - `stats` prints `control=a media=b ticks=c sent=d failed=e dropped=f,g,h,i,j,k concealed=l`: [`Counts`] tells what they
-///   are.
+/// - `stats` prints `control=a media=b ticks=c sent=d failed=e dropped=f,g,h,i,j,k concealed=l`: [`Counts`] tells what
+///   they are.
 /// - Any other line prints `unknown command`.
 ///
-/// Every so many seconds of ticks, if any, it reports to an operator: the totals since the start, and each media port that had trouble
-/// since the last report. A report that can't be printed is passed over.
+/// Every so many seconds of ticks, if any, it reports to an operator: the totals since the start, and each media port
+/// that had trouble since the last report. A report that can't be printed is passed over.
 ///
-/// At every exit the lines that were read whole and the calls of the ports are a session of a new gateway. `Read` and `Write`
-/// say that the input or the output failed; after 4,294,967,295 reads without an end of input it answers `Read` too.
-/// `BadConfig` comes exactly where the configuration isn't sound, and `NoMemory` before anything is done.
+/// At every exit the lines that were read whole and the calls of the ports are a session of a new gateway. `Read` and
+/// `Write` say that the input or the output failed; after 4,294,967,295 reads without an end of input it answers `Read`
+/// too. `BadConfig` comes exactly where the configuration isn't sound, and `NoMemory` before anything is done.
 pub fn serve<P: Ports, R: Read, W: Write, E: Write>(
     alloc: Global,
     config: Config,
@@ -37,7 +37,8 @@ pub fn serve<P: Ports, R: Read, W: Write, E: Write>(
     seconds: u16,
     reports: &mut E,
 ) -> Result<Counts, RunFault>
-    ensures session { ServedSession config (R.remaining reader.old) (R.remaining reader.new) (P.calls ports.old) (P.calls ports.new) result }
+    ensures session { ServedSession config (R.remaining reader.old) (R.remaining reader.new) (P.calls ports.old)
+        (P.calls ports.new) result }
     ensures bad { (result ≡ Err RunFault.BadConfig) ↔ ¬ IsValidConfig config }
     ensures sound { OnOk result (IsValidConfig config) }
 {

@@ -36,17 +36,20 @@ abbrev between : ℤ → ℕ
 between x = cond (top 31 (cond (lt_z (to_z w32 (above x)) (pos 32767)) 4294967295 0)) (above x) 32767
 
 between_is : (x : ℤ) → FitsSigned w32 x → between x ≡ of_z w32 (lowered (raised x))
-between_is x fits = rw (above_is x fits) (rw (to_z-of_z w32 (raised x) (fits_raised x fits)) (picked (lt_z (raised x) (pos 32767)) (pos 32767) (raised x)))
+between_is x fits = rw (above_is x fits) (rw (to_z-of_z w32 (raised x) (fits_raised x fits))
+    (picked (lt_z (raised x) (pos 32767)) (pos 32767) (raised x)))
 
 widened : (z : ℤ) → FitsSigned w16 z → FitsSigned w32 z
 widened z h = grind arith
 
 between_holds : (x : ℤ) → FitsSigned w32 x → to_z w32 (between x) ≡ lowered (raised x)
-between_holds x fits = ap (to_z w32) (between_is x fits) ∙ to_z-of_z w32 (lowered (raised x)) (widened (lowered (raised x)) (fits_limited x))
+between_holds x fits = ap (to_z w32) (between_is x fits) ∙
+    to_z-of_z w32 (lowered (raised x)) (widened (lowered (raised x)) (fits_limited x))
 
 pub limit_lane : (x : ℤ) → FitsSigned w32 x → to_z w16 (of_z w16 (to_z w32 (between x))) ≡ nearest_sample x
 limit_lane x fits =
-    ap (λ (z : ℤ). to_z w16 (of_z w16 z)) (between_holds x fits) ∙ (to_z-of_z w16 (lowered (raised x)) (fits_limited x) ∙ lowered_raised x)
+    ap (λ (z : ℤ). to_z w16 (of_z w16 z)) (between_holds x fits) ∙
+    (to_z-of_z w16 (lowered (raised x)) (fits_limited x) ∙ lowered_raised x)
 
 pub limit_asked : (x : ℤ) → FitsSigned w32 x → FitsSigned w16 (to_z w32 (between x))
 limit_asked x fits = subst (λ (z : ℤ). FitsSigned w16 z) (sym (between_holds x fits)) (fits_limited x)

@@ -23,8 +23,10 @@ unfolding sum_of
 sum_of-append f [] ys = omega (arith, ints)
 sum_of-append f (x ∷ xs) ys = omega (arith, ints, sum_of-append f xs ys)
 
-pub sum_of-more : {A : Type 0} (f : A → ℤ) (xs : List A) (k : ℕ) (d : A) → k < length xs → sum_of f (take (k + 1) xs) ≡ sum_of f (take k xs) +ℤ f (get_or xs k d)
-sum_of-more f xs k d lt = ap (sum_of f) (take_more xs k d lt) ∙ sum_of-append f (take k xs) (get_or xs k d ∷ []) ∙ omega (arith, ints, sum_of-cons f (get_or xs k d) [], sum_of-nil f)
+pub sum_of-more : {A : Type 0} (f : A → ℤ) (xs : List A) (k : ℕ) (d : A) → k < length xs →
+    sum_of f (take (k + 1) xs) ≡ sum_of f (take k xs) +ℤ f (get_or xs k d)
+sum_of-more f xs k d lt = ap (sum_of f) (take_more xs k d lt) ∙ sum_of-append f (take k xs) (get_or xs k d ∷ []) ∙
+    omega (arith, ints, sum_of-cons f (get_or xs k d) [], sum_of-nil f)
 
 pub sum_of-map : {A B : Type 0} (f : B → ℤ) (g : A → B) (xs : List A) → sum_of f (map g xs) ≡ sum_of (λ x. f (g x)) xs
 unfolding sum_of
@@ -36,19 +38,23 @@ unfolding sum_of
 sum_of-same f g [] h = refl
 sum_of-same f g (x ∷ xs) h = omega (arith, ints, h x, sum_of-same f g xs h)
 
-one_filtered : {A : Type 0} (b : Bool) (f : A → ℤ) (x : A) (xs : List A) (n : ℤ) → sum_of f xs ≡ n → sum_of f (cond b (x ∷ xs) xs) ≡ cond b (f x) (pos 0) +ℤ n
+one_filtered : {A : Type 0} (b : Bool) (f : A → ℤ) (x : A) (xs : List A) (n : ℤ) → sum_of f xs ≡ n →
+    sum_of f (cond b (x ∷ xs) xs) ≡ cond b (f x) (pos 0) +ℤ n
 unfolding sum_of
 one_filtered true f x xs n h = ap (λ m. f x +ℤ m) h
 one_filtered false f x xs n h = omega (arith, ints, h)
 
 -- The sum over those that pass a test counts the others as 0.
-pub sum_of-filter : {A : Type 0} (p : A → Bool) (f : A → ℤ) (xs : List A) → sum_of f (filter p xs) ≡ sum_of (λ x. cond (p x) (f x) (pos 0)) xs
+pub sum_of-filter : {A : Type 0} (p : A → Bool) (f : A → ℤ) (xs : List A) →
+    sum_of f (filter p xs) ≡ sum_of (λ x. cond (p x) (f x) (pos 0)) xs
 unfolding sum_of
 sum_of-filter p f [] = refl
-sum_of-filter p f (x ∷ xs) = one_filtered (p x) f x (filter p xs) (sum_of (λ y. cond (p y) (f y) (pos 0)) xs) (sum_of-filter p f xs)
+sum_of-filter p f (x ∷ xs) = one_filtered (p x) f x (filter p xs) (sum_of (λ y. cond (p y) (f y) (pos 0)) xs)
+    (sum_of-filter p f xs)
 
 -- The sum of two at each place.
-pub sum_of-plus : {A : Type 0} (f g h : A → ℤ) (xs : List A) → ((x : A) → f x ≡ g x +ℤ h x) → sum_of f xs ≡ sum_of g xs +ℤ sum_of h xs
+pub sum_of-plus : {A : Type 0} (f g h : A → ℤ) (xs : List A) → ((x : A) → f x ≡ g x +ℤ h x) →
+    sum_of f xs ≡ sum_of g xs +ℤ sum_of h xs
 unfolding sum_of
 sum_of-plus f g h [] e = refl
 sum_of-plus f g h (x ∷ xs) e = omega (arith, ints, e x, sum_of-plus f g h xs e)
@@ -58,23 +64,27 @@ unfolding sum_of
 sum_of-none f [] h = refl
 sum_of-none f (x ∷ xs) h = omega (arith, ints, h x, sum_of-none f xs h)
 
-pub sum_of-near : {A : Type 0} (f : A → ℤ) (b : ℕ) (xs : List A) → ((x : A) → unsigned_abs (f x) ≤ b) → unsigned_abs (sum_of f xs) ≤ b * length xs
+pub sum_of-near : {A : Type 0} (f : A → ℤ) (b : ℕ) (xs : List A) → ((x : A) → unsigned_abs (f x) ≤ b) →
+    unsigned_abs (sum_of f xs) ≤ b * length xs
 unfolding sum_of
 sum_of-near f b [] h = omega (arith, ints)
 sum_of-near f b (x ∷ xs) h = omega (arith, ints, h x, sum_of-near f b xs h)
 
 -- Two that are the same but for one number.
-same_above : (f g : ℕ → ℤ) (a n : ℕ) → ((k : ℕ) → a ≤ k → f k ≡ g k) → sum_of f (range_with_len a n) ≡ sum_of g (range_with_len a n)
+same_above : (f g : ℕ → ℤ) (a n : ℕ) → ((k : ℕ) → a ≤ k → f k ≡ g k) →
+    sum_of f (range_with_len a n) ≡ sum_of g (range_with_len a n)
 unfolding sum_of
 same_above f g a zero h = refl
 same_above f g a (suc n) h = omega (arith, ints, h a (omega arith), same_above f g (a + 1) n (λ k l. h k (omega arith)))
 
-changed_from : (f g : ℕ → ℤ) (row a n : ℕ) → a ≤ row → row < a + n → ((k : ℕ) → k ≢ row → f k ≡ g k) → sum_of f (range_with_len a n) +ℤ g row ≡ sum_of g (range_with_len a n) +ℤ f row
+changed_from : (f g : ℕ → ℤ) (row a n : ℕ) → a ≤ row → row < a + n → ((k : ℕ) → k ≢ row → f k ≡ g k) →
+    sum_of f (range_with_len a n) +ℤ g row ≡ sum_of g (range_with_len a n) +ℤ f row
 unfolding sum_of
 changed_from f g row a zero l m h = absurd (omega arith)
 changed_from f g row a (suc n) l m h = elim (cases_eq row a) [
   | inl here ↦
-      let others : sum_of f (range_with_len (a + 1) n) ≡ sum_of g (range_with_len (a + 1) n) = same_above f g (a + 1) n (λ k p. h k (omega arith)) in
+      let others : sum_of f (range_with_len (a + 1) n) ≡ sum_of g (range_with_len (a + 1) n) =
+      same_above f g (a + 1) n (λ k p. h k (omega arith)) in
       let e : f row ≡ f a = ap f here in
       let d : g row ≡ g a = ap g here in
       omega (arith, ints, others, e, d)
@@ -83,7 +93,8 @@ changed_from f g row a (suc n) l m h = elim (cases_eq row a) [
       omega (arith, ints, e, changed_from f g row (a + 1) n (omega arith) (omega arith) h)
 ]
 
-pub sum_of-changed : (f g : ℕ → ℤ) (row n : ℕ) → row < n → ((k : ℕ) → k ≢ row → f k ≡ g k) → sum_of f (range_with_len 0 n) +ℤ g row ≡ sum_of g (range_with_len 0 n) +ℤ f row
+pub sum_of-changed : (f g : ℕ → ℤ) (row n : ℕ) → row < n → ((k : ℕ) → k ≢ row → f k ≡ g k) →
+    sum_of f (range_with_len 0 n) +ℤ g row ≡ sum_of g (range_with_len 0 n) +ℤ f row
 sum_of-changed f g changed n l h = changed_from f g changed 0 n (omega arith) (omega arith) h
 
 -- Different numbers below a bound, in any order, are those of the numbers below it that are among them.
@@ -101,17 +112,22 @@ tail_apart : (x : ℕ) (xs : List ℕ) → AllPairs (λ a b. a ≢ b) (x ∷ xs)
 tail_apart x xs h = λ i j d l m. h (suc i) (suc j) d (omega arith) (omega arith)
 
 one_of : (f : ℕ → ℤ) (x k : ℕ) (rest : Bool) → k ≢ x → cond ((k == x) || rest) (f k) (pos 0) ≡ cond rest (f k) (pos 0)
-one_of f x k rest ne = ap (λ b. cond (b || rest) (f k) (pos 0)) (let no : (k == x) ≡ false = grind (arith, nat_tests) in no)
+one_of f x k rest ne = ap (λ b. cond (b || rest) (f k) (pos 0))
+    (let no : (k == x) ≡ false = grind (arith, nat_tests) in no)
 
 the_one : (f : ℕ → ℤ) (x : ℕ) (rest : Bool) → cond ((x == x) || rest) (f x) (pos 0) ≡ f x
-the_one f x rest = ap (λ b. cond (b || rest) (f x) (pos 0)) (let yes : (x == x) ≡ true = grind (arith, nat_tests) in yes)
+the_one f x rest = ap (λ b. cond (b || rest) (f x) (pos 0))
+    (let yes : (x == x) ≡ true = grind (arith, nat_tests) in yes)
 
-pub sum_of-among : (f : ℕ → ℤ) (n : ℕ) (rows : List ℕ) → All (λ r. r < n) rows → AllPairs (λ a b. a ≢ b) rows → sum_of f rows ≡ sum_of (λ k. cond (is_among rows k) (f k) (pos 0)) (range_with_len 0 n)
+pub sum_of-among : (f : ℕ → ℤ) (n : ℕ) (rows : List ℕ) → All (λ r. r < n) rows → AllPairs (λ a b. a ≢ b) rows →
+    sum_of f rows ≡ sum_of (λ k. cond (is_among rows k) (f k) (pos 0)) (range_with_len 0 n)
 sum_of-among f n [] below apart = sum_of-nil f ∙ sym (sum_of-none (λ k. pos 0) (range_with_len 0 n) (λ k. refl))
 sum_of-among f n (x ∷ xs) below apart =
     let rest = sum_of-among f n xs (All-tail (λ (r : ℕ). r < n) x xs below) (tail_apart x xs apart) in
     let out : is_among xs x ≡ false = none_among x xs (head_apart x xs apart) in
-    let step = sum_of-changed (λ k. cond (is_among (x ∷ xs) k) (f k) (pos 0)) (λ k. cond (is_among xs k) (f k) (pos 0)) x n (All-head (λ (r : ℕ). r < n) x xs below) (λ k ne. one_of f x k (is_among xs k) ne) in
+    let step = sum_of-changed (λ k. cond (is_among (x ∷ xs) k) (f k) (pos 0))
+    (λ k. cond (is_among xs k) (f k) (pos 0)) x n (All-head (λ (r : ℕ). r < n) x xs below)
+    (λ k ne. one_of f x k (is_among xs k) ne) in
     let here = the_one f x (is_among xs x) in
     let gone : cond (is_among xs x) (f x) (pos 0) ≡ pos 0 = ap (λ b. cond b (f x) (pos 0)) out in
     omega (arith, ints, sum_of-cons f x xs, rest, step, here, gone)
@@ -120,10 +136,18 @@ sum_of-among f n (x ∷ xs) below apart =
 pub left_out-one : (f : ℕ → ℤ) (row : ℕ) → sum_of f (left_out_by (Some row) []) ≡ f row
 left_out-one f row = omega (arith, ints, sum_of-cons f row [], sum_of-nil f)
 
-pub left_out-more : (f : ℕ → ℤ) (base : Option ℕ) (minus : List ℕ) (k : ℕ) → k < length minus → sum_of f (left_out_by base (take (k + 1) minus)) ≡ sum_of f (left_out_by base (take k minus)) +ℤ f (get_or minus k 0)
+pub left_out-more : (f : ℕ → ℤ) (base : Option ℕ) (minus : List ℕ) (k : ℕ) → k < length minus →
+    sum_of f (left_out_by base (take (k + 1) minus)) ≡
+    sum_of f (left_out_by base (take k minus)) +ℤ f (get_or minus k 0)
 left_out-more f None minus k l = sum_of-more f minus k 0 l
 left_out-more f (Some base) minus k l =
-    omega (arith, ints, sum_of-cons f base (take (k + 1) minus), sum_of-cons f base (take k minus), sum_of-more f minus k 0 l)
+    omega (
+      arith,
+      ints,
+      sum_of-cons f base (take (k + 1) minus),
+      sum_of-cons f base (take k minus),
+      sum_of-more f minus k 0 l,
+    )
 
 -- Two functions that agree at each element.
 pub sum_of-agree : {A : Type 0} (f g : A → ℤ) (xs : List A) → All (λ x. f x ≡ g x) xs → sum_of f xs ≡ sum_of g xs

@@ -21,10 +21,10 @@
 //! assert_eq!(rt; sums.mix(room, Some(second), &[], Law::Mu), [0x80; 160]);
 //! ```
 //!
-//! [`Sums::work`] counts the calls of three row kernels: to add a row, to take one away, and to
-//! write the difference of two. No other module sees the fields of a row; elsewhere frames and
-//! totals are read by [`Sums::frame`] and [`Sums::total`]. To join or to leave takes one call, to set the frame of a row
-//! that is joined two, and a mix one and one more for each row that is silenced.
+//! [`Sums::work`] counts the calls of three row kernels: to add a row, to take one away, and to write the difference of
+//! two. No other module sees the fields of a row; elsewhere frames and totals are read by [`Sums::frame`] and
+//! [`Sums::total`]. To join or to leave takes one call, to set the frame of a row that is joined two, and a mix one and
+//! one more for each row that is silenced.
 //!
 //! [`Sums::new`] takes all memory, and no other call takes any. What a total and a mix are stands
 //! in `specs/Sums.antt`, and [`laws`] has what follows from it. The sums run on the vectors of

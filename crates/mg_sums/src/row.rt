@@ -3,7 +3,8 @@ ghost use Rattle.mg_words.specs.Limits.{termination_limit};
 
 use std::marker::Model;
 
-/// The row of a termination, the number of its slot below [`TERMINATIONS`](crate::TERMINATIONS). Contracts see the number.
+/// The row of a termination, the number of its slot below [`TERMINATIONS`](crate::TERMINATIONS). Contracts see the
+/// number.
 #[derive(Clone, Copy, Debug, PartialEq, Eq, Hash)]
 pub struct Row {
     number: u8,

@@ -392,8 +392,8 @@ fn speak_at_each_port(engine: &mut Engine) {
     }
 }
 
-/// A tick of a full context takes three rows for each who talks. The total is that of all, and each hears the loudest that
-/// there is.
+/// A tick of a full context takes three rows for each who talks. The total is that of all, and each hears the loudest
+/// that there is.
 fn tick_with_many(
     rt: &impl Abort,
     alloc: Global,

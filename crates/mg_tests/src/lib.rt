@@ -1,8 +1,8 @@
 //! Tests of the larger crates, by their public calls alone.
 //!
-//! They stand apart since a crate that has tests is proved twice, once with them: the larger a crate is, the more that costs.
-//! What a script can show is a script (`mg_examples`); here is what none shows, such as causes, counts, refusals of a start, readers
-//! and writers that fail, and each public call of a lower crate once.
+//! They stand apart since a crate that has tests is proved twice, once with them: the larger a crate is, the more that
+//! costs. What a script can show is a script (`mg_examples`); here is what none shows, such as causes, counts, refusals
+//! of a start, readers and writers that fail, and each public call of a lower crate once.
 #![tactic(auto)]
 
 #[cfg(test)]

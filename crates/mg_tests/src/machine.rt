@@ -446,7 +446,8 @@ const TWO_ADDS: &[u8] = b"!/1 [127.0.0.1]:2945 T=1{C=${A=$,A=$}}";
 const LAST_ADDED: &[u8] =
     b"MEGACO/1 [127.0.0.1]:2944\nReply=1{Context=1{Add=RTP/4294967295,Add=${Error=432{\"no termination or port left\"}}}}";
 
-/// Whether a new core answers each message of the controller with its text. A configuration that isn't sound answers none.
+/// Whether a new core answers each message of the controller with its text. A configuration that isn't sound answers
+/// none.
 fn answers_all(
     alloc: Global,
     config: Config,

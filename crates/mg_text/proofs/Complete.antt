@@ -20,7 +20,8 @@ is_kind-same Equals = refl
 is_kind-same Quoted = refl
 is_kind-same Octets = refl
 
-pub mark_read : (source : List ℕ) (kind : TokenKind) (ts rest : List Token) → IsMark kind ts rest → mark_at source kind ts ≡ Ok rest
+pub mark_read : (source : List ℕ) (kind : TokenKind) (ts rest : List Token) → IsMark kind ts rest →
+    mark_at source kind ts ≡ Ok rest
 unfolding mark_at
 mark_read source kind ts rest m = rw (m.front, m.kind_is, is_kind-same kind) refl
 
@@ -29,7 +30,8 @@ unfolding after_mark
 after_read kind ts rest m = rw (m.front, m.kind_is, is_kind-same kind) refl
 
 -- another mark stands there
-pub after_other : (kind other : TokenKind) (ts rest : List Token) → is_kind kind other ≡ false → IsMark kind ts rest → after_mark other ts ≡ None
+pub after_other : (kind other : TokenKind) (ts rest : List Token) → is_kind kind other ≡ false → IsMark kind ts rest →
+    after_mark other ts ≡ None
 unfolding after_mark
 after_other kind other ts rest apart m = rw (m.front, m.kind_is, apart) refl
 
@@ -39,28 +41,39 @@ pub record Stops (rest : List Token) : Type 0 where
   pub equals : after_mark Equals rest ≡ None
 
 pub at_comma : (ts rest : List Token) → IsMark Comma ts rest → Stops ts
-at_comma ts rest m = record { «open» = after_other Comma Open ts rest refl m; equals = after_other Comma Equals ts rest refl m }
+at_comma ts rest m = record {
+  «open» = after_other Comma Open ts rest refl m;
+  equals = after_other Comma Equals ts rest refl m;
+}
 
 pub at_close : (ts rest : List Token) → IsMark Close ts rest → Stops ts
-at_close ts rest m = record { «open» = after_other Close Open ts rest refl m; equals = after_other Close Equals ts rest refl m }
+at_close ts rest m = record {
+  «open» = after_other Close Open ts rest refl m;
+  equals = after_other Close Equals ts rest refl m;
+}
 
-pub span_read : (source : List ℕ) (kind : TokenKind) (w : Span) (ts rest : List Token) → IsSpan kind w ts rest → span_at source kind ts ≡ Ok (w, rest)
+pub span_read : (source : List ℕ) (kind : TokenKind) (w : Span) (ts rest : List Token) → IsSpan kind w ts rest →
+    span_at source kind ts ≡ Ok (w, rest)
 unfolding span_at
 span_read source kind w ts rest m = rw (m.front, m.kind_is, is_kind-same kind, m.span_is) refl
 
-pub word_read : (source : List ℕ) (w : Span) (ts rest : List Token) → IsWord w ts rest → word_at source ts ≡ Ok (w, rest)
+pub word_read : (source : List ℕ) (w : Span) (ts rest : List Token) → IsWord w ts rest →
+    word_at source ts ≡ Ok (w, rest)
 word_read source w ts rest m = span_read source Word w ts rest m
 
 -- where one kind of token stands, no mark of another kind does
-pub span_other : (kind other : TokenKind) (w : Span) (ts rest : List Token) → is_kind kind other ≡ false → IsSpan kind w ts rest → after_mark other ts ≡ None
+pub span_other : (kind other : TokenKind) (w : Span) (ts rest : List Token) → is_kind kind other ≡ false →
+    IsSpan kind w ts rest → after_mark other ts ≡ None
 unfolding after_mark
 span_other kind other w ts rest apart m = rw (m.front, m.kind_is, apart) refl
 
-pub named_read : (source : List ℕ) (keyword : Keyword) (ts rest : List Token) → IsNamed source keyword ts rest → named_at source keyword ts ≡ Ok rest
+pub named_read : (source : List ℕ) (keyword : Keyword) (ts rest : List Token) → IsNamed source keyword ts rest →
+    named_at source keyword ts ≡ Ok rest
 unfolding named_at
 named_read source keyword ts rest m = rw (word_read source m.word ts rest m.is, m.named) refl
 
-pub worded_read : {X : Type 0} (meaning : List ℕ → Option X) (source : List ℕ) (x : X) (ts rest : List Token) → IsWorded meaning source x ts rest → meaning_at meaning source ts ≡ Ok (x, rest)
+pub worded_read : {X : Type 0} (meaning : List ℕ → Option X) (source : List ℕ) (x : X) (ts rest : List Token) →
+    IsWorded meaning source x ts rest → meaning_at meaning source ts ≡ Ok (x, rest)
 unfolding meaning_at
 worded_read meaning source x ts rest m = rw (word_read source m.word ts rest m.is, m.means) refl
 
@@ -74,7 +87,8 @@ plain_not Quoted p = (refl, refl)
 plain_not Octets p = (refl, refl)
 
 -- balanced tokens leave the depth as it is
-balanced_read : (source : List ℕ) (depth : ℕ) (ts rest : List Token) → IsBalanced ts rest → after_group source depth ts ≡ after_group source depth rest
+balanced_read : (source : List ℕ) (depth : ℕ) (ts rest : List Token) → IsBalanced ts rest →
+    after_group source depth ts ≡ after_group source depth rest
 unfolding after_group
 balanced_read source depth _ _ (nothing ts) = refl
 balanced_read source depth _ _ (plain t ts rest p inside) =
@@ -94,7 +108,8 @@ pub group_read : (source : List ℕ) (ts rest : List Token) → IsGroup ts rest 
 unfolding group_at
 group_read source ts rest m = rw (mark_read source Open ts m.a m.«open») (inside_read source ts rest m)
 
-pub term_read : (source : List ℕ) (w : Span) (ts rest : List Token) → IsTermName source w ts rest → term_at source ts ≡ Ok (w, rest)
+pub term_read : (source : List ℕ) (w : Span) (ts rest : List Token) → IsTermName source w ts rest →
+    term_at source ts ≡ Ok (w, rest)
 unfolding term_at
 term_read source w ts rest m = rw (word_read source w ts rest m.is, m.named) refl
 
@@ -105,35 +120,53 @@ not_close _ _ filled (nothing ts) = absurd (omega arith)
 not_close _ b filled (plain t ts b' p inside) = let k = plain_not t.kind p in rw k.1 refl
 not_close _ b filled (nested o c ts a b' opens closes inside after) = rw opens refl
 
-pub filled_read : (source : List ℕ) (b : Bool) (ts rest : List Token) → after_mark Open rest ≡ None → IsContent b ts rest → filled_at source ts ≡ Ok (b, rest)
+pub filled_read : (source : List ℕ) (b : Bool) (ts rest : List Token) → after_mark Open rest ≡ None →
+    IsContent b ts rest → filled_at source ts ≡ Ok (b, rest)
 unfolding filled_at
 filled_read source true ts rest stops m =
     let g = m.group in
     rw (after_read Open ts g.a g.«open», not_close g.a g.b m.filled g.inside, inside_read source ts rest g) refl
 filled_read source false ts rest stops (inl none) = rw (none, stops) refl
-filled_read source false ts rest stops (inr empty) = rw (after_read Open ts empty.a empty.«open», after_read Close empty.a rest empty.close) refl
+filled_read source false ts rest stops (inr empty) =
+    rw (after_read Open ts empty.a empty.«open», after_read Close empty.a rest empty.close) refl
 
 pub mark_shorter : (kind : TokenKind) (ts rest : List Token) → IsMark kind ts rest → length rest < length ts
 mark_shorter kind ts rest m = omega (arith, ap length m.front)
 
-pub span_shorter : (kind : TokenKind) (w : Span) (ts rest : List Token) → IsSpan kind w ts rest → length rest < length ts
+pub span_shorter : (kind : TokenKind) (w : Span) (ts rest : List Token) → IsSpan kind w ts rest →
+    length rest < length ts
 span_shorter kind w ts rest m = omega (arith, ap length m.front)
 
-pub worded_shorter : {X : Type 0} (meaning : List ℕ → Option X) (source : List ℕ) (x : X) (ts rest : List Token) → IsWorded meaning source x ts rest → length rest < length ts
+pub worded_shorter : {X : Type 0} (meaning : List ℕ → Option X) (source : List ℕ) (x : X) (ts rest : List Token) →
+    IsWorded meaning source x ts rest → length rest < length ts
 worded_shorter meaning source x ts rest m = span_shorter Word m.word ts rest m.is
 
 pub group_shorter : (ts rest : List Token) → IsGroup ts rest → length rest < length ts
-group_shorter ts rest m = omega (arith, mark_shorter Open ts m.a m.«open», balanced_shorter m.a m.b m.inside, mark_shorter Close m.b rest m.close)
+group_shorter ts rest m = omega (
+  arith,
+  mark_shorter Open ts m.a m.«open»,
+  balanced_shorter m.a m.b m.inside,
+  mark_shorter Close m.b rest m.close,
+)
 
 pub content_shorter : (b : Bool) (ts rest : List Token) → IsContent b ts rest → length rest ≤ length ts
 content_shorter true ts rest m = omega (arith, group_shorter ts rest m.group)
 content_shorter false ts rest (inl none) = omega (arith, ap length none)
-content_shorter false ts rest (inr empty) = omega (arith, mark_shorter Open ts empty.a empty.«open», mark_shorter Close empty.a rest empty.close)
+content_shorter false ts rest (inr empty) =
+    omega (arith, mark_shorter Open ts empty.a empty.«open», mark_shorter Close empty.a rest empty.close)
 
-module _ {X : Type 0} (source : List ℕ) (read : List Token → Result (X × List Token) ℕ) (P : X → List Token → List Token → Type 0) (complete : (ts : List Token) (x : X) (rest : List Token) → Stops rest → P x ts rest → read ts ≡ Ok (x, rest)) (shorter : (ts : List Token) (x : X) (rest : List Token) → P x ts rest → length rest ≤ length ts) where
+module _ {X : Type 0} (source : List ℕ) (read : List Token → Result (X × List Token) ℕ)
+    (P : X → List Token → List Token → Type 0)
+    (complete : (ts : List Token) (x : X) (rest : List Token) → Stops rest → P x ts rest → read ts ≡ Ok (x, rest))
+    (shorter : (ts : List Token) (x : X) (rest : List Token) → P x ts rest → length rest ≤ length ts) where
   more_shorter : (xs : List X) (ts rest : List Token) → IsMore P xs ts rest → length xs + length rest < length ts
   more_shorter [] ts rest m = omega (arith, mark_shorter Close ts rest m)
-  more_shorter (x ∷ xs) ts rest m = omega (arith, mark_shorter Comma ts m.0 m.2, shorter m.0 x m.1 m.3, more_shorter xs m.1 rest m.4)
+  more_shorter (x ∷ xs) ts rest m = omega (
+    arith,
+    mark_shorter Comma ts m.0 m.2,
+    shorter m.0 x m.1 m.3,
+    more_shorter xs m.1 rest m.4,
+  )
 
   list_shorter : (xs : List X) (ts rest : List Token) → IsListed P xs ts rest → length xs + length rest ≤ length ts
   list_shorter [] ts rest h = absurd h
@@ -142,52 +175,78 @@ module _ {X : Type 0} (source : List ℕ) (read : List Token → Result (X × Li
   pub items_shorter : (xs : List X) (ts rest : List Token) → IsListed P xs ts rest → length rest ≤ length ts
   items_shorter xs ts rest h = omega (arith, list_shorter xs ts rest h)
 
-  list_reads : (n : ℕ) (x : X) (xs : List X) (ts rest : List Token) → length xs < n → IsListed P (x ∷ xs) ts rest → list_at source read n ts ≡ Ok (x ∷ xs, rest)
+  list_reads : (n : ℕ) (x : X) (xs : List X) (ts rest : List Token) → length xs < n → IsListed P (x ∷ xs) ts rest →
+      list_at source read n ts ≡ Ok (x ∷ xs, rest)
   unfolding list_at
   list_reads zero x xs ts rest lt h = absurd (omega arith)
   list_reads (suc n) x [] ts rest lt h =
-      rw (complete ts x h.0 (at_close h.0 rest h.2) h.1, after_other Close Comma h.0 rest refl h.2, mark_read source Close h.0 rest h.2) refl
+      rw (
+        complete ts x h.0 (at_close h.0 rest h.2) h.1,
+        after_other Close Comma h.0 rest refl h.2,
+        mark_read source Close h.0 rest h.2,
+      ) refl
   list_reads (suc n) x (y ∷ ys) ts rest lt h =
-      rw (complete ts x h.0 (at_comma h.0 h.2.0 h.2.2) h.1, after_read Comma h.0 h.2.0 h.2.2, list_reads n y ys h.2.0 rest (omega arith) (h.2.1, h.2.3, h.2.4)) refl
+      rw (
+        complete ts x h.0 (at_comma h.0 h.2.0 h.2.2) h.1,
+        after_read Comma h.0 h.2.0 h.2.2,
+        list_reads n y ys h.2.0 rest (omega arith) (h.2.1, h.2.3, h.2.4),
+      ) refl
 
-  pub items_read : (xs : List X) (ts rest : List Token) → IsListed P xs ts rest → items_at source read ts ≡ Ok (xs, rest)
+  pub items_read : (xs : List X) (ts rest : List Token) → IsListed P xs ts rest →
+      items_at source read ts ≡ Ok (xs, rest)
   items_read [] ts rest h = absurd h
   items_read (x ∷ xs) ts rest h = list_reads (length ts) x xs ts rest (omega (arith, list_shorter (x ∷ xs) ts rest h)) h
 
-  pub braced_read : (xs : List X) (ts rest : List Token) → IsBraced P xs ts rest → braced_at source read ts ≡ Ok (xs, rest)
+  pub braced_read : (xs : List X) (ts rest : List Token) → IsBraced P xs ts rest →
+      braced_at source read ts ≡ Ok (xs, rest)
   unfolding braced_at
   braced_read xs ts rest m = rw (mark_read source Open ts m.a m.«open», items_read xs m.a rest m.are) refl
 
   pub braced_shorter : (xs : List X) (ts rest : List Token) → IsBraced P xs ts rest → length rest < length ts
   braced_shorter xs ts rest m = omega (arith, mark_shorter Open ts m.a m.«open», items_shorter xs m.a rest m.are)
 
-  pub optional_braced_read : (xs : List X) (ts rest : List Token) → after_mark Open rest ≡ None → IsOptionalBraced P xs ts rest → optional_braced_at source read ts ≡ Ok (xs, rest)
+  pub optional_braced_read : (xs : List X) (ts rest : List Token) → after_mark Open rest ≡ None →
+      IsOptionalBraced P xs ts rest → optional_braced_at source read ts ≡ Ok (xs, rest)
   unfolding optional_braced_at
   optional_braced_read [] ts rest stops m = rw (m, stops) refl
-  optional_braced_read (x ∷ xs) ts rest stops m = rw (after_read Open ts m.a m.«open», items_read (x ∷ xs) m.a rest m.are) refl
+  optional_braced_read (x ∷ xs) ts rest stops m =
+      rw (after_read Open ts m.a m.«open», items_read (x ∷ xs) m.a rest m.are) refl
 
-  pub optional_braced_shorter : (xs : List X) (ts rest : List Token) → IsOptionalBraced P xs ts rest → length rest ≤ length ts
+  pub optional_braced_shorter : (xs : List X) (ts rest : List Token) → IsOptionalBraced P xs ts rest →
+      length rest ≤ length ts
   optional_braced_shorter [] ts rest m = omega (arith, ap length m)
   optional_braced_shorter (x ∷ xs) ts rest m = omega (arith, braced_shorter (x ∷ xs) ts rest m)
 
   -- where an item stands, no closing brace does
   module _ (begins : (ts : List Token) (x : X) (rest : List Token) → P x ts rest → after_mark Close ts ≡ None) where
-    pub any_braced_read : (xs : List X) (ts rest : List Token) → IsAnyBraced P xs ts rest → any_braced_at source read ts ≡ Ok (xs, rest)
+    pub any_braced_read : (xs : List X) (ts rest : List Token) → IsAnyBraced P xs ts rest →
+        any_braced_at source read ts ≡ Ok (xs, rest)
     unfolding any_braced_at
     any_braced_read [] ts rest m = rw (mark_read source Open ts m.a m.«open», after_read Close m.a rest m.close) refl
-    any_braced_read (x ∷ xs) ts rest m = rw (mark_read source Open ts m.a m.«open», begins m.a x m.are.0 m.are.1, items_read (x ∷ xs) m.a rest m.are) refl
+    any_braced_read (x ∷ xs) ts rest m = rw (
+      mark_read source Open ts m.a m.«open»,
+      begins m.a x m.are.0 m.are.1,
+      items_read (x ∷ xs) m.a rest m.are,
+    ) refl
 
     pub any_braced_shorter : (xs : List X) (ts rest : List Token) → IsAnyBraced P xs ts rest → length rest < length ts
-    any_braced_shorter [] ts rest m = omega (arith, mark_shorter Open ts m.a m.«open», mark_shorter Close m.a rest m.close)
+    any_braced_shorter [] ts rest m = omega (
+      arith,
+      mark_shorter Open ts m.a m.«open»,
+      mark_shorter Close m.a rest m.close,
+    )
     any_braced_shorter (x ∷ xs) ts rest m = braced_shorter (x ∷ xs) ts rest m
 
 -- words that stand for values, as items of a list
 module _ {X : Type 0} (meaning : List ℕ → Option X) (source : List ℕ) where
-  pub each_word_read : (ts : List Token) (x : X) (rest : List Token) → Stops rest → IsWorded meaning source x ts rest → meaning_at meaning source ts ≡ Ok (x, rest)
+  pub each_word_read : (ts : List Token) (x : X) (rest : List Token) → Stops rest →
+      IsWorded meaning source x ts rest → meaning_at meaning source ts ≡ Ok (x, rest)
   each_word_read ts x rest stops m = worded_read meaning source x ts rest m
 
-  pub each_word_shorter : (ts : List Token) (x : X) (rest : List Token) → IsWorded meaning source x ts rest → length rest ≤ length ts
+  pub each_word_shorter : (ts : List Token) (x : X) (rest : List Token) → IsWorded meaning source x ts rest →
+      length rest ≤ length ts
   each_word_shorter ts x rest m = omega (arith, worded_shorter meaning source x ts rest m)
 
-  pub each_word_begins : (ts : List Token) (x : X) (rest : List Token) → IsWorded meaning source x ts rest → after_mark Close ts ≡ None
+  pub each_word_begins : (ts : List Token) (x : X) (rest : List Token) → IsWorded meaning source x ts rest →
+      after_mark Close ts ≡ None
   each_word_begins ts x rest m = span_other Word Close m.word ts rest refl m.is

@@ -20,43 +20,65 @@ use Rattle.mg_text.specs.Grammar.{IsWorded, IsAnyBraced, IsGroup, IsContent, IsW
 use Rattle.mg_text.proofs.Complete.{Stops, mark_read, after_read, after_other, word_read, span_other, worded_read, inside_read, term_read, filled_read, mark_shorter, span_shorter, worded_shorter, group_shorter, content_shorter, braced_read, braced_shorter, optional_braced_read, optional_braced_shorter, any_braced_read, any_braced_shorter, each_word_read, each_word_shorter, each_word_begins}
 use Rattle.mg_text.proofs.CompleteMedia.{media_part_read, media_part_shorter}
 
-audit_words_read : (source : List ℕ) (xs : List AuditWord) (ts rest : List Token) → IsAnyBraced (IsWorded audit_word_of source) xs ts rest → audit_words_at source ts ≡ Ok (xs, rest)
-audit_words_read source xs ts rest m = any_braced_read source (meaning_at audit_word_of source) (IsWorded audit_word_of source) (each_word_read audit_word_of source) (each_word_shorter audit_word_of source) (each_word_begins audit_word_of source) xs ts rest m
+audit_words_read : (source : List ℕ) (xs : List AuditWord) (ts rest : List Token) →
+    IsAnyBraced (IsWorded audit_word_of source) xs ts rest → audit_words_at source ts ≡ Ok (xs, rest)
+audit_words_read source xs ts rest m = any_braced_read source (meaning_at audit_word_of source)
+    (IsWorded audit_word_of source) (each_word_read audit_word_of source) (each_word_shorter audit_word_of source)
+    (each_word_begins audit_word_of source) xs ts rest m
 
-audit_words_shorter : (source : List ℕ) (xs : List AuditWord) (ts rest : List Token) → IsAnyBraced (IsWorded audit_word_of source) xs ts rest → length rest < length ts
-audit_words_shorter source xs ts rest m = any_braced_shorter source (meaning_at audit_word_of source) (IsWorded audit_word_of source) (each_word_read audit_word_of source) (each_word_shorter audit_word_of source) (each_word_begins audit_word_of source) xs ts rest m
+audit_words_shorter : (source : List ℕ) (xs : List AuditWord) (ts rest : List Token) →
+    IsAnyBraced (IsWorded audit_word_of source) xs ts rest → length rest < length ts
+audit_words_shorter source xs ts rest m = any_braced_shorter source (meaning_at audit_word_of source)
+    (IsWorded audit_word_of source) (each_word_read audit_word_of source) (each_word_shorter audit_word_of source)
+    (each_word_begins audit_word_of source) xs ts rest m
 
-assigned_read : (source : List ℕ) (ts rest : List Token) → after_mark Open rest ≡ None → IsGroup ts rest ⊎ IsWordAndGroup ts rest → assigned_at source ts ≡ Ok rest
+assigned_read : (source : List ℕ) (ts rest : List Token) → after_mark Open rest ≡ None →
+    IsGroup ts rest ⊎ IsWordAndGroup ts rest → assigned_at source ts ≡ Ok rest
 unfolding assigned_at
 assigned_read source ts rest stops (inl m) = rw (after_read Open ts m.a m.«open», inside_read source ts rest m) refl
-assigned_read source ts rest stops (inr m) = rw (span_other Word Open m.word ts m.a refl m.is, word_read source m.word ts m.a m.is, filled_read source m.group.0 m.a rest stops m.group.1) refl
+assigned_read source ts rest stops (inr m) =
+    rw (
+      span_other Word Open m.word ts m.a refl m.is,
+      word_read source m.word ts m.a m.is,
+      filled_read source m.group.0 m.a rest stops m.group.1,
+    ) refl
 
 assigned_shorter : (ts rest : List Token) → IsGroup ts rest ⊎ IsWordAndGroup ts rest → length rest < length ts
 assigned_shorter ts rest (inl m) = group_shorter ts rest m
-assigned_shorter ts rest (inr m) = omega (arith, span_shorter Word m.word ts m.a m.is, content_shorter m.group.0 m.a rest m.group.1)
+assigned_shorter ts rest (inr m) = omega (
+  arith,
+  span_shorter Word m.word ts m.a m.is,
+  content_shorter m.group.0 m.a rest m.group.1,
+)
 
 -- where a group stands or nothing, no equals sign does
-no_equals : (b : Bool) (ts rest : List Token) → after_mark Equals rest ≡ None → IsContent b ts rest → after_mark Equals ts ≡ None
+no_equals : (b : Bool) (ts rest : List Token) → after_mark Equals rest ≡ None → IsContent b ts rest →
+    after_mark Equals ts ≡ None
 no_equals true ts rest stops m = after_other Open Equals ts m.group.a refl m.group.«open»
 no_equals false ts rest stops (inl none) = rw none stops
 no_equals false ts rest stops (inr empty) = after_other Open Equals ts empty.a refl empty.«open»
 
-plain_content_read : (source : List ℕ) (b : Bool) (ts rest : List Token) → Stops rest → IsContent b ts rest → content_at source ts ≡ Ok (b, rest)
+plain_content_read : (source : List ℕ) (b : Bool) (ts rest : List Token) → Stops rest → IsContent b ts rest →
+    content_at source ts ≡ Ok (b, rest)
 unfolding content_at
-plain_content_read source b ts rest stops m = rw (no_equals b ts rest stops.equals m, filled_read source b ts rest stops.«open» m) refl
+plain_content_read source b ts rest stops m =
+    rw (no_equals b ts rest stops.equals m, filled_read source b ts rest stops.«open» m) refl
 
-content_read : (source : List ℕ) (b : Bool) (ts rest : List Token) → Stops rest → IsOtherContent b ts rest → content_at source ts ≡ Ok (b, rest)
+content_read : (source : List ℕ) (b : Bool) (ts rest : List Token) → Stops rest → IsOtherContent b ts rest →
+    content_at source ts ≡ Ok (b, rest)
 unfolding content_at
 content_read source false ts rest stops m = plain_content_read source false ts rest stops m
 content_read source true ts rest stops (inl m) = plain_content_read source true ts rest stops m
-content_read source true ts rest stops (inr m) = rw (after_read Equals ts m.0 m.1, assigned_read source m.0 rest stops.«open» m.2) refl
+content_read source true ts rest stops (inr m) =
+    rw (after_read Equals ts m.0 m.1, assigned_read source m.0 rest stops.«open» m.2) refl
 
 other_shorter : (b : Bool) (ts rest : List Token) → IsOtherContent b ts rest → length rest ≤ length ts
 other_shorter false ts rest m = content_shorter false ts rest m
 other_shorter true ts rest (inl m) = content_shorter true ts rest m
 other_shorter true ts rest (inr m) = omega (arith, mark_shorter Equals ts m.0 m.1, assigned_shorter m.0 rest m.2)
 
-other_named : (source : List ℕ) (word : OtherWord) (place : ℕ) (ts : List Token) → descriptor_named source (keyword_for word) place ts ≡ other_at source word ts
+other_named : (source : List ℕ) (word : OtherWord) (place : ℕ) (ts : List Token) →
+    descriptor_named source (keyword_for word) place ts ≡ other_at source word ts
 other_named source others.Signals place ts = refl
 other_named source others.Events place ts = refl
 other_named source others.Modem place ts = refl
@@ -64,70 +86,134 @@ other_named source others.Mux place ts = refl
 other_named source others.DigitMap place ts = refl
 other_named source others.EventBuffer place ts = refl
 
-descriptor_read : (source : List ℕ) (ts : List Token) (x : Descriptor) (rest : List Token) → Stops rest → IsDescriptor source x ts rest → descriptor_at source ts ≡ Ok (x, rest)
+descriptor_read : (source : List ℕ) (ts : List Token) (x : Descriptor) (rest : List Token) → Stops rest →
+    IsDescriptor source x ts rest → descriptor_at source ts ≡ Ok (x, rest)
 unfolding descriptor_at other_at
 descriptor_read source ts (descriptors.Media xs) rest stops m =
-    rw (worded_read keyword_of source keywords.Media ts m.a m.name, braced_read source (media_part_at source) (IsMediaPart source) (media_part_read source) (media_part_shorter source) xs m.a rest m.is) refl
+    rw (
+      worded_read keyword_of source keywords.Media ts m.a m.name,
+      braced_read source (media_part_at source) (IsMediaPart source) (media_part_read source)
+          (media_part_shorter source) xs m.a rest m.is,
+    ) refl
 descriptor_read source ts (descriptors.Audit xs) rest stops m =
     rw (worded_read keyword_of source keywords.Audit ts m.a m.name, audit_words_read source xs m.a rest m.is) refl
 descriptor_read source ts (descriptors.Other word b) rest stops m =
-    rw (worded_read keyword_of source (keyword_for word) ts m.a m.name) (other_named source word _ m.a ∙ (rw (content_read source b m.a rest stops m.is) refl))
+    rw (worded_read keyword_of source (keyword_for word) ts m.a m.name)
+    (other_named source word _ m.a ∙ (rw (content_read source b m.a rest stops m.is) refl))
 
-descriptor_shorter : (source : List ℕ) (ts : List Token) (x : Descriptor) (rest : List Token) → IsDescriptor source x ts rest → length rest ≤ length ts
+descriptor_shorter : (source : List ℕ) (ts : List Token) (x : Descriptor) (rest : List Token) →
+    IsDescriptor source x ts rest → length rest ≤ length ts
 descriptor_shorter source ts (descriptors.Media xs) rest m =
-    omega (arith, worded_shorter keyword_of source keywords.Media ts m.a m.name, braced_shorter source (media_part_at source) (IsMediaPart source) (media_part_read source) (media_part_shorter source) xs m.a rest m.is)
-descriptor_shorter source ts (descriptors.Audit xs) rest m = omega (arith, worded_shorter keyword_of source keywords.Audit ts m.a m.name, audit_words_shorter source xs m.a rest m.is)
-descriptor_shorter source ts (descriptors.Other word b) rest m = omega (arith, worded_shorter keyword_of source (keyword_for word) ts m.a m.name, other_shorter b m.a rest m.is)
+    omega (
+      arith,
+      worded_shorter keyword_of source keywords.Media ts m.a m.name,
+      braced_shorter source (media_part_at source) (IsMediaPart source) (media_part_read source)
+          (media_part_shorter source) xs m.a rest m.is,
+    )
+descriptor_shorter source ts (descriptors.Audit xs) rest m =
+    omega (
+      arith,
+      worded_shorter keyword_of source keywords.Audit ts m.a m.name,
+      audit_words_shorter source xs m.a rest m.is,
+    )
+descriptor_shorter source ts (descriptors.Other word b) rest m =
+    omega (arith, worded_shorter keyword_of source (keyword_for word) ts m.a m.name, other_shorter b m.a rest m.is)
 
-audit_read : (source : List ℕ) (xs : List AuditWord) (ts rest : List Token) → IsAudit source xs ts rest → audit_at source ts ≡ Ok (xs, rest)
+audit_read : (source : List ℕ) (xs : List AuditWord) (ts rest : List Token) → IsAudit source xs ts rest →
+    audit_at source ts ≡ Ok (xs, rest)
 unfolding audit_at
-audit_read source xs ts rest m = rw (worded_read keyword_of source keywords.Audit ts m.a m.name, audit_words_read source xs m.a rest m.is) refl
+audit_read source xs ts rest m = rw (
+  worded_read keyword_of source keywords.Audit ts m.a m.name,
+  audit_words_read source xs m.a rest m.is,
+) refl
 
-audit_braced_read : (source : List ℕ) (xs : List AuditWord) (ts rest : List Token) → IsAuditBraced source xs ts rest → optional_audit_at source ts ≡ Ok (descriptors.Audit xs ∷ [], rest)
+audit_braced_read : (source : List ℕ) (xs : List AuditWord) (ts rest : List Token) → IsAuditBraced source xs ts rest →
+    optional_audit_at source ts ≡ Ok (descriptors.Audit xs ∷ [], rest)
 unfolding optional_audit_at
-audit_braced_read source xs ts rest m = rw (after_read Open ts m.a m.«open», audit_read source xs m.a m.b m.audit, mark_read source Close m.b rest m.close) refl
+audit_braced_read source xs ts rest m = rw (
+  after_read Open ts m.a m.«open»,
+  audit_read source xs m.a m.b m.audit,
+  mark_read source Close m.b rest m.close,
+) refl
 
-optional_audit_read : (source : List ℕ) (xs : List Descriptor) (ts rest : List Token) → after_mark Open rest ≡ None → IsOptionalAudit source xs ts rest → optional_audit_at source ts ≡ Ok (xs, rest)
+optional_audit_read : (source : List ℕ) (xs : List Descriptor) (ts rest : List Token) → after_mark Open rest ≡ None →
+    IsOptionalAudit source xs ts rest → optional_audit_at source ts ≡ Ok (xs, rest)
 unfolding optional_audit_at
 optional_audit_read source [] ts rest stops m = rw (m, stops) refl
 optional_audit_read source (descriptors.Audit xs ∷ []) ts rest stops m = audit_braced_read source xs ts rest m
 optional_audit_read source _ ts rest stops m = absurd m
 
-optional_audit_shorter : (source : List ℕ) (xs : List Descriptor) (ts rest : List Token) → IsOptionalAudit source xs ts rest → length rest ≤ length ts
+optional_audit_shorter : (source : List ℕ) (xs : List Descriptor) (ts rest : List Token) →
+    IsOptionalAudit source xs ts rest → length rest ≤ length ts
 optional_audit_shorter source [] ts rest m = omega (arith, ap length m)
 optional_audit_shorter source (descriptors.Audit xs ∷ []) ts rest m =
-    omega (arith, mark_shorter Open ts m.a m.«open», worded_shorter keyword_of source keywords.Audit m.a m.audit.a m.audit.name, audit_words_shorter source xs m.audit.a m.b m.audit.is, mark_shorter Close m.b rest m.close)
+    omega (
+      arith,
+      mark_shorter Open ts m.a m.«open»,
+      worded_shorter keyword_of source keywords.Audit m.a m.audit.a m.audit.name,
+      audit_words_shorter source xs m.audit.a m.b m.audit.is,
+      mark_shorter Close m.b rest m.close,
+    )
 optional_audit_shorter source _ ts rest m = absurd m
 
-skipped_read : (source : List ℕ) (xs : List Descriptor) (ts rest : List Token) → after_mark Open rest ≡ None → IsSkipped xs ts rest → skipped_at source ts ≡ Ok (xs, rest)
+skipped_read : (source : List ℕ) (xs : List Descriptor) (ts rest : List Token) → after_mark Open rest ≡ None →
+    IsSkipped xs ts rest → skipped_at source ts ≡ Ok (xs, rest)
 unfolding skipped_at
 skipped_read source xs ts rest stops m = rw (filled_read source m.1.0 ts rest stops m.1.1, m.0) refl
 
-described_read : (source : List ℕ) (word : CommandWord) (xs : List Descriptor) (ts rest : List Token) → after_mark Open rest ≡ None → IsDescribed source word xs ts rest → descriptors_at source word ts ≡ Ok (xs, rest)
-described_read source commands.Add xs ts rest stops m = optional_braced_read source (descriptor_at source) (IsDescriptor source) (descriptor_read source) (descriptor_shorter source) xs ts rest stops m
-described_read source commands.Modify xs ts rest stops m = optional_braced_read source (descriptor_at source) (IsDescriptor source) (descriptor_read source) (descriptor_shorter source) xs ts rest stops m
-described_read source commands.Move xs ts rest stops m = optional_braced_read source (descriptor_at source) (IsDescriptor source) (descriptor_read source) (descriptor_shorter source) xs ts rest stops m
+described_read : (source : List ℕ) (word : CommandWord) (xs : List Descriptor) (ts rest : List Token) →
+    after_mark Open rest ≡ None → IsDescribed source word xs ts rest → descriptors_at source word ts ≡ Ok (xs, rest)
+described_read source commands.Add xs ts rest stops m =
+    optional_braced_read source (descriptor_at source) (IsDescriptor source) (descriptor_read source)
+    (descriptor_shorter source) xs ts rest stops m
+described_read source commands.Modify xs ts rest stops m =
+    optional_braced_read source (descriptor_at source) (IsDescriptor source) (descriptor_read source)
+    (descriptor_shorter source) xs ts rest stops m
+described_read source commands.Move xs ts rest stops m =
+    optional_braced_read source (descriptor_at source) (IsDescriptor source) (descriptor_read source)
+    (descriptor_shorter source) xs ts rest stops m
 described_read source commands.Subtract xs ts rest stops m = optional_audit_read source xs ts rest stops m
 described_read source commands.AuditValue xs ts rest stops m = optional_audit_read source xs ts rest stops m
 described_read source commands.AuditCapability xs ts rest stops m = skipped_read source xs ts rest stops m
 described_read source commands.Notify xs ts rest stops m = skipped_read source xs ts rest stops m
 described_read source commands.ServiceChange xs ts rest stops m = skipped_read source xs ts rest stops m
 
-described_shorter : (source : List ℕ) (word : CommandWord) (xs : List Descriptor) (ts rest : List Token) → IsDescribed source word xs ts rest → length rest ≤ length ts
-described_shorter source commands.Add xs ts rest m = optional_braced_shorter source (descriptor_at source) (IsDescriptor source) (descriptor_read source) (descriptor_shorter source) xs ts rest m
-described_shorter source commands.Modify xs ts rest m = optional_braced_shorter source (descriptor_at source) (IsDescriptor source) (descriptor_read source) (descriptor_shorter source) xs ts rest m
-described_shorter source commands.Move xs ts rest m = optional_braced_shorter source (descriptor_at source) (IsDescriptor source) (descriptor_read source) (descriptor_shorter source) xs ts rest m
+described_shorter : (source : List ℕ) (word : CommandWord) (xs : List Descriptor) (ts rest : List Token) →
+    IsDescribed source word xs ts rest → length rest ≤ length ts
+described_shorter source commands.Add xs ts rest m =
+    optional_braced_shorter source (descriptor_at source) (IsDescriptor source) (descriptor_read source)
+    (descriptor_shorter source) xs ts rest m
+described_shorter source commands.Modify xs ts rest m =
+    optional_braced_shorter source (descriptor_at source) (IsDescriptor source) (descriptor_read source)
+    (descriptor_shorter source) xs ts rest m
+described_shorter source commands.Move xs ts rest m =
+    optional_braced_shorter source (descriptor_at source) (IsDescriptor source) (descriptor_read source)
+    (descriptor_shorter source) xs ts rest m
 described_shorter source commands.Subtract xs ts rest m = optional_audit_shorter source xs ts rest m
 described_shorter source commands.AuditValue xs ts rest m = optional_audit_shorter source xs ts rest m
 described_shorter source commands.AuditCapability xs ts rest m = content_shorter m.1.0 ts rest m.1.1
 described_shorter source commands.Notify xs ts rest m = content_shorter m.1.0 ts rest m.1.1
 described_shorter source commands.ServiceChange xs ts rest m = content_shorter m.1.0 ts rest m.1.1
 
-pub command_read : (source : List ℕ) (ts : List Token) (x : Command) (rest : List Token) → Stops rest → IsCommand source x ts rest → command_at source ts ≡ Ok (x, rest)
+pub command_read : (source : List ℕ) (ts : List Token) (x : Command) (rest : List Token) → Stops rest →
+    IsCommand source x ts rest → command_at source ts ≡ Ok (x, rest)
 unfolding command_at
 command_read source ts x rest stops m =
-    rw (worded_read command_of source (head_of x) ts m.a m.head, mark_read source Equals m.a m.b m.equals, term_read source x.term m.b m.d m.term, described_read source x.word x.descriptors m.d rest stops.«open» m.descriptors) refl
+    rw (
+      worded_read command_of source (head_of x) ts m.a m.head,
+      mark_read source Equals m.a m.b m.equals,
+      term_read source x.term m.b m.d m.term,
+      described_read source x.word x.descriptors m.d rest stops.«open»
+          m.descriptors,
+    ) refl
 
-pub command_shorter : (source : List ℕ) (ts : List Token) (x : Command) (rest : List Token) → IsCommand source x ts rest → length rest ≤ length ts
+pub command_shorter : (source : List ℕ) (ts : List Token) (x : Command) (rest : List Token) →
+    IsCommand source x ts rest → length rest ≤ length ts
 command_shorter source ts x rest m =
-    omega (arith, worded_shorter command_of source (head_of x) ts m.a m.head, mark_shorter Equals m.a m.b m.equals, span_shorter Word x.term m.b m.d m.term.is, described_shorter source x.word x.descriptors m.d rest m.descriptors)
+    omega (
+      arith,
+      worded_shorter command_of source (head_of x) ts m.a m.head,
+      mark_shorter Equals m.a m.b m.equals,
+      span_shorter Word x.term m.b m.d m.term.is,
+      described_shorter source x.word x.descriptors m.d rest m.descriptors,
+    )

@@ -32,176 +32,371 @@ use Rattle.mg_text.specs.Grammar.{IsWorded, IsListed, head_of, IsCommand, IsTrip
 use Rattle.mg_text.proofs.Complete.{Stops, at_comma, at_close, mark_read, after_read, after_other, word_read, named_read, worded_read, group_read, term_read, mark_shorter, span_shorter, worded_shorter, group_shorter, items_shorter, items_read, braced_read, braced_shorter, each_word_read, each_word_shorter}
 use Rattle.mg_text.proofs.CompleteCommands.{command_read, command_shorter}
 
-triple_read : (source : List ℕ) (ts : List Token) (x : Triple) (rest : List Token) → Stops rest → IsTriple source x ts rest → triple_at source ts ≡ Ok (x, rest)
+triple_read : (source : List ℕ) (ts : List Token) (x : Triple) (rest : List Token) → Stops rest →
+    IsTriple source x ts rest → triple_at source ts ≡ Ok (x, rest)
 unfolding triple_at
 triple_read source ts x rest stops m =
-    rw (term_read source x.first ts m.a m.first, mark_read source Comma m.a m.b m.comma, term_read source x.second m.b m.d m.second, mark_read source Comma m.d m.e m.comma_after, worded_read association_of source x.association m.e rest m.association) refl
+    rw (
+      term_read source x.first ts m.a m.first,
+      mark_read source Comma m.a m.b m.comma,
+      term_read source x.second m.b m.d m.second,
+      mark_read source Comma m.d m.e m.comma_after,
+      worded_read association_of source x.association m.e rest m.association,
+    ) refl
 
-triple_shorter : (source : List ℕ) (ts : List Token) (x : Triple) (rest : List Token) → IsTriple source x ts rest → length rest ≤ length ts
+triple_shorter : (source : List ℕ) (ts : List Token) (x : Triple) (rest : List Token) → IsTriple source x ts rest →
+    length rest ≤ length ts
 triple_shorter source ts x rest m =
-    omega (arith, span_shorter Word x.first ts m.a m.first.is, mark_shorter Comma m.a m.b m.comma, span_shorter Word x.second m.b m.d m.second.is, mark_shorter Comma m.d m.e m.comma_after, worded_shorter association_of source x.association m.e rest m.association)
+    omega (
+      arith,
+      span_shorter Word x.first ts m.a m.first.is,
+      mark_shorter Comma m.a m.b m.comma,
+      span_shorter Word x.second m.b m.d m.second.is,
+      mark_shorter Comma m.d m.e m.comma_after,
+      worded_shorter association_of source x.association m.e rest m.association,
+    )
 
-property_read : (source : List ℕ) (x : ContextProperty) (ts rest : List Token) → Stops rest → IsContextProperty source x ts rest → property_at source ts ≡ Ok (x, rest)
+property_read : (source : List ℕ) (x : ContextProperty) (ts rest : List Token) → Stops rest →
+    IsContextProperty source x ts rest → property_at source ts ≡ Ok (x, rest)
 unfolding property_at priority_at emergency_at
 property_read source (properties.Topology xs) ts rest stops m =
-    rw (worded_read keyword_of source keywords.Topology ts m.a m.name, braced_read source (triple_at source) (IsTriple source) (triple_read source) (triple_shorter source) xs m.a rest m.is) refl
+    rw (
+      worded_read keyword_of source keywords.Topology ts m.a m.name,
+      braced_read source (triple_at source) (IsTriple source) (triple_read source) (triple_shorter source) xs m.a
+          rest m.is,
+    ) refl
 property_read source (properties.ContextAudit xs) ts rest stops m =
-    rw (worded_read keyword_of source keywords.ContextAudit ts m.a m.name, braced_read source (meaning_at context_word_of source) (IsWorded context_word_of source) (each_word_read context_word_of source) (each_word_shorter context_word_of source) xs m.a rest m.is) refl
+    rw (
+      worded_read keyword_of source keywords.ContextAudit ts m.a m.name,
+      braced_read source (meaning_at context_word_of source) (IsWorded context_word_of source)
+          (each_word_read context_word_of source) (each_word_shorter context_word_of source) xs m.a rest m.is,
+    ) refl
 property_read source (properties.Priority w) ts rest stops m =
-    rw (worded_read keyword_of source keywords.Priority ts m.a m.name, mark_read source Equals m.a m.is.a m.is.equals, word_read source w m.is.a rest m.is.is) refl
+    rw (
+      worded_read keyword_of source keywords.Priority ts m.a m.name,
+      mark_read source Equals m.a m.is.a m.is.equals,
+      word_read source w m.is.a rest m.is.is,
+    ) refl
 property_read source (properties.Emergency None) ts rest stops m =
     rw (worded_read keyword_of source keywords.Emergency ts m.a m.name, m.is, stops.equals) refl
 property_read source (properties.Emergency (Some w)) ts rest stops m =
-    rw (worded_read keyword_of source keywords.Emergency ts m.a m.name, after_read Equals m.a m.is.a m.is.equals, word_read source w m.is.a rest m.is.is) refl
+    rw (
+      worded_read keyword_of source keywords.Emergency ts m.a m.name,
+      after_read Equals m.a m.is.a m.is.equals,
+      word_read source w m.is.a rest m.is.is,
+    ) refl
 
-property_shorter : (source : List ℕ) (x : ContextProperty) (ts rest : List Token) → IsContextProperty source x ts rest → length rest < length ts
+property_shorter : (source : List ℕ) (x : ContextProperty) (ts rest : List Token) →
+    IsContextProperty source x ts rest → length rest < length ts
 property_shorter source (properties.Topology xs) ts rest m =
-    omega (arith, worded_shorter keyword_of source keywords.Topology ts m.a m.name, braced_shorter source (triple_at source) (IsTriple source) (triple_read source) (triple_shorter source) xs m.a rest m.is)
+    omega (
+      arith,
+      worded_shorter keyword_of source keywords.Topology ts m.a m.name,
+      braced_shorter source (triple_at source) (IsTriple source) (triple_read source) (triple_shorter source) xs m.a
+          rest m.is,
+    )
 property_shorter source (properties.ContextAudit xs) ts rest m =
-    omega (arith, worded_shorter keyword_of source keywords.ContextAudit ts m.a m.name, braced_shorter source (meaning_at context_word_of source) (IsWorded context_word_of source) (each_word_read context_word_of source) (each_word_shorter context_word_of source) xs m.a rest m.is)
-property_shorter source (properties.Priority w) ts rest m = omega (arith, worded_shorter keyword_of source keywords.Priority ts m.a m.name, mark_shorter Equals m.a m.is.a m.is.equals, span_shorter Word w m.is.a rest m.is.is)
-property_shorter source (properties.Emergency None) ts rest m = omega (arith, worded_shorter keyword_of source keywords.Emergency ts m.a m.name, ap length m.is)
-property_shorter source (properties.Emergency (Some w)) ts rest m = omega (arith, worded_shorter keyword_of source keywords.Emergency ts m.a m.name, mark_shorter Equals m.a m.is.a m.is.equals, span_shorter Word w m.is.a rest m.is.is)
+    omega (
+      arith,
+      worded_shorter keyword_of source keywords.ContextAudit ts m.a m.name,
+      braced_shorter source (meaning_at context_word_of source) (IsWorded context_word_of source)
+          (each_word_read context_word_of source) (each_word_shorter context_word_of source) xs m.a rest m.is,
+    )
+property_shorter source (properties.Priority w) ts rest m =
+    omega (
+      arith,
+      worded_shorter keyword_of source keywords.Priority ts m.a m.name,
+      mark_shorter Equals m.a m.is.a m.is.equals,
+      span_shorter Word w m.is.a rest m.is.is,
+    )
+property_shorter source (properties.Emergency None) ts rest m =
+    omega (arith, worded_shorter keyword_of source keywords.Emergency ts m.a m.name, ap length m.is)
+property_shorter source (properties.Emergency (Some w)) ts rest m =
+    omega (
+      arith,
+      worded_shorter keyword_of source keywords.Emergency ts m.a m.name,
+      mark_shorter Equals m.a m.is.a m.is.equals,
+      span_shorter Word w m.is.a rest m.is.is,
+    )
 
 -- a property begins with a word of its own, and a command doesn't
-begins_with : (source : List ℕ) (k : Keyword) (ts rest : List Token) → is_property (Some k) ≡ true → IsWorded keyword_of source k ts rest → begins_property source ts ≡ true
+begins_with : (source : List ℕ) (k : Keyword) (ts rest : List Token) → is_property (Some k) ≡ true →
+    IsWorded keyword_of source k ts rest → begins_property source ts ≡ true
 unfolding begins_property
 begins_with source k ts rest e m = rw (m.is.front, m.is.span_is, m.means) e
 
-property_begins : (source : List ℕ) (x : ContextProperty) (ts rest : List Token) → IsContextProperty source x ts rest → begins_property source ts ≡ true
+property_begins : (source : List ℕ) (x : ContextProperty) (ts rest : List Token) →
+    IsContextProperty source x ts rest → begins_property source ts ≡ true
 property_begins source (properties.Topology xs) ts rest m = begins_with source keywords.Topology ts m.a refl m.name
-property_begins source (properties.ContextAudit xs) ts rest m = begins_with source keywords.ContextAudit ts m.a refl m.name
+property_begins source (properties.ContextAudit xs) ts rest m =
+    begins_with source keywords.ContextAudit ts m.a refl m.name
 property_begins source (properties.Priority w) ts rest m = begins_with source keywords.Priority ts m.a refl m.name
 property_begins source (properties.Emergency o) ts rest m = begins_with source keywords.Emergency ts m.a refl m.name
 
-no_property : (text : List ℕ) (k : Option Keyword) (head : CommandHead) → command_for text k ≡ Some head → is_property k ≡ false
+no_property : (text : List ℕ) (k : Option Keyword) (head : CommandHead) → command_for text k ≡ Some head →
+    is_property k ≡ false
 no_property text (Some keywords.Topology) head e = absurd cc
 no_property text (Some keywords.ContextAudit) head e = absurd cc
 no_property text (Some keywords.Priority) head e = absurd cc
 no_property text (Some keywords.Emergency) head e = absurd cc
 no_property text _ head e = refl
 
-command_begins : (source : List ℕ) (head : CommandHead) (ts rest : List Token) → IsWorded command_of source head ts rest → begins_property source ts ≡ false
+command_begins : (source : List ℕ) (head : CommandHead) (ts rest : List Token) →
+    IsWorded command_of source head ts rest → begins_property source ts ≡ false
 unfolding begins_property command_of
-command_begins source head ts rest m = rw (m.is.front, m.is.span_is) (no_property (text_of source m.word) (keyword_of (text_of source m.word)) head m.means)
+command_begins source head ts rest m = rw (m.is.front, m.is.span_is)
+    (no_property (text_of source m.word) (keyword_of (text_of source m.word)) head m.means)
 
-commands_begin : (source : List ℕ) (xs : List Command) (ts rest : List Token) → IsListed (IsCommand source) xs ts rest → begins_property source ts ≡ false
+commands_begin : (source : List ℕ) (xs : List Command) (ts rest : List Token) →
+    IsListed (IsCommand source) xs ts rest → begins_property source ts ≡ false
 commands_begin source [] ts rest h = absurd h
 commands_begin source (x ∷ xs) ts rest h = command_begins source (head_of x) ts h.1.a h.1.head
 
 abbrev parts_of : List ContextProperty → List Command → ActionParts
 parts_of properties commands = record { properties = properties; commands = commands }
 
-parts_shorter : (source : List ℕ) (ps : List ContextProperty) (xs : List Command) (ts rest : List Token) → IsParts source ps xs ts rest → length ps + length rest ≤ length ts
-parts_shorter source [] xs ts rest m = omega (arith, items_shorter source (command_at source) (IsCommand source) (command_read source) (command_shorter source) xs ts rest m)
-parts_shorter source (p ∷ []) [] ts rest m = omega (arith, property_shorter source p ts m.0 m.1, mark_shorter Close m.0 rest m.2)
-parts_shorter source (p ∷ []) (x ∷ xs) ts rest m = omega (arith, property_shorter source p ts m.0 m.2, mark_shorter Comma m.0 m.1 m.3, parts_shorter source [] (x ∷ xs) m.1 rest m.4)
-parts_shorter source (p ∷ q ∷ qs) xs ts rest m = omega (arith, property_shorter source p ts m.0 m.2, mark_shorter Comma m.0 m.1 m.3, parts_shorter source (q ∷ qs) xs m.1 rest m.4)
+parts_shorter : (source : List ℕ) (ps : List ContextProperty) (xs : List Command) (ts rest : List Token) →
+    IsParts source ps xs ts rest → length ps + length rest ≤ length ts
+parts_shorter source [] xs ts rest m = omega (
+  arith,
+  items_shorter source (command_at source) (IsCommand source) (command_read source) (command_shorter source)
+      xs ts rest m,
+)
+parts_shorter source (p ∷ []) [] ts rest m =
+    omega (arith, property_shorter source p ts m.0 m.1, mark_shorter Close m.0 rest m.2)
+parts_shorter source (p ∷ []) (x ∷ xs) ts rest m =
+    omega (
+      arith,
+      property_shorter source p ts m.0 m.2,
+      mark_shorter Comma m.0 m.1 m.3,
+      parts_shorter source [] (x ∷ xs) m.1 rest m.4,
+    )
+parts_shorter source (p ∷ q ∷ qs) xs ts rest m =
+    omega (
+      arith,
+      property_shorter source p ts m.0 m.2,
+      mark_shorter Comma m.0 m.1 m.3,
+      parts_shorter source (q ∷ qs) xs m.1 rest m.4,
+    )
 
-parts_read : (source : List ℕ) (n : ℕ) (ps : List ContextProperty) (xs : List Command) (ts rest : List Token) → length ps < n → IsParts source ps xs ts rest → parts_at source n ts ≡ Ok (parts_of ps xs, rest)
+parts_read : (source : List ℕ) (n : ℕ) (ps : List ContextProperty) (xs : List Command) (ts rest : List Token) →
+    length ps < n → IsParts source ps xs ts rest → parts_at source n ts ≡ Ok (parts_of ps xs, rest)
 unfolding parts_at
 parts_read source zero ps xs ts rest lt m = absurd (omega arith)
 parts_read source (suc n) [] xs ts rest lt m =
-    rw (commands_begin source xs ts rest m, items_read source (command_at source) (IsCommand source) (command_read source) (command_shorter source) xs ts rest m) refl
+    rw (
+      commands_begin source xs ts rest m,
+      items_read source (command_at source) (IsCommand source)
+          (command_read source) (command_shorter source) xs ts rest m,
+    ) refl
 parts_read source (suc n) (p ∷ []) [] ts rest lt m =
-    rw (property_begins source p ts m.0 m.1, property_read source p ts m.0 (at_close m.0 rest m.2) m.1, after_other Close Comma m.0 rest refl m.2, mark_read source Close m.0 rest m.2) refl
+    rw (
+      property_begins source p ts m.0 m.1,
+      property_read source p ts m.0 (at_close m.0 rest m.2) m.1,
+      after_other Close Comma m.0 rest refl m.2,
+      mark_read source Close m.0 rest m.2,
+    ) refl
 parts_read source (suc n) (p ∷ []) (x ∷ xs) ts rest lt m =
-    rw (property_begins source p ts m.0 m.2, property_read source p ts m.0 (at_comma m.0 m.1 m.3) m.2, after_read Comma m.0 m.1 m.3, parts_read source n [] (x ∷ xs) m.1 rest (omega arith) m.4) refl
+    rw (
+      property_begins source p ts m.0 m.2,
+      property_read source p ts m.0 (at_comma m.0 m.1 m.3) m.2,
+      after_read Comma m.0 m.1 m.3,
+      parts_read source n [] (x ∷ xs) m.1 rest (omega arith) m.4,
+    ) refl
 parts_read source (suc n) (p ∷ q ∷ qs) xs ts rest lt m =
-    rw (property_begins source p ts m.0 m.2, property_read source p ts m.0 (at_comma m.0 m.1 m.3) m.2, after_read Comma m.0 m.1 m.3, parts_read source n (q ∷ qs) xs m.1 rest (omega arith) m.4) refl
+    rw (
+      property_begins source p ts m.0 m.2,
+      property_read source p ts m.0 (at_comma m.0 m.1 m.3) m.2,
+      after_read Comma m.0 m.1 m.3,
+      parts_read source n (q ∷ qs) xs m.1 rest (omega arith) m.4,
+    ) refl
 
 -- an action has a part, which has a token
-parts_some : (source : List ℕ) (ps : List ContextProperty) (xs : List Command) (ts rest : List Token) → IsParts source ps xs ts rest → length ps < length ts
+parts_some : (source : List ℕ) (ps : List ContextProperty) (xs : List Command) (ts rest : List Token) →
+    IsParts source ps xs ts rest → length ps < length ts
 parts_some source [] [] ts rest m = absurd m
 parts_some source [] (x ∷ xs) ts rest m = omega (arith, worded_shorter command_of source (head_of x) ts m.1.a m.1.head)
-parts_some source (p ∷ []) [] ts rest m = omega (arith, property_shorter source p ts m.0 m.1, mark_shorter Close m.0 rest m.2)
-parts_some source (p ∷ []) (x ∷ xs) ts rest m = omega (arith, property_shorter source p ts m.0 m.2, mark_shorter Comma m.0 m.1 m.3, parts_some source [] (x ∷ xs) m.1 rest m.4)
-parts_some source (p ∷ q ∷ qs) xs ts rest m = omega (arith, property_shorter source p ts m.0 m.2, mark_shorter Comma m.0 m.1 m.3, parts_some source (q ∷ qs) xs m.1 rest m.4)
+parts_some source (p ∷ []) [] ts rest m = omega
+    (arith, property_shorter source p ts m.0 m.1, mark_shorter Close m.0 rest m.2)
+parts_some source (p ∷ []) (x ∷ xs) ts rest m =
+    omega (
+      arith,
+      property_shorter source p ts m.0 m.2,
+      mark_shorter Comma m.0 m.1 m.3,
+      parts_some source [] (x ∷ xs) m.1 rest m.4,
+    )
+parts_some source (p ∷ q ∷ qs) xs ts rest m =
+    omega (
+      arith,
+      property_shorter source p ts m.0 m.2,
+      mark_shorter Comma m.0 m.1 m.3,
+      parts_some source (q ∷ qs) xs m.1 rest m.4,
+    )
 
-action_read : (source : List ℕ) (ts : List Token) (x : Action) (rest : List Token) → Stops rest → IsAction source x ts rest → action_at source ts ≡ Ok (x, rest)
+action_read : (source : List ℕ) (ts : List Token) (x : Action) (rest : List Token) → Stops rest →
+    IsAction source x ts rest → action_at source ts ≡ Ok (x, rest)
 unfolding action_at
 action_read source ts x rest stops m =
-    rw (named_read source keywords.Context ts m.a m.name, mark_read source Equals m.a m.b m.equals, worded_read context_id_of source x.context m.b m.d m.context, mark_read source Open m.d m.e m.«open», parts_read source (length m.e) x.properties x.commands m.e rest (parts_some source x.properties x.commands m.e rest m.parts) m.parts) refl
+    rw (
+      named_read source keywords.Context ts m.a m.name,
+      mark_read source Equals m.a m.b m.equals,
+      worded_read context_id_of source x.context m.b m.d m.context,
+      mark_read source Open m.d m.e m.«open»,
+      parts_read source (length m.e) x.properties x.commands m.e rest
+          (parts_some source x.properties x.commands m.e rest m.parts) m.parts,
+    ) refl
 
-action_shorter : (source : List ℕ) (ts : List Token) (x : Action) (rest : List Token) → IsAction source x ts rest → length rest ≤ length ts
+action_shorter : (source : List ℕ) (ts : List Token) (x : Action) (rest : List Token) → IsAction source x ts rest →
+    length rest ≤ length ts
 action_shorter source ts x rest m =
-    omega (arith, span_shorter Word m.name.word ts m.a m.name.is, mark_shorter Equals m.a m.b m.equals, worded_shorter context_id_of source x.context m.b m.d m.context, mark_shorter Open m.d m.e m.«open», parts_shorter source x.properties x.commands m.e rest m.parts)
+    omega (
+      arith,
+      span_shorter Word m.name.word ts m.a m.name.is,
+      mark_shorter Equals m.a m.b m.equals,
+      worded_shorter context_id_of source x.context m.b m.d m.context,
+      mark_shorter Open m.d m.e m.«open»,
+      parts_shorter source x.properties x.commands m.e rest m.parts,
+    )
 
-answer_read : (source : List ℕ) (ts rest : List Token) (m : IsAnswer source ts rest) → answer_at source m.a ≡ Ok (None, rest)
+answer_read : (source : List ℕ) (ts rest : List Token) (m : IsAnswer source ts rest) →
+    answer_at source m.a ≡ Ok (None, rest)
 unfolding answer_at
-answer_read source ts rest m = rw (mark_read source Equals m.a m.b m.equals, worded_read number_of source m.number m.b m.d m.number_is, group_read source m.d rest m.group) refl
+answer_read source ts rest m = rw (
+  mark_read source Equals m.a m.b m.equals,
+  worded_read number_of source m.number m.b m.d m.number_is,
+  group_read source m.d rest m.group,
+) refl
 
-item_read : (source : List ℕ) (x : Option MessageItem) (ts rest : List Token) → IsItem source x ts rest → item_at source ts ≡ Ok (x, rest)
+item_read : (source : List ℕ) (x : Option MessageItem) (ts rest : List Token) → IsItem source x ts rest →
+    item_at source ts ≡ Ok (x, rest)
 unfolding item_at request_at ranges_at
 item_read source (Some (items.Request x)) ts rest m =
-    rw (worded_read keyword_of source keywords.Transaction ts m.a m.name, mark_read source Equals m.a m.b m.equals, worded_read number_of source x.number m.b m.d m.number, braced_read source (action_at source) (IsAction source) (action_read source) (action_shorter source) x.actions m.d rest m.actions) refl
+    rw (
+      worded_read keyword_of source keywords.Transaction ts m.a m.name,
+      mark_read source Equals m.a m.b m.equals,
+      worded_read number_of source x.number m.b m.d m.number,
+      braced_read source (action_at source) (IsAction source) (action_read source) (action_shorter source) x.actions
+          m.d rest m.actions,
+    ) refl
 item_read source (Some (items.Acknowledgement xs)) ts rest m =
-    rw (worded_read keyword_of source keywords.TransactionResponseAck ts m.a m.name, braced_read source (meaning_at range_of source) (IsWorded range_of source) (each_word_read range_of source) (each_word_shorter range_of source) xs m.a rest m.is) refl
+    rw (
+      worded_read keyword_of source keywords.TransactionResponseAck ts m.a m.name,
+      braced_read source (meaning_at range_of source) (IsWorded range_of source) (each_word_read range_of source)
+          (each_word_shorter range_of source) xs m.a rest m.is,
+    ) refl
 item_read source None ts rest m = elim m.name [
   | inl name ↦ rw (worded_read keyword_of source keywords.Reply ts m.a name) (answer_read source ts rest m)
   | inr name ↦ rw (worded_read keyword_of source keywords.Pending ts m.a name) (answer_read source ts rest m)
 ]
 
-name_shorter : (source : List ℕ) (ts a : List Token) → IsWorded keyword_of source keywords.Reply ts a ⊎ IsWorded keyword_of source keywords.Pending ts a → length a < length ts
+name_shorter : (source : List ℕ) (ts a : List Token) →
+    IsWorded keyword_of source keywords.Reply ts a ⊎ IsWorded keyword_of source keywords.Pending ts a →
+    length a < length ts
 name_shorter source ts a (inl name) = worded_shorter keyword_of source keywords.Reply ts a name
 name_shorter source ts a (inr name) = worded_shorter keyword_of source keywords.Pending ts a name
 
-item_shorter : (source : List ℕ) (x : Option MessageItem) (ts rest : List Token) → IsItem source x ts rest → length rest < length ts
+item_shorter : (source : List ℕ) (x : Option MessageItem) (ts rest : List Token) → IsItem source x ts rest →
+    length rest < length ts
 item_shorter source (Some (items.Request x)) ts rest m =
-    omega (arith, worded_shorter keyword_of source keywords.Transaction ts m.a m.name, mark_shorter Equals m.a m.b m.equals, worded_shorter number_of source x.number m.b m.d m.number, braced_shorter source (action_at source) (IsAction source) (action_read source) (action_shorter source) x.actions m.d rest m.actions)
+    omega (
+      arith,
+      worded_shorter keyword_of source keywords.Transaction ts m.a m.name,
+      mark_shorter Equals m.a m.b m.equals,
+      worded_shorter number_of source x.number m.b m.d m.number,
+      braced_shorter source (action_at source) (IsAction source) (action_read source) (action_shorter source)
+          x.actions m.d rest m.actions,
+    )
 item_shorter source (Some (items.Acknowledgement xs)) ts rest m =
-    omega (arith, worded_shorter keyword_of source keywords.TransactionResponseAck ts m.a m.name, braced_shorter source (meaning_at range_of source) (IsWorded range_of source) (each_word_read range_of source) (each_word_shorter range_of source) xs m.a rest m.is)
+    omega (
+      arith,
+      worded_shorter keyword_of source keywords.TransactionResponseAck ts m.a m.name,
+      braced_shorter source (meaning_at range_of source) (IsWorded range_of source) (each_word_read range_of source)
+          (each_word_shorter range_of source) xs m.a rest m.is,
+    )
 item_shorter source None ts rest m =
-    omega (arith, name_shorter source ts m.a m.name, mark_shorter Equals m.a m.b m.equals, worded_shorter number_of source m.number m.b m.d m.number_is, group_shorter m.d rest m.group)
+    omega (
+      arith,
+      name_shorter source ts m.a m.name,
+      mark_shorter Equals m.a m.b m.equals,
+      worded_shorter number_of source m.number m.b m.d m.number_is,
+      group_shorter m.d rest m.group,
+    )
 
-sequence_shorter : (source : List ℕ) (xs : List (Option MessageItem)) (ts : List Token) → IsSequence source xs ts → length xs ≤ length ts
+sequence_shorter : (source : List ℕ) (xs : List (Option MessageItem)) (ts : List Token) → IsSequence source xs ts →
+    length xs ≤ length ts
 sequence_shorter source [] ts h = absurd h
 sequence_shorter source (x ∷ []) ts h = omega (arith, item_shorter source x ts [] h)
-sequence_shorter source (x ∷ y ∷ xs) ts h = omega (arith, item_shorter source x ts h.0 h.1, sequence_shorter source (y ∷ xs) h.0 h.2)
+sequence_shorter source (x ∷ y ∷ xs) ts h =
+    omega (arith, item_shorter source x ts h.0 h.1, sequence_shorter source (y ∷ xs) h.0 h.2)
 
-sequence_some : (source : List ℕ) (xs : List (Option MessageItem)) (ts : List Token) → IsSequence source xs ts → eqb (length ts) 0 ≡ false
+sequence_some : (source : List ℕ) (xs : List (Option MessageItem)) (ts : List Token) → IsSequence source xs ts →
+    eqb (length ts) 0 ≡ false
 sequence_some source [] ts h = absurd h
-sequence_some source (x ∷ xs) ts h = let some = sequence_shorter source (x ∷ xs) ts h in ne_eqb (length ts) 0 (λ e. absurd (omega arith))
+sequence_some source (x ∷ xs) ts h = let some = sequence_shorter source (x ∷ xs) ts h in
+    ne_eqb (length ts) 0 (λ e. absurd (omega arith))
 
-sequence_read : (source : List ℕ) (n : ℕ) (xs : List (Option MessageItem)) (ts : List Token) → length xs ≤ n → IsSequence source xs ts → sequence_at source n ts ≡ Ok (kept xs)
+sequence_read : (source : List ℕ) (n : ℕ) (xs : List (Option MessageItem)) (ts : List Token) → length xs ≤ n →
+    IsSequence source xs ts → sequence_at source n ts ≡ Ok (kept xs)
 unfolding sequence_at
 sequence_read source n [] ts le h = absurd h
 sequence_read source zero (x ∷ xs) ts le h = absurd (omega arith)
 sequence_read source (suc n) (x ∷ []) ts le h = rw (item_read source x ts [] h) refl
-sequence_read source (suc n) (x ∷ y ∷ xs) ts le h = rw (item_read source x ts h.0 h.1, sequence_some source (y ∷ xs) h.0 h.2, sequence_read source n (y ∷ xs) h.0 (omega arith) h.2) refl
+sequence_read source (suc n) (x ∷ y ∷ xs) ts le h =
+    rw (
+      item_read source x ts h.0 h.1,
+      sequence_some source (y ∷ xs) h.0 h.2,
+      sequence_read source n (y ∷ xs) h.0 (omega arith) h.2,
+    ) refl
 
 abbrev items_body : List ℕ → List Token → Result Body ℕ
 items_body source ts = sequence_at source (length ts) ts >>= λ xs. Ok (body_of xs)
 
 -- items begin with words of their own, and an error doesn't
-item_first : (source : List ℕ) (x : Option MessageItem) (ts rest : List Token) → IsItem source x ts rest → body_at source ts ≡ items_body source ts
+item_first : (source : List ℕ) (x : Option MessageItem) (ts rest : List Token) → IsItem source x ts rest →
+    body_at source ts ≡ items_body source ts
 unfolding body_at
-item_first source (Some (items.Request x)) ts rest m = rw (worded_read keyword_of source keywords.Transaction ts m.a m.name) refl
-item_first source (Some (items.Acknowledgement xs)) ts rest m = rw (worded_read keyword_of source keywords.TransactionResponseAck ts m.a m.name) refl
-item_first source None ts rest m = elim m.name [ inl name ↦ rw (worded_read keyword_of source keywords.Reply ts m.a name) refl | inr name ↦ rw (worded_read keyword_of source keywords.Pending ts m.a name) refl ]
+item_first source (Some (items.Request x)) ts rest m =
+    rw (worded_read keyword_of source keywords.Transaction ts m.a m.name) refl
+item_first source (Some (items.Acknowledgement xs)) ts rest m =
+    rw (worded_read keyword_of source keywords.TransactionResponseAck ts m.a m.name) refl
+item_first source None ts rest m = elim m.name [
+  | inl name ↦ rw (worded_read keyword_of source keywords.Reply ts m.a name) refl
+  | inr name ↦ rw (worded_read keyword_of source keywords.Pending ts m.a name) refl
+]
 
-sequence_first : (source : List ℕ) (xs : List (Option MessageItem)) (ts : List Token) → IsSequence source xs ts → body_at source ts ≡ items_body source ts
+sequence_first : (source : List ℕ) (xs : List (Option MessageItem)) (ts : List Token) → IsSequence source xs ts →
+    body_at source ts ≡ items_body source ts
 sequence_first source [] ts h = absurd h
 sequence_first source (x ∷ []) ts h = item_first source x ts [] h
 sequence_first source (x ∷ y ∷ xs) ts h = item_first source x ts h.0 h.1
 
 items_body_read : (source : List ℕ) (x : Body) (ts : List Token) (m : IsItems source x ts) → items_body source ts ≡ Ok x
-items_body_read source x ts m = rw (sequence_read source (length ts) m.items ts (sequence_shorter source m.items ts m.are) m.are) (ap (λ (b : Body). Ok b) (sym m.body))
+items_body_read source x ts m = rw (sequence_read source (length ts) m.items ts
+    (sequence_shorter source m.items ts m.are) m.are) (ap (λ (b : Body). Ok b) (sym m.body))
 
 body_read : (source : List ℕ) (x : Body) (ts : List Token) → IsBody source x ts → body_at source ts ≡ Ok x
 unfolding body_at error_at
 body_read source x ts (inl m) =
-    rw (worded_read keyword_of source keywords.Error ts m.a m.name, mark_read source Equals m.a m.b m.equals, word_read source m.word m.b m.d m.word_is, group_read source m.d [] m.group) (ap (λ (b : Body). Ok b) (sym m.body))
+    rw (
+      worded_read keyword_of source keywords.Error ts m.a m.name,
+      mark_read source Equals m.a m.b m.equals,
+      word_read source m.word m.b m.d m.word_is,
+      group_read source m.d [] m.group,
+    )
+    (ap (λ (b : Body). Ok b) (sym m.body))
 body_read source x ts (inr m) = sequence_first source m.items ts m.are ∙ items_body_read source x ts m
 
-sender_read : (source : List ℕ) (s : Span) (ts rest : List Token) → IsSender source s ts rest → sender_at source ts ≡ Ok (s, rest)
+sender_read : (source : List ℕ) (s : Span) (ts rest : List Token) → IsSender source s ts rest →
+    sender_at source ts ≡ Ok (s, rest)
 unfolding sender_at
 sender_read source s ts rest m = rw (word_read source s ts rest m.is, m.named) refl
 
 -- the head of a message, and the text after it
-pub head_read : (source : List ℕ) (n : ℕ) (ts rest : List Token) → IsWorded version_in_head source n ts rest → version_at source ts ≡ Ok (n, rest)
+pub head_read : (source : List ℕ) (n : ℕ) (ts rest : List Token) → IsWorded version_in_head source n ts rest →
+    version_at source ts ≡ Ok (n, rest)
 head_read source n ts rest m = worded_read version_in_head source n ts rest m
 
 pub text_read : (source : List ℕ) (m : Message) (ts : List Token) (is : IsText source m ts) → text_at source is.a ≡ Ok m
 unfolding text_at
-text_read source m ts is = rw (sender_read source m.sender is.a is.b is.sender, body_read source m.body is.b is.body) refl
+text_read source m ts is = rw (sender_read source m.sender is.a is.b is.sender, body_read source m.body is.b is.body)
+    refl

@@ -41,13 +41,18 @@ left-none most n e =
       | inr t ↦ t.1
     ]
 
-pub action_next : (xs : List Action) (i left : ℕ) (d : Action) → i < length xs → length (get_or xs i d).commands ≤ left → left_after (left - length (get_or xs i d).commands) (action_commands (drop (i + 1) xs)) ≡ left_after left (action_commands (drop i xs))
-action_next xs i left d lt le = rw (drop_more xs i d lt) (less left (length (get_or xs i d).commands) (action_commands (drop (i + 1) xs)) le)
+pub action_next : (xs : List Action) (i left : ℕ) (d : Action) → i < length xs →
+    length (get_or xs i d).commands ≤ left → left_after (left - length (get_or xs i d).commands)
+    (action_commands (drop (i + 1) xs)) ≡ left_after left (action_commands (drop i xs))
+action_next xs i left d lt le = rw (drop_more xs i d lt)
+    (less left (length (get_or xs i d).commands) (action_commands (drop (i + 1) xs)) le)
 
-pub action_over : (xs : List Action) (i left : ℕ) (d : Action) → i < length xs → left < length (get_or xs i d).commands → left_after left (action_commands (drop i xs)) ≡ None
+pub action_over : (xs : List Action) (i left : ℕ) (d : Action) → i < length xs →
+    left < length (get_or xs i d).commands → left_after left (action_commands (drop i xs)) ≡ None
 action_over xs i left d lt over = rw (drop_more xs i d lt) (above left _ (omega arith))
 
-pub action_end : (xs : List Action) (i left : ℕ) → length xs ≤ i → left_after left (action_commands (drop i xs)) ≡ Some left
+pub action_end : (xs : List Action) (i left : ℕ) → length xs ≤ i →
+    left_after left (action_commands (drop i xs)) ≡ Some left
 action_end xs i left le =
     let all : left - 0 ≡ left = omega arith in
     rw (drop_all i xs le) (fits left 0 (omega arith) ∙ ap (λ (n : ℕ). Some n) all)
@@ -58,34 +63,61 @@ same_leb : (a b c d : ℕ) → (a ≤ b → c ≤ d) → (c ≤ d → a ≤ b) �
 same_leb a b c d to from =
     elim (leb_tells a b) [
       | inl t ↦ t.0 ∙ sym (le-leb c d (to t.1))
-      | inr t ↦ elim (leb_tells c d) [ inl u ↦ absurd (let le = from u.1 in omega (arith, t.1, le)) | inr u ↦ t.0 ∙ sym u.0 ]
+      | inr t ↦ elim (leb_tells c d) [
+        | inl u ↦ absurd (let le = from u.1 in omega (arith, t.1, le))
+        | inr u ↦ t.0 ∙
+            sym u.0
+      ]
     ]
 
 and_none : (x : Bool) → (x && false) ≡ false
 and_none true = refl
 and_none false = refl
 
-pub item_other : (xs : List MessageItem) (i requests commands : ℕ) (d : MessageItem) (ranges : List Range) → i < length xs → get_or xs i d ≡ items.Acknowledgement ranges → is_within requests commands (drop (i + 1) xs) ≡ is_within requests commands (drop i xs)
+pub item_other : (xs : List MessageItem) (i requests commands : ℕ) (d : MessageItem) (ranges : List Range) →
+    i < length xs → get_or xs i d ≡ items.Acknowledgement ranges →
+    is_within requests commands (drop (i + 1) xs) ≡ is_within requests commands (drop i xs)
 item_other xs i requests commands d ranges lt is = rw (drop_more xs i d lt, is) refl
 
-pub item_none : (xs : List MessageItem) (i commands : ℕ) (d : MessageItem) (x : Request) → i < length xs → get_or xs i d ≡ items.Request x → is_within 0 commands (drop i xs) ≡ false
-item_none xs i commands d x lt is = rw (drop_more xs i d lt, is, lt-leb (1 + requests_in (drop (i + 1) xs)) 0 (omega arith)) refl
+pub item_none : (xs : List MessageItem) (i commands : ℕ) (d : MessageItem) (x : Request) → i < length xs →
+    get_or xs i d ≡ items.Request x → is_within 0 commands (drop i xs) ≡ false
+item_none xs i commands d x lt is = rw (
+  drop_more xs i d lt,
+  is,
+  lt-leb (1 + requests_in (drop (i + 1) xs)) 0 (omega arith),
+) refl
 
-pub item_over : (xs : List MessageItem) (i requests commands : ℕ) (d : MessageItem) (x : Request) → i < length xs → get_or xs i d ≡ items.Request x → left_after commands (action_commands x.actions) ≡ None → is_within requests commands (drop i xs) ≡ false
+pub item_over : (xs : List MessageItem) (i requests commands : ℕ) (d : MessageItem) (x : Request) → i < length xs →
+    get_or xs i d ≡ items.Request x → left_after commands (action_commands x.actions) ≡ None →
+    is_within requests commands (drop i xs) ≡ false
 item_over xs i requests commands d x lt is none =
     let over = left-none commands (action_commands x.actions) none in
-    rw (drop_more xs i d lt, is, lt-leb (action_commands x.actions + commands_in (drop (i + 1) xs)) commands (omega (arith, over))) (and_none _)
+    rw (
+      drop_more xs i d lt,
+      is,
+      lt-leb (action_commands x.actions + commands_in (drop (i + 1) xs)) commands
+          (omega (arith, over)),
+    ) (and_none _)
 
-pub item_next : (xs : List MessageItem) (i requests commands left : ℕ) (d : MessageItem) (x : Request) → i < length xs → get_or xs i d ≡ items.Request x → 0 < requests → left_after commands (action_commands x.actions) ≡ Some left → is_within (requests - 1) left (drop (i + 1) xs) ≡ is_within requests commands (drop i xs)
+pub item_next : (xs : List MessageItem) (i requests commands left : ℕ) (d : MessageItem) (x : Request) →
+    i < length xs → get_or xs i d ≡ items.Request x → 0 < requests →
+    left_after commands (action_commands x.actions) ≡ Some left →
+    is_within (requests - 1) left (drop (i + 1) xs) ≡ is_within requests commands (drop i xs)
 item_next xs i requests commands left d x lt is some e =
     let room = left-some commands (action_commands x.actions) left e in
     let n = requests_in (drop (i + 1) xs) in
     let m = commands_in (drop (i + 1) xs) in
     let one = same_leb n (requests - 1) (1 + n) requests (λ h. omega arith) (λ h. omega arith) in
-    let two = same_leb m left (action_commands x.actions + m) commands (λ h. omega (arith, room.0, room.1)) (λ h. omega (arith, room.0, room.1)) in
+    let two = same_leb m left (action_commands x.actions + m) commands (λ h. omega (arith, room.0, room.1))
+    (λ h. omega (arith, room.0, room.1)) in
     rw (drop_more xs i d lt, is, one, two) refl
 
-pub item_end : (xs : List MessageItem) (i requests commands : ℕ) → length xs ≤ i → is_within requests commands (drop i xs) ≡ true
-item_end xs i requests commands le = rw (drop_all i xs le, le-leb 0 requests (omega arith), le-leb 0 commands (omega arith)) refl
+pub item_end : (xs : List MessageItem) (i requests commands : ℕ) → length xs ≤ i →
+    is_within requests commands (drop i xs) ≡ true
+item_end xs i requests commands le = rw (
+  drop_all i xs le,
+  le-leb 0 requests (omega arith),
+  le-leb 0 commands (omega arith),
+) refl
 
 pub ruleset item_steps = (item_other, item_none, item_over, item_next, item_end)

@@ -11,26 +11,36 @@ use Rattle.mg_text.specs.aids.Reading.{Fails, after_mark, mark_at, list_at, plac
 abbrev pub with_front : {X : Type 0} → List X → Result (List X × List Token) ℕ → Result (List X × List Token) ℕ
 with_front front read = read >>= λ x. Ok (front ++ x.0, x.1)
 
-regroup : {X : Type 0} (front : List X) (x : X) (read : Result (List X × List Token) ℕ) → with_front front (read >>= λ xs. Ok (x ∷ xs.0, xs.1)) ≡ with_front (front ++ x ∷ []) read
+regroup : {X : Type 0} (front : List X) (x : X) (read : Result (List X × List Token) ℕ) →
+    with_front front (read >>= λ xs. Ok (x ∷ xs.0, xs.1)) ≡ with_front (front ++ x ∷ []) read
 regroup {X} front x (Ok xs) = ap (λ (all : List X). Ok (all, xs.1)) (simp append_assoc)
 regroup front x (Err e) = refl
 
-module _ {X : Type 0} (source : List ℕ) (read : List Token → Result (X × List Token) ℕ) (front : List X) (count i : ℕ) (ts : List Token) (total : Result (List X × List Token) ℕ) (so_far : with_front front (list_at source read (count - i) ts) ≡ total) where
-  pub goes_on : (x : X) (after next : List Token) → i < count → read ts ≡ Ok (x, after) → after_mark Comma after ≡ Some next → with_front (front ++ x ∷ []) (list_at source read (count - (i + 1)) next) ≡ total
+module _ {X : Type 0} (source : List ℕ) (read : List Token → Result (X × List Token) ℕ) (front : List X) (count i : ℕ)
+    (ts : List Token) (total : Result (List X × List Token) ℕ)
+    (so_far : with_front front (list_at source read (count - i) ts) ≡ total) where
+  pub goes_on : (x : X) (after next : List Token) → i < count → read ts ≡ Ok (x, after) →
+      after_mark Comma after ≡ Some next → with_front (front ++ x ∷ []) (list_at source read (count - (i + 1)) next) ≡
+      total
   unfolding list_at
   goes_on x after next lt h comma =
       let k : count - i ≡ suc (count - (i + 1)) = omega arith in
-      let one : with_front front (list_at source read (count - i) ts) ≡ with_front (front ++ x ∷ []) (list_at source read (count - (i + 1)) next) = rw (k, h, comma) (regroup front x (list_at source read (count - (i + 1)) next)) in
+      let one : with_front front (list_at source read (count - i) ts) ≡
+      with_front (front ++ x ∷ []) (list_at source read (count - (i + 1)) next) =
+      rw (k, h, comma) (regroup front x (list_at source read (count - (i + 1)) next)) in
       sym one ∙ so_far
 
-  pub is_done : (x : X) (after rest : List Token) → i < count → read ts ≡ Ok (x, after) → after_mark Comma after ≡ None → mark_at source Close after ≡ Ok rest → total ≡ Ok (front ++ x ∷ [], rest)
+  pub is_done : (x : X) (after rest : List Token) → i < count → read ts ≡ Ok (x, after) →
+      after_mark Comma after ≡ None → mark_at source Close after ≡ Ok rest → total ≡ Ok (front ++ x ∷ [], rest)
   unfolding list_at
   is_done x after rest lt h no_comma close =
       let k : count - i ≡ suc (count - (i + 1)) = omega arith in
-      let one : with_front front (list_at source read (count - i) ts) ≡ Ok (front ++ x ∷ [], rest) = rw (k, h, no_comma, close) refl in
+      let one : with_front front (list_at source read (count - i) ts) ≡ Ok (front ++ x ∷ [], rest) =
+      rw (k, h, no_comma, close) refl in
       sym so_far ∙ one
 
-  pub is_open : (x : X) (after : List Token) (e : ReadFault) → i < count → read ts ≡ Ok (x, after) → after_mark Comma after ≡ None → Fails e (mark_at source Close after) → Fails e total
+  pub is_open : (x : X) (after : List Token) (e : ReadFault) → i < count → read ts ≡ Ok (x, after) →
+      after_mark Comma after ≡ None → Fails e (mark_at source Close after) → Fails e total
   unfolding list_at
   is_open x after NoMemory lt h no_comma close = tt
   is_open x after (Version n) lt h no_comma close = absurd close

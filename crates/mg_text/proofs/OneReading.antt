@@ -32,9 +32,11 @@ tree_or_version source m n h k =
 one_version : (source : List ℕ) (n k : ℕ) → HasOtherVersion source n → HasOtherVersion source k → n ≡ k
 one_version source n k h g =
     let same = one_scan source h.tokens g.tokens h.fault g.fault h.are g.are in
-    version_is n k h.rest g.rest (sym (head_read source n h.tokens h.rest h.head) ∙ ap (version_at source) same.0 ∙ head_read source k g.tokens g.rest g.head)
+    version_is n k h.rest g.rest (sym (head_read source n h.tokens h.rest h.head) ∙ ap (version_at source) same.0 ∙
+    head_read source k g.tokens g.rest g.head)
 
-within_or_too_much : (m : Message) → requests_in (items_of m.body) ≤ 4 → commands_in (items_of m.body) ≤ 64 → AsksTooMuch m → ⊥
+within_or_too_much : (m : Message) → requests_in (items_of m.body) ≤ 4 → commands_in (items_of m.body) ≤ 64 →
+    AsksTooMuch m → ⊥
 within_or_too_much m few little (inl many) = omega (arith, few, many)
 within_or_too_much m few little (inr much) = omega (arith, little, much)
 
@@ -83,13 +85,16 @@ no_text place = Err place
 abbrev fault_in : ScanFault → Option ScanFault
 fault_in f = Some f
 
-module _ (source : List ℕ) (ts : List Token) (f : Option ScanFault) (short : length source ≤ 8192) (are : AreTokens source ts f) where
+module _ (source : List ℕ) (ts : List Token) (f : Option ScanFault) (short : length source ≤ 8192)
+    (are : AreTokens source ts f) where
   -- a tree's tokens are these, and its head is read from them
   tree_head : (m : Message) (h : IsTree source m) → version_at source ts ≡ headed 1 h.is.a
-  tree_head m h = ap (version_at source) (one_scan source ts h.tokens f None are h.are).0 ∙ head_read source 1 h.tokens h.is.a h.is.head
+  tree_head m h = ap (version_at source) (one_scan source ts h.tokens f None are h.are).0 ∙
+      head_read source 1 h.tokens h.is.a h.is.head
 
   other_head : (n : ℕ) (h : HasOtherVersion source n) → version_at source ts ≡ headed n h.rest
-  other_head n h = ap (version_at source) (one_scan source ts h.tokens f h.fault are h.are).0 ∙ head_read source n h.tokens h.rest h.head
+  other_head n h = ap (version_at source) (one_scan source ts h.tokens f h.fault are h.are).0 ∙
+      head_read source n h.tokens h.rest h.head
 
   never_read : (place n : ℕ) (rest : List Token) → failed_at place ≡ headed n rest → ⊥
   never_read place n rest e = cc e
@@ -133,19 +138,23 @@ module _ (source : List ℕ) (ts : List Token) (f : Option ScanFault) (short : l
     none : fault_in g ≡ None → ⊥
     none e = cc e
 
-  no_tree_after : (rest : List Token) (place : ℕ) → version_at source ts ≡ headed 1 rest → text_at source rest ≡ no_text place → (m : Message) → IsTree source m → ⊥
+  no_tree_after : (rest : List Token) (place : ℕ) → version_at source ts ≡ headed 1 rest →
+      text_at source rest ≡ no_text place → (m : Message) → IsTree source m → ⊥
   no_tree_after rest place head none m h =
       let same = one_scan source ts h.tokens f None are h.are in
-      let rests : h.is.a ≡ rest = ap (λ (p : ℕ × List Token). p.1) (ok_is (1, h.is.a) (1, rest) (sym (tree_head m h) ∙ head)) in
+      let rests : h.is.a ≡ rest = ap (λ (p : ℕ × List Token). p.1)
+      (ok_is (1, h.is.a) (1, rest) (sym (tree_head m h) ∙ head)) in
       neither (sym (text_read source m h.tokens h.is) ∙ ap (text_at source) rests ∙ none) where
         neither : told m ≡ no_text place → ⊥
         neither e = cc e
 
   served : (m : Message) (b : Bool) → is_within 4 64 (items_of m.body) ≡ b → IsTree source m → Readable source
-  served m true is tree = let counts = served_counts (items_of m.body) is in (Read m, record { tree = tree; requests = counts.0; commands = counts.1 })
+  served m true is tree = let counts = served_counts (items_of m.body) is in
+      (Read m, record { tree = tree; requests = counts.0; commands = counts.1 })
   served m false is tree = (TooMany, inr (m, tree, refused_counts (items_of m.body) is))
 
-  after_head : (rest : List Token) (text : Result Message ℕ) → f ≡ None → version_at source ts ≡ headed 1 rest → text_at source rest ≡ text → Readable source
+  after_head : (rest : List Token) (text : Result Message ℕ) → f ≡ None → version_at source ts ≡ headed 1 rest →
+      text_at source rest ≡ text → Readable source
   after_head rest (Ok m) clean head is =
       let tree : IsTree source m = record {
         short = short;
@@ -163,11 +172,13 @@ module _ (source : List ℕ) (ts : List Token) (f : Option ScanFault) (short : l
     },
   )
 
-  versioned : (g : Option ScanFault) (rest : List Token) → f ≡ g → version_at source ts ≡ headed 1 rest → Readable source
+  versioned : (g : Option ScanFault) (rest : List Token) → f ≡ g → version_at source ts ≡ headed 1 rest →
+      Readable source
   versioned None rest is head = after_head rest (text_at source rest) is head refl
   versioned (Some g) rest is head = faulty g rest is head
 
-  by_head : (n : ℕ) (rest : List Token) (b : Bool) → eqb n 1 ≡ b → version_at source ts ≡ headed n rest → Readable source
+  by_head : (n : ℕ) (rest : List Token) (b : Bool) → eqb n 1 ≡ b → version_at source ts ≡ headed n rest →
+      Readable source
   by_head n rest true is head = versioned f rest refl (head ∙ ap (λ (x : ℕ). headed x rest) (eqb-true n 1 is))
   by_head n rest false is head = other_version n rest head is
 

@@ -12,14 +12,17 @@ use Rattle.mg_words.specs.Address.{address_of}
 use Rattle.mg_text.specs.Sender.{is_sender, is_domain, is_port_part, is_address_parts, is_domain_parts, is_address_host, is_domain_host}
 
 -- a text is as long as its two parts and the byte between them
-parts_join : (text : List ℕ) (n : ℕ) (parts : List ℕ × List ℕ) → parts_at text n ≡ Some parts → length text ≡ length parts.0 + length parts.1 + 1
+parts_join : (text : List ℕ) (n : ℕ) (parts : List ℕ × List ℕ) → parts_at text n ≡ Some parts →
+    length text ≡ length parts.0 + length parts.1 + 1
 parts_join text n parts e = grind (arith, nat_tests, length-take {A = ℕ}, length-drop {A = ℕ})
 
-cut_joins : (byte : ℕ) (text : List ℕ) (parts : List ℕ × List ℕ) → cut byte text ≡ Some parts → length text ≡ length parts.0 + length parts.1 + 1
+cut_joins : (byte : ℕ) (text : List ℕ) (parts : List ℕ × List ℕ) → cut byte text ≡ Some parts →
+    length text ≡ length parts.0 + length parts.1 + 1
 cut_joins byte text parts e = parts_join text (position_or_len (λ b. eqb b byte) text) parts e
 
 -- steps that give a value give one at the first of them, and after it
-first_step : {A B : Type 0} (o : Option A) (f : A → Option B) → is_some (o >>= f) ≡ true → (x : A) × (o ≡ Some x) × (is_some o ≡ true) × (is_some (f x) ≡ true)
+first_step : {A B : Type 0} (o : Option A) (f : A → Option B) → is_some (o >>= f) ≡ true → (x : A) × (o ≡ Some x) ×
+    (is_some o ≡ true) × (is_some (f x) ≡ true)
 first_step None f h = absurd (false≢true h)
 first_step (Some x) f h = (x, refl, refl, h)
 
@@ -65,7 +68,8 @@ port_short [] h = omega arith
 port_short (b ∷ port) h = omega (arith, decimal_short 5 65535 port (if_both (eqb b 58) _ h))
 
 -- two parts, of which each is short, with a mark between them
-address_parts_short : (rest : List ℕ) (parts : Option (List ℕ × List ℕ)) → cut 93 rest ≡ parts → is_address_parts parts ≡ true → length rest ≤ 22
+address_parts_short : (rest : List ℕ) (parts : Option (List ℕ × List ℕ)) → cut 93 rest ≡ parts →
+    is_address_parts parts ≡ true → length rest ≤ 22
 address_parts_short rest None e h = absurd (false≢true h)
 address_parts_short rest (Some parts) e h =
     let two = both (is_some (address_of parts.0)) (is_port_part parts.1) h in
@@ -74,7 +78,8 @@ address_parts_short rest (Some parts) e h =
 domain_short : (text : List ℕ) → is_domain text ≡ true → length text ≤ 64
 domain_short text h = grind (arith, nat_tests)
 
-domain_parts_short : (rest : List ℕ) (parts : Option (List ℕ × List ℕ)) → cut 62 rest ≡ parts → is_domain_parts parts ≡ true → length rest ≤ 71
+domain_parts_short : (rest : List ℕ) (parts : Option (List ℕ × List ℕ)) → cut 62 rest ≡ parts →
+    is_domain_parts parts ≡ true → length rest ≤ 71
 domain_parts_short rest None e h = absurd (false≢true h)
 domain_parts_short rest (Some parts) e h =
     let two = both (is_domain parts.0) (is_port_part parts.1) h in
@@ -95,7 +100,8 @@ pub sender_short : (text : List ℕ) → is_sender text ≡ true → length text
 sender_short [] h = omega arith
 sender_short (b ∷ rest) h =
     let short : length rest + 1 ≤ 72 =
-    kind_short (length rest) (eqb b 91) (eqb b 60) (is_address_host rest) (is_domain_host rest) (leb (length (b ∷ rest)) 64)
+    kind_short (length rest) (eqb b 91) (eqb b 60) (is_address_host rest) (is_domain_host rest)
+    (leb (length (b ∷ rest)) 64)
     (λ a. address_parts_short rest (cut 93 rest) refl a) (λ d. domain_parts_short rest (cut 62 rest) refl d)
     (λ d. device_short (length rest) (rw add-one d)) h in
     omega (arith, short)

@@ -19,27 +19,36 @@ abbrev pub kept_after : List MessageItem → Option MessageItem → List Message
 kept_after front None = front
 kept_after front (Some x) = front ++ x ∷ []
 
-joined : (front : List MessageItem) (x : Option MessageItem) (xs : List MessageItem) → front ++ kept_before x xs ≡ kept_after front x ++ xs
+joined : (front : List MessageItem) (x : Option MessageItem) (xs : List MessageItem) →
+    front ++ kept_before x xs ≡ kept_after front x ++ xs
 joined front None xs = refl
 joined front (Some x) xs = simp append_assoc
 
-regroup : (front : List MessageItem) (x : Option MessageItem) (read : Result (List MessageItem) ℕ) → with_front front (read >>= λ xs. Ok (kept_before x xs)) ≡ with_front (kept_after front x) read
+regroup : (front : List MessageItem) (x : Option MessageItem) (read : Result (List MessageItem) ℕ) →
+    with_front front (read >>= λ xs. Ok (kept_before x xs)) ≡ with_front (kept_after front x) read
 regroup front x (Ok xs) = ap (λ (all : List MessageItem). Ok all) (joined front x xs)
 regroup front x (Err e) = refl
 
-module _ (source : List ℕ) (front : List MessageItem) (count i : ℕ) (ts : List Token) (total : Result (List MessageItem) ℕ) (so_far : with_front front (sequence_at source (count - i) ts) ≡ total) where
-  pub goes_on : (x : Option MessageItem) (after : List Token) → i < count → item_at source ts ≡ Ok (x, after) → eqb (length after) 0 ≡ false → with_front (kept_after front x) (sequence_at source (count - (i + 1)) after) ≡ total
+module _ (source : List ℕ) (front : List MessageItem) (count i : ℕ) (ts : List Token)
+    (total : Result (List MessageItem) ℕ) (so_far : with_front front (sequence_at source (count - i) ts) ≡ total) where
+  pub goes_on : (x : Option MessageItem) (after : List Token) → i < count → item_at source ts ≡ Ok (x, after) →
+      eqb (length after) 0 ≡ false → with_front (kept_after front x) (sequence_at source (count - (i + 1)) after) ≡
+      total
   unfolding sequence_at
   goes_on x after lt h more =
       let k : count - i ≡ suc (count - (i + 1)) = omega arith in
-      let one : with_front front (sequence_at source (count - i) ts) ≡ with_front (kept_after front x) (sequence_at source (count - (i + 1)) after) = rw (k, h, more) (regroup front x (sequence_at source (count - (i + 1)) after)) in
+      let one : with_front front (sequence_at source (count - i) ts) ≡
+      with_front (kept_after front x) (sequence_at source (count - (i + 1)) after) =
+      rw (k, h, more) (regroup front x (sequence_at source (count - (i + 1)) after)) in
       sym one ∙ so_far
 
-  pub is_done : (x : Option MessageItem) (after : List Token) → i < count → item_at source ts ≡ Ok (x, after) → eqb (length after) 0 ≡ true → total ≡ Ok (kept_after front x)
+  pub is_done : (x : Option MessageItem) (after : List Token) → i < count → item_at source ts ≡ Ok (x, after) →
+      eqb (length after) 0 ≡ true → total ≡ Ok (kept_after front x)
   unfolding sequence_at
   is_done x after lt h none =
       let k : count - i ≡ suc (count - (i + 1)) = omega arith in
-      let one : with_front front (sequence_at source (count - i) ts) ≡ Ok (front ++ kept_before x []) = rw (k, h, none) refl in
+      let one : with_front front (sequence_at source (count - i) ts) ≡ Ok (front ++ kept_before x []) =
+      rw (k, h, none) refl in
       sym so_far ∙ one ∙ ap (λ (all : List MessageItem). Ok all) (joined front x [] ∙ append-nil (kept_after front x))
 
   pub ends : (e : ReadFault) → i < count → Fails e (item_at source ts) → Fails e total

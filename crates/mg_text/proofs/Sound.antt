@@ -14,7 +14,8 @@ use Rattle.mg_text.specs.aids.Reading.{if_some, is_kind, mark_at, after_mark, sp
 use Rattle.mg_text.specs.Grammar.{IsMark, IsSpan, IsWord, IsNamed, IsWorded, IsMore, IsListed, IsBraced, IsOptionalBraced, IsAnyBraced, IsPlain, IsBalanced, nothing, plain, nested, IsGroup, IsContent, IsTermName}
 
 -- the value of a step that did not fail
-pub bind_ok : {A B : Type 0} (r : Result A ℕ) (f : A → Result B ℕ) (y : B) → (r >>= f) ≡ Ok y → (x : A) × (r ≡ Ok x) × (f x ≡ Ok y)
+pub bind_ok : {A B : Type 0} (r : Result A ℕ) (f : A → Result B ℕ) (y : B) → (r >>= f) ≡ Ok y → (x : A) × (r ≡ Ok x) ×
+    (f x ≡ Ok y)
 bind_ok (Ok x) f y e = (x, refl, e)
 bind_ok (Err d) f y e = absurd cc
 
@@ -38,7 +39,8 @@ is_kind-true Quoted Quoted e = refl
 is_kind-true Octets Octets e = refl
 is_kind-true _ _ e = absurd cc
 
-pub mark_found : (source : List ℕ) (kind : TokenKind) (ts rest : List Token) → mark_at source kind ts ≡ Ok rest → IsMark kind ts rest
+pub mark_found : (source : List ℕ) (kind : TokenKind) (ts rest : List Token) → mark_at source kind ts ≡ Ok rest →
+    IsMark kind ts rest
 unfolding mark_at
 mark_found source kind [] rest e = absurd cc
 mark_found source kind (t ∷ ts) rest e =
@@ -56,38 +58,62 @@ after_found kind (t ∷ ts) rest e =
     let g = some_guard (is_kind t.kind kind) ts rest e in
     record { token = t; kind_is = is_kind-true t.kind kind g.0; front = ap (λ (r : List Token). t ∷ r) g.1 }
 
-pub span_found : (source : List ℕ) (kind : TokenKind) (ts : List Token) (x : Span × List Token) → span_at source kind ts ≡ Ok x → IsSpan kind x.0 ts x.1
+pub span_found : (source : List ℕ) (kind : TokenKind) (ts : List Token) (x : Span × List Token) →
+    span_at source kind ts ≡ Ok x → IsSpan kind x.0 ts x.1
 unfolding span_at
 span_found source kind [] x e = absurd cc
 span_found source kind (t ∷ ts) x e =
     let g = guard_ok (is_kind t.kind kind) t.span.start (t.span, ts) x e in
-    record { token = t; kind_is = is_kind-true t.kind kind g.0; span_is = ap (λ (p : Span × List Token). p.0) g.1; front = ap (λ (p : Span × List Token). t ∷ p.1) g.1 }
+    record {
+      token = t;
+      kind_is = is_kind-true t.kind kind g.0;
+      span_is = ap (λ (p : Span × List Token). p.0) g.1;
+      front = ap (λ (p : Span × List Token). t ∷ p.1) g.1;
+    }
 
-pub word_found : (source : List ℕ) (ts : List Token) (x : Span × List Token) → word_at source ts ≡ Ok x → IsWord x.0 ts x.1
+pub word_found : (source : List ℕ) (ts : List Token) (x : Span × List Token) → word_at source ts ≡ Ok x →
+    IsWord x.0 ts x.1
 word_found source ts x e = span_found source Word ts x e
 
-pub named_found : (source : List ℕ) (keyword : Keyword) (ts rest : List Token) → named_at source keyword ts ≡ Ok rest → IsNamed source keyword ts rest
+pub named_found : (source : List ℕ) (keyword : Keyword) (ts rest : List Token) →
+    named_at source keyword ts ≡ Ok rest → IsNamed source keyword ts rest
 unfolding named_at
 named_found source keyword ts rest e =
     let w = bind_ok (word_at source ts) _ rest e in
     let g = guard_ok (is_named (text_of source w.0.0) keyword) w.0.0.start w.0.1 rest w.2 in
-    record { word = w.0.0; named = g.0; is = subst (λ (r : List Token). IsWord w.0.0 ts r) g.1 (word_found source ts w.0 w.1) }
+    record {
+      word = w.0.0;
+      named = g.0;
+      is = subst (λ (r : List Token). IsWord w.0.0 ts r) g.1
+          (word_found source ts w.0 w.1);
+    }
 
 -- one reading or another
-pub if_some_ok : {A B : Type 0} (o : Option A) (f : A → Result B ℕ) (b : Result B ℕ) (y : B) → if_some o f b ≡ Ok y → ((a : A) × (o ≡ Some a) × (f a ≡ Ok y)) ⊎ ((o ≡ None) × (b ≡ Ok y))
+pub if_some_ok : {A B : Type 0} (o : Option A) (f : A → Result B ℕ) (b : Result B ℕ) (y : B) → if_some o f b ≡ Ok y →
+    ((a : A) × (o ≡ Some a) × (f a ≡ Ok y)) ⊎ ((o ≡ None) × (b ≡ Ok y))
 if_some_ok None f b y e = inr (refl, e)
 if_some_ok (Some a) f b y e = inl (a, refl, e)
 
-worded-cases : {X : Type 0} (o : Option X) (rest : List Token) (place : ℕ) (x : X × List Token) → if_some o (λ v. Ok (v, rest)) (Err place) ≡ Ok x → (o ≡ Some x.0) × (rest ≡ x.1)
+worded-cases : {X : Type 0} (o : Option X) (rest : List Token) (place : ℕ) (x : X × List Token) →
+    if_some o (λ v. Ok (v, rest)) (Err place) ≡ Ok x → (o ≡ Some x.0) × (rest ≡ x.1)
 worded-cases None rest place x e = absurd cc
-worded-cases {X} (Some v) rest place x e = (ap (λ (p : X × List Token). Some p.0) (ok_is (v, rest) x e), ap (λ (p : X × List Token). p.1) (ok_is (v, rest) x e))
+worded-cases {X} (Some v) rest place x e = (
+  ap (λ (p : X × List Token). Some p.0) (ok_is (v, rest) x e),
+  ap (λ (p : X × List Token). p.1) (ok_is (v, rest) x e),
+)
 
-pub worded_found : {X : Type 0} (meaning : List ℕ → Option X) (source : List ℕ) (ts : List Token) (x : X × List Token) → meaning_at meaning source ts ≡ Ok x → IsWorded meaning source x.0 ts x.1
+pub worded_found : {X : Type 0} (meaning : List ℕ → Option X) (source : List ℕ) (ts : List Token) (x : X × List Token)
+    → meaning_at meaning source ts ≡ Ok x → IsWorded meaning source x.0 ts x.1
 unfolding meaning_at
 worded_found meaning source ts x e =
     let w = bind_ok (word_at source ts) _ x e in
     let g = worded-cases (meaning (text_of source w.0.0)) w.0.1 w.0.0.start x w.2 in
-    record { word = w.0.0; means = g.0; is = subst (λ (r : List Token). IsWord w.0.0 ts r) g.1 (word_found source ts w.0 w.1) }
+    record {
+      word = w.0.0;
+      means = g.0;
+      is = subst (λ (r : List Token). IsWord w.0.0 ts r) g.1
+          (word_found source ts w.0 w.1);
+    }
 
 abbrev pub IsSpelled : {X : Type 0} → (X → List Token → List Token → Type 0) → List Token → X × List Token → Type 0
 IsSpelled P ts x = P x.0 ts x.1
@@ -115,30 +141,51 @@ closes_plain : (n : ℕ) (t : Token) (ts rest : List Token) → IsPlain t.kind �
 closes_plain zero t ts rest p h = (h.0, plain t ts h.0 p h.1, h.2)
 closes_plain (suc n) t ts rest p h = (h.0, h.1, plain t ts h.0 p h.2, h.3, h.4)
 
-nest : (o : Token) (ts a b rest : List Token) → o.kind ≡ Open → IsMark Close b a → IsBalanced ts b → IsBalanced a rest → IsBalanced (o ∷ ts) rest
+nest : (o : Token) (ts a b rest : List Token) → o.kind ≡ Open → IsMark Close b a → IsBalanced ts b →
+    IsBalanced a rest → IsBalanced (o ∷ ts) rest
 nest o ts a b rest opens m x y = nested o m.token ts a rest opens m.kind_is (subst (IsBalanced ts) m.front x) y
 
-closes_nested : (n : ℕ) (t : Token) (ts rest : List Token) → t.kind ≡ Open → Closes (suc n) ts rest → Closes n (t ∷ ts) rest
+closes_nested : (n : ℕ) (t : Token) (ts rest : List Token) → t.kind ≡ Open → Closes (suc n) ts rest →
+    Closes n (t ∷ ts) rest
 closes_nested zero t ts rest opens h = (h.4.0, nest t ts h.1 h.0 h.4.0 opens h.3 h.2 h.4.1, h.4.2)
 closes_nested (suc n) t ts rest opens h = (h.4.0, h.4.1, nest t ts h.1 h.0 h.4.0 opens h.3 h.2 h.4.2, h.4.3, h.4.4)
 
-close_found : (source : List ℕ) (n : ℕ) (t : Token) (ts rest : List Token) → t.kind ≡ Close → cond (eqb n 0) (Ok ts) (after_group source (n - 1) ts) ≡ Ok rest → ((m : ℕ) → after_group source m ts ≡ Ok rest → Closes m ts rest) → Closes n (t ∷ ts) rest
-close_found source zero t ts rest closes e others = (t ∷ ts, nothing (t ∷ ts), record { token = t; kind_is = closes; front = ap (λ (r : List Token). t ∷ r) (ok_is ts rest e) })
+close_found : (source : List ℕ) (n : ℕ) (t : Token) (ts rest : List Token) → t.kind ≡ Close →
+    cond (eqb n 0) (Ok ts) (after_group source (n - 1) ts) ≡ Ok rest →
+    ((m : ℕ) → after_group source m ts ≡ Ok rest → Closes m ts rest) → Closes n (t ∷ ts) rest
+close_found source zero t ts rest closes e others = (
+  t ∷ ts,
+  nothing (t ∷ ts),
+  record {
+    token = t;
+    kind_is = closes;
+    front = ap (λ (r : List Token). t ∷ r) (ok_is ts rest e);
+  },
+)
 close_found source (suc n) t ts rest closes e others =
     let one : suc n - 1 ≡ n = omega arith in
-    let more : eqb (suc n) 0 ≡ false = ne_eqb (suc n) 0 (λ q. absurd (omega arith)) in
-    (t ∷ ts, ts, nothing (t ∷ ts), record { token = t; kind_is = closes; front = refl }, others n (ap (λ (m : ℕ). after_group source m ts) (sym one) ∙ (rw more at e)))
+    let more : eqb (suc n) 0 ≡ false = ne_eqb (suc n) 0 (λ q. absurd (omega arith)) in (
+      t ∷ ts,
+      ts,
+      nothing (t ∷ ts),
+      record { token = t; kind_is = closes; front = refl },
+      others n (ap (λ (m : ℕ). after_group source m ts) (sym one) ∙ (rw more at e)),
+    )
 
-pub group_found : (source : List ℕ) (n : ℕ) (ts rest : List Token) → after_group source n ts ≡ Ok rest → Closes n ts rest
+pub group_found : (source : List ℕ) (n : ℕ) (ts rest : List Token) → after_group source n ts ≡ Ok rest →
+    Closes n ts rest
 unfolding after_group
 group_found source n [] rest e = absurd cc
 group_found source n (t ∷ ts) rest e =
     elim (chosen (is_kind t.kind Open) _ _ _ e) [
-      | inl opens ↦ closes_nested n t ts rest (is_kind-true t.kind Open opens.0) (group_found source (suc n) ts rest opens.1)
+      | inl opens ↦ closes_nested n t ts rest (is_kind-true t.kind Open opens.0)
+          (group_found source (suc n) ts rest opens.1)
       | inr other ↦
           elim (chosen (is_kind t.kind Close) _ _ _ other.1) [
-            | inl closes ↦ close_found source n t ts rest (is_kind-true t.kind Close closes.0) closes.1 (λ m. group_found source m ts rest)
-            | inr passes ↦ closes_plain n t ts rest (plain_kind t.kind other.0 passes.0) (group_found source n ts rest passes.1)
+            | inl closes ↦ close_found source n t ts rest (is_kind-true t.kind Close closes.0) closes.1
+                (λ m. group_found source m ts rest)
+            | inr passes ↦ closes_plain n t ts rest (plain_kind t.kind other.0 passes.0)
+                (group_found source n ts rest passes.1)
           ]
     ]
 
@@ -149,7 +196,8 @@ group_at_found source ts rest e =
     let g = group_found source 0 a.0 rest a.2 in
     record { a = a.0; b = g.0; «open» = mark_found source Open ts a.0 a.1; inside = g.1; close = g.2 }
 
-pub term_found : (source : List ℕ) (ts : List Token) (x : Span × List Token) → term_at source ts ≡ Ok x → IsTermName source x.0 ts x.1
+pub term_found : (source : List ℕ) (ts : List Token) (x : Span × List Token) → term_at source ts ≡ Ok x →
+    IsTermName source x.0 ts x.1
 unfolding term_at
 term_found source ts x e =
     let w = bind_ok (word_at source ts) _ x e in
@@ -159,7 +207,8 @@ term_found source ts x e =
 pub balanced_shorter : (ts rest : List Token) → IsBalanced ts rest → length rest ≤ length ts
 balanced_shorter _ _ (nothing ts) = omega arith
 balanced_shorter _ _ (plain t ts rest p inside) = omega (arith, balanced_shorter ts rest inside)
-balanced_shorter _ _ (nested o c ts a rest opens closes inside after) = omega (arith, balanced_shorter ts (c ∷ a) inside, balanced_shorter a rest after)
+balanced_shorter _ _ (nested o c ts a rest opens closes inside after) =
+    omega (arith, balanced_shorter ts (c ∷ a) inside, balanced_shorter a rest after)
 
 closes_there : (ts rest : List Token) → IsMark Close ts rest → after_mark Close ts ≡ Some rest
 unfolding after_mark
@@ -169,31 +218,42 @@ never : (ts rest : List Token) → after_mark Close ts ≡ None → after_mark C
 never ts rest e h = cc
 
 -- a group whose first token doesn't close it has a token in it
-not_close : (ts b rest : List Token) → after_mark Close ts ≡ None → IsBalanced ts b → IsMark Close b rest → length b < length ts
+not_close : (ts b rest : List Token) → after_mark Close ts ≡ None → IsBalanced ts b → IsMark Close b rest →
+    length b < length ts
 unfolding after_mark
 not_close _ _ rest none (nothing ts) close = absurd (never ts rest none (closes_there ts rest close))
 not_close _ b rest none (plain t ts b' p inside) close = omega (arith, balanced_shorter ts b inside)
-not_close _ b rest none (nested o c ts a b' opens closes inside after) close = omega (arith, balanced_shorter ts (c ∷ a) inside, balanced_shorter a b after)
+not_close _ b rest none (nested o c ts a b' opens closes inside after) close =
+    omega (arith, balanced_shorter ts (c ∷ a) inside, balanced_shorter a b after)
 
-pub filled_found : (source : List ℕ) (ts : List Token) (x : Bool × List Token) → filled_at source ts ≡ Ok x → IsContent x.0 ts x.1
+pub filled_found : (source : List ℕ) (ts : List Token) (x : Bool × List Token) → filled_at source ts ≡ Ok x →
+    IsContent x.0 ts x.1
 unfolding filled_at
 filled_found source ts x e =
     elim (if_some_ok (after_mark Open ts) _ _ x e) [
       | inl some ↦
           let opens = after_found Open ts some.0 some.1 in
           elim (if_some_ok (after_mark Close some.0) _ _ x some.2) [
-            | inl empty ↦ subst (IsSpelled IsContent ts) (ok_is _ x empty.2) (inr (record { a = some.0; «open» = opens; close = after_found Close some.0 empty.0 empty.1 }))
+            | inl empty ↦ subst (IsSpelled IsContent ts) (ok_is _ x empty.2)
+                (inr (record { a = some.0; «open» = opens; close = after_found Close some.0 empty.0 empty.1 }))
             | inr full ↦
                 let rest = bind_ok (after_group source 0 some.0) _ x full.1 in
                 let g = group_found source 0 some.0 rest.0 rest.1 in
-                subst (IsSpelled IsContent ts) (ok_is _ x rest.2) (record { group = record { a = some.0; b = g.0; «open» = opens; inside = g.1; close = g.2 }; filled = not_close some.0 g.0 rest.0 full.0 g.1 g.2 })
+                subst (IsSpelled IsContent ts) (ok_is _ x rest.2)
+                (record {
+                  group = record { a = some.0; b = g.0; «open» = opens; inside = g.1; close = g.2 };
+                  filled = not_close some.0 g.0 rest.0 full.0 g.1 g.2;
+                })
           ]
       | inr none ↦ subst (IsSpelled IsContent ts) (ok_is _ x none.1) (inl refl)
     ]
 
-module _ {X : Type 0} (source : List ℕ) (read : List Token → Result (X × List Token) ℕ) (P : X → List Token → List Token → Type 0) (sound : (ts : List Token) (x : X × List Token) → read ts ≡ Ok x → P x.0 ts x.1) where
+module _ {X : Type 0} (source : List ℕ) (read : List Token → Result (X × List Token) ℕ)
+    (P : X → List Token → List Token → Type 0)
+    (sound : (ts : List Token) (x : X × List Token) → read ts ≡ Ok x → P x.0 ts x.1) where
   -- a list that was read is not empty: its first item, and more
-  list_found : (n : ℕ) (ts : List Token) (xs : List X × List Token) → list_at source read n ts ≡ Ok xs → IsListed P xs.0 ts xs.1
+  list_found : (n : ℕ) (ts : List Token) (xs : List X × List Token) → list_at source read n ts ≡ Ok xs →
+      IsListed P xs.0 ts xs.1
   unfolding list_at
   list_found zero ts xs e = absurd cc
   list_found (suc n) ts xs e =
@@ -203,26 +263,36 @@ module _ {X : Type 0} (source : List ℕ) (read : List Token → Result (X × Li
         | inl more ↦
             let others = bind_ok (list_at source read n more.0) _ xs more.2 in
             let comma = after_found Comma first.0.1 more.0 more.1 in
-            subst (λ (y : List X × List Token). IsListed P y.0 ts y.1) (ok_is _ xs others.2) (first.0.1, p, after_comma others.0.0 first.0.1 more.0 others.0.1 comma (list_found n more.0 others.0 others.1))
+            subst (λ (y : List X × List Token). IsListed P y.0 ts y.1) (ok_is _ xs others.2) (
+              first.0.1,
+              p,
+              after_comma others.0.0 first.0.1 more.0 others.0.1 comma
+                  (list_found n more.0 others.0 others.1),
+            )
         | inr last ↦
             let close = bind_ok (mark_at source Close first.0.1) _ xs last.1 in
-            subst (λ (y : List X × List Token). IsListed P y.0 ts y.1) (ok_is _ xs close.2) (first.0.1, p, mark_found source Close first.0.1 close.0 close.1)
+            subst (λ (y : List X × List Token). IsListed P y.0 ts y.1) (ok_is _ xs close.2)
+            (first.0.1, p, mark_found source Close first.0.1 close.0 close.1)
       ]
     where
-      after_comma : (xs : List X) (ts a rest : List Token) → IsMark Comma ts a → IsListed P xs a rest → IsMore P xs ts rest
+      after_comma : (xs : List X) (ts a rest : List Token) → IsMark Comma ts a → IsListed P xs a rest →
+          IsMore P xs ts rest
       after_comma [] ts a rest comma h = absurd h
       after_comma (x ∷ xs) ts a rest comma h = (a, h.0, comma, h.1, h.2)
 
-  pub items_found : (ts : List Token) (xs : List X × List Token) → items_at source read ts ≡ Ok xs → IsListed P xs.0 ts xs.1
+  pub items_found : (ts : List Token) (xs : List X × List Token) → items_at source read ts ≡ Ok xs →
+      IsListed P xs.0 ts xs.1
   items_found ts xs e = list_found (length ts) ts xs e
 
-  pub braced_found : (ts : List Token) (xs : List X × List Token) → braced_at source read ts ≡ Ok xs → IsBraced P xs.0 ts xs.1
+  pub braced_found : (ts : List Token) (xs : List X × List Token) → braced_at source read ts ≡ Ok xs →
+      IsBraced P xs.0 ts xs.1
   unfolding braced_at
   braced_found ts xs e =
       let a = bind_ok (mark_at source Open ts) _ xs e in
       record { a = a.0; «open» = mark_found source Open ts a.0 a.1; are = items_found a.0 xs a.2 }
 
-  some_optional : (xs : List X) (ts a rest : List Token) → IsMark Open ts a → IsListed P xs a rest → IsOptionalBraced P xs ts rest
+  some_optional : (xs : List X) (ts a rest : List Token) → IsMark Open ts a → IsListed P xs a rest →
+      IsOptionalBraced P xs ts rest
   some_optional [] ts a rest opens h = absurd h
   some_optional (x ∷ xs) ts a rest opens h = record { a = a; «open» = opens; are = h }
 
@@ -230,20 +300,24 @@ module _ {X : Type 0} (source : List ℕ) (read : List Token → Result (X × Li
   some_any [] ts a rest opens h = absurd h
   some_any (x ∷ xs) ts a rest opens h = record { a = a; «open» = opens; are = h }
 
-  pub any_braced_found : (ts : List Token) (xs : List X × List Token) → any_braced_at source read ts ≡ Ok xs → IsAnyBraced P xs.0 ts xs.1
+  pub any_braced_found : (ts : List Token) (xs : List X × List Token) → any_braced_at source read ts ≡ Ok xs →
+      IsAnyBraced P xs.0 ts xs.1
   unfolding any_braced_at
   any_braced_found ts xs e =
       let a = bind_ok (mark_at source Open ts) _ xs e in
       let opens = mark_found source Open ts a.0 a.1 in
       elim (if_some_ok (after_mark Close a.0) _ _ xs a.2) [
-        | inl none ↦ subst (λ (y : List X × List Token). IsAnyBraced P y.0 ts y.1) (ok_is _ xs none.2) (record { a = a.0; «open» = opens; close = after_found Close a.0 none.0 none.1 })
+        | inl none ↦ subst (λ (y : List X × List Token). IsAnyBraced P y.0 ts y.1) (ok_is _ xs none.2)
+            (record { a = a.0; «open» = opens; close = after_found Close a.0 none.0 none.1 })
         | inr some ↦ some_any xs.0 ts a.0 xs.1 opens (items_found a.0 xs some.1)
       ]
 
-  pub optional_braced_found : (ts : List Token) (xs : List X × List Token) → optional_braced_at source read ts ≡ Ok xs → IsOptionalBraced P xs.0 ts xs.1
+  pub optional_braced_found : (ts : List Token) (xs : List X × List Token) →
+      optional_braced_at source read ts ≡ Ok xs → IsOptionalBraced P xs.0 ts xs.1
   unfolding optional_braced_at
   optional_braced_found ts xs e =
       elim (if_some_ok (after_mark Open ts) _ _ xs e) [
-        | inl some ↦ some_optional xs.0 ts some.0 xs.1 (after_found Open ts some.0 some.1) (items_found some.0 xs some.2)
+        | inl some ↦ some_optional xs.0 ts some.0 xs.1 (after_found Open ts some.0 some.1)
+            (items_found some.0 xs some.2)
         | inr none ↦ subst (λ (y : List X × List Token). IsOptionalBraced P y.0 ts y.1) (ok_is _ xs none.1) refl
       ]

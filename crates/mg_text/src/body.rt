@@ -19,7 +19,7 @@ pub enum MessageItem {
 /// What stands after the head and the sender of a message.
 #[derive(Drop)]
 pub enum Body {
-    /// TreeList to act on, in their order. A Reply or Pending item among them is left out.
+    /// Items to act on, in their order. A Reply or Pending item among them is left out.
     Requests(TreeList<MessageItem>),
     /// Nothing to act on: an Error body, or items of which each is a Reply or a Pending.
     Ignored,

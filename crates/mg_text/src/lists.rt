@@ -36,7 +36,7 @@ impl<W: FromWord> FromTokens for W {
     }
 }
 
-/// TreeList parted by commas, up to the brace that closes them, and what stands after it.
+/// Items parted by commas, up to the brace that closes them, and what stands after it.
 pub fn items_at<'t, T: FromTokens>(
     alloc: Global,
     source: &[u8],
@@ -58,7 +58,7 @@ pub fn items_at<'t, T: FromTokens>(
     Err(ReadFault::Syntax(place_of(source, rest)))
 }
 
-/// TreeList in braces, of which there is one at least, and what stands after them.
+/// Items in braces, of which there is one at least, and what stands after them.
 #[tactic(auto, unfolding(crate::specs::aids::Reading::braced_at))]
 pub fn braced_at<'t, T: FromTokens>(
     alloc: Global,
@@ -71,7 +71,7 @@ pub fn braced_at<'t, T: FromTokens>(
     items_at(alloc, source, rest)
 }
 
-/// TreeList in braces, of which there may be none, and what stands after them.
+/// Items in braces, of which there may be none, and what stands after them.
 #[tactic(auto, unfolding(crate::specs::aids::Reading::any_braced_at))]
 pub fn any_braced_at<'t, T: FromTokens>(
     alloc: Global,
@@ -87,7 +87,7 @@ pub fn any_braced_at<'t, T: FromTokens>(
     items_at(alloc, source, inside)
 }
 
-/// TreeList in braces, or none where no braces stand, and what stands after them.
+/// Items in braces, or none where no braces stand, and what stands after them.
 #[tactic(auto, unfolding(crate::specs::aids::Reading::optional_braced_at))]
 pub fn optional_braced_at<'t, T: FromTokens>(
     alloc: Global,

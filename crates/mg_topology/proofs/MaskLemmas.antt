@@ -62,7 +62,10 @@ has_seat-inside a s p = grind (arith, nat_tests, has_seat-above a s p)
 -- so a seat of it is below the limit
 pub below_limit : (a s : ℕ) → a < 2 ^ SEATS → has_seat a s ≡ true → s < SEATS
 below_limit a s p h =
-    elim (cases_lt s SEATS) [ inl below ↦ below | inr above ↦ absurd (false≢true (sym (has_seat-above a s p above) ∙ h)) ]
+    elim (cases_lt s SEATS) [
+      | inl below ↦ below
+      | inr above ↦ absurd (false≢true (sym (has_seat-above a s p above) ∙ h))
+    ]
 
 -- the empty mask and the full one
 pub has_seat-empty : (s : ℕ) → has_seat 0 s ≡ false
@@ -79,7 +82,8 @@ outside true y z e = cc
 outside false y z e = refl
 
 -- the mask `a & !b`
-pub has_seat-less : (a b s : ℕ) → a < 2 ^ SEATS → b < 2 ^ SEATS → has_seat (bit_and a (2 ^ SEATS - 1 - b)) s ≡ (has_seat a s && not (has_seat b s))
+pub has_seat-less : (a b s : ℕ) → a < 2 ^ SEATS → b < 2 ^ SEATS →
+    has_seat (bit_and a (2 ^ SEATS - 1 - b)) s ≡ (has_seat a s && not (has_seat b s))
 has_seat-less a b s p q =
     has_seat-and a (2 ^ SEATS - 1 - b) s ∙ elim (cases_lt s SEATS) [
       | inl below ↦ ap (λ x. has_seat a s && x) (has_seat-not b s q below)
@@ -92,7 +96,8 @@ some_bit : (fuel n : ℕ) → n ≤ fuel → 0 < n → (s : ℕ) × (bit_at n s 
 some_bit zero n p q = absurd (omega (arith))
 some_bit (suc fuel) n p q =
     elim (cases_lt (n % 2) 1) [
-      | inl even ↦ (let rest = some_bit fuel (n / 2) (omega arith) (omega arith) in (suc rest.0, bit_at-suc n rest.0 ∙ rest.1))
+      | inl even ↦ (let rest = some_bit fuel (n / 2) (omega arith) (omega arith) in
+          (suc rest.0, bit_at-suc n rest.0 ∙ rest.1))
       | inr odd ↦ (0, bit_at_lowest n ∙ omega arith)
     ]
 
@@ -112,7 +117,8 @@ has_common_seat a b p =
 pub is_disjoint-common : (a b : ℕ) → HaveCommonSeat a b → is_disjoint a b ≡ false
 unfolding is_disjoint
 is_disjoint-common a b h =
-    ne_eqb _ _ (λ e. false≢true (sym (has_seat-empty h.seat) ∙ sym (ap (λ n. has_seat n h.seat) e) ∙ has_seat-and a b h.seat ∙ and_from _ _ h.in_first h.in_second))
+    ne_eqb _ _ (λ e. false≢true (sym (has_seat-empty h.seat) ∙ sym (ap (λ n. has_seat n h.seat) e) ∙
+    has_seat-and a b h.seat ∙ and_from _ _ h.in_first h.in_second))
 
 -- ---- masks as numbers
 -- a set that is not 0 has a lowest seat, the number of its trailing zeros

@@ -15,10 +15,13 @@ IsWithout p s q = (k : ℕ) → q k ≡ cond (k == s) false (p k)
 
 -- ---- what tests keep of the numbers from a on
 
-filtered : (p : ℕ → Bool) (a n : ℕ) (b : Bool) → p a ≡ b → filter p (range_with_len a (suc n)) ≡ cond b (a ∷ filter p (range_with_len (a + 1) n)) (filter p (range_with_len (a + 1) n))
+filtered : (p : ℕ → Bool) (a n : ℕ) (b : Bool) → p a ≡ b →
+    filter p (range_with_len a (suc n)) ≡ cond b (a ∷ filter p (range_with_len (a + 1) n))
+    (filter p (range_with_len (a + 1) n))
 filtered p a n b e = ap (λ x. cond x (a ∷ filter p (range_with_len (a + 1) n)) (filter p (range_with_len (a + 1) n))) e
 
-pub filter_alike : (p q : ℕ → Bool) (a n : ℕ) → ((k : ℕ) → a ≤ k → k < a + n → p k ≡ q k) → filter p (range_with_len a n) ≡ filter q (range_with_len a n)
+pub filter_alike : (p q : ℕ → Bool) (a n : ℕ) → ((k : ℕ) → a ≤ k → k < a + n → p k ≡ q k) →
+    filter p (range_with_len a n) ≡ filter q (range_with_len a n)
 filter_alike p q a zero h = refl
 filter_alike p q a (suc n) h =
     let here : p a ≡ q a = h a (omega arith) (omega arith) in
@@ -30,7 +33,8 @@ filter_none p a zero h = refl
 filter_none p a (suc n) h = filtered p a n false (h a) ∙ filter_none p (a + 1) n h
 
 -- the first that p keeps, and those that q keeps
-pub filter_first : (p q : ℕ → Bool) (s a n : ℕ) → IsWithout p s q → a ≤ s → s < a + n → p s ≡ true → ((k : ℕ) → k < s → p k ≡ false)
+pub filter_first : (p q : ℕ → Bool) (s a n : ℕ) → IsWithout p s q → a ≤ s → s < a + n → p s ≡ true →
+    ((k : ℕ) → k < s → p k ≡ false)
     → filter p (range_with_len a n) ≡ s ∷ filter q (range_with_len a n)
 filter_first p q s a zero w l r here least = absurd (omega (arith, l, r))
 filter_first p q s a (suc n) w l r here least =
@@ -43,11 +47,13 @@ filter_first p q s a (suc n) w l r here least =
       | inr ne ↦
           (let none : p a ≡ false = least a (omega (arith, l, ne)) in
           let gone : q a ≡ false = grind (arith, nat_tests, w a) in
-          filtered p a n false none ∙ filter_first p q s (a + 1) n w (omega (arith, l, ne)) (omega (arith, r)) here least
+          filtered p a n false none ∙ filter_first p q s (a + 1) n w (omega (arith, l, ne)) (omega (arith, r)) here
+          least
           ∙ ap (λ x. s ∷ x) (sym (filtered q a n false gone)))
     ]
 
-longer : (b : Bool) (x : ℕ) (xs ys : List ℕ) → length xs ≡ length ys + 1 → length (cond b (x ∷ xs) xs) ≡ length (cond b (x ∷ ys) ys) + 1
+longer : (b : Bool) (x : ℕ) (xs ys : List ℕ) → length xs ≡ length ys + 1 →
+    length (cond b (x ∷ xs) xs) ≡ length (cond b (x ∷ ys) ys) + 1
 longer true x xs ys e = omega (arith, e)
 longer false x xs ys e = e
 
@@ -82,7 +88,8 @@ length-filter_at_most p a (suc n) =
 -- ---- masks
 
 -- the seats of a mask are those that a test passes, where the test tells what the mask has
-pub seats_of-listed : (mask : ℕ) (p : ℕ → Bool) → ((s : ℕ) → s < seat_limit → has_seat mask s ≡ p s) → seats_of mask ≡ filter p (range_with_len 0 seat_limit)
+pub seats_of-listed : (mask : ℕ) (p : ℕ → Bool) → ((s : ℕ) → s < seat_limit → has_seat mask s ≡ p s) →
+    seats_of mask ≡ filter p (range_with_len 0 seat_limit)
 unfolding seats_of
 seats_of-listed mask p h = filter_alike (has_seat mask) p 0 seat_limit (λ k l r. h k (omega (arith, r)))
 
@@ -91,13 +98,17 @@ unfolding seats_of
 seats_of-empty mask h = filter_none (has_seat mask) 0 seat_limit h
 
 -- the lowest seat, and the seats of the mask without it
-pub seats_of-rest : (mask rest s : ℕ) → ((k : ℕ) → has_seat rest k ≡ cond (k == s) false (has_seat mask k)) → IsLowest mask s → seats_of mask ≡ s ∷ seats_of rest
+pub seats_of-rest : (mask rest s : ℕ) → ((k : ℕ) → has_seat rest k ≡ cond (k == s) false (has_seat mask k)) →
+    IsLowest mask s → seats_of mask ≡ s ∷ seats_of rest
 unfolding seats_of
-seats_of-rest mask rest s w h = filter_first (has_seat mask) (has_seat rest) s 0 seat_limit w (omega arith) (omega (arith, h.below_limit)) h.is_in h.is_least
+seats_of-rest mask rest s w h = filter_first (has_seat mask) (has_seat rest) s 0 seat_limit w (omega arith)
+    (omega (arith, h.below_limit)) h.is_in h.is_least
 
-pub seat_count-fewer : (mask rest s : ℕ) → ((k : ℕ) → has_seat rest k ≡ cond (k == s) false (has_seat mask k)) → s < seat_limit → has_seat mask s ≡ true → seat_count mask ≡ seat_count rest + 1
+pub seat_count-fewer : (mask rest s : ℕ) → ((k : ℕ) → has_seat rest k ≡ cond (k == s) false (has_seat mask k)) →
+    s < seat_limit → has_seat mask s ≡ true → seat_count mask ≡ seat_count rest + 1
 unfolding seats_of
-seat_count-fewer mask rest s w r h = filter_fewer (has_seat mask) (has_seat rest) s 0 seat_limit w (omega arith) (omega (arith, r)) h
+seat_count-fewer mask rest s w r h = filter_fewer (has_seat mask) (has_seat rest) s 0 seat_limit w (omega arith)
+    (omega (arith, r)) h
 
 pub seat_count-at_most : (mask : ℕ) → seat_count mask ≤ seat_limit
 unfolding seats_of
@@ -110,7 +121,8 @@ rising_range a n k h =
 
 pub seats_of-rising : (mask : ℕ) → IsStrictlyIncreasing (seats_of mask)
 unfolding seats_of
-seats_of-rising mask = IsStrictlyIncreasing-filter (has_seat mask) (range_with_len 0 seat_limit) (rising_range 0 seat_limit)
+seats_of-rising mask = IsStrictlyIncreasing-filter (has_seat mask) (range_with_len 0 seat_limit)
+    (rising_range 0 seat_limit)
 
 -- ---- which seats are in the list
 in_range : (a n : ℕ) → All (λ s. s < a + n) (range_with_len a n)
@@ -129,7 +141,8 @@ passes p s a zero l r h = absurd (omega (arith, l, r))
 passes p s a (suc n) l r h =
     elim (cases_eq a s) [
       | inl e ↦
-          (let kept : Contains (filter p (range_with_len a (suc n))) a = rw (filtered p a n true (ap p e ∙ h)) (at_head a _) in
+          (let kept : Contains (filter p (range_with_len a (suc n))) a =
+          rw (filtered p a n true (ap p e ∙ h)) (at_head a _) in
           subst (λ x. Contains (filter p (range_with_len a (suc n))) x) e kept)
       | inr ne ↦
           (let rest = passes p s (a + 1) n (omega (arith, l, ne)) (omega (arith, r)) h in
@@ -150,6 +163,7 @@ seats_of-each mask k d h =
 pub seats_of-contains : (mask s : ℕ) → Contains (seats_of mask) s ↔ ((s < seat_limit) × IsTrue (has_seat mask s))
 unfolding seats_of
 seats_of-contains mask s = (
-  λ h. All-contains (λ k. (k < seat_limit) × (has_seat mask k ≡ true)) (filter (has_seat mask) (range_with_len 0 seat_limit)) s (seats_of-each mask) h,
+  λ h. All-contains (λ k. (k < seat_limit) × (has_seat mask k ≡ true))
+      (filter (has_seat mask) (range_with_len 0 seat_limit)) s (seats_of-each mask) h,
   λ h. passes (has_seat mask) s 0 seat_limit (omega arith) (omega (arith, h.0)) h.1,
 )

@@ -14,50 +14,60 @@ use Rattle.mg_topology.proofs.MaskLemmas.{has_seat-inside}
 -- ---- seats, and rows at two held seats that differ
 
 -- an answer about a pair depends on the row only where both are held and differ
-same_pair : (x y x' y' d b b' : Bool) → x ≡ x' → y ≡ y' → (x' ≡ true → y' ≡ true → d ≡ false → b ≡ b') → (x && (y && (not d && b))) ≡ (x' && (y' && (not d && b')))
+same_pair : (x y x' y' d b b' : Bool) → x ≡ x' → y ≡ y' → (x' ≡ true → y' ≡ true → d ≡ false → b ≡ b') →
+    (x && (y && (not d && b))) ≡ (x' && (y' && (not d && b')))
 same_pair x y false y' d b b' p q r = rw (p) refl
 same_pair x y true false d b b' p q r = rw (p, q) refl
 same_pair x y true true true b b' p q r = rw (p, q) refl
 same_pair x y true true false b b' p q r = rw (p, q) (r refl refl refl)
 
-row_of_pair : (x y d b b' : Bool) → x ≡ true → y ≡ true → d ≡ false → (x && (y && (not d && b))) ≡ (x && (y && (not d && b'))) → b ≡ b'
+row_of_pair : (x y d b b' : Bool) → x ≡ true → y ≡ true → d ≡ false →
+    (x && (y && (not d && b))) ≡ (x && (y && (not d && b'))) → b ≡ b'
 row_of_pair x y d b b' p q r e = grind arith
 
 -- to stand for a list of edits is to hold its seats, and to have its words in the rows of held seats
 pub stands_from : (k : TopologyState) (es : List Edit) → ((s : ℕ) → holds k s ≡ is_held es s)
-    → ((t l : ℕ) → is_held es t ≡ true → is_held es l ≡ true → (t == l) ≡ false → has_seat (slice_index k.rows l) t ≡ lets_hear es t l)
+    → ((t l : ℕ) → is_held es t ≡ true → is_held es l ≡ true → (t == l) ≡ false →
+    has_seat (slice_index k.rows l) t ≡ lets_hear es t l)
     → StandsFor k es
 stands_from k es held row = record {
   seats = held;
   pairs = λ t l. same_pair _ _ _ _ (t == l) _ _ (held t) (held l) (row t l);
 }
 
-pub row_from : (k : TopologyState) (es : List Edit) (t l : ℕ) → StandsFor k es → is_held es t ≡ true → is_held es l ≡ true → (t == l) ≡ false → has_seat (slice_index k.rows l) t ≡ lets_hear es t l
+pub row_from : (k : TopologyState) (es : List Edit) (t l : ℕ) → StandsFor k es → is_held es t ≡ true →
+    is_held es l ≡ true → (t == l) ≡ false → has_seat (slice_index k.rows l) t ≡ lets_hear es t l
 row_from k es t l h p q d =
     row_of_pair (is_held es t) (is_held es l) (t == l) _ _ p q d
-    (sym (same_pair (holds k t) (holds k l) _ _ (t == l) _ (has_seat (slice_index k.rows l) t) (h.seats t) (h.seats l) (λ _ _ _. refl)) ∙ h.pairs t l)
+    (sym (same_pair (holds k t) (holds k l) _ _ (t == l) _ (has_seat (slice_index k.rows l) t) (h.seats t) (h.seats l)
+    (λ _ _ _. refl)) ∙ h.pairs t l)
 
 pub held_below : (k : TopologyState) (es : List Edit) (s : ℕ) → StandsFor k es → is_held es s ≡ true → s < SEATS
 held_below k es s h p = grind (arith, nat_tests, h.seats s)
 
 -- ---- the edits, one by one
 
-entered_seat : (k k' : TopologyState) (n s : ℕ) (b : Bool) → n < SEATS → has_seat k'.held s ≡ cond (s == n) true (has_seat k.held s) → holds k s ≡ b → holds k' s ≡ cond (s == n) true b
+entered_seat : (k k' : TopologyState) (n s : ℕ) (b : Bool) → n < SEATS →
+    has_seat k'.held s ≡ cond (s == n) true (has_seat k.held s) → holds k s ≡ b → holds k' s ≡ cond (s == n) true b
 entered_seat k k' n s b p e h = grind (arith, nat_tests)
 
-entered_pair : (k k' : TopologyState) (n : ℕ) (es : List Edit) (t l : ℕ) → (l ≡ n → has_seat (slice_index k'.rows l) t ≡ true)
+entered_pair : (k k' : TopologyState) (n : ℕ) (es : List Edit) (t l : ℕ) →
+    (l ≡ n → has_seat (slice_index k'.rows l) t ≡ true)
     → (l ≢ n → has_seat (slice_index k'.rows l) t ≡ cond (t == n) true (has_seat (slice_index k.rows l) t))
     → (is_held es t ≡ true → is_held es l ≡ true → has_seat (slice_index k.rows l) t ≡ lets_hear es t l)
-    → is_held (Enter n ∷ es) t ≡ true → is_held (Enter n ∷ es) l ≡ true → has_seat (slice_index k'.rows l) t ≡ lets_hear (Enter n ∷ es) t l
+    → is_held (Enter n ∷ es) t ≡ true → is_held (Enter n ∷ es) l ≡ true →
+    has_seat (slice_index k'.rows l) t ≡ lets_hear (Enter n ∷ es) t l
 entered_pair k k' n es t l own row h p q = grind (arith, nat_tests)
 
-entered_below : (k : TopologyState) (n : ℕ) (es : List Edit) (s : ℕ) → n < SEATS → StandsFor k es → is_held (Enter n ∷ es) s ≡ true → s < SEATS
+entered_below : (k : TopologyState) (n : ℕ) (es : List Edit) (s : ℕ) → n < SEATS → StandsFor k es →
+    is_held (Enter n ∷ es) s ≡ true → s < SEATS
 entered_below k n es s p h q = grind (arith, nat_tests, h.seats s)
 
 pub enter_stands : (k k' : TopologyState) (n : ℕ) (es : List Edit) → n < SEATS
     → ((s : ℕ) → has_seat k'.held s ≡ cond (s == n) true (has_seat k.held s))
     → ((t : ℕ) → t < SEATS → has_seat (slice_index k'.rows n) t ≡ true)
-    → ((t l : ℕ) → l < SEATS → l ≢ n → has_seat (slice_index k'.rows l) t ≡ cond (t == n) true (has_seat (slice_index k.rows l) t))
+    → ((t l : ℕ) → l < SEATS → l ≢ n → has_seat (slice_index k'.rows l) t ≡
+    cond (t == n) true (has_seat (slice_index k.rows l) t))
     → StandsFor k es → StandsFor k' (Enter n ∷ es)
 enter_stands k k' n es inside held own row h =
     stands_from k' (Enter n ∷ es)
@@ -67,7 +77,8 @@ enter_stands k k' n es inside held own row h =
     (row t l (entered_below k n es l inside h q))
     (λ x y. row_from k es t l h x y d) p q)
 
-left_seat : (k k' : TopologyState) (n s : ℕ) (b : Bool) → has_seat k'.held s ≡ cond (s == n) false (has_seat k.held s) → holds k s ≡ b → holds k' s ≡ cond (s == n) false b
+left_seat : (k k' : TopologyState) (n s : ℕ) (b : Bool) →
+    has_seat k'.held s ≡ cond (s == n) false (has_seat k.held s) → holds k s ≡ b → holds k' s ≡ cond (s == n) false b
 left_seat k k' n s b e h = grind (arith, nat_tests)
 
 still_held : (n : ℕ) (es : List Edit) (s : ℕ) → is_held (Leave n ∷ es) s ≡ true → is_held es s ≡ true
@@ -79,14 +90,17 @@ pub leave_stands : (k k' : TopologyState) (n : ℕ) (es : List Edit)
 leave_stands k k' n es held rows h =
     stands_from k' (Leave n ∷ es)
     (λ s. left_seat k k' n s (is_held es s) (held s) (h.seats s))
-    (λ t l p q d. ap (λ r. has_seat (slice_index r l) t) rows ∙ row_from k es t l h (still_held n es t p) (still_held n es l q) d)
+    (λ t l p q d. ap (λ r. has_seat (slice_index r l) t) rows ∙
+    row_from k es t l h (still_held n es t p) (still_held n es l q) d)
 
-applied_word : (triple : Triple) (o : Option Triple) (t l : ℕ) (b : Bool) → cond b (word_of triple t l) (allows o t l) ≡ allows (cond b (Some triple) o) t l
+applied_word : (triple : Triple) (o : Option Triple) (t l : ℕ) (b : Bool) →
+    cond b (word_of triple t l) (allows o t l) ≡ allows (cond b (Some triple) o) t l
 applied_word triple o t l true = refl
 applied_word triple o t l false = refl
 
 pub apply_stands : (k k' : TopologyState) (triple : Triple) (es : List Edit) → k'.held ≡ k.held
-    → ((t l : ℕ) → l < SEATS → has_seat (slice_index k'.rows l) t ≡ word_after triple t l (has_seat (slice_index k.rows l) t))
+    → ((t l : ℕ) → l < SEATS → has_seat (slice_index k'.rows l) t ≡
+    word_after triple t l (has_seat (slice_index k.rows l) t))
     → StandsFor k es → StandsFor k' (Apply triple ∷ es)
 apply_stands k k' triple es held row h =
     stands_from k' (Apply triple ∷ es)
@@ -96,15 +110,18 @@ apply_stands k k' triple es held row h =
 
 -- ---- triples in order
 
-apply_all-push : (triples : List Triple) (triple : Triple) (es : List Edit) → apply_all (triples ++ triple ∷ []) es ≡ Apply triple ∷ apply_all triples es
+apply_all-push : (triples : List Triple) (triple : Triple) (es : List Edit) →
+    apply_all (triples ++ triple ∷ []) es ≡ Apply triple ∷ apply_all triples es
 apply_all-push [] triple es = refl
 apply_all-push (t ∷ ts) triple es = apply_all-push ts triple (Apply t ∷ es)
 
 -- the triples so far, and one more
-pub apply_all-more : (triples : List Triple) (i : ℕ) (triple : Triple) (es : List Edit) → i < length triples → triple ≡ get_or triples i triple
+pub apply_all-more : (triples : List Triple) (i : ℕ) (triple : Triple) (es : List Edit) → i < length triples →
+    triple ≡ get_or triples i triple
     → apply_all (take (i + 1) triples) es ≡ Apply triple ∷ apply_all (take i triples) es
 apply_all-more triples i triple es p e =
-    ap (λ x. apply_all x es) (take_more triples i triple p) ∙ apply_all-push (take i triples) (get_or triples i triple) es
+    ap (λ x. apply_all x es) (take_more triples i triple p) ∙
+    apply_all-push (take i triples) (get_or triples i triple) es
     ∙ ap (λ t. Apply t ∷ apply_all (take i triples) es) (sym e)
 
 -- ---- what a topology tells

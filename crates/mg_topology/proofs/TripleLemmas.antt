@@ -26,10 +26,13 @@ tested triple h = and_from _ _ (ap is_oneway h.0) (not_from_false _ (is_disjoint
 pub overlaps-is : (triple : Triple) → IsTrue (overlaps triple) ↔ Overlaps triple
 overlaps-is triple = (found triple, tested triple)
 
-any_from : {P Q : Triple → Type 0} → ((triple : Triple) → P triple → Q triple) → (triples : List Triple) → Any P triples → Any Q triples
+any_from : {P Q : Triple → Type 0} → ((triple : Triple) → P triple → Q triple) → (triples : List Triple) →
+    Any P triples → Any Q triples
 any_from step triples (k, triple, within, is, p) = (k, triple, within, is, step triple p)
 
 -- and so for a list of triples
 pub list_any-overlaps : (triples : List Triple) → IsTrue (list_any overlaps triples) ↔ Any Overlaps triples
-list_any-overlaps triples =
-    (λ e. any_from found triples (Any-from_list_any overlaps triples e), λ h. list_any-from_Any overlaps triples (any_from tested triples h))
+list_any-overlaps triples = (
+  λ e. any_from found triples (Any-from_list_any overlaps triples e),
+  λ h. list_any-from_Any overlaps triples (any_from tested triples h),
+)

@@ -8,12 +8,15 @@ use Rattle.mg_words.specs.Cut.{cut}
 
 pub none_cut : (byte : ℕ) (text : List ℕ) → IsFirstByte (is_byte byte) text None → cut byte text ≡ None
 none_cut byte text h =
-    let all = position_or_len_is (is_byte byte) text (length text) 0 (omega arith) (λ k lt. false_from_ne_true _ (h k (omega arith) lt)) (λ lt. absurd (omega arith)) in
+    let all = position_or_len_is (is_byte byte) text (length text) 0 (omega arith)
+    (λ k lt. false_from_ne_true _ (h k (omega arith) lt)) (λ lt. absurd (omega arith)) in
     rw (all, le-ltb (length text) (length text) (omega arith)) refl
 
-pub first_cut : (byte : ℕ) (text before tail after : List ℕ) (n : ℕ) → IsFirstByte (is_byte byte) text (Some n) → before ≡ take n text → tail ≡ drop n text → after ≡ drop 1 tail → cut byte text ≡ Some (before, after)
+pub first_cut : (byte : ℕ) (text before tail after : List ℕ) (n : ℕ) → IsFirstByte (is_byte byte) text (Some n) →
+    before ≡ take n text → tail ≡ drop n text → after ≡ drop 1 tail → cut byte text ≡ Some (before, after)
 first_cut byte text before tail after n h b t r =
-    let place = position_or_len_is (is_byte byte) text n 0 (omega arith) (λ k lt. false_from_ne_true _ (h.0.before k (omega arith) lt)) (λ _. h.1) in
+    let place = position_or_len_is (is_byte byte) text n 0 (omega arith)
+    (λ k lt. false_from_ne_true _ (h.0.before k (omega arith) lt)) (λ _. h.1) in
     let high = h.0.high in
     let rest : after ≡ drop (n + 1) text = r ∙ ap (drop 1) t ∙ drop-drop 1 n text in
     rw (place, lt-ltb n (length text) high, ← b, ← rest) refl

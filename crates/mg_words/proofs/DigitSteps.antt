@@ -12,18 +12,23 @@ use Rattle.mg_words.specs.Numbers.{decimal_of}
 -- the value of digits after those of value n, while it is at most the limit
 unfoldable pub value_after : ℕ → ℕ → List ℕ → Option ℕ
 value_after limit n [] = Some n
-value_after limit n (d ∷ ds) = if is_ascii_digit d && nat_le (10 * n + (d - 48)) limit then value_after limit (10 * n + (d - 48)) ds else None
+value_after limit n (d ∷ ds) = if is_ascii_digit d && nat_le (10 * n + (d - 48)) limit then
+    value_after limit (10 * n + (d - 48)) ds else None
 
 -- one more digit, whose value is small enough
-pub digit_step : (limit : ℕ) (text : List ℕ) (i n : ℕ) → i < length text → is_ascii_digit (get_or text i 0) ≡ true → 10 * n + (get_or text i 0 - 48) ≤ limit → value_after limit (10 * n + (get_or text i 0 - 48)) (drop (i + 1) text) ≡ value_after limit n (drop i text)
+pub digit_step : (limit : ℕ) (text : List ℕ) (i n : ℕ) → i < length text → is_ascii_digit (get_or text i 0) ≡ true →
+    10 * n + (get_or text i 0 - 48) ≤ limit →
+    value_after limit (10 * n + (get_or text i 0 - 48)) (drop (i + 1) text) ≡ value_after limit n (drop i text)
 unfolding value_after
 digit_step limit text i n lt digit fits = rw (drop_more text i 0 lt, digit, le-leb _ _ fits) refl
 
-pub no_digit : (limit : ℕ) (text : List ℕ) (i n : ℕ) → i < length text → is_ascii_digit (get_or text i 0) ≡ false → value_after limit n (drop i text) ≡ None
+pub no_digit : (limit : ℕ) (text : List ℕ) (i n : ℕ) → i < length text → is_ascii_digit (get_or text i 0) ≡ false →
+    value_after limit n (drop i text) ≡ None
 unfolding value_after
 no_digit limit text i n lt digit = rw (drop_more text i 0 lt, digit) refl
 
-pub too_large : (limit : ℕ) (text : List ℕ) (i n : ℕ) → i < length text → is_ascii_digit (get_or text i 0) ≡ true → limit < 10 * n + (get_or text i 0 - 48) → value_after limit n (drop i text) ≡ None
+pub too_large : (limit : ℕ) (text : List ℕ) (i n : ℕ) → i < length text → is_ascii_digit (get_or text i 0) ≡ true →
+    limit < 10 * n + (get_or text i 0 - 48) → value_after limit n (drop i text) ≡ None
 unfolding value_after
 too_large limit text i n lt digit large = rw (drop_more text i 0 lt, digit, lt-leb _ _ large) refl
 
@@ -38,7 +43,9 @@ value_from m text = number_from_digits_after 10 m (map (λ c. c - 48) text)
 abbrev checked : ℕ → Bool → ℕ → Option ℕ
 checked limit b n = cond (b && leb n limit) (Some n) None
 
-digit_is : (limit : ℕ) (b small : Bool) (d m : ℕ) (text : List ℕ) → is_ascii_digit d ≡ b → leb (10 * m + (d - 48)) limit ≡ small → ((n : ℕ) → n ≤ limit → value_after limit n text ≡ checked limit (all_ascii_digits text) (value_from n text))
+digit_is : (limit : ℕ) (b small : Bool) (d m : ℕ) (text : List ℕ) → is_ascii_digit d ≡ b →
+    leb (10 * m + (d - 48)) limit ≡ small → ((n : ℕ) → n ≤ limit →
+    value_after limit n text ≡ checked limit (all_ascii_digits text) (value_from n text))
     → value_after limit m (d ∷ text) ≡ checked limit (all_ascii_digits (d ∷ text)) (value_from m (d ∷ text))
 unfolding value_after
 digit_is limit false small d m text e f others = rw e refl
@@ -46,17 +53,26 @@ digit_is limit true true d m text e f others =
     let turn : 10 * m + (d - 48) ≡ m * 10 + (d - 48) = omega arith in
     rw (e, f, turn) (others (m * 10 + (d - 48)) (omega (arith, leb-true _ _ f)))
 digit_is limit true false d m text e f others =
-    let large : leb (value_from (m * 10 + (d - 48)) text) limit ≡ false = lt-leb _ _ (omega (arith, leb-false _ _ f, number_after_ge 10 (m * 10 + (d - 48)) (map (λ c. c - 48) text) (omega arith))) in
+    let large : leb (value_from (m * 10 + (d - 48)) text) limit ≡ false =
+    lt-leb _ _ (omega (
+      arith,
+      leb-false _ _ f,
+      number_after_ge 10 (m * 10 + (d - 48)) (map (λ c. c - 48) text) (omega arith),
+    )) in
     rw (e, f, large, and_right (all_ascii_digits text) false refl) refl
 
-value_after_is : (limit : ℕ) (text : List ℕ) (m : ℕ) → m ≤ limit → value_after limit m text ≡ checked limit (all_ascii_digits text) (value_from m text)
+value_after_is : (limit : ℕ) (text : List ℕ) (m : ℕ) → m ≤ limit →
+    value_after limit m text ≡ checked limit (all_ascii_digits text) (value_from m text)
 unfolding value_after
 value_after_is limit [] m small = rw (le-leb _ _ small) refl
-value_after_is limit (d ∷ text) m small = digit_is limit (is_ascii_digit d) (leb (10 * m + (d - 48)) limit) d m text refl refl (value_after_is limit text)
+value_after_is limit (d ∷ text) m small = digit_is limit (is_ascii_digit d) (leb (10 * m + (d - 48)) limit) d m text
+    refl refl (value_after_is limit text)
 
 -- a text of a fit length is its digits' value, while that is at most the limit
-pub decimal_is : (most limit : ℕ) (text : List ℕ) → 0 < length text → length text ≤ most → value_after limit 0 text ≡ decimal_of most limit text
-decimal_is most limit text some fits = rw (ne_eqb (length text) 0 (λ e. absurd (omega arith)), le-leb _ _ fits) (value_after_is limit text 0 (omega arith))
+pub decimal_is : (most limit : ℕ) (text : List ℕ) → 0 < length text → length text ≤ most →
+    value_after limit 0 text ≡ decimal_of most limit text
+decimal_is most limit text some fits = rw (ne_eqb (length text) 0 (λ e. absurd (omega arith)), le-leb _ _ fits)
+    (value_after_is limit text 0 (omega arith))
 
 pub empty_none : (most limit : ℕ) (text : List ℕ) → length text ≡ 0 → decimal_of most limit text ≡ None
 empty_none most limit text none = rw (eq-eqb _ 0 none) refl

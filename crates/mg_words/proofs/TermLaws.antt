@@ -14,7 +14,16 @@ digit_is_word_byte c e =
     let two = and_parts (leb 48 c) (leb c 57) e in
     let low = leb-true 48 c two.0 in
     let high = leb-true c 57 two.1 in
-    rw (le-leb 33 c (omega (arith, low)), le-leb c 126 (omega (arith, high)), ne_eqb c 123 (λ q. omega (arith, high, q)), ne_eqb c 125 (λ q. omega (arith, high, q)), ne_eqb c 44 (λ q. omega (arith, low, q)), ne_eqb c 59 (λ q. omega (arith, high, q)), ne_eqb c 61 (λ q. omega (arith, high, q)), ne_eqb c 34 (λ q. omega (arith, low, q))) refl
+    rw (
+      le-leb 33 c (omega (arith, low)),
+      le-leb c 126 (omega (arith, high)),
+      ne_eqb c 123 (λ q. omega (arith, high, q)),
+      ne_eqb c 125 (λ q. omega (arith, high, q)),
+      ne_eqb c 44 (λ q. omega (arith, low, q)),
+      ne_eqb c 59 (λ q. omega (arith, high, q)),
+      ne_eqb c 61 (λ q. omega (arith, high, q)),
+      ne_eqb c 34 (λ q. omega (arith, low, q)),
+    ) refl
 
 digits_are_word_bytes : (ds : List ℕ) → all_ascii_digits ds ≡ true → list_all is_word_byte ds ≡ true
 digits_are_word_bytes [] e = refl
@@ -25,10 +34,13 @@ digits_are_word_bytes (c ∷ cs) e =
 pub decimal_short : (n : ℕ) → n < 2 ^ 32 → length (decimal n) ≤ 10
 decimal_short n small = length-decimal-le 10 n (omega arith) (omega arith) (omega arith)
 
-is_term_from : (text : List ℕ) → eqb (length text) 0 ≡ false → leb (length text) 64 ≡ true → list_all is_word_byte text ≡ true → is_term text ≡ true
+is_term_from : (text : List ℕ) → eqb (length text) 0 ≡ false → leb (length text) 64 ≡ true →
+    list_all is_word_byte text ≡ true → is_term text ≡ true
 is_term_from text a b d = rw (a, b, d) refl
 
 pub rtp_is_term : (n : ℕ) → n < 2 ^ 32 → is_term (rtp_name n) ≡ true
-rtp_is_term n small = is_term_from (rtp_name n) (ne_eqb (length (rtp_name n)) 0 (λ q. omega (arith, q))) (le-leb (length (rtp_name n)) 64 (omega (arith, decimal_short n small))) (digits_are_word_bytes (decimal n) (digits_decimal (numerals_by_value _ tells_all_ascii_digits) n (omega arith)))
+rtp_is_term n small = is_term_from (rtp_name n) (ne_eqb (length (rtp_name n)) 0 (λ q. omega (arith, q)))
+    (le-leb (length (rtp_name n)) 64 (omega (arith, decimal_short n small)))
+    (digits_are_word_bytes (decimal n) (digits_decimal (numerals_by_value _ tells_all_ascii_digits) n (omega arith)))
 
 pub ruleset names = (decimal_short, rtp_is_term)

@@ -9,4 +9,5 @@ table_is : WORD_BYTES ≡ map is_word_byte (range_with_len 0 256)
 table_is = refl
 
 pub table_at : (b : ℕ) (d : Bool) → b < 256 → get_or WORD_BYTES b d ≡ is_word_byte b
-table_at b d h = ap (λ (xs : List Bool). get_or xs b d) table_is ∙ get_or-map-range_with_len is_word_byte 0 256 b b d h (omega arith)
+table_at b d h = ap (λ (xs : List Bool). get_or xs b d) table_is ∙
+    get_or-map-range_with_len is_word_byte 0 256 b b d h (omega arith)

@@ -16,8 +16,8 @@ const MS: u64 = 1_000_000;
 const ONE_CALLER: &[u8] = b"MEGACO/1 [127.0.0.1]:28912 Transaction=1{Context=${\
     Add=${Media{LocalControl{Mode=SendOnly},Remote{v=0\nc=IN IP4 127.0.0.1\nm=audio 28912 RTP/AVP 0\n}}}}}";
 
-/// A clock that goes on by what is waited alone. At its first wait a caller asks for a termination, and the wait up to 100 ms takes
-/// two seconds more. It fails after 400 readings.
+/// A clock that goes on by what is waited alone. At its first wait a caller asks for a termination, and the wait up to
+/// 100 ms takes two seconds more. It fails after 400 readings.
 #[derive(Drop)]
 struct StallingClock<'a> {
     now: Cell<u64>,

@@ -12,10 +12,10 @@ use Rattle.mg_engine.specs.aids.Members.{HasMembers}
 use Rattle.mg_engine.specs.aids.Joined.{AreJoined}
 use Rattle.mg_engine.specs.aids.Seating.{AreSeated, place_count}
 
--- what is looked up of terminations and contexts is sound, all parts are made by one
--- configuration, each slot has its media, the slots that are held are in the order of their
--- terminations' numbers, each member is on its place, there is a row for each termination that there
--- can be, and the rows of those who talk are joined to their rooms
+-- what is looked up of terminations and contexts is sound, all parts are made by one configuration,
+-- each slot has its media, the slots that are held are in the order of their terminations' numbers,
+-- each member is on its place, there is a row for each termination that there can be, and the rows
+-- of those who talk are joined to their rooms
 pub record IsWhole (config : Config) (rooms : rooms.Registry) (pool : Limits)
     (kept : List media.SlotMedia) (slots : List ℕ) (flows : List flow.Room)
     (seating : List ℕ) (rows : List (Option ℕ)) : Type 0 where

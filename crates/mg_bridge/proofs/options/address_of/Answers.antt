@@ -8,7 +8,10 @@ use Rattle.mg_bridge.proofs.options.address_of.Goals as goal
 pub returns-in-Some : goal.returns-in-Some
 returns-in-Some c =
     let named = c.in-Some.ensures ∙ first_value-rows (found_of c.args.matches.now) c.args.name.now in
-    record { value = c.own_address.ensures.value ∙ ap (λ (o : Option (List ℕ)). option_map_or own_address o (Ok c.args.otherwise)) named }
+    record {
+      value = c.own_address.ensures.value ∙
+          ap (λ (o : Option (List ℕ)). option_map_or own_address o (Ok c.args.otherwise)) named;
+    }
 
 pub returns-in-None : goal.returns-in-None
 returns-in-None c =

@@ -20,10 +20,16 @@ live_is_plain = refl
 pub returns-clause-app : goal.returns-clause-app
 unfolding command_line
 returns-clause-app c =
-    let start : app_of c.about.result ≡ new_app (codes "mg_bridge") = ap app_of_fields c.about.ensures ∙ c.new.ensures.app in
-    let versioned = ap app_of_fields c.version.ensures ∙ ap (on_top (λ (s : Shape). record s { has_version = true })) start in
-    let nameless = ap app_of_fields c.no_binary_name.ensures ∙ ap (on_top (λ (s : Shape). record s { no_binary_name = true })) versioned in
-    let required = ap app_of_fields c.subcommand_required.ensures ∙ ap (on_top (λ (s : Shape). record s { subcommand_required = true })) nameless in
-    let replay = adds_subcommand _ _ _ _ _ c.in_ok-subcommand.ensures required c.in_ok-replay.ensures.app replay_is_plain in
-    let serve = adds_subcommand _ _ _ _ _ c.in_ok-subcommand-2.ensures replay c.in_ok-serve.ensures.app serve_is_plain in
+    let start : app_of c.about.result ≡ new_app (codes "mg_bridge") = ap app_of_fields c.about.ensures ∙
+    c.new.ensures.app in
+    let versioned = ap app_of_fields c.version.ensures ∙
+    ap (on_top (λ (s : Shape). record s { has_version = true })) start in
+    let nameless = ap app_of_fields c.no_binary_name.ensures ∙
+    ap (on_top (λ (s : Shape). record s { no_binary_name = true })) versioned in
+    let required = ap app_of_fields c.subcommand_required.ensures ∙
+    ap (on_top (λ (s : Shape). record s { subcommand_required = true })) nameless in
+    let replay = adds_subcommand _ _ _ _ _ c.in_ok-subcommand.ensures required c.in_ok-replay.ensures.app
+    replay_is_plain in
+    let serve = adds_subcommand _ _ _ _ _ c.in_ok-subcommand-2.ensures replay c.in_ok-serve.ensures.app serve_is_plain
+    in
     adds_subcommand _ _ _ _ _ c.in_ok-command.ensures serve c.in_ok-live.ensures.app live_is_plain

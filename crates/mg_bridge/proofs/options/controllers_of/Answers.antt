@@ -13,4 +13,7 @@ returns-in-Some c =
 pub returns-in-None : goal.returns-in-None
 returns-in-None c =
     let named = c.in-None.ensures ∙ raw_values-rows (found_of c.args.matches.now) (codes "controller") in
-    record { value = c.of-in-None.ensures.value ∙ ap (λ (o : Option (List (List ℕ))). controllers_of (unwrap_or o [])) named }
+    record {
+      value = c.of-in-None.ensures.value ∙
+          ap (λ (o : Option (List (List ℕ))). controllers_of (unwrap_or o [])) named;
+    }

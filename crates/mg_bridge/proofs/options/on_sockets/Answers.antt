@@ -5,5 +5,7 @@ use Rattle.mg_bridge.proofs.options.on_sockets.Goals as goal
 
 pub returns-clause-app : goal.returns-clause-app
 returns-clause-app c =
-    let controller = adds_rule _ _ _ _ _ c.in_ok-arg.ensures c.in_ok-subcommand.ensures.app c.controller_option.ensures.rule refl in
-    adds_rule _ _ _ _ _ c.in_ok-command.ensures controller (ap rule_of c.help.ensures ∙ c.short_number.ensures.rule) refl
+    let controller = adds_rule _ _ _ _ _ c.in_ok-arg.ensures c.in_ok-subcommand.ensures.app
+    c.controller_option.ensures.rule refl in
+    adds_rule _ _ _ _ _ c.in_ok-command.ensures controller (ap rule_of c.help.ensures ∙ c.short_number.ensures.rule)
+    refl

@@ -7,5 +7,7 @@ use Rattle.mg_bridge.proofs.options.subcommand.Goals as goal
 
 pub returns-clause-app : goal.returns-clause-app
 returns-clause-app c =
-    let start : app_of c.about.result ≡ new_app c.args.name.now = ap app_of_fields c.about.ensures ∙ c.new.ensures.app in
-    IfOk-weaker c.with_options.result _ _ (λ command is. is ∙ ap (λ (app : App). with_rules app options) start) c.with_options.ensures.app
+    let start : app_of c.about.result ≡ new_app c.args.name.now = ap app_of_fields c.about.ensures ∙
+    c.new.ensures.app in
+    IfOk-weaker c.with_options.result _ _ (λ command is. is ∙ ap (λ (app : App). with_rules app options) start)
+    c.with_options.ensures.app

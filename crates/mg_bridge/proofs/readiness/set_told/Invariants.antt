@@ -4,4 +4,5 @@ use Rattle.mg_bridge.proofs.ReadinessLaws.{LeavesToTell}
 use Rattle.mg_bridge.proofs.readiness.set_told.Given as goal
 
 abbrev pub invariant-loop-event : goal.invariant-loop-event
-invariant-loop-event l = AreStillReady l.initial.ready l.ready × LeavesToTell (items l.events) l.event-iterator.rest.now l.ready
+invariant-loop-event l = AreStillReady l.initial.ready l.ready ×
+    LeavesToTell (items l.events) l.event-iterator.rest.now l.ready

@@ -12,12 +12,14 @@ use Rattle.mg_commands.proofs.context_audit.put_pairs.Goals as goal
 pub put_pairs_of-requires-clause-first : goal.put_pairs_of-requires-clause-first
 put_pairs_of-requires-clause-first c =
     let seated : SeatedMember → Type 0 = IsOnSeat c.args.engine.now.rooms in
-    subst seated (sym c.index-members-i.is) (All-get_or seated c.args.members.now c.loop-i.i c.index-members-i.result c.loop-i-test.true c.requires.members)
+    subst seated (sym c.index-members-i.is) (All-get_or seated c.args.members.now c.loop-i.i c.index-members-i.result
+    c.loop-i-test.true c.requires.members)
 
 pub put_pairs_of-requires-clause-later : goal.put_pairs_of-requires-clause-later
 put_pairs_of-requires-clause-later c =
     let seated : SeatedMember → Type 0 = IsOnSeat c.args.engine.now.rooms in
-    subst (All seated) (sym c.split_at.ensures.back) (All-drop seated (c.loop-i.i + 1) c.args.members.now c.requires.members)
+    subst (All seated) (sym c.split_at.ensures.back)
+    (All-drop seated (c.loop-i.i + 1) c.args.members.now c.requires.members)
 
 pub loop-i-preserved : goal.loop-i-preserved
 loop-i-preserved c w s =
@@ -25,9 +27,15 @@ loop-i-preserved c w s =
     let i = c.loop-i.i in
     let first = c.index-members-i.result in
     let put = c.put_pairs_of.ensures.value w s
-    ∙ ap (λ (m : SeatedMember). after_all c.loop-i.reply (map (λ n. audit_pair w m.number n.number) c.split_at.result.1.now)) c.index-members-i.is
-    ∙ ap (λ (later : List SeatedMember). after_all c.loop-i.reply (map (λ n. audit_pair w (get_or ms i first).number n.number) later)) c.split_at.ensures.back in
+    ∙ ap (λ (m : SeatedMember). after_all c.loop-i.reply
+    (map (λ n. audit_pair w m.number n.number) c.split_at.result.1.now)) c.index-members-i.is
+    ∙ ap (λ (later : List SeatedMember). after_all c.loop-i.reply
+    (map (λ n. audit_pair w (get_or ms i first).number n.number) later)) c.split_at.ensures.back in
     seated_told w ms i first c.loop-i.reply c.put_pairs_of.new.reply _ c.loop-i-test.true put (c.loop-i.invariant w s)
 
 pub returns : goal.returns
-returns c = record { value = λ w s. members_told w (numbers c.args.members.now) c.loop-i.i c.loop-i.reply _ (omega (arith, c.loop-i-test.false, length-map c.args.members.now (λ (m : SeatedMember). m.number))) (c.loop-i.invariant w s) }
+returns c = record {
+  value = λ w s. members_told w (numbers c.args.members.now) c.loop-i.i c.loop-i.reply _
+      (omega (arith, c.loop-i-test.false, length-map c.args.members.now (λ (m : SeatedMember). m.number)))
+      (c.loop-i.invariant w s);
+}

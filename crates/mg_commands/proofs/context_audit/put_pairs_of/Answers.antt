@@ -8,4 +8,5 @@ pub audit_pair-requires-clause-second : goal.audit_pair-requires-clause-second
 audit_pair-requires-clause-second c =
     let second = c.second-item.result in
     let seated : SeatedMember → Type 0 = IsOnSeat c.args.engine.now.rooms in
-    subst seated (sym c.second-item.is) (All-get_or seated c.args.later.now c.loop-second.second-index second c.loop-second-test.true c.requires.later)
+    subst seated (sym c.second-item.is) (All-get_or seated c.args.later.now c.loop-second.second-index second
+    c.loop-second-test.true c.requires.later)

@@ -5,6 +5,7 @@ use Rattle.mg_commands.proofs.descriptor_fault.media_fault.Given as goal
 
 abbrev pub invariant-loop-i : goal.invariant-loop-i
 invariant-loop-i l = record {
-  walked : first_after (media_level l.source) (take l.i l.parts) (drop l.i l.parts) ≡ first_after (media_level l.source) [] l.parts;
+  walked : first_after (media_level l.source) (take l.i l.parts) (drop l.i l.parts) ≡
+      first_after (media_level l.source) [] l.parts;
   greatest : l.greatest ≡ greatest_stream (take l.i l.parts);
 }

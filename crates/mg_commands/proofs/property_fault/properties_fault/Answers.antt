@@ -4,11 +4,18 @@ use Rattle.mg_commands.proofs.property_fault.properties_fault.Goals as goal
 
 pub returns-in-Some-property_fault : goal.returns-in-Some-property_fault
 returns-in-Some-property_fault c = record {
-  value = first_found (property_fault c.args.source.now) c.in-Some.part c.loop-part.part-iterator c.next.new.self c.property_fault.result _ c.in-Some-property_fault.fault c.in-Some.ensures.steps c.property_fault.ensures.value c.in-Some-property_fault.is c.loop-part.invariant;
+  value = first_found (property_fault c.args.source.now) c.in-Some.part c.loop-part.part-iterator c.next.new.self
+      c.property_fault.result _ c.in-Some-property_fault.fault c.in-Some.ensures.steps c.property_fault.ensures.value
+      c.in-Some-property_fault.is c.loop-part.invariant;
 }
 
 pub loop-part-preserved : goal.loop-part-preserved
-loop-part-preserved c = passed_over (property_fault c.args.source.now) c.in-Some.part c.loop-part.part-iterator c.next.new.self c.property_fault.result _ c.in-Some.ensures.steps c.property_fault.ensures.value c.in_default.is c.loop-part.invariant
+loop-part-preserved c = passed_over (property_fault c.args.source.now) c.in-Some.part c.loop-part.part-iterator
+    c.next.new.self c.property_fault.result _ c.in-Some.ensures.steps c.property_fault.ensures.value c.in_default.is
+    c.loop-part.invariant
 
 pub returns : goal.returns
-returns c = record { value = none_left (property_fault c.args.source.now) c.loop-part.part-iterator _ c.in-None.ensures.steps.0 c.loop-part.invariant }
+returns c = record {
+  value = none_left (property_fault c.args.source.now) c.loop-part.part-iterator _
+      c.in-None.ensures.steps.0 c.loop-part.invariant;
+}

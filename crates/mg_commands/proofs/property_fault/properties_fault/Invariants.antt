@@ -5,4 +5,5 @@ use Rattle.mg_commands.specs.Search.{first_of}
 use Rattle.mg_commands.proofs.property_fault.properties_fault.Given as goal
 
 abbrev pub invariant-loop-part : goal.invariant-loop-part
-invariant-loop-part l = first_of (property_fault l.source) l.part-iterator ≡ first_of (property_fault l.source) (parts_of l.descriptors)
+invariant-loop-part l = first_of (property_fault l.source) l.part-iterator ≡
+    first_of (property_fault l.source) (parts_of l.descriptors)

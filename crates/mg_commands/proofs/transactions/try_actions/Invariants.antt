@@ -7,7 +7,8 @@ use Rattle.mg_commands.proofs.transactions.try_actions.Given as goal
 
 abbrev pub invariant-loop-action : goal.invariant-loop-action
 invariant-loop-action l = record {
-  ran : (base : Base) → Leads (IsTransaction base) (transaction_kept l.initial.engine l.initial.reply) (transaction_kept l.engine l.reply)
+  ran : (base : Base) → Leads (IsTransaction base) (transaction_kept l.initial.engine l.initial.reply)
+      (transaction_kept l.engine l.reply)
       (λ s now. with_actions l.source l.actions s ≡ with_actions l.source (drop l.action-index l.actions) now);
   whole : IsWhole l.initial.reply ⊎ (0 < l.action-index) → IsWhole l.reply;
 }

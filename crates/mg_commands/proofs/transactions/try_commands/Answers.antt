@@ -12,8 +12,13 @@ returns-then-not-goes_on c =
       | else-command w ↦ w.goes_on-is ∙ ap (λ (b : Bool). b || is_done) (sym w.if-command.false)
     ] in
     record {
-      ran = λ base. commands_stop c.args.source.now c.args.commands.now base (action_kept c.args.engine.now c.args.progress c.args.reply.now) (action_kept c.loop-command.engine c.loop-command.progress c.loop-command.reply) c.loop-command.command-index (c.loop-command.invariant.ran base)
-          c.command-item.result _ (action_kept c.try_command-is_done.new.engine c.try_command-is_done.result.0 c.try_command-is_done.new.reply) is_done c.loop-command-test.true c.command-item.is (sym is ∙ c.if-not-goes_on.true) (c.try_command-is_done.ensures.ran base);
+      ran = λ base. commands_stop c.args.source.now c.args.commands.now base
+          (action_kept c.args.engine.now c.args.progress c.args.reply.now)
+          (action_kept c.loop-command.engine c.loop-command.progress c.loop-command.reply)
+          c.loop-command.command-index (c.loop-command.invariant.ran base)
+          c.command-item.result _ (action_kept c.try_command-is_done.new.engine c.try_command-is_done.result.0
+          c.try_command-is_done.new.reply) is_done c.loop-command-test.true c.command-item.is
+          (sym is ∙ c.if-not-goes_on.true) (c.try_command-is_done.ensures.ran base);
     }
 
 pub loop-command-preserved : goal.loop-command-preserved
@@ -24,11 +29,19 @@ loop-command-preserved c =
       | else-command w ↦ w.goes_on-is ∙ ap (λ (b : Bool). b || is_done) (sym w.if-command.false)
     ] in
     record {
-      ran = λ base. commands_go_on c.args.source.now c.args.commands.now base (action_kept c.args.engine.now c.args.progress c.args.reply.now) (action_kept c.loop-command.engine c.loop-command.progress c.loop-command.reply) c.loop-command.command-index (c.loop-command.invariant.ran base)
-          c.command-item.result _ (action_kept c.try_command-is_done.new.engine c.try_command-is_done.result.0 c.try_command-is_done.new.reply) is_done c.loop-command-test.true c.command-item.is (sym is ∙ c.if-not-goes_on.false) (c.try_command-is_done.ensures.ran base);
+      ran = λ base. commands_go_on c.args.source.now c.args.commands.now base
+          (action_kept c.args.engine.now c.args.progress c.args.reply.now)
+          (action_kept c.loop-command.engine c.loop-command.progress c.loop-command.reply)
+          c.loop-command.command-index (c.loop-command.invariant.ran base)
+          c.command-item.result _ (action_kept c.try_command-is_done.new.engine c.try_command-is_done.result.0
+          c.try_command-is_done.new.reply) is_done c.loop-command-test.true c.command-item.is
+          (sym is ∙ c.if-not-goes_on.false) (c.try_command-is_done.ensures.ran base);
     }
 
 pub returns : goal.returns
 returns c = record {
-  ran = λ base. commands_finish c.args.source.now c.args.commands.now base (action_kept c.args.engine.now c.args.progress c.args.reply.now) (action_kept c.loop-command.engine c.loop-command.progress c.loop-command.reply) c.loop-command.command-index (c.loop-command.invariant.ran base) c.loop-command-test.false;
+  ran = λ base. commands_finish c.args.source.now c.args.commands.now base
+      (action_kept c.args.engine.now c.args.progress c.args.reply.now)
+      (action_kept c.loop-command.engine c.loop-command.progress c.loop-command.reply) c.loop-command.command-index
+      (c.loop-command.invariant.ran base) c.loop-command-test.false;
 }

@@ -7,6 +7,9 @@ use Rattle.mg_commands.proofs.transactions.try_members.Given as goal
 
 abbrev pub invariant-loop-number : goal.invariant-loop-number
 invariant-loop-number l = record {
-  ran : (base : Base) → Leads (IsAction base) (action_kept l.initial.engine l.initial.progress l.initial.reply) (action_kept l.engine l.progress l.reply)
-      (λ run now. with_names l.source l.command l.parameters (map Number l.members) run ≡ and_then (with_names l.source l.command l.parameters (map Number (drop l.number-index l.members))) (now, l.were_done));
+  ran : (base : Base) → Leads (IsAction base) (action_kept l.initial.engine l.initial.progress l.initial.reply)
+      (action_kept l.engine l.progress l.reply)
+      (λ run now. with_names l.source l.command l.parameters (map Number l.members) run ≡
+      and_then (with_names l.source l.command l.parameters (map Number (drop l.number-index l.members)))
+      (now, l.were_done));
 }

@@ -12,4 +12,13 @@ returns-clause-total c =
     let first_room = ap (λ (w : Written). w.room) c.write_head.ensures.value in
     let first_total = ap (λ (w : Written). w.room + length w.text) c.write_head.ensures.value in
     let second_total = ap (λ (w : Written). w.room + length w.text) c.write_error.ensures.value in
-    omega (arith, c.write_head.ensures.short, c.write_error.ensures.short, first_total, second_total, appended-total c.args.answer.now head (omega (arith, c.write_head.ensures.short)), appended-total c.write_head.new.out error (omega (arith, c.write_head.ensures.short, c.write_error.ensures.short, first_room)))
+    omega (
+      arith,
+      c.write_head.ensures.short,
+      c.write_error.ensures.short,
+      first_total,
+      second_total,
+      appended-total c.args.answer.now head (omega (arith, c.write_head.ensures.short)),
+      appended-total c.write_head.new.out error
+          (omega (arith, c.write_head.ensures.short, c.write_error.ensures.short, first_room)),
+    )

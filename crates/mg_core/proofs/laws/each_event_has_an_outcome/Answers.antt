@@ -10,7 +10,8 @@ returns-in-Tick c = rw c.in-Tick.is (record { some = λ w. (map Packet (packets_
 pub returns-in-Media : goal.returns-in-Media
 returns-in-Media c = rw c.in-Media.is (record {
   some = λ w.
-      let (g, taken, takes) = rw c.as_slice-in-Media.ensures.value at (c.one_arrival.ensures.some w.gateway c.in-Media._port c.in-Media._source.address) in
+      let (g, taken, takes) = rw c.as_slice-in-Media.ensures.value at
+      (c.one_arrival.ensures.some w.gateway c.in-Media._port c.in-Media._source.address) in
       ([], record w { gateway = g; tally = with_taken taken w.tally }, (taken, (g, takes, refl), refl));
 })
 

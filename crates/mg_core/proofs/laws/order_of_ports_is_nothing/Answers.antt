@@ -8,10 +8,12 @@ pub returns : goal.returns
 returns c =
     let engine = c.worlds_are_consistent.ensures in
     let law : OrderOfPortsIsNothing = λ config a b s t v w is same run runs.
-    one_run c.outcomes_are_one.ensures.event c.order_of_ports_is_nothing.ensures.law c.requests_are_consistent.ensures.law engine.media a b (start_of config) v w s t
+    one_run c.outcomes_are_one.ensures.event c.order_of_ports_is_nothing.ensures.law
+    c.requests_are_consistent.ensures.law engine.media a b (start_of config) v w s t
     (engine.start config is.0 (omega (arith, is.1))) same run runs in
     record {
       events = law;
       histories = λ config a b s t v w one other is same came too. law config a b s t v w is same came.0 too.0;
-      scripts = λ config one other counts more old new was now is a b same. law config a.ran.events b.ran.events a.ran.sent b.ran.sent a.last b.last is same a.ran.run b.ran.run;
+      scripts = λ config one other counts more old new was now is a b same. law config a.ran.events b.ran.events
+          a.ran.sent b.ran.sent a.last b.last is same a.ran.run b.ran.run;
     }

@@ -14,13 +14,19 @@ abbrev OneReading : Type 0
 OneReading = (bytes : List ℕ) (a b : MessageReading) → IsReading bytes a → IsReading bytes b → a ≡ b
 
 abbrev OneArrival : Type 0
-OneArrival = (w : engine.Gateway) (port : ℕ) (source list : List ℕ) (x y : engine.Gateway) (a b : Taken) → Takes w port source list x a → Takes w port source list y b → (x ≡ y) × (a ≡ b)
+OneArrival = (w : engine.Gateway) (port : ℕ) (source list : List ℕ) (x y : engine.Gateway) (a b : Taken) →
+    Takes w port source list x a → Takes w port source list y b → (x ≡ y) × (a ≡ b)
 
-same_outcome : OneReading → OneArrival → (w : World) (event : Event) (a b : List Sent) (x y : World) → Step w event a x → Step w event b y → (a ≡ b) × (x ≡ y)
+same_outcome : OneReading → OneArrival → (w : World) (event : Event) (a b : List Sent) (x y : World) →
+    Step w event a x → Step w event b y → (a ≡ b) × (x ≡ y)
 same_outcome reads arrives w (Control source bytes) a b x y (answer, (r, is, e), sent) (other, (q, too, f), also) =
-    let same = sym e ∙ ap (λ (z : MessageReading). answered bytes z (with_control w)) (reads bytes r q is too) ∙ f in
-    (sent ∙ ap (λ (p : Option (List ℕ) × World). answer_to source p.0) same ∙ sym also, ap (λ (p : Option (List ℕ) × World). p.1) same)
-same_outcome reads arrives w (Media port source bytes) a b x y (taken, (g, takes, is), sent) (other, (k, too, its), also) =
+    let same = sym e ∙ ap (λ (z : MessageReading). answered bytes z (with_control w)) (reads bytes r q is too) ∙ f in (
+      sent ∙ ap (λ (p : Option (List ℕ) × World). answer_to source p.0) same ∙
+          sym also,
+      ap (λ (p : Option (List ℕ) × World). p.1) same,
+    )
+same_outcome reads arrives w (Media port source bytes) a b x y (taken, (g, takes, is), sent)
+    (other, (k, too, its), also) =
     let same = arrives w.gateway port source.address bytes g k taken other takes too in (
       sent ∙ sym also,
       is
@@ -30,11 +36,13 @@ same_outcome reads arrives w (Media port source bytes) a b x y (taken, (g, takes
     )
 same_outcome reads arrives w Tick a b x y h k = (h.0 ∙ sym k.0, h.1 ∙ sym k.1)
 
-same_run : OneReading → OneArrival → (w : World) (events : List Event) (a b : List Sent) (x y : World) → Run w events a x → Run w events b y → (a ≡ b) × (x ≡ y)
+same_run : OneReading → OneArrival → (w : World) (events : List Event) (a b : List Sent) (x y : World) →
+    Run w events a x → Run w events b y → (a ≡ b) × (x ≡ y)
 same_run reads arrives w [] a b x y h k = (h.0 ∙ sym k.0, h.1 ∙ sym k.1)
 same_run reads arrives w (e ∷ es) a b x y (first, others, next, step, run, is) (second, rest, also, too, runs, its) =
     let same = same_outcome reads arrives w e first second next also step too in
-    let later = same_run reads arrives also es others rest x y (subst (λ (v : World). Run v es others x) same.1 run) runs in
+    let later = same_run reads arrives also es others rest x y (subst (λ (v : World). Run v es others x) same.1 run)
+    runs in
     (is ∙ ap (λ (l : List Sent). l ++ others) same.0 ∙ ap (λ (l : List Sent). second ++ l) later.0 ∙ sym its, later.1)
 
 pub returns : goal.returns

@@ -8,17 +8,24 @@ use Rattle.mg_core.specs.Answer.{request_replied, run_and_kept, unless_kept}
 use Rattle.mg_core.specs.World.{World}
 use Rattle.mg_core.proofs.laws.repetitions_are_answered_alike.Goals as goal
 
-sent_again : (source sender : List ℕ) (request : Request) (w : World) (o : Option (List ℕ)) → kept_text w.replies sender request.number ≡ o → request_replied source sender request w ≡ unless_kept o source sender request w
+sent_again : (source sender : List ℕ) (request : Request) (w : World) (o : Option (List ℕ)) →
+    kept_text w.replies sender request.number ≡ o →
+    request_replied source sender request w ≡ unless_kept o source sender request w
 sent_again source sender request w o is = ap (λ (x : Option (List ℕ)). unless_kept x source sender request w) is
 
-alike : KeptIsFound → (source other sender same : List ℕ) (request again : Request) (w : World) → kept_text w.replies sender request.number ≡ None → again.number ≡ request.number → str_eq_ignore_ascii_case sender same ≡ true
-    → request_replied other same again (request_replied source sender request w).1 ≡ request_replied source sender request w
+alike : KeptIsFound → (source other sender same : List ℕ) (request again : Request) (w : World) →
+    kept_text w.replies sender request.number ≡ None → again.number ≡ request.number →
+    str_eq_ignore_ascii_case sender same ≡ true
+    → request_replied other same again (request_replied source sender request w).1 ≡
+    request_replied source sender request w
 alike found source other sender same request again w none number name =
     let ran = run_and_kept sender request.number w (replied source request w.gateway) in
     let reply : KeptReply = record { sender = sender; number = request.number; text = ran.0 } in
-    let kept : kept_text ran.1.replies same again.number ≡ Some ran.0 = ap (kept_text (with_reply reply w.replies) same) number ∙ found w.replies reply same none name in
+    let kept : kept_text ran.1.replies same again.number ≡ Some ran.0 =
+    ap (kept_text (with_reply reply w.replies) same) number ∙ found w.replies reply same none name in
     let first = sent_again source sender request w None none in
-    ap (λ (p : List ℕ × World). request_replied other same again p.1) first ∙ sent_again other same again ran.1 (Some ran.0) kept ∙ sym first
+    ap (λ (p : List ℕ × World). request_replied other same again p.1) first ∙
+    sent_again other same again ran.1 (Some ran.0) kept ∙ sym first
 
 pub returns : goal.returns
 returns c = record {

@@ -17,15 +17,19 @@ returns c =
     let event = same_event requests reads engine.media engine.one engine.turned engine.tick in
     let one = one_event requests reads engine.media engine.one engine.turned engine.tick in
     let packets = same_packets c.packets_are_of_what_is_heard.ensures.packets in
-    let lists : UnheardChangesNothing = unheard event one (turn requests reads engine.media engine.one engine.turned engine.tick) packets in
+    let lists : UnheardChangesNothing = unheard event one
+    (turn requests reads engine.media engine.one engine.turned engine.tick) packets in
     record {
       event = event;
       one = one;
       packets = packets;
       lists = lists;
-      histories = λ some port config xs s t v w here there none came too. (lists some port (start_of config) (start_of config) v w xs s t (itself some (start_of config)) none came.0 too.0).0;
+      histories = λ some port config xs s t v w here there none came too.
+          (lists some port (start_of config) (start_of config) v w xs s t (itself some (start_of config)) none came.0
+          too.0).0;
       scripts = λ some port config xs one_script other counts more old new was now a b none first second.
-          (lists some port (start_of config) (start_of config) a.last b.last xs a.ran.sent b.ran.sent (itself some (start_of config)) none
+          (lists some port (start_of config) (start_of config) a.last b.last xs a.ran.sent b.ran.sent
+          (itself some (start_of config)) none
           (subst (λ (events : List Event). Run (start_of config) events a.ran.sent a.last) first a.ran.run)
           (subst (λ (events : List Event). Run (start_of config) events b.ran.sent b.last) second b.ran.run)).0;
     }

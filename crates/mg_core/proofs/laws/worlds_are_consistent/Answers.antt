@@ -6,4 +6,7 @@ use Rattle.mg_core.proofs.laws.worlds_are_consistent.Goals as goal
 pub returns : goal.returns
 returns c =
     let engine = c.worlds_are_consistent.ensures in
-    record { law = λ config events sent w is run. run_keeps c.requests_are_consistent.ensures.law engine.media (start_of config) w events sent (engine.start config is.0 (omega (arith, is.1))) run }
+    record {
+      law = λ config events sent w is run. run_keeps c.requests_are_consistent.ensures.law engine.media
+          (start_of config) w events sent (engine.start config is.0 (omega (arith, is.1))) run;
+    }

@@ -19,8 +19,14 @@ returns c = record {
       let from = c.args.from in
       let to = c.args.to in
       let header = c.args.header in
-      let at : i ≡ length before = omega (arith, c.len-last.ensures.value, ap (λ (xs : List Datagram). length xs) was, length-append before (last ∷ [])) in
-      let there = ap (λ (xs : List Datagram). get_or xs i none) (c.deref_mut.ensures.value ∙ was) ∙ ap (λ (n : ℕ). get_or (before ++ last ∷ []) n none) at ∙ get_or-append_seam before last [] none in
+      let at : i ≡ length before = omega (
+        arith,
+        c.len-last.ensures.value,
+        ap (λ (xs : List Datagram). length xs) was,
+        length-append before (last ∷ []),
+      ) in
+      let there = ap (λ (xs : List Datagram). get_or xs i none) (c.deref_mut.ensures.value ∙ was) ∙
+      ap (λ (n : ℕ). get_or (before ++ last ∷ []) n none) at ∙ get_or-append_seam before last [] none in
       let now = c.address.ensures.value ∙ ap (addressed from to header) there in
       ap (λ (xs : List Datagram). refill (length items) items (set xs i c.address.new.self)) c.deref_mut.ensures.value
       ∙ refilled items i c.address.new.self

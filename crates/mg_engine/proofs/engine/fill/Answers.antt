@@ -18,7 +18,12 @@ use Rattle.mg_engine.proofs.engine.fill.Goals as goal
 
 pub held_at-slot-requires : goal.held_at-slot-requires
 held_at-slot-requires c = record {
-  there = omega (arith, c.loop-i-test.true, c.requires.all, ap (λ (x : EngineState). length x.rooms.terminations) c.loop-i.invariant.same);
+  there = omega (
+    arith,
+    c.loop-i-test.true,
+    c.requires.all,
+    ap (λ (x : EngineState). length x.rooms.terminations) c.loop-i.invariant.same,
+  );
 }
 
 pub loop-i-init : goal.loop-i-init
@@ -42,16 +47,23 @@ loop-i-preserved c =
     let r = get_or rs i nobody in
     let same = c.loop-i.invariant.same in
     let there : now.rooms ≡ k.rooms = ap (λ (x : EngineState). x.rooms) same in
-    let slot = c.held_at-slot.ensures.value ∙ ap (λ (x : rooms.Registry). get_or (map (λ r. r.slot) x.terminations) i 0) there ∙ get_or-map (λ r. r.slot) rs i nobody 0 within in
-    let holder = ap (λ (x : rooms.Registry). holder_of x c.held_at-slot.result) there ∙ ap (holder_of k.rooms) slot ∙ c.requires.sound.by_slot i nobody within in
-    let put = subst (λ (m : ℕ). RisesAtMost m now.sums.work after.sums.work) (ap (λ (x : EngineState). sending_work_now x r) same) (c.put_packet.ensures.work r holder) in
+    let slot = c.held_at-slot.ensures.value ∙
+    ap (λ (x : rooms.Registry). get_or (map (λ r. r.slot) x.terminations) i 0) there ∙
+    get_or-map (λ r. r.slot) rs i nobody 0 within in
+    let holder = ap (λ (x : rooms.Registry). holder_of x c.held_at-slot.result) there ∙ ap (holder_of k.rooms) slot ∙
+    c.requires.sound.by_slot i nobody within in
+    let put = subst (λ (m : ℕ). RisesAtMost m now.sums.work after.sums.work)
+    (ap (λ (x : EngineState). sending_work_now x r) same) (c.put_packet.ensures.work r holder) in
     record {
       same = c.put_packet.ensures.same ∙ ap (λ (x : EngineState). with_mixes x after.sums.work after.shares) same;
       items = c.put_packet.ensures.put r holder
-          ∙ ap (λ (x : EngineState). c.loop-i.outbox.items ++ option_to_list (option_map (packet_now x r) (sent_to r))) same
+          ∙ ap (λ (x : EngineState). c.loop-i.outbox.items ++
+          option_to_list (option_map (packet_now x r) (sent_to r))) same
           ∙ ap (λ (xs : List Datagram). xs ++ option_to_list (f r)) c.loop-i.invariant.items
           ∙ sym (one_more f rs i nobody within);
       few = omega (arith, c.put_packet.ensures.few, c.loop-i.invariant.few);
       shared = c.put_packet.ensures.shared;
-      work = rises_twice (sum_by (sending_work_now k) (take i rs)) (sending_work_now k r) (sum_by (sending_work_now k) (take (i + 1) rs)) k.sums.work now.sums.work after.sums.work (omega (arith, sum_by_more (sending_work_now k) rs i nobody within)) c.loop-i.invariant.work put;
+      work = rises_twice (sum_by (sending_work_now k) (take i rs)) (sending_work_now k r)
+          (sum_by (sending_work_now k) (take (i + 1) rs)) k.sums.work now.sums.work after.sums.work
+          (omega (arith, sum_by_more (sending_work_now k) rs i nobody within)) c.loop-i.invariant.work put;
     }

@@ -5,7 +5,9 @@ use Rattle.mg_engine.specs.Arrival.{taken, Takes}
 use Rattle.mg_engine.specs.Gateway.{Gateway}
 use Rattle.mg_engine.proofs.laws.one_arrival.Goals as goal
 
-one_way : ((list : List ℕ) (a b : Reading) → IsReading list a → IsReading list b → a ≡ b) → (w : Gateway) (port : ℕ) (source list : List ℕ) (x y : Gateway) (a b : Taken) → Takes w port source list x a → Takes w port source list y b → (x ≡ y) × (a ≡ b)
+one_way : ((list : List ℕ) (a b : Reading) → IsReading list a → IsReading list b → a ≡ b) →
+    (w : Gateway) (port : ℕ) (source list : List ℕ) (x y : Gateway) (a b : Taken) → Takes w port source list x a →
+    Takes w port source list y b → (x ≡ y) × (a ≡ b)
 one_way same w port source list x y a b h k =
     let e = sym h.2 ∙ ap (taken w port source) (same list h.0 k.0 h.1 k.1) ∙ k.2 in
     (ap (λ (p : Gateway × Taken). p.0) e, ap (λ (p : Gateway × Taken). p.1) e)

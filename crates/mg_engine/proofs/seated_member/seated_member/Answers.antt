@@ -9,5 +9,6 @@ pub returns-clause-place : goal.returns-clause-place
 returns-clause-place c =
     let w = c.args.rooms.now in
     let m = c.unwrap-member.result in
-    let found = subst (λ (o : Option Member). IfSome o (IsThereAs w c.args.number)) c.unwrap-member.ensures c.member.ensures.some in
+    let found = subst (λ (o : Option Member). IfSome o (IsThereAs w c.args.number)) c.unwrap-member.ensures
+    c.member.ensures.some in
     (m.record, on_its_place w c.args.number m found)

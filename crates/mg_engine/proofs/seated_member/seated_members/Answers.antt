@@ -19,5 +19,6 @@ loop-number-preserved c =
           ∙ ap (λ (ys : List ℕ). ys ++ x.number ∷ []) c.loop-number.invariant.numbers
           ∙ ap (λ (n : ℕ). take i ns ++ n ∷ []) c.seated_member.ensures.number
           ∙ sym (take_more ns i 0 c.loop-number-test.true);
-      places = subst (λ (ys : List SeatedMember). All (IsOnSeat c.args.rooms.now) ys) (sym c.push.ensures.items) (All-push (IsOnSeat c.args.rooms.now) xs x c.loop-number.invariant.places c.seated_member.ensures.place);
+      places = subst (λ (ys : List SeatedMember). All (IsOnSeat c.args.rooms.now) ys) (sym c.push.ensures.items)
+          (All-push (IsOnSeat c.args.rooms.now) xs x c.loop-number.invariant.places c.seated_member.ensures.place);
     }

@@ -9,5 +9,7 @@ returns c =
     let all : n ≤ c.loop-i.i = omega (arith, c.loop-i-test.false, c.loop-i.invariant.long) in
     record {
       value = same_lists items (replicate n []) (c.loop-i.invariant.long ∙ sym (length-replicate n []))
-          (λ k e lt. get_or_default items k e [] lt ∙ c.loop-i.invariant.done k (omega (arith, lt, all, c.loop-i.invariant.long)) ∙ sym (get_or-replicate n k [] e (omega (arith, lt, c.loop-i.invariant.long))));
+          (λ k e lt. get_or_default items k e [] lt ∙
+          c.loop-i.invariant.done k (omega (arith, lt, all, c.loop-i.invariant.long)) ∙
+          sym (get_or-replicate n k [] e (omega (arith, lt, c.loop-i.invariant.long))));
     }

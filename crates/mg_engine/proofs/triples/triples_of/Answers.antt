@@ -18,7 +18,10 @@ loop-triple-preserved c =
     let before = c.loop-triple.invariant in
     let (checked, matched, none) = c.in_ok-triple_of.ensures.value in record {
       checked = checked_to members xs i _ _ c.loop-triple-test.true refl before.checked checked;
-      matched = subst (λ (ys : List Triple). AreMatched w at members (take (i + 1) xs) ys) (sym c.push.ensures.items) (matched_to w at members xs c.loop-triple.by_seats.items i _ _ y c.loop-triple-test.true refl before.matched matched);
-      none = subst (λ (ys : List Triple). ¬ Any Overlaps ys) (sym c.push.ensures.items) (none_overlaps c.loop-triple.by_seats.items y before.none none);
+      matched = subst (λ (ys : List Triple). AreMatched w at members (take (i + 1) xs) ys) (sym c.push.ensures.items)
+          (matched_to w at members xs c.loop-triple.by_seats.items i _ _ y c.loop-triple-test.true refl before.matched
+          matched);
+      none = subst (λ (ys : List Triple). ¬ Any Overlaps ys) (sym c.push.ensures.items)
+          (none_overlaps c.loop-triple.by_seats.items y before.none none);
       count = omega (arith, c.push.ensures.len, before.count);
     }

@@ -7,12 +7,14 @@ use Rattle.mg_g711.proofs.decoding.decode_a.Goals as goal
 pub swizzle-factors : goal.swizzle-factors
 swizzle-factors c =
     let turned = zipped _ (given_bytes 16 c.args.chunk.now c.told-chunk) (splat 16 213) in
-    lookups_fit (zipped _ (zipped _ turned (splat 16 4)) (splat 16 7)) (λ j l. a_exponent_below _ (c.requires.bytes j l))
+    lookups_fit (zipped _ (zipped _ turned (splat 16 4)) (splat 16 7))
+    (λ j l. a_exponent_below _ (c.requires.bytes j l))
 
 pub swizzle-first : goal.swizzle-first
 swizzle-first c =
     let turned = zipped _ (given_bytes 16 c.args.chunk.now c.told-chunk) (splat 16 213) in
-    lookups_fit (zipped _ (zipped _ turned (splat 16 4)) (splat 16 7)) (λ j l. a_exponent_below _ (c.requires.bytes j l))
+    lookups_fit (zipped _ (zipped _ turned (splat 16 4)) (splat 16 7))
+    (λ j l. a_exponent_below _ (c.requires.bytes j l))
 
 pub overflow_cast-magnitudes-3 : goal.overflow_cast-magnitudes-3
 overflow_cast-magnitudes-3 c =
@@ -32,7 +34,8 @@ returns c =
     let starts = zipped _ (zipped _ (zipped _ turned (splat 16 15)) (splat 16 3)) first in
     let magnitudes = mapped _ (zipped _ (mapped _ starts) (mapped _ factors)) in
     let positive = asked _ (zipped _ (mapped _ turned) (splat 16 128)) in
-    let put = stored w16 (chosen positive magnitudes (zipped _ magnitudes (splat 16 65535))) c.args.at c.args.samples.now c.requires.within in
+    let put = stored w16 (chosen positive magnitudes (zipped _ magnitudes (splat 16 65535))) c.args.at
+    c.args.samples.now c.requires.within in
     record {
       inside = λ j l. put.inside j l ∙ a_sample_is _ (c.requires.bytes j l);
       below = put.below;

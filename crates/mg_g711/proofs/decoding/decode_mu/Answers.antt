@@ -16,7 +16,8 @@ overflow_cast-magnitudes c =
     let exponents = zipped _ (zipped _ turned (splat 16 4)) (splat 16 7) in
     let factors = looked_up mu_factors exponents (λ j l. mu_exponent_below _ (c.requires.bytes j l)) in
     let starts = zipped _ (zipped _ (zipped _ turned (splat 16 15)) (splat 16 3)) (splat 16 132) in
-    each _ (zipped _ (zipped _ (mapped _ starts) (mapped _ factors)) (splat 16 132)) (λ j l. mu_magnitude_fits _ (c.requires.bytes j l))
+    each _ (zipped _ (zipped _ (mapped _ starts) (mapped _ factors)) (splat 16 132))
+    (λ j l. mu_magnitude_fits _ (c.requires.bytes j l))
 
 pub returns : goal.returns
 returns c =
@@ -26,7 +27,8 @@ returns c =
     let starts = zipped _ (zipped _ (zipped _ turned (splat 16 15)) (splat 16 3)) (splat 16 132) in
     let magnitudes = mapped _ (zipped _ (zipped _ (mapped _ starts) (mapped _ factors)) (splat 16 132)) in
     let positive = asked _ (zipped _ (mapped _ turned) (splat 16 128)) in
-    let put = stored w16 (chosen positive magnitudes (zipped _ magnitudes (splat 16 65535))) c.args.at c.args.samples.now c.requires.within in
+    let put = stored w16 (chosen positive magnitudes (zipped _ magnitudes (splat 16 65535))) c.args.at
+    c.args.samples.now c.requires.within in
     record {
       inside = λ j l. put.inside j l ∙ mu_sample_is _ (c.requires.bytes j l);
       below = put.below;

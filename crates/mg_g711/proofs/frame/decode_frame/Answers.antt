@@ -9,14 +9,16 @@ use Rattle.mg_g711.proofs.frame.decode_frame.Goals as goal
 
 pub decode_chunk-requires-clause-bytes : goal.decode_chunk-requires-clause-bytes
 decode_chunk-requires-clause-bytes c = λ j l.
-    let read = chunk_is 16 c.as_chunks.result.0.now c.args.bytes.now 0 c.loop-i.i j c.as_chunks.ensures.front (omega arith) l in
+    let read = chunk_is 16 c.as_chunks.result.0.now c.args.bytes.now 0 c.loop-i.i j c.as_chunks.ensures.front
+    (omega arith) l in
     rw read (c.fits-bytes (16 * c.loop-i.i + j))
 
 pub loop-i-preserved : goal.loop-i-preserved
 loop-i-preserved c = record {
   whole = search rules;
   each = chunk_more 16 _ _ _ _ _ _ _ c.loop-i.invariant.each c.decode_chunk.ensures (omega arith) (λ j l.
-      ap (sample_of c.args.law) (chunk_is 16 c.as_chunks.result.0.now c.args.bytes.now 0 c.loop-i.i j c.as_chunks.ensures.front (omega arith) l));
+      ap (sample_of c.args.law) (chunk_is 16 c.as_chunks.result.0.now c.args.bytes.now 0 c.loop-i.i j
+      c.as_chunks.ensures.front (omega arith) l));
 }
 
 pub returns-clause-each : goal.returns-clause-each

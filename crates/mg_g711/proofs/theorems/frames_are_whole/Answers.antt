@@ -5,5 +5,6 @@ use Rattle.mg_g711.proofs.theorems.frames_are_whole.Goals as goal
 pub returns : goal.returns
 returns c = record {
   whole = c.told-samples;
-  in_range = All-from_get_or (FitsSigned w16) c.args.samples.now (pos 0) (λ k below. c.loop-i.invariant k (omega arith));
+  in_range = All-from_get_or (FitsSigned w16) c.args.samples.now (pos 0)
+      (λ k below. c.loop-i.invariant k (omega arith));
 }

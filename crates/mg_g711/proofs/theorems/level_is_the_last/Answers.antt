@@ -17,8 +17,10 @@ returns-clause-last c = λ k small begins.
     elim (cases_lt (level_of c.args.law c.args.magnitude) k) [
       | inr up_to ↦ up_to
       | inl above ↦
-          let next : c.args.magnitude < least_of c.args.law (suc (level_of c.args.law c.args.magnitude)) = lies.to (omega arith) in
-          let grown : least_of c.args.law (suc (level_of c.args.law c.args.magnitude)) ≤ least_of c.args.law k = grows 127 (least_of c.args.law) (least_of_grows c.args.law) _ k (omega arith) small in
+          let next : c.args.magnitude < least_of c.args.law (suc (level_of c.args.law c.args.magnitude)) =
+          lies.to (omega arith) in
+          let grown : least_of c.args.law (suc (level_of c.args.law c.args.magnitude)) ≤ least_of c.args.law k =
+          grows 127 (least_of c.args.law) (least_of_grows c.args.law) _ k (omega arith) small in
           absurd (omega arith)
     ]
 
@@ -27,5 +29,6 @@ returns-clause-border c = λ k small.
     LiesIn-level_of c.args.law (least_of c.args.law k) k (record {
       small = small;
       from = omega arith;
-      to = λ below. grows_strictly 127 (least_of c.args.law) (least_of_grows c.args.law) k (suc k) (omega arith) (omega arith);
+      to = λ below. grows_strictly 127 (least_of c.args.law) (least_of_grows c.args.law) k (suc k) (omega arith)
+          (omega arith);
     })

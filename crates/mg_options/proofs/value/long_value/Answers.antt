@@ -7,6 +7,7 @@ use Rattle.mg_options.proofs.value.long_value.Goals as goal
 pub returns : goal.returns
 returns c = record {
   value =
-      given_is _ (λ bs r. ParsesUnsigned 32 10 bs r × ExplainsUnsignedError 10 bs r × HasUnsignedDigitsIfOk bs r) 32 4294967296 refl (λ t r g. g.0)
+      given_is _ (λ bs r. ParsesUnsigned 32 10 bs r × ExplainsUnsignedError 10 bs r × HasUnsignedDigitsIfOk bs r) 32
+      4294967296 refl (λ t r g. g.0)
       (found_of c.args.matches.now) c.args.name.now c.get_one.result c.get_one.ensures.none c.get_one.ensures.value;
 }

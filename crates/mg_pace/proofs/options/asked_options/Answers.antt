@@ -8,13 +8,15 @@ pub returns-in_err-matches-clause-refused : goal.returns-in_err-matches-clause-r
 returns-in_err-matches-clause-refused g c =
     let words = map g.S.AsStr.text c.args.words.now in
     let error = c.in_err-matches.field-0.0 in
-    passed_on c.from_residual-in_err-matches.result error (IsRefused (asked words)) c.from_residual-in_err-matches.ensures.1
+    passed_on c.from_residual-in_err-matches.result error (IsRefused (asked words))
+    c.from_residual-in_err-matches.ensures.1
     (asks_none _ words c.in_ok-command.ensures.app (kind_of error) c.in_err-matches.ensures.kinds)
 
 pub returns-clause-asked : goal.returns-clause-asked
 returns-clause-asked g c =
     let words = map g.S.AsStr.text c.args.words.now in
-    asks_run _ words c.in_ok-command.ensures.app c.in_ok-matches.matches c.in_ok-matches.ensures.kinds c.in_ok-matches.ensures.matches
+    asks_run _ words c.in_ok-command.ensures.app c.in_ok-matches.matches c.in_ok-matches.ensures.kinds
+    c.in_ok-matches.ensures.matches
     ∙ ap run (sym c.options_of.ensures.value)
 
 pub returns-clause-some : goal.returns-clause-some

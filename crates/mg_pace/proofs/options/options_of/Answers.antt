@@ -6,5 +6,11 @@ pub returns : goal.returns
 unfolding options_in
 returns c = record {
   value =
-      rw (c.bounded_polls.ensures.value, c.unwrap_or.ensures, c.short_value.ensures.value, c.ticks_wanted.ensures.value, c.long_value.ensures.value) refl;
+      rw (
+        c.bounded_polls.ensures.value,
+        c.unwrap_or.ensures,
+        c.short_value.ensures.value,
+        c.ticks_wanted.ensures.value,
+        c.long_value.ensures.value,
+      ) refl;
 }

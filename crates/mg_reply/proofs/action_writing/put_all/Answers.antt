@@ -16,19 +16,23 @@ loop-item-preserved c =
     let opening = c.args.opening.now in
     let rest = texts_of kind (drop (i + 1) xs) in
     let is = c.item-item.is in
-    let put = c.put_if_of-is_next_first.ensures.value ∙ ap (λ y. drafted c.loop-item.draft (listed (mark_of opening first) (texts_of kind (y ∷ [])))) is in
+    let put = c.put_if_of-is_next_first.ensures.value ∙
+    ap (λ y. drafted c.loop-item.draft (listed (mark_of opening first) (texts_of kind (y ∷ [])))) is in
     let next = c.put_if_of-is_next_first.ensures.first ∙ ap (λ y. first && is_empty (texts_of kind (y ∷ []))) is in
     record {
       same =
           ap (λ b. drafted c.put_if_of-is_next_first.new.draft (listed (mark_of opening b) rest)) next
-          ∙ ap (λ d. drafted d (listed (mark_of opening (first && is_empty (texts_of kind (get_or xs i x ∷ [])))) rest)) put
+          ∙ ap (λ d. drafted d (listed (mark_of opening (first && is_empty (texts_of kind (get_or xs i x ∷ []))))
+          rest)) put
           ∙ all_step c.loop-item.draft opening first kind xs i x c.loop-item-test.true
           ∙ c.loop-item.invariant.same;
-      first = ap (λ b. b && is_empty rest) next ∙ first_step first kind xs i x c.loop-item-test.true ∙ c.loop-item.invariant.first;
+      first = ap (λ b. b && is_empty rest) next ∙ first_step first kind xs i x c.loop-item-test.true ∙
+          c.loop-item.invariant.first;
     }
 
 pub returns-clause-value : goal.returns-clause-value
 returns-clause-value c =
     c.put.ensures.value
-    ∙ sym (all_end c.loop-item.draft (mark_of c.args.opening.now c.loop-item.is_next_first) c.args.kind c.args.items.now c.loop-item.item-index c.loop-item-test.false)
+    ∙ sym (all_end c.loop-item.draft (mark_of c.args.opening.now c.loop-item.is_next_first) c.args.kind
+    c.args.items.now c.loop-item.item-index c.loop-item-test.false)
     ∙ c.loop-item.invariant.same

@@ -7,6 +7,8 @@ use Rattle.mg_reply.proofs.action_writing.put_all.Given as goal
 
 abbrev pub invariant-loop-item : goal.invariant-loop-item
 invariant-loop-item l = record {
-  same : drafted l.draft (listed (mark_of l.opening l.is_next_first) (texts_of l.kind (drop l.item-index l.items))) ≡ drafted l.initial.draft (listed (mark_of l.opening l.is_first) (texts_of l.kind l.items));
-  first : (l.is_next_first && is_empty (texts_of l.kind (drop l.item-index l.items))) ≡ (l.is_first && is_empty (texts_of l.kind l.items));
+  same : drafted l.draft (listed (mark_of l.opening l.is_next_first) (texts_of l.kind (drop l.item-index l.items))) ≡
+      drafted l.initial.draft (listed (mark_of l.opening l.is_first) (texts_of l.kind l.items));
+  first : (l.is_next_first && is_empty (texts_of l.kind (drop l.item-index l.items))) ≡
+      (l.is_first && is_empty (texts_of l.kind l.items));
 }

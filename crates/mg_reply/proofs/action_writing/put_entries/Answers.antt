@@ -17,11 +17,17 @@ returns c =
     let first = c.put_topology-is_first.ensures.first in
     let next = c.put_all-is_first.ensures.first ∙ ap (λ b. b && is_empty ys) first in
     let last = c.put_all-is_empty.ensures.first ∙ ap (λ b. b && is_empty zs) next in
-    let two = c.put_all-is_first.ensures.value ∙ ap (λ b. drafted c.put_topology-is_first.new.draft (listed (mark_of (codes "{") b) ys)) first in
-    let three = c.put_all-is_empty.ensures.value ∙ ap (λ b. drafted c.put_all-is_first.new.draft (listed (mark_of (codes "{") b) zs)) next in
+    let two = c.put_all-is_first.ensures.value ∙
+    ap (λ b. drafted c.put_topology-is_first.new.draft (listed (mark_of (codes "{") b) ys)) first in
+    let three = c.put_all-is_empty.ensures.value ∙
+    ap (λ b. drafted c.put_all-is_first.new.draft (listed (mark_of (codes "{") b) zs)) next in
     let four = c.close.ensures.value ∙ ap (λ b. drafted c.put_all-is_empty.new.draft (closing b)) last in
     record {
       value =
-          four_parts d c.put_topology-is_first.new.draft c.put_all-is_first.new.draft c.put_all-is_empty.new.draft c.close.new.draft (listed (codes "{") xs) (listed (mark_of (codes "{") (is_empty xs)) ys) (listed (mark_of (codes "{") (is_empty xs && is_empty ys)) zs) (closing ((is_empty xs && is_empty ys) && is_empty zs)) c.put_topology-is_first.ensures.value two three four
+          four_parts d c.put_topology-is_first.new.draft c.put_all-is_first.new.draft c.put_all-is_empty.new.draft
+          c.close.new.draft (listed (codes "{") xs) (listed (mark_of (codes "{") (is_empty xs)) ys)
+          (listed (mark_of (codes "{") (is_empty xs && is_empty ys)) zs)
+          (closing ((is_empty xs && is_empty ys) && is_empty zs)) c.put_topology-is_first.ensures.value two three
+          four
           ∙ ap (drafted d) (entries_are xs ys zs);
     }

@@ -11,5 +11,6 @@ returns-clause-value c =
     let mark = mark_of c.args.opening.now c.args.is_first in
     let text = item_text c.args.item.now in
     let holds : is_of c.args.kind c.args.item.now ≡ true = cc in
-    then c.args.draft.now c.put_mark.new.draft c.put_item.new.draft mark text c.put_mark.ensures.value c.put_item.ensures.value
+    then c.args.draft.now c.put_mark.new.draft c.put_item.new.draft mark text c.put_mark.ensures.value
+    c.put_item.ensures.value
     ∙ ap (drafted c.args.draft.now) (sym (one_of mark c.args.kind c.args.item.now holds))

@@ -13,5 +13,6 @@ returns-clause-value c =
     let texts = texts_of Triples c.args.items.now in
     let all = c.put_all-is_empty.new.draft in
     let close = c.close.ensures.value ∙ ap (λ b. drafted all (closing b)) c.put_all-is_empty.ensures.first in
-    then c.args.draft.now all c.close.new.draft (listed (codes "{Topology{") texts) (closing (is_empty texts)) c.put_all-is_empty.ensures.value close
+    then c.args.draft.now all c.close.new.draft (listed (codes "{Topology{") texts) (closing (is_empty texts))
+    c.put_all-is_empty.ensures.value close
     ∙ ap (drafted c.args.draft.now) (topology_is texts)

@@ -9,6 +9,7 @@ returns c =
     let is : written ≡ c.padded.result.now = c.copy_from_slice.ensures.after in
     let whole : length written ≡ 16 = search rules in
     record {
-      value = part_seen c.args.at c.args.bytes.now written _ name (omega (arith, c.requires.fits)) (omega (arith, whole, c.padded.ensures.short)) (ap (take (length name)) is ∙ c.padded.ensures.value);
+      value = part_seen c.args.at c.args.bytes.now written _ name (omega (arith, c.requires.fits))
+          (omega (arith, whole, c.padded.ensures.short)) (ap (take (length name)) is ∙ c.padded.ensures.value);
       len = search rules;
     }

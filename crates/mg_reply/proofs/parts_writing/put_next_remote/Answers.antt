@@ -9,4 +9,8 @@ use Rattle.mg_reply.proofs.parts_writing.put_next_remote.Goals as goal
 pub returns-in-Some : goal.returns-in-Some
 returns-in-Some c =
     let text = remote_text c.in-Some.chosen in
-    record { value = then c.args.draft.now c.put.new.self c.put_remote.new.draft (codes ",") text c.put.ensures.value c.put_remote.ensures.value ∙ ap (drafted c.args.draft.now) (sym (listed-one (codes ",") text)) ∙ ap (λ o. drafted c.args.draft.now (listed (codes ",") (optional remote_text o))) (sym c.in-Some.is) }
+    record {
+      value = then c.args.draft.now c.put.new.self c.put_remote.new.draft (codes ",") text c.put.ensures.value
+          c.put_remote.ensures.value ∙ ap (drafted c.args.draft.now) (sym (listed-one (codes ",") text)) ∙
+          ap (λ o. drafted c.args.draft.now (listed (codes ",") (optional remote_text o))) (sym c.in-Some.is);
+    }

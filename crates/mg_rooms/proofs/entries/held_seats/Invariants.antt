@@ -7,5 +7,6 @@ use Rattle.mg_rooms.proofs.entries.held_seats.Given as goal
 abbrev pub invariant-loop-entry : goal.invariant-loop-entry
 invariant-loop-entry l = record {
   long : length l.held ≡ MEMBERS;
-  held : (seat : ℕ) → seat < MEMBERS → get_or l.held seat true ≡ list_any (passes_at (λ r. (r.context == l.context) && (r.seat == seat))) (take l.entry-index l.slots);
+  held : (seat : ℕ) → seat < MEMBERS → get_or l.held seat true ≡
+      list_any (passes_at (λ r. (r.context == l.context) && (r.seat == seat))) (take l.entry-index l.slots);
 }

@@ -9,7 +9,8 @@ use Rattle.mg_rtp.specs.Reading.{Reading, IsReading, reading_of}
 use Rattle.mg_rtp.proofs.Once.{packet_once, fault_once, no_fault}
 use Rattle.mg_rtp.proofs.laws.one_reading.Goals as goal
 
-read_is : (bytes : List ℕ) (r : Result Packet RtpFault) → IfOk r (λ packet. IsPacket bytes packet.header packet.payload.now)
+read_is : (bytes : List ℕ) (r : Result Packet RtpFault) →
+    IfOk r (λ packet. IsPacket bytes packet.header packet.payload.now)
     → ((f : RtpFault) → (r ≡ Err f) ↔ IsFault bytes f) → IsReading bytes (reading_of r)
 read_is bytes (Ok packet) found fault = found
 read_is bytes (Err f) found fault = (fault f).0 refl

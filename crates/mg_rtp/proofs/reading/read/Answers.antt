@@ -14,19 +14,34 @@ returns-in_err-rest c =
     let bytes = c.args.bytes.now in
     let head = c.split_at.result.0.now in
     let h = c.header_of-header.result in
-    let begins = begins_at bytes head c.split_at.result.1.now h (λ i. omega (arith, c.type_inv.bytes i)) c.if-bytes-lt-HEADER_LEN.false c.split_at.ensures.front c.split_at.ensures.back c.if-first-ne-VERSION.false c.header_of-header.ensures.fields c.header_of-header.ensures.within in
+    let begins = begins_at bytes head c.split_at.result.1.now h (λ i. omega (arith, c.type_inv.bytes i))
+    c.if-bytes-lt-HEADER_LEN.false c.split_at.ensures.front c.split_at.ensures.back c.if-first-ne-VERSION.false
+    c.header_of-header.ensures.fields c.header_of-header.ensures.within in
     let r = c.from_residual.result in
     let p = err_from_is_err_and r c.from_residual.ensures.1 in
     let is : r ≡ Err Short = p.1 ∙ ap (λ (e : RtpFault). Err e) (p.2 ∙ c.in_err-rest.ensures.err.0) in
-    let outcome : IsOutcome bytes r = err_outcome bytes r Short is (inr (record { layout = layout_of (get_or head 0 0); header = h; rest = c.split_at.result.1.now; begins = begins; few = c.in_err-rest.ensures.err.1 })) in
-    record { found = found_packet bytes r outcome; only = only_packet bytes r outcome; fault = only_fault bytes r outcome }
+    let outcome : IsOutcome bytes r = err_outcome bytes r Short is
+    (inr (record {
+      layout = layout_of (get_or head 0 0);
+      header = h;
+      rest = c.split_at.result.1.now;
+      begins = begins;
+      few = c.in_err-rest.ensures.err.1;
+    })) in
+    record {
+      found = found_packet bytes r outcome;
+      only = only_packet bytes r outcome;
+      fault = only_fault bytes r outcome;
+    }
 
 pub returns-in_err-rest-2 : goal.returns-in_err-rest-2
 returns-in_err-rest-2 c =
     let bytes = c.args.bytes.now in
     let head = c.split_at.result.0.now in
     let h = c.header_of-header.result in
-    let begins = begins_at bytes head c.split_at.result.1.now h (λ i. omega (arith, c.type_inv.bytes i)) c.if-bytes-lt-HEADER_LEN.false c.split_at.ensures.front c.split_at.ensures.back c.if-first-ne-VERSION.false c.header_of-header.ensures.fields c.header_of-header.ensures.within in
+    let begins = begins_at bytes head c.split_at.result.1.now h (λ i. omega (arith, c.type_inv.bytes i))
+    c.if-bytes-lt-HEADER_LEN.false c.split_at.ensures.front c.split_at.ensures.back c.if-first-ne-VERSION.false
+    c.header_of-header.ensures.fields c.header_of-header.ensures.within in
     let sources = c.in_ok-rest.ensures.ok in
     let r = c.from_residual-in_err-rest-2.result in
     let p = err_from_is_err_and r c.from_residual-in_err-rest-2.ensures.1 in
@@ -41,14 +56,20 @@ returns-in_err-rest-2 c =
       is_extended = c.in_err-rest-2.ensures.err.1;
       ends = c.in_err-rest-2.ensures.err.2;
     }) in
-    record { found = found_packet bytes r outcome; only = only_packet bytes r outcome; fault = only_fault bytes r outcome }
+    record {
+      found = found_packet bytes r outcome;
+      only = only_packet bytes r outcome;
+      fault = only_fault bytes r outcome;
+    }
 
 pub returns-in_err-payload : goal.returns-in_err-payload
 returns-in_err-payload c =
     let bytes = c.args.bytes.now in
     let head = c.split_at.result.0.now in
     let h = c.header_of-header.result in
-    let begins = begins_at bytes head c.split_at.result.1.now h (λ i. omega (arith, c.type_inv.bytes i)) c.if-bytes-lt-HEADER_LEN.false c.split_at.ensures.front c.split_at.ensures.back c.if-first-ne-VERSION.false c.header_of-header.ensures.fields c.header_of-header.ensures.within in
+    let begins = begins_at bytes head c.split_at.result.1.now h (λ i. omega (arith, c.type_inv.bytes i))
+    c.if-bytes-lt-HEADER_LEN.false c.split_at.ensures.front c.split_at.ensures.back c.if-first-ne-VERSION.false
+    c.header_of-header.ensures.fields c.header_of-header.ensures.within in
     let sources = c.in_ok-rest.ensures.ok in
     let extension = c.in_ok-rest-2.ensures.ok in
     let r = c.from_residual-in_err-payload.result in
@@ -66,14 +87,20 @@ returns-in_err-payload c =
       is_padded = c.in_err-payload.ensures.err.1;
       bad = c.in_err-payload.ensures.err.2;
     }) in
-    record { found = found_packet bytes r outcome; only = only_packet bytes r outcome; fault = only_fault bytes r outcome }
+    record {
+      found = found_packet bytes r outcome;
+      only = only_packet bytes r outcome;
+      fault = only_fault bytes r outcome;
+    }
 
 pub returns : goal.returns
 returns c =
     let bytes = c.args.bytes.now in
     let head = c.split_at.result.0.now in
     let h = c.header_of-header.result in
-    let begins = begins_at bytes head c.split_at.result.1.now h (λ i. omega (arith, c.type_inv.bytes i)) c.if-bytes-lt-HEADER_LEN.false c.split_at.ensures.front c.split_at.ensures.back c.if-first-ne-VERSION.false c.header_of-header.ensures.fields c.header_of-header.ensures.within in
+    let begins = begins_at bytes head c.split_at.result.1.now h (λ i. omega (arith, c.type_inv.bytes i))
+    c.if-bytes-lt-HEADER_LEN.false c.split_at.ensures.front c.split_at.ensures.back c.if-first-ne-VERSION.false
+    c.header_of-header.ensures.fields c.header_of-header.ensures.within in
     let sources = c.in_ok-rest.ensures.ok in
     let extension = c.in_ok-rest-2.ensures.ok in
     let padding = c.in_ok-payload.ensures.ok in
@@ -89,4 +116,8 @@ returns c =
       is_extension = extension.1;
       is_padding = padding.1;
     } in
-    record { found = found_packet bytes r outcome; only = only_packet bytes r outcome; fault = only_fault bytes r outcome }
+    record {
+      found = found_packet bytes r outcome;
+      only = only_packet bytes r outcome;
+      fault = only_fault bytes r outcome;
+    }

@@ -10,5 +10,8 @@ returns-clause-ok c =
     let n = c.from-count.result in
     let before = length rest - n in
     let last = get_or_read rest (length rest - 1) c.in-Some.last.now (omega arith) c.in-Some.ensures.item.1 0 in
-    let end = padding_at rest n (omega arith) c.if-rest-count.false (c.from-count.ensures ∙ last) in
-    (drop before rest, subst (λ (b : Bool). IsPadding b (drop before rest)) (sym c.if-not-padded.false) end, sym (take-append-drop before rest))
+    let end = padding_at rest n (omega arith) c.if-rest-count.false (c.from-count.ensures ∙ last) in (
+      drop before rest,
+      subst (λ (b : Bool). IsPadding b (drop before rest)) (sym c.if-not-padded.false) end,
+      sym (take-append-drop before rest),
+    )

@@ -14,4 +14,7 @@ written xs ys long =
     ∙ append-nil ys
 
 pub returns : goal.returns
-returns c = record { payload = written c.args.bytes.now c.copy_from_slice.new.self c.told-bytes ∙ c.copy_from_slice.ensures.after }
+returns c = record {
+  payload = written c.args.bytes.now c.copy_from_slice.new.self c.told-bytes ∙
+      c.copy_from_slice.ensures.after;
+}

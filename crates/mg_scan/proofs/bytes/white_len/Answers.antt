@@ -12,5 +12,6 @@ loop-n-preserved c =
     let rest = take_rest bytes (n + 1) in
     record {
       in_range = omega (arith, ap length rest, length-drop (n + 1) bytes, c.comment_len-n.ensures.in_range);
-      white = comment_step bytes n c.comment_len-n.result c.loop-n-test.true c.if-b-eq59.true (c.comment_len-n.ensures.value ∙ ap (position_or_len is_line_end) rest) ∙ c.loop-n.invariant.white;
+      white = comment_step bytes n c.comment_len-n.result c.loop-n-test.true c.if-b-eq59.true
+          (c.comment_len-n.ensures.value ∙ ap (position_or_len is_line_end) rest) ∙ c.loop-n.invariant.white;
     }

@@ -3,4 +3,7 @@ use Rattle.mg_sdp.proofs.GroupLaws.{alternatives_same}
 use Rattle.mg_sdp.proofs.theorems.alternatives_are_told_apart.Goals as goal
 
 pub returns : goal.returns
-returns c = record { one = λ lines one other h k. sym (alternatives_same lines one h) ∙ alternatives_same lines other k }
+returns c = record {
+  one = λ lines one other h k. sym (alternatives_same lines one h) ∙
+      alternatives_same lines other k;
+}

@@ -6,4 +6,5 @@ use Rattle.mg_serve.specs.Session.{send_of}
 use Rattle.mg_serve.proofs.server.send_packets.Given as goal
 
 abbrev pub invariant-loop-packet : goal.invariant-loop-packet
-invariant-loop-packet g l = Told (g.P.Ports.calls l.initial.ports) (g.P.Ports.calls l.ports) (map (λ (packet : Datagram). send_of l.config (Packet packet)) (take l.packet-index l.packets))
+invariant-loop-packet g l = Told (g.P.Ports.calls l.initial.ports) (g.P.Ports.calls l.ports)
+    (map (λ (packet : Datagram). send_of l.config (Packet packet)) (take l.packet-index l.packets))

@@ -7,13 +7,16 @@ use Rattle.mg_sums.proofs.kernels.difference_chunk.Goals as goal
 pub overflow_sub-rest : goal.overflow_sub-rest
 overflow_sub-rest c =
     each_both _ (given w32 8 c.args.total.now c.told-total) (mapped _ (given w16 8 c.args.chunk.now c.told-chunk))
-    (λ j l. let sample = c.requires.samples j l in let sum = c.requires.sums j l in let fits = c.requires.fits j l in omega (arith, ints))
+    (λ j l. let sample = c.requires.samples j l in let sum = c.requires.sums j l in let fits = c.requires.fits j l in
+    omega (arith, ints))
 
 pub returns : goal.returns
 returns c =
-    let put = stored w32 (zipped _ (given w32 8 c.args.total.now c.told-total) (mapped _ (given w16 8 c.args.chunk.now c.told-chunk))) c.args.at c.args.out.now c.requires.within in
+    let put = stored w32 (zipped _ (given w32 8 c.args.total.now c.told-total)
+    (mapped _ (given w16 8 c.args.chunk.now c.told-chunk))) c.args.at c.args.out.now c.requires.within in
     record {
-      inside = λ j l. let sample = c.requires.samples j l in let sum = c.requires.sums j l in let fits = c.requires.fits j l in put.inside j l ∙ omega (arith, ints);
+      inside = λ j l. let sample = c.requires.samples j l in let sum = c.requires.sums j l in let fits =
+          c.requires.fits j l in put.inside j l ∙ omega (arith, ints);
       below = put.below;
       above = put.above;
     }

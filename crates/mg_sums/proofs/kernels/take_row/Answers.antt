@@ -7,18 +7,21 @@ use Rattle.mg_sums.proofs.kernels.take_row.Goals as goal
 
 pub take_chunk-requires-clause-samples : goal.take_chunk-requires-clause-samples
 take_chunk-requires-clause-samples c = λ j l.
-    let read = chunk_is 8 c.as_chunks.result.0.now c.args.row.now (pos 0) c.loop-i.i j c.as_chunks.ensures.front (omega arith) l in
+    let read = chunk_is 8 c.as_chunks.result.0.now c.args.row.now (pos 0) c.loop-i.i j c.as_chunks.ensures.front
+    (omega arith) l in
     rw read (c.know_samples.ensures (8 * c.loop-i.i + j) (omega arith))
 
 pub take_chunk-requires-clause-fits : goal.take_chunk-requires-clause-fits
 take_chunk-requires-clause-fits c = λ j l.
-    let read = chunk_is 8 c.as_chunks.result.0.now c.args.row.now (pos 0) c.loop-i.i j c.as_chunks.ensures.front (omega arith) l in
+    let read = chunk_is 8 c.as_chunks.result.0.now c.args.row.now (pos 0) c.loop-i.i j c.as_chunks.ensures.front
+    (omega arith) l in
     let same = c.loop-i.invariant.rest (8 * c.loop-i.i + j) (omega arith) in
     rw (read, same) (c.requires.fits (8 * c.loop-i.i + j) (omega arith))
 
 pub loop-i-preserved : goal.loop-i-preserved
 loop-i-preserved c = chunk_more 8 _ _ _ _ _ _ _ c.loop-i.invariant c.take_chunk.ensures (omega arith) (λ j l.
-    let read = chunk_is 8 c.as_chunks.result.0.now c.args.row.now (pos 0) c.loop-i.i j c.as_chunks.ensures.front (omega arith) l in
+    let read = chunk_is 8 c.as_chunks.result.0.now c.args.row.now (pos 0) c.loop-i.i j c.as_chunks.ensures.front
+    (omega arith) l in
     let same = c.loop-i.invariant.rest (8 * c.loop-i.i + j) (omega arith) in
     omega (arith, ints, read, same))
 

@@ -7,4 +7,10 @@ pub returns-in-empty : goal.returns-in-empty
 returns-in-empty c = record { value = sym (no_letter c.args.text.now c.in-empty.len_below) }
 
 pub returns-in-len1-up : goal.returns-in-len1-up
-returns-in-len1-up c = record { value = rw (c.word_among.ensures.value, c.words_by.ensures.value, c.to_ascii_lowercase.ensures.value) (by_letter c.args.text.now (omega arith)) }
+returns-in-len1-up c = record {
+  value = rw (
+    c.word_among.ensures.value,
+    c.words_by.ensures.value,
+    c.to_ascii_lowercase.ensures.value,
+  ) (by_letter c.args.text.now (omega arith));
+}

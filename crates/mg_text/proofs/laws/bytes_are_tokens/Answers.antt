@@ -18,4 +18,5 @@ returns-in-Some-Err c =
     }
 
 pub returns-in-None : goal.returns-in-None
-returns-in-None c = let (ts, way) = c.loop.invariant.way in record { tokens = (ts, None, record { last = c.loop.scanner; way = way; end = c.in-None.ensures.answer.0 }) }
+returns-in-None c = let (ts, way) = c.loop.invariant.way in
+    record { tokens = (ts, None, record { last = c.loop.scanner; way = way; end = c.in-None.ensures.answer.0 }) }

@@ -4,7 +4,11 @@ use Rattle.mg_text.specs.Message.{Reaches, start_of}
 use Rattle.mg_text.proofs.laws.bytes_are_tokens.Given as goal
 
 abbrev pub invariant-loop : goal.invariant-loop
-invariant-loop l = record { source : l.scanner.source ≡ l.source; way : (ts : List Token) × Reaches (start_of l.source) ts l.scanner }
+invariant-loop l = record {
+  source : l.scanner.source ≡ l.source;
+  way : (ts : List Token) ×
+      Reaches (start_of l.source) ts l.scanner;
+}
 
 abbrev pub decreases-loop : goal.decreases-loop
 decreases-loop l = length l.scanner.source - l.scanner.at

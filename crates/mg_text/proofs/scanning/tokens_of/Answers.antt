@@ -7,5 +7,6 @@ loop-token-preserved c =
     let gives = rw c.in-Some-Ok.field-0-is at c.in-Some-Ok.ensures.answer in
     record {
       source = c.next.ensures.source ∙ c.loop-token.invariant.source;
-      way = rw c.in_ok-put-in-Some-Ok.ensures.items (Reaches-push _ _ _ _ _ c.loop-token.invariant.way c.next.ensures.source gives);
+      way = rw c.in_ok-put-in-Some-Ok.ensures.items
+          (Reaches-push _ _ _ _ _ c.loop-token.invariant.way c.next.ensures.source gives);
     }

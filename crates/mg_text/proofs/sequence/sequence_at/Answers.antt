@@ -11,12 +11,20 @@ returns-in_err-item c =
 
 pub returns-then-is_empty : goal.returns-then-is_empty
 returns-then-is_empty c =
-    let is : c.match-item.items.items ≡ kept_after c.loop.items.items c.in_ok-item.item = elim c.match-item.branch [ in-Some+in_ok-push w ↦ rw (w.items-is, w.in-Some.is) w.in_ok-push.ensures.items | in_default w ↦ rw (w.items-is, w.in_default.is) refl ] in
+    let is : c.match-item.items.items ≡ kept_after c.loop.items.items c.in_ok-item.item =
+    elim c.match-item.branch [
+      | in-Some+in_ok-push w ↦ rw (w.items-is, w.in-Some.is) w.in_ok-push.ensures.items
+      | in_default w ↦ rw (w.items-is, w.in_default.is) refl
+    ] in
     rw is (is_done _ _ _ _ _ _ c.loop.invariant _ _ c.loop-test.true c.in_ok-item.ensures (sym c.if-is_empty.ensures))
 
 pub loop-preserved : goal.loop-preserved
 loop-preserved c =
-    let is : c.match-item.items.items ≡ kept_after c.loop.items.items c.in_ok-item.item = elim c.match-item.branch [ in-Some+in_ok-push w ↦ rw (w.items-is, w.in-Some.is) w.in_ok-push.ensures.items | in_default w ↦ rw (w.items-is, w.in_default.is) refl ] in
+    let is : c.match-item.items.items ≡ kept_after c.loop.items.items c.in_ok-item.item =
+    elim c.match-item.branch [
+      | in-Some+in_ok-push w ↦ rw (w.items-is, w.in-Some.is) w.in_ok-push.ensures.items
+      | in_default w ↦ rw (w.items-is, w.in_default.is) refl
+    ] in
     rw is (goes_on _ _ _ _ _ _ c.loop.invariant _ _ c.loop-test.true c.in_ok-item.ensures (sym c.if-is_empty.ensures))
 
 pub returns : goal.returns

@@ -8,11 +8,15 @@ tested : (c : goal.After-intersection) → nat_eq c.intersection.result 0 ≡ is
 unfolding is_disjoint
 tested c =
     ap (λ n. nat_eq n 0)
-    (same_mask c.intersection.result (bit_and c.args.a c.args.b) (λ s. c.intersection.ensures s ∙ sym (has_seat-and c.args.a c.args.b s)))
+    (same_mask c.intersection.result (bit_and c.args.a c.args.b)
+    (λ s. c.intersection.ensures s ∙ sym (has_seat-and c.args.a c.args.b s)))
 
 pub returns-clause-test : goal.returns-clause-test
 returns-clause-test c = tested c
 
 pub returns-clause-common : goal.returns-clause-common
-returns-clause-common c =
-    (λ e. has_common_seat c.args.a c.args.b (sym (tested c) ∙ e), λ h. tested c ∙ is_disjoint-common c.args.a c.args.b h)
+returns-clause-common c = (
+  λ e. has_common_seat c.args.a c.args.b (sym (tested c) ∙ e),
+  λ h. tested c ∙
+      is_disjoint-common c.args.a c.args.b h,
+)

@@ -5,7 +5,8 @@ use Rattle.mg_topology.proofs.MaskLemmas.{smaller_without}
 use Rattle.mg_topology.proofs.SeatsLemmas.{seats_of-rest, seat_count-fewer}
 use Rattle.mg_topology.proofs.mask.without_seat.Goals as goal
 
-taken : (c : goal.After-difference) → (s : ℕ) → has_seat c.difference.result s ≡ cond (s == c.args.seat) false (has_seat c.args.mask s)
+taken : (c : goal.After-difference) → (s : ℕ) →
+    has_seat c.difference.result s ≡ cond (s == c.args.seat) false (has_seat c.args.mask s)
 taken c s = grind (arith, nat_tests, c.difference.ensures.seats s, c.of_seat.ensures s)
 
 pub returns-clause-seats : goal.returns-clause-seats

@@ -6,6 +6,7 @@ use Rattle.mg_topology.proofs.topology.apply_to_rows.Given as goal
 -- the rows below the index are written, and the others are as they were
 abbrev pub invariant-loop-listener : goal.invariant-loop-listener
 invariant-loop-listener l = record {
-  done : (s k : ℕ) → k < l.listener → has_seat (slice_index l.rows k) s ≡ word_after l.triple s k (has_seat (slice_index l.fn.rows k) s);
+  done : (s k : ℕ) → k < l.listener → has_seat (slice_index l.rows k) s ≡
+      word_after l.triple s k (has_seat (slice_index l.fn.rows k) s);
   rest : (k : ℕ) → l.listener ≤ k → slice_index l.rows k ≡ slice_index l.fn.rows k;
 }

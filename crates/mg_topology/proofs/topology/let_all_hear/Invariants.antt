@@ -5,6 +5,7 @@ use Rattle.mg_topology.proofs.topology.let_all_hear.Given as goal
 -- the rows below the index are written, and the others are as they were
 abbrev pub invariant-loop-row : goal.invariant-loop-row
 invariant-loop-row l = record {
-  done : (s k : ℕ) → k < l.row-index → has_seat (slice_index l.rows k) s ≡ (if s == l.seat then true else has_seat (slice_index l.fn.rows k) s);
+  done : (s k : ℕ) → k < l.row-index → has_seat (slice_index l.rows k) s ≡
+      (if s == l.seat then true else has_seat (slice_index l.fn.rows k) s);
   rest : (k : ℕ) → l.row-index ≤ k → slice_index l.rows k ≡ slice_index l.fn.rows k;
 }

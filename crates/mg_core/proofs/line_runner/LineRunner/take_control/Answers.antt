@@ -16,12 +16,17 @@ returns-in_err-write_whole-in-Send g c =
     rw (p.1, p.2) (record {
       value = answer_steps c.args.source c.args.bytes.now c.control.new.self.answer c.as_slice.result.now
           c.args.self.now.core.state c.control.new.self.state c.args.self.now.sent c.args.self.now.sent
-          (g.W.Write.contents c.args.writer.now) (g.W.Write.contents c.write_whole.new.writer) (Err c.in_err-write_whole-in-Send.field-0.0)
+          (g.W.Write.contents c.args.writer.now) (g.W.Write.contents c.write_whole.new.writer)
+          (Err c.in_err-write_whole-in-Send.field-0.0)
           (rw c.in-Send.is at c.in-Ok.ensures.answered) line c.in_err-write_whole-in-Send.ensures.value tt;
     })
 
 pub returns-in-Silent : goal.returns-in-Silent
-returns-in-Silent g c = record { value = silent_steps (Control c.args.source c.args.bytes.now) c.args.self.now.core.state c.control.new.self.state c.args.self.now.sent c.args.self.now.sent (g.W.Write.contents c.args.writer.now) refl (rw c.in-Silent.is at c.in-Ok.ensures.answered) }
+returns-in-Silent g c = record {
+  value = silent_steps (Control c.args.source c.args.bytes.now)
+      c.args.self.now.core.state c.control.new.self.state c.args.self.now.sent c.args.self.now.sent
+      (g.W.Write.contents c.args.writer.now) refl (rw c.in-Silent.is at c.in-Ok.ensures.answered);
+}
 
 pub returns-in_ok-write_whole-in-Send : goal.returns-in_ok-write_whole-in-Send
 returns-in_ok-write_whole-in-Send g c =
@@ -32,5 +37,6 @@ returns-in_ok-write_whole-in-Send g c =
       value = answer_steps c.args.source c.args.bytes.now c.control.new.self.answer c.as_slice.result.now
           c.args.self.now.core.state c.control.new.self.state c.args.self.now.sent _
           (g.W.Write.contents c.args.writer.now) (g.W.Write.contents c.write_whole.new.writer) (Ok tt)
-          (rw c.in-Send.is at c.in-Ok.ensures.answered) line c.in_ok-write_whole-in-Send.ensures.value c.saturating_add-self.ensures;
+          (rw c.in-Send.is at c.in-Ok.ensures.answered) line c.in_ok-write_whole-in-Send.ensures.value
+          c.saturating_add-self.ensures;
     }

@@ -7,21 +7,30 @@ use Rattle.mg_core.proofs.line_runner.LineRunner.take_line.Goals as goal
 pub returns-in_err-take_event-in-Ok-Some : goal.returns-in_err-take_event-in-Ok-Some
 returns-in_err-take_event-in-Ok-Some g c =
     let p = err_from_is_err_and c.from_residual.result c.from_residual.ensures.1 in
-    let is : event_of c.args.line.now ≡ Some (Some c.in-Ok-Some.event) = c.in-Ok-Some.ensures ∙ ap an_event_or_none c.in-Ok-Some.field-0-is in
+    let is : event_of c.args.line.now ≡ Some (Some c.in-Ok-Some.event) = c.in-Ok-Some.ensures ∙
+    ap an_event_or_none c.in-Ok-Some.field-0-is in
     rw (p.1, p.2) (record {
-      value = line_steps c.args.number c.args.line.now c.in-Ok-Some.event c.args.self.now.core.state c.take_event.new.self.core.state c.args.self.now.sent c.take_event.new.self.sent
-          (g.W.Write.contents c.args.writer.now) (g.W.Write.contents c.take_event.new.writer) (Err c.in_err-take_event-in-Ok-Some.field-0.0) is c.in_err-take_event-in-Ok-Some.ensures.value;
+      value = line_steps c.args.number c.args.line.now c.in-Ok-Some.event c.args.self.now.core.state
+          c.take_event.new.self.core.state c.args.self.now.sent c.take_event.new.self.sent
+          (g.W.Write.contents c.args.writer.now) (g.W.Write.contents c.take_event.new.writer)
+          (Err c.in_err-take_event-in-Ok-Some.field-0.0) is c.in_err-take_event-in-Ok-Some.ensures.value;
     })
 
 pub returns-in-Ok-None : goal.returns-in-Ok-None
 returns-in-Ok-None g c =
-    let is : event_of c.args.line.now ≡ Some None = c.in-Ok-None.ensures ∙ ap an_event_or_none c.in-Ok-None.field-0-is in record {
-      value = same_steps c.args.self.now.core.state _ (λ w. comment_ran c.args.number c.args.line.now w c.args.self.now.sent (g.W.Write.contents c.args.writer.now) is);
+    let is : event_of c.args.line.now ≡ Some None = c.in-Ok-None.ensures ∙
+    ap an_event_or_none c.in-Ok-None.field-0-is in record {
+      value = same_steps c.args.self.now.core.state _
+          (λ w. comment_ran c.args.number c.args.line.now w c.args.self.now.sent
+          (g.W.Write.contents c.args.writer.now) is);
     }
 
 pub returns-in_ok-take_event-in-Ok-Some : goal.returns-in_ok-take_event-in-Ok-Some
 returns-in_ok-take_event-in-Ok-Some g c =
-    let is : event_of c.args.line.now ≡ Some (Some c.in-Ok-Some.event) = c.in-Ok-Some.ensures ∙ ap an_event_or_none c.in-Ok-Some.field-0-is in record {
-      value = line_steps c.args.number c.args.line.now c.in-Ok-Some.event c.args.self.now.core.state c.take_event.new.self.core.state c.args.self.now.sent c.take_event.new.self.sent
-          (g.W.Write.contents c.args.writer.now) (g.W.Write.contents c.take_event.new.writer) (Ok tt) is c.in_ok-take_event-in-Ok-Some.ensures.value;
+    let is : event_of c.args.line.now ≡ Some (Some c.in-Ok-Some.event) = c.in-Ok-Some.ensures ∙
+    ap an_event_or_none c.in-Ok-Some.field-0-is in record {
+      value = line_steps c.args.number c.args.line.now c.in-Ok-Some.event c.args.self.now.core.state
+          c.take_event.new.self.core.state c.args.self.now.sent c.take_event.new.self.sent
+          (g.W.Write.contents c.args.writer.now) (g.W.Write.contents c.take_event.new.writer) (Ok tt) is
+          c.in_ok-take_event-in-Ok-Some.ensures.value;
     }

@@ -12,14 +12,17 @@ returns-clause-taken c w h =
     let (g, took, stands) = c.media-taken.ensures.taken w.gateway held.gateway in (
       record w { gateway = g; tally = with_taken c.media-taken.result w.tally },
       (g, took, refl),
-      c.count_media.ensures.counted (record w { gateway = g }) (record { gateway = stands; replies = held.replies; counts = held.counts }),
+      c.count_media.ensures.counted (record w { gateway = g })
+          (record { gateway = stands; replies = held.replies; counts = held.counts }),
     )
 
 pub returns-clause-headline : goal.returns-clause-headline
-returns-clause-headline c = goes_on c.args.self.now.state c.count_media.new.self (Media c.args.port c.args.source c.args.bytes.now) [] (λ w h.
+returns-clause-headline c = goes_on c.args.self.now.state c.count_media.new.self
+    (Media c.args.port c.args.source c.args.bytes.now) [] (λ w h.
     let (next, took, stands) = returns-clause-taken c w h in
     (next, (c.media-taken.result, took, refl), stands))
 
 pub returns-clause-work : goal.returns-clause-work
 returns-clause-work c =
-    ap (λ (e : EngineState). e.sums.work) c.count_media.ensures.engine ∙ c.media-taken.ensures.work ∙ ap (λ (x : CoreView). x.state.engine.sums.work) c.self.view_is
+    ap (λ (e : EngineState). e.sums.work) c.count_media.ensures.engine ∙ c.media-taken.ensures.work ∙
+    ap (λ (x : CoreView). x.state.engine.sums.work) c.self.view_is

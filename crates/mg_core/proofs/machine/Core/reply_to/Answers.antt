@@ -14,4 +14,5 @@ returns-clause-work c w h =
     let message = c.args.message.now in
     let edits = edits_by_items source (text_of source message.sender) (items_of message.body) w in
     let paid = rw (c.items_of-items.ensures.value, c.text.ensures.value) at c.put_replies.ensures.work in
-    subst (λ (n : ℕ). RisesAtMost (4 * edits) n c.put_replies.new.state.engine.sums.work) (ap (λ (x : CoreView). x.state.engine.sums.work) c.self.view_is) (paid w held)
+    subst (λ (n : ℕ). RisesAtMost (4 * edits) n c.put_replies.new.state.engine.sums.work)
+    (ap (λ (x : CoreView). x.state.engine.sums.work) c.self.view_is) (paid w held)

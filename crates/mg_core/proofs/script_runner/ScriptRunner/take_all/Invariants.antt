@@ -7,5 +7,7 @@ use Rattle.mg_core.proofs.script_runner.ScriptRunner.take_all.Given as goal
 abbrev pub invariant-loop : goal.invariant-loop
 invariant-loop g l = record {
   lines : l.self.lines ≤ 4096 * l.counter;
-  value : (config : Config) → StandsFor l.initial.self.runner.core.state (start_of config) → Comes config (g.R.Read.remaining l.initial.reader) (g.R.Read.remaining l.reader) l.self.begun.text l.self.lines l.self.runner.core.state l.self.runner.sent (g.W.Write.contents l.initial.writer) (g.W.Write.contents l.writer);
+  value : (config : Config) → StandsFor l.initial.self.runner.core.state (start_of config) →
+      Comes config (g.R.Read.remaining l.initial.reader) (g.R.Read.remaining l.reader) l.self.begun.text l.self.lines
+      l.self.runner.core.state l.self.runner.sent (g.W.Write.contents l.initial.writer) (g.W.Write.contents l.writer);
 }

@@ -22,8 +22,11 @@ pub begin-requires : goal.begin-requires
 begin-requires c =
     let sound = c.add.ensures.sound in
     let at = c.in_ok-made.ensures.member in
-    let a = add_adds c.self.inside.rooms c.args.target c.args.settings.now c.add.new.self c.in_ok-made.made.record c.in_ok-made.ensures.outcome in
-    let slots = slots_kept c.self.inside.config c.self.inside.rooms c.add.new.self c.self.inside.ports c.self.inside.media.items c.self.inside.held.items c.self.inside.flows c.self.inside.seating c.self.inside.sums.rooms c.self.invariant a.limits in
+    let a = add_adds c.self.inside.rooms c.args.target c.args.settings.now c.add.new.self c.in_ok-made.made.record
+    c.in_ok-made.ensures.outcome in
+    let slots = slots_kept c.self.inside.config c.self.inside.rooms c.add.new.self c.self.inside.ports
+    c.self.inside.media.items c.self.inside.held.items c.self.inside.flows c.self.inside.seating
+    c.self.inside.sums.rooms c.self.invariant a.limits in
     let is = (sound.termination c.in_ok-made.made.record.number c.in_ok-made.made.record at.found).1 in
     record { slot = (omega (arith, is.slot, slots), omega (arith, is.slot, sound.consistent.limits.0.few_slots)) }
 
@@ -31,16 +34,24 @@ pub tune-requires : goal.tune-requires
 tune-requires c =
     let sound = c.add.ensures.sound in
     let at = c.in_ok-made.ensures.member in
-    let a = add_adds c.self.inside.rooms c.args.target c.args.settings.now c.add.new.self c.in_ok-made.made.record c.in_ok-made.ensures.outcome in
-    let slots = slots_kept c.self.inside.config c.self.inside.rooms c.add.new.self c.self.inside.ports c.self.inside.media.items c.self.inside.held.items c.self.inside.flows c.self.inside.seating c.self.inside.sums.rooms c.self.invariant a.limits in
+    let a = add_adds c.self.inside.rooms c.args.target c.args.settings.now c.add.new.self c.in_ok-made.made.record
+    c.in_ok-made.ensures.outcome in
+    let slots = slots_kept c.self.inside.config c.self.inside.rooms c.add.new.self c.self.inside.ports
+    c.self.inside.media.items c.self.inside.held.items c.self.inside.flows c.self.inside.seating
+    c.self.inside.sums.rooms c.self.invariant a.limits in
     let is = (sound.termination c.in_ok-made.made.record.number c.in_ok-made.made.record at.found).1 in
     let long = ap length c.begin.ensures.begun ∙ length-set c.self.inside.media.items _ _ in
     record { slot = omega (arith, is.slot, slots, long) }
 
 pub push-requires : goal.push-requires
 push-requires c =
-    let a = add_adds c.self.inside.rooms c.args.target c.args.settings.now c.add.new.self c.in_ok-made.made.record c.in_ok-made.ensures.outcome in
-    (omega arith, room_left c.self.inside.config c.self.inside.rooms c.add.new.self c.in_ok-made.made.record c.self.inside.ports c.self.inside.media.items c.self.inside.held.items c.self.inside.flows c.self.inside.seating c.self.inside.sums.rooms c.self.invariant a c.add.ensures.sound)
+    let a = add_adds c.self.inside.rooms c.args.target c.args.settings.now c.add.new.self c.in_ok-made.made.record
+    c.in_ok-made.ensures.outcome in (
+      omega arith,
+      room_left c.self.inside.config c.self.inside.rooms c.add.new.self c.in_ok-made.made.record
+          c.self.inside.ports c.self.inside.media.items c.self.inside.held.items c.self.inside.flows
+          c.self.inside.seating c.self.inside.sums.rooms c.self.invariant a c.add.ensures.sound,
+    )
 
 pub enter-requires : goal.enter-requires
 enter-requires c =
@@ -53,8 +64,10 @@ enter-requires c =
     let at = c.in_ok-made.ensures.member in
     let on = on_its_place new d.number m at in
     let a = add_adds old c.args.target c.args.settings.now new d c.in_ok-made.ensures.outcome in
-    let same = same_others old new d.number before.there sound.there c.add.ensures.lasts.room c.in_ok-made.ensures.others.termination in
-    let has = carry old new d.number c.self.inside.flows same (unknown old d.number c.self.inside.flows (unknown_before old new d a sound) c.self.invariant.members) in
+    let same = same_others old new d.number before.there sound.there c.add.ensures.lasts.room
+    c.in_ok-made.ensures.others.termination in
+    let has = carry old new d.number c.self.inside.flows same
+    (unknown old d.number c.self.inside.flows (unknown_before old new d a sound) c.self.invariant.members) in
     let is = (sound.termination d.number d at.found).1 in
     record {
       within = member_within new d.number m sound at;
@@ -74,18 +87,27 @@ invariant_of-self-2 c =
     let sound = c.add.ensures.sound in
     let on = on_its_place new n m c.in_ok-made.ensures.member in
     let a = add_adds old c.args.target c.args.settings.now new d c.in_ok-made.ensures.outcome in
-    let same = same_others old new n before.there sound.there c.add.ensures.lasts.room c.in_ok-made.ensures.others.termination in
+    let same = same_others old new n before.there sound.there c.add.ensures.lasts.room
+    c.in_ok-made.ensures.others.termination in
     let none = unknown_before old new d a sound in
-    let has = carry old new n c.self.inside.flows same (unknown old n c.self.inside.flows none c.self.invariant.members) in
-    let members = has_entered new n d p c.self.inside.flows c.enter.new.flows sound.one_room sound.one_seat on c.enter.ensures.entered has in
+    let has = carry old new n c.self.inside.flows same
+    (unknown old n c.self.inside.flows none c.self.invariant.members) in
+    let members = has_entered new n d p c.self.inside.flows c.enter.new.flows sound.one_room sound.one_seat on
+    c.enter.ensures.entered has in
     let seats = seated_put new n d p c.self.inside.seating c.self.invariant.places sound.one_room sound.one_seat
-    (λ x y q here. within new x y q here sound.termination sound.context) on (carry_seats old new n c.self.inside.seating same c.self.invariant.seats) in
+    (λ x y q here. within new x y q here sound.termination sound.context) on
+    (carry_seats old new n c.self.inside.seating same c.self.invariant.seats) in
     let put = c.enter.ensures.seated in
-    let rows = subst (λ (rows : List (Option ℕ)). SetsRow rows c.enter.new.sums.rooms d.slot (room_for d.mode m.room)) c.begin.ensures.joined c.enter.ensures.joined in
-    let joined = joined_changed old new n d p c.self.inside.sums.rooms c.enter.new.sums.rooms sound.one_slot same on (λ was there. absurd (no_record was (sym there ∙ none))) rows c.self.invariant.joined in
+    let rows = subst (λ (rows : List (Option ℕ)). SetsRow rows c.enter.new.sums.rooms d.slot (room_for d.mode m.room))
+    c.begin.ensures.joined c.enter.ensures.joined in
+    let joined = joined_changed old new n d p c.self.inside.sums.rooms c.enter.new.sums.rooms sound.one_slot same on
+    (λ was there. absurd (no_record was (sym there ∙ none))) rows c.self.invariant.joined in
     let tuned = ap length c.tune.ensures.tuned ∙ length-set c.begin.new.media.items _ _ in
     let long = tuned ∙ ap length c.begin.ensures.begun ∙ length-set c.self.inside.media.items _ _ in
-    whole_added c.self.inside.config old new d c.self.inside.ports c.self.inside.media.items c.tune.new.media.items c.self.inside.held.items c.push.new.self.items c.self.inside.flows c.enter.new.flows c.self.inside.seating c.enter.new.seating c.self.inside.sums.rooms c.enter.new.sums.rooms c.self.invariant a sound long c.push.ensures.items
+    whole_added c.self.inside.config old new d c.self.inside.ports c.self.inside.media.items c.tune.new.media.items
+    c.self.inside.held.items c.push.new.self.items c.self.inside.flows c.enter.new.flows c.self.inside.seating
+    c.enter.new.seating c.self.inside.sums.rooms c.enter.new.sums.rooms c.self.invariant a sound long
+    c.push.ensures.items
     members (rw put seats) (ap length put ∙ length-set c.self.inside.seating _ _) joined c.enter.ensures.rows
 
 pub returns-clause-outcome : goal.returns-clause-outcome
@@ -98,31 +120,51 @@ returns-clause-outcome c w h =
     let p = member_place m in
     let settings = c.args.settings.now in
     let done = c.in_ok-made.ensures.outcome in
-    let k : EngineState = record { config = c.self.inside.config; rooms = c.self.inside.rooms; media = c.self.inside.media.items; flows = c.self.inside.flows; sums = c.self.inside.sums; shares = c.self.inside.shares } in
+    let k : EngineState = record {
+      config = c.self.inside.config;
+      rooms = c.self.inside.rooms;
+      media = c.self.inside.media.items;
+      flows = c.self.inside.flows;
+      sums = c.self.inside.sums;
+      shares = c.self.inside.shares;
+    } in
     let before = c.self.invariant.sound in
     let sound = c.add.ensures.sound in
     let at = c.in_ok-made.ensures.member in
     let on = on_its_place new n m at in
     let a = add_adds old c.args.target settings new d done in
     let is = (sound.termination n d at.found).1 in
-    let slots = slots_kept k.config old new c.self.inside.ports k.media c.self.inside.held.items k.flows c.self.inside.seating c.self.inside.sums.rooms c.self.invariant a.limits in
+    let slots = slots_kept k.config old new c.self.inside.ports k.media c.self.inside.held.items k.flows
+    c.self.inside.seating c.self.inside.sums.rooms c.self.invariant a.limits in
     let lt : d.slot < length k.media = omega (arith, is.slot, slots) in
-    let in_rows : d.slot < length k.sums.frames = omega (arith, is.slot, sound.consistent.limits.0.few_slots, c.begin.ensures.rows) in
+    let in_rows : d.slot < length k.sums.frames =
+    omega (arith, is.slot, sound.consistent.limits.0.few_slots, c.begin.ensures.rows) in
     let silent = c.enter.ensures.frames ∙ c.begin.ensures.silent in
     let others = c.in_ok-made.ensures.others.termination in
-    let set_to = begun_tuned k.media c.begin.new.media.items c.tune.new.media.items d.slot (media.begun k.config) settings.depth lt c.begin.ensures.begun c.tune.ensures.tuned in
+    let set_to = begun_tuned k.media c.begin.new.media.items c.tune.new.media.items d.slot (media.begun k.config)
+    settings.depth lt c.begin.ensures.begun c.tune.ensures.tuned in
     let stands = subst (λ (x : EngineState). StandsFor x w) (sym c.self.view_is) h in
     let same = same_others old new n before.there sound.there c.add.ensures.lasts.room others in
-    let has = carry old new n k.flows same (unknown old n k.flows (unknown_before old new d a sound) c.self.invariant.members) in
-    let hears = hears_entered new n d p k.flows c.enter.new.flows sound.one_room sound.one_seat on c.enter.ensures.entered has w.edits
+    let has = carry old new n k.flows same (unknown old n k.flows (unknown_before old new d a sound)
+    c.self.invariant.members) in
+    let hears = hears_entered new n d p k.flows c.enter.new.flows sound.one_room sound.one_seat on
+    c.enter.ensures.entered has w.edits
     (hears_carry old new n k.flows w.edits same (hears_some old n k.flows w.edits stands.hears)) in
-    let here = ap (λ (x : rooms.Registry). done_with (added w settings) (commands.add x c.args.target settings)) stands.rooms ∙ ap (done_with (added w settings)) done in
-    (added w settings new d, here, added_stands k new c.tune.new.media.items c.enter.new.flows c.enter.new.sums w settings d d a sound sound.one_slot others at.found lt in_rows set_to silent hears stands)
+    let here = ap (λ (x : rooms.Registry). done_with (added w settings) (commands.add x c.args.target settings))
+    stands.rooms ∙ ap (done_with (added w settings)) done in (
+      added w settings new d,
+      here,
+      added_stands k new c.tune.new.media.items c.enter.new.flows c.enter.new.sums w
+          settings d d a sound sound.one_slot others at.found lt in_rows set_to silent hears stands,
+    )
 
 pub returns-clause-work : goal.returns-clause-work
 returns-clause-work c =
     subst (λ (x : EngineState). RisesAtMost 4 x.sums.work c.enter.new.sums.work) c.self.view_is
-    (rises_twice 2 2 4 c.self.inside.sums.work c.begin.new.sums.work c.enter.new.sums.work (omega arith) c.begin.ensures.work c.enter.ensures.work)
+    (rises_twice 2 2 4 c.self.inside.sums.work c.begin.new.sums.work c.enter.new.sums.work (omega arith)
+    c.begin.ensures.work c.enter.ensures.work)
 
 pub returns-clause-others : goal.returns-clause-others
-returns-clause-others c w next r context h done there apart = add_alone w next c.args.target c.args.settings.now r context (sound_as _ c.args.self.now w c.self.view_is c.self.invariant.sound h) done there apart
+returns-clause-others c w next r context h done there apart =
+    add_alone w next c.args.target c.args.settings.now r context
+    (sound_as _ c.args.self.now w c.self.view_is c.self.invariant.sound h) done there apart

@@ -16,7 +16,14 @@ use Rattle.mg_engine.proofs.engine.Engine.address.Goals as goal
 
 pub returns-clause-put : goal.returns-clause-put
 returns-clause-put c before last was body =
-    let k : EngineState = record { config = c.self.inside.config; rooms = c.self.inside.rooms; media = c.self.inside.media.items; flows = c.self.inside.flows; sums = c.self.inside.sums; shares = c.self.inside.shares } in
+    let k : EngineState = record {
+      config = c.self.inside.config;
+      rooms = c.self.inside.rooms;
+      media = c.self.inside.media.items;
+      flows = c.self.inside.flows;
+      sums = c.self.inside.sums;
+      shares = c.self.inside.shares;
+    } in
     let r = c.args.sender.now in
     let to = c.args.to in
     let all = c.as_slice-media.ensures.value in
@@ -28,10 +35,14 @@ returns-clause-put c before last was body =
     ∙ ap (λ (n : ℕ). get_or c.as_slice-media.result.now n c.index-media-from.result) c.from.ensures
     ∙ ap (λ (ms : List media.SlotMedia). get_or ms r.slot c.index-media-from.result) all
     ∙ get_or_default k.media r.slot c.index-media-from.result idle within in
-    let port = c.slot_port-from.ensures.value ∙ ap (λ (l : Limits). slot_port l r.slot) (c.limits.ensures.value ∙ sym c.self.invariant.limits) in
+    let port = c.slot_port-from.ensures.value ∙
+    ap (λ (l : Limits). slot_port l r.slot) (c.limits.ensures.value ∙ sym c.self.invariant.limits) in
     let payload = body ∙ ap (λ (x : EngineState). map (byte_of to.law) (mixed_now x r)) (sym c.self.view_is) in
-    let head = c.header-header.ensures.value ∙ ap (λ (t : ℕ). media.header c.index-media-from.result t ((k.config.ssrc + r.number) % 2 ^ 32)) c.payload_type.ensures.value in
-    let made = packet_is k r to c.slot_port-from.result (header_bytes plain c.header-header.result ++ payload_of last) (payload_of last) c.header-header.result c.index-media-from.result port refl payload head place in
+    let head = c.header-header.ensures.value ∙
+    ap (λ (t : ℕ). media.header c.index-media-from.result t ((k.config.ssrc + r.number) % 2 ^ 32))
+    c.payload_type.ensures.value in
+    let made = packet_is k r to c.slot_port-from.result (header_bytes plain c.header-header.result ++ payload_of last)
+    (payload_of last) c.header-header.result c.index-media-from.result port refl payload head place in
     c.address_last.ensures.value before last was
     ∙ ap (λ (d : Datagram). before ++ d ∷ []) (made ∙ ap (λ (x : EngineState). packet_now x r to) c.self.view_is)
 
@@ -44,4 +55,9 @@ slot_port-from-requires-clause-slot c =
     let r = c.args.sender.now in
     let found = ap (λ (x : EngineState). record_at x.rooms r.number) c.self.view_is ∙ c.requires.member in
     let (number, is) = c.self.invariant.sound.termination r.number r found in
-    omega (arith, is.slot, ap (λ (l : Limits). l.slots) c.self.invariant.limits, ap (λ (l : Limits). l.slots) c.limits.ensures.value)
+    omega (
+      arith,
+      is.slot,
+      ap (λ (l : Limits). l.slots) c.self.invariant.limits,
+      ap (λ (l : Limits). l.slots) c.limits.ensures.value,
+    )

@@ -14,15 +14,33 @@ use Rattle.mg_engine.proofs.engine.Engine.apply_triples.Goals as goal
 
 pub returns-in_err-at-clause-outcome : goal.returns-in_err-at-clause-outcome
 returns-in_err-at-clause-outcome c w h =
-    let k : EngineState = record { config = c.self.inside.config; rooms = c.self.inside.rooms; media = c.self.inside.media.items; flows = c.self.inside.flows; sums = c.self.inside.sums; shares = c.self.inside.shares } in
+    let k : EngineState = record {
+      config = c.self.inside.config;
+      rooms = c.self.inside.rooms;
+      media = c.self.inside.media.items;
+      flows = c.self.inside.flows;
+      sums = c.self.inside.sums;
+      shares = c.self.inside.shares;
+    } in
     let stands = subst (λ (x : EngineState). StandsFor x w) (sym c.self.view_is) h in
-    err_is c.args.self.now c.from_residual.result _ c.in_err-at.field-0.0 (search rules) (refused_there k w c.args.target c.args.triples.now.items c.in_err-at.field-0.0 stands c.in_err-at.ensures.value)
+    err_is c.args.self.now c.from_residual.result _ c.in_err-at.field-0.0 (search rules)
+    (refused_there k w c.args.target c.args.triples.now.items c.in_err-at.field-0.0 stands
+    c.in_err-at.ensures.value)
 
 pub returns-in_err-by_seats-clause-outcome : goal.returns-in_err-by_seats-clause-outcome
 returns-in_err-by_seats-clause-outcome c w h =
-    let k : EngineState = record { config = c.self.inside.config; rooms = c.self.inside.rooms; media = c.self.inside.media.items; flows = c.self.inside.flows; sums = c.self.inside.sums; shares = c.self.inside.shares } in
+    let k : EngineState = record {
+      config = c.self.inside.config;
+      rooms = c.self.inside.rooms;
+      media = c.self.inside.media.items;
+      flows = c.self.inside.flows;
+      sums = c.self.inside.sums;
+      shares = c.self.inside.shares;
+    } in
     let stands = subst (λ (x : EngineState). StandsFor x w) (sym c.self.view_is) h in
-    err_is c.args.self.now c.from_residual-in_err-by_seats.result _ c.in_err-by_seats.field-0.0 (search rules) (refused_triples k w c.args.target c.args.triples.now.items c.in_ok-at.at.context c.in_err-by_seats.field-0.0 stands c.in_ok-at.ensures.value.0 (rw (sym c.as_slice.ensures.value) c.in_err-by_seats.ensures.value))
+    err_is c.args.self.now c.from_residual-in_err-by_seats.result _ c.in_err-by_seats.field-0.0 (search rules)
+    (refused_triples k w c.args.target c.args.triples.now.items c.in_ok-at.at.context c.in_err-by_seats.field-0.0
+    stands c.in_ok-at.ensures.value.0 (rw (sym c.as_slice.ensures.value) c.in_err-by_seats.ensures.value))
 
 pub invariant_of-self : goal.invariant_of-self
 invariant_of-self c = record {
@@ -31,7 +49,8 @@ invariant_of-self c = record {
   ports = c.self.invariant.ports;
   media = c.self.invariant.media;
   held = c.self.invariant.held;
-  members = has_still c.self.inside.rooms c.self.inside.flows c.on_triples.new.self c.on_triples.ensures.places c.self.invariant.members;
+  members = has_still c.self.inside.rooms c.self.inside.flows c.on_triples.new.self c.on_triples.ensures.places
+      c.self.invariant.members;
   seats = c.self.invariant.seats;
   places = c.self.invariant.places;
   row_count = c.self.invariant.row_count;
@@ -40,28 +59,49 @@ invariant_of-self c = record {
 
 pub returns-clause-outcome : goal.returns-clause-outcome
 returns-clause-outcome c w h =
-    let k : EngineState = record { config = c.self.inside.config; rooms = c.self.inside.rooms; media = c.self.inside.media.items; flows = c.self.inside.flows; sums = c.self.inside.sums; shares = c.self.inside.shares } in
+    let k : EngineState = record {
+      config = c.self.inside.config;
+      rooms = c.self.inside.rooms;
+      media = c.self.inside.media.items;
+      flows = c.self.inside.flows;
+      sums = c.self.inside.sums;
+      shares = c.self.inside.shares;
+    } in
     let stands = subst (λ (x : EngineState). StandsFor x w) (sym c.self.view_is) h in
     let at = c.in_ok-at.at in
     let xs = c.args.triples.now.items in
     let ys = c.in_ok-by_seats.by_seats.items in
     let members = members_at k.rooms at.context in
-    let parts : (check_triples members xs ≡ Ok tt) × AreMatched k.rooms at.context members xs ys × ¬ Any Overlaps ys = rw (sym c.as_slice.ensures.value) c.in_ok-by_seats.ensures.value in
+    let parts : (check_triples members xs ≡ Ok tt) × AreMatched k.rooms at.context members xs ys × ¬ Any Overlaps ys =
+    rw (sym c.as_slice.ensures.value) c.in_ok-by_seats.ensures.value in
     let (checked, matched, none) = parts in
     let es = with_triples (members_at k.rooms at.context) xs w.edits in
     elim c.match-on_triples.branch [
       | in-Ok b ↦
-          (let heard = hears_triples k.rooms at.context at.room k.flows c.on_triples.new.self xs ys w.edits c.self.invariant.sound.one_room c.self.invariant.sound.one_seat c.in_ok-at.ensures.value.1 matched c.self.invariant.members c.on_triples.ensures.others
-          (λ t l same together. b.in-Ok.ensures.hears t l same together ∙ ap (λ (zs : List Triple). hears_after zs t.seat l.seat (hears k.flows t l)) c.as_slice-2.ensures.value) stands.hears in
-          ok_is _ c.match-on_triples.result _ at.context (record w { edits = es }) b.result-is (done_triples k w c.args.target xs at.context stands c.in_ok-at.ensures.value.0 checked) (words_stand k c.on_triples.new.self w es stands heard))
-      | in-Err b ↦ absurd (none (subst (λ (zs : List Triple). Any Overlaps zs) c.as_slice-2.ensures.value (b.in-Err.ensures.overlap.0 refl)))
+          (let heard = hears_triples k.rooms at.context at.room k.flows c.on_triples.new.self xs ys w.edits
+          c.self.invariant.sound.one_room c.self.invariant.sound.one_seat c.in_ok-at.ensures.value.1 matched
+          c.self.invariant.members c.on_triples.ensures.others
+          (λ t l same together. b.in-Ok.ensures.hears t l same together ∙
+          ap (λ (zs : List Triple). hears_after zs t.seat l.seat (hears k.flows t l)) c.as_slice-2.ensures.value)
+          stands.hears in
+          ok_is _ c.match-on_triples.result _ at.context (record w { edits = es }) b.result-is
+          (done_triples k w c.args.target xs at.context stands c.in_ok-at.ensures.value.0 checked)
+          (words_stand k c.on_triples.new.self w es stands heard))
+      | in-Err b ↦ absurd (none (subst (λ (zs : List Triple). Any Overlaps zs) c.as_slice-2.ensures.value
+          (b.in-Err.ensures.overlap.0 refl)))
     ]
 
 pub returns-in_err-at-clause-others : goal.returns-in_err-at-clause-others
-returns-in_err-at-clause-others c w next to context h done apart = triples_alone w next c.args.target c.args.triples.now.items to context (sound_as _ c.args.self.now w c.self.view_is c.self.invariant.sound h) done apart
+returns-in_err-at-clause-others c w next to context h done apart =
+    triples_alone w next c.args.target c.args.triples.now.items to context
+    (sound_as _ c.args.self.now w c.self.view_is c.self.invariant.sound h) done apart
 
 pub returns-in_err-by_seats-clause-others : goal.returns-in_err-by_seats-clause-others
-returns-in_err-by_seats-clause-others c w next to context h done apart = triples_alone w next c.args.target c.args.triples.now.items to context (sound_as _ c.args.self.now w c.self.view_is c.self.invariant.sound h) done apart
+returns-in_err-by_seats-clause-others c w next to context h done apart =
+    triples_alone w next c.args.target c.args.triples.now.items to context
+    (sound_as _ c.args.self.now w c.self.view_is c.self.invariant.sound h) done apart
 
 pub returns-clause-others : goal.returns-clause-others
-returns-clause-others c w next to context h done apart = triples_alone w next c.args.target c.args.triples.now.items to context (sound_as _ c.args.self.now w c.self.view_is c.self.invariant.sound h) done apart
+returns-clause-others c w next to context h done apart =
+    triples_alone w next c.args.target c.args.triples.now.items to context
+    (sound_as _ c.args.self.now w c.self.view_is c.self.invariant.sound h) done apart

@@ -5,6 +5,13 @@ use Rattle.mg_engine.proofs.engine.Engine.flows.Goals as goal
 
 pub returns-clause-told : goal.returns-clause-told
 returns-clause-told c w h =
-    let k : EngineState = record { config = c.self.inside.config; rooms = c.self.inside.rooms; media = c.self.inside.media.items; flows = c.self.inside.flows; sums = c.self.inside.sums; shares = c.self.inside.shares } in
+    let k : EngineState = record {
+      config = c.self.inside.config;
+      rooms = c.self.inside.rooms;
+      media = c.self.inside.media.items;
+      flows = c.self.inside.flows;
+      sums = c.self.inside.sums;
+      shares = c.self.inside.shares;
+    } in
     let stands = subst (λ (x : EngineState). StandsFor x w) (sym c.self.view_is) h in
     tells k w c.self.invariant.sound.one_room c.self.invariant.members stands c.self.invariant.sound.one_seat

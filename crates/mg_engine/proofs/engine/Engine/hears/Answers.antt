@@ -10,12 +10,22 @@ use Rattle.mg_engine.proofs.engine.Engine.hears.Goals as goal
 pub returns-in-Some-Some : goal.returns-in-Some-Some
 returns-in-Some-Some c = record {
   value = λ w h.
-      let k : EngineState = record { config = c.self.inside.config; rooms = c.self.inside.rooms; media = c.self.inside.media.items; flows = c.self.inside.flows; sums = c.self.inside.sums; shares = c.self.inside.shares } in
+      let k : EngineState = record {
+        config = c.self.inside.config;
+        rooms = c.self.inside.rooms;
+        media = c.self.inside.media.items;
+        flows = c.self.inside.flows;
+        sums = c.self.inside.sums;
+        shares = c.self.inside.shares;
+      } in
       let stands = subst (λ (x : EngineState). StandsFor x w) (sym c.self.view_is) h in
       let t = c.in-Some-Some.speaking in
       let l = c.in-Some-Some.hearing in
       c.hears.ensures.kept
       ∙ ap (λ (p : Place). table.hears k.flows p c.member_place-to.result) c.member_place-from.ensures.value
       ∙ ap (table.hears k.flows (member_place t)) c.member_place-to.ensures.value
-      ∙ hears_places k w c.self.invariant.sound.one_room c.self.invariant.members stands c.args.talker c.args.listener t.record l.record (member_place t) (member_place l) (on_its_place k.rooms c.args.talker t c.in-Some-Some.ensures.some) (on_its_place k.rooms c.args.listener l c.in-Some-Some.ensures'.some);
+      ∙ hears_places k w c.self.invariant.sound.one_room c.self.invariant.members stands c.args.talker c.args.listener
+      t.record l.record (member_place t) (member_place l)
+      (on_its_place k.rooms c.args.talker t c.in-Some-Some.ensures.some)
+      (on_its_place k.rooms c.args.listener l c.in-Some-Some.ensures'.some);
 }

@@ -9,7 +9,14 @@ use Rattle.mg_engine.proofs.engine.Engine.hears_seated.Goals as goal
 pub returns : goal.returns
 returns c = record {
   value = λ w h.
-      let k : EngineState = record { config = c.self.inside.config; rooms = c.self.inside.rooms; media = c.self.inside.media.items; flows = c.self.inside.flows; sums = c.self.inside.sums; shares = c.self.inside.shares } in
+      let k : EngineState = record {
+        config = c.self.inside.config;
+        rooms = c.self.inside.rooms;
+        media = c.self.inside.media.items;
+        flows = c.self.inside.flows;
+        sums = c.self.inside.sums;
+        shares = c.self.inside.shares;
+      } in
       let stands = subst (λ (x : EngineState). StandsFor x w) (sym c.self.view_is) h in
       let t = c.args.talker in
       let l = c.args.listener in
@@ -18,5 +25,6 @@ returns c = record {
       c.hears.ensures.kept
       ∙ ap (λ (p : Place). table.hears k.flows p c.place-to.result) c.place-from.ensures.value
       ∙ ap (table.hears k.flows (seated_place t)) c.place-to.ensures.value
-      ∙ hears_places k w c.self.invariant.sound.one_room c.self.invariant.members stands t.number l.number a b (seated_place t) (seated_place l) first second;
+      ∙ hears_places k w c.self.invariant.sound.one_room c.self.invariant.members stands t.number l.number a b
+      (seated_place t) (seated_place l) first second;
 }

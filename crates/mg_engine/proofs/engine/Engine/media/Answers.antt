@@ -12,26 +12,47 @@ use Rattle.mg_engine.proofs.engine.Engine.media.Goals as goal
 pub returns-in-None : goal.returns-in-None
 returns-in-None c = record {
   work = refl;
-  others = λ w next context h came apart. datagram_alone w next c.args.port c.args.source.address c.args.bytes.now _ context came apart;
+  others = λ w next context h came apart. datagram_alone w next c.args.port c.args.source.address c.args.bytes.now _
+      context came apart;
   taken = λ w h.
       let reading = reading_of c.read-packet.result in
-      let none = ap (λ (x : rooms.Registry). at_port x c.args.port) h.rooms ∙ sym c.at_port.ensures.value ∙ c.in-None.is in
-      (w, (reading, is_reading c.args.bytes.now c.read-packet.result c.read-packet.ensures.found c.read-packet.ensures.fault, ap (λ (o : Option Record). taken_by w o c.args.source.address reading) none), h);
+      let none = ap (λ (x : rooms.Registry). at_port x c.args.port) h.rooms ∙ sym c.at_port.ensures.value ∙
+      c.in-None.is in (
+        w,
+        (
+          reading,
+          is_reading c.args.bytes.now c.read-packet.result c.read-packet.ensures.found
+              c.read-packet.ensures.fault,
+          ap (λ (o : Option Record). taken_by w o c.args.source.address reading) none,
+        ),
+        h,
+      );
 }
 
 pub returns-in-Some : goal.returns-in-Some
 returns-in-Some c = record {
   work = ap (λ (s : SumsState). s.work) c.place.ensures.sums;
-  others = λ w next context h came apart. datagram_alone w next c.args.port c.args.source.address c.args.bytes.now _ context came apart;
+  others = λ w next context h came apart. datagram_alone w next c.args.port c.args.source.address c.args.bytes.now _
+      context came apart;
   taken = λ w h.
       let k = c.args.self.now in
       let r = c.in-Some.termination in
       let reading = reading_of c.read-packet.result in
       let brought = arrived r c.args.source.address reading in
-      let (now, came, stands) = took_stands k w r c.place.new.self.media brought c.place.result c.at_port.ensures.sound.one_slot c.in-Some.ensures.found c.in-Some.ensures.slot c.place.ensures.taken h in
-      let here = ap (λ (x : rooms.Registry). at_port x c.args.port) h.rooms ∙ sym c.at_port.ensures.value ∙ c.in-Some.is in (
+      let (now, came, stands) = took_stands k w r c.place.new.self.media brought c.place.result
+      c.at_port.ensures.sound.one_slot c.in-Some.ensures.found c.in-Some.ensures.slot c.place.ensures.taken h in
+      let here = ap (λ (x : rooms.Registry). at_port x c.args.port) h.rooms ∙ sym c.at_port.ensures.value ∙
+      c.in-Some.is in (
         now,
-        (reading, is_reading c.args.bytes.now c.read-packet.result c.read-packet.ensures.found c.read-packet.ensures.fault, ap (λ (o : Option Record). taken_by w o c.args.source.address reading) here ∙ came),
-        subst (λ (x : EngineState). StandsFor x now) (media_alone k c.place.new.self c.place.ensures.config c.place.ensures.rooms c.place.ensures.flows c.place.ensures.sums c.place.ensures.shares) stands,
+        (
+          reading,
+          is_reading c.args.bytes.now c.read-packet.result c.read-packet.ensures.found
+              c.read-packet.ensures.fault,
+          ap (λ (o : Option Record). taken_by w o c.args.source.address reading) here ∙
+              came,
+        ),
+        subst (λ (x : EngineState). StandsFor x now)
+            (media_alone k c.place.new.self c.place.ensures.config c.place.ensures.rooms c.place.ensures.flows
+            c.place.ensures.sums c.place.ensures.shares) stands,
       );
 }

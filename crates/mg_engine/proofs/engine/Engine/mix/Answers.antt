@@ -15,11 +15,19 @@ use Rattle.mg_engine.proofs.engine.Engine.mix.Goals as goal
 
 pub silenced-requires : goal.silenced-requires
 silenced-requires c =
-    let k : EngineState = record { config = c.self.inside.config; rooms = c.self.inside.rooms; media = c.self.inside.media.items; flows = c.self.inside.flows; sums = c.self.inside.sums; shares = c.self.inside.shares } in
+    let k : EngineState = record {
+      config = c.self.inside.config;
+      rooms = c.self.inside.rooms;
+      media = c.self.inside.media.items;
+      flows = c.self.inside.flows;
+      sums = c.self.inside.sums;
+      shares = c.self.inside.shares;
+    } in
     let l = c.args.listener.now in
     let p = c.args.place in
     let sound = c.self.invariant.sound in
-    let on : IsOnPlace k.rooms l.number l p = subst (λ (x : EngineState). IsOnPlace x.rooms l.number l p) (sym c.self.view_is) c.requires.place in
+    let on : IsOnPlace k.rooms l.number l p =
+    subst (λ (x : EngineState). IsOnPlace x.rooms l.number l p) (sym c.self.view_is) c.requires.place in
     (c.self.invariant.members.each l.number l p on).held
 
 pub rows_on-silenced-requires-clause-slots : goal.rows_on-silenced-requires-clause-slots
@@ -33,95 +41,139 @@ rows_on-silenced-requires-clause-slots c seat h =
 
 pub mix-requires : goal.mix-requires
 mix-requires c =
-    let k : EngineState = record { config = c.self.inside.config; rooms = c.self.inside.rooms; media = c.self.inside.media.items; flows = c.self.inside.flows; sums = c.self.inside.sums; shares = c.self.inside.shares } in
+    let k : EngineState = record {
+      config = c.self.inside.config;
+      rooms = c.self.inside.rooms;
+      media = c.self.inside.media.items;
+      flows = c.self.inside.flows;
+      sums = c.self.inside.sums;
+      shares = c.self.inside.shares;
+    } in
     let l = c.args.listener.now in
     let p = c.args.place in
     let sound = c.self.invariant.sound in
-    let on : IsOnPlace k.rooms l.number l p = subst (λ (x : EngineState). IsOnPlace x.rooms l.number l p) (sym c.self.view_is) c.requires.place in
+    let on : IsOnPlace k.rooms l.number l p =
+    subst (λ (x : EngineState). IsOnPlace x.rooms l.number l p) (sym c.self.view_is) c.requires.place in
     let mask = c.silenced.result.now in
     let (y, context, is) = seats_there l.seat (context_at k.rooms l.context) p on.place in
     let own = c.own_row.ensures.value in
     let rows = c.as_slice.ensures.value ∙ c.rows_on-silenced.ensures.value in
-    let out = left_out k c.self.inside.seating l p y mask sound c.self.invariant.members c.self.invariant.joined c.self.invariant.seats
+    let out = left_out k c.self.inside.seating l p y mask sound c.self.invariant.members c.self.invariant.joined
+    c.self.invariant.seats
     sound.by_number
     sound.there
     sound.one_room
     sound.one_seat
     (λ n r found. omega (arith, (sound.termination n r found).1.seat))
-    (λ i d lt. let (number, limited) = sound.termination (get_or k.rooms.terminations i d).number (get_or k.rooms.terminations i d) (sound.by_number i d lt) in omega (arith, limited.slot, sound.consistent.limits.0.few_slots))
+    (λ i d lt. let (number, limited) = sound.termination (get_or k.rooms.terminations i d).number
+    (get_or k.rooms.terminations i d) (sound.by_number i d lt) in
+    omega (arith, limited.slot, sound.consistent.limits.0.few_slots))
     c.self.invariant.row_count
     sound.one_slot
     context is on c.requires.listens c.silenced.ensures.kept c.silenced.ensures.held in
     record {
-      rows = subst (λ (room : ℕ). AreOfRoom k.sums.rooms room (left_out_by c.own_row.result c.as_slice.result.now)) (sym c.new.ensures)
+      rows = subst (λ (room : ℕ). AreOfRoom k.sums.rooms room (left_out_by c.own_row.result c.as_slice.result.now))
+          (sym c.new.ensures)
           (subst (λ (b : Option ℕ). AreOfRoom k.sums.rooms p.room (left_out_by b c.as_slice.result.now)) (sym own)
-          (subst (λ (m : List ℕ). AreOfRoom k.sums.rooms p.room (left_out_by (cond (talks l.mode) (Some l.slot) None) m)) (sym rows) out));
+          (subst (λ (m : List ℕ). AreOfRoom k.sums.rooms p.room
+          (left_out_by (cond (talks l.mode) (Some l.slot) None) m)) (sym rows) out));
     }
 
 pub returns-clause-value : goal.returns-clause-value
 returns-clause-value c =
-    let k : EngineState = record { config = c.self.inside.config; rooms = c.self.inside.rooms; media = c.self.inside.media.items; flows = c.self.inside.flows; sums = c.self.inside.sums; shares = c.self.inside.shares } in
+    let k : EngineState = record {
+      config = c.self.inside.config;
+      rooms = c.self.inside.rooms;
+      media = c.self.inside.media.items;
+      flows = c.self.inside.flows;
+      sums = c.self.inside.sums;
+      shares = c.self.inside.shares;
+    } in
     let l = c.args.listener.now in
     let p = c.args.place in
     let sound = c.self.invariant.sound in
-    let on : IsOnPlace k.rooms l.number l p = subst (λ (x : EngineState). IsOnPlace x.rooms l.number l p) (sym c.self.view_is) c.requires.place in
+    let on : IsOnPlace k.rooms l.number l p =
+    subst (λ (x : EngineState). IsOnPlace x.rooms l.number l p) (sym c.self.view_is) c.requires.place in
     let mask = c.silenced.result.now in
     let (y, context, is) = seats_there l.seat (context_at k.rooms l.context) p on.place in
     let own = c.own_row.ensures.value in
     let rows = c.as_slice.ensures.value ∙ c.rows_on-silenced.ensures.value in
-    let out = left_out k c.self.inside.seating l p y mask sound c.self.invariant.members c.self.invariant.joined c.self.invariant.seats
+    let out = left_out k c.self.inside.seating l p y mask sound c.self.invariant.members c.self.invariant.joined
+    c.self.invariant.seats
     sound.by_number
     sound.there
     sound.one_room
     sound.one_seat
     (λ n r found. omega (arith, (sound.termination n r found).1.seat))
-    (λ i d lt. let (number, limited) = sound.termination (get_or k.rooms.terminations i d).number (get_or k.rooms.terminations i d) (sound.by_number i d lt) in omega (arith, limited.slot, sound.consistent.limits.0.few_slots))
+    (λ i d lt. let (number, limited) = sound.termination (get_or k.rooms.terminations i d).number
+    (get_or k.rooms.terminations i d) (sound.by_number i d lt) in
+    omega (arith, limited.slot, sound.consistent.limits.0.few_slots))
     c.self.invariant.row_count
     sound.one_slot
     context is on c.requires.listens c.silenced.ensures.kept c.silenced.ensures.held in
-    let heard = subst (λ (m : List ℕ). IsLeftAndHeard k.sums p.room (left_out_by (cond (talks l.mode) (Some l.slot) None) m)) rows
+    let heard = subst (λ (m : List ℕ). IsLeftAndHeard k.sums p.room
+    (left_out_by (cond (talks l.mode) (Some l.slot) None) m)) rows
     (subst (λ (b : Option ℕ). IsLeftAndHeard k.sums p.room (left_out_by b c.as_slice.result.now)) own
-    (subst (λ (room : ℕ). IsLeftAndHeard k.sums room (left_out_by c.own_row.result c.as_slice.result.now)) c.new.ensures c.mix.ensures.heard)) in
-    let mixed = mix_is k c.self.inside.seating l p y mask sound c.self.invariant.members c.self.invariant.joined c.self.invariant.seats
+    (subst (λ (room : ℕ). IsLeftAndHeard k.sums room (left_out_by c.own_row.result c.as_slice.result.now))
+    c.new.ensures c.mix.ensures.heard)) in
+    let mixed = mix_is k c.self.inside.seating l p y mask sound c.self.invariant.members c.self.invariant.joined
+    c.self.invariant.seats
     sound.by_number
     sound.there
     sound.one_room
     sound.one_seat
     (λ n r found. omega (arith, (sound.termination n r found).1.seat))
-    (λ i d lt. let (number, limited) = sound.termination (get_or k.rooms.terminations i d).number (get_or k.rooms.terminations i d) (sound.by_number i d lt) in omega (arith, limited.slot, sound.consistent.limits.0.few_slots))
+    (λ i d lt. let (number, limited) = sound.termination (get_or k.rooms.terminations i d).number
+    (get_or k.rooms.terminations i d) (sound.by_number i d lt) in
+    omega (arith, limited.slot, sound.consistent.limits.0.few_slots))
     c.self.invariant.row_count
     sound.one_slot
     context is on c.requires.listens c.silenced.ensures.kept c.silenced.ensures.held heard in
     let law = c.args.law in
     c.mix.ensures.mix
-    ∙ ap (λ (room : ℕ). map (byte_of law) (mix_of k.sums room (left_out_by c.own_row.result c.as_slice.result.now))) c.new.ensures
+    ∙ ap (λ (room : ℕ). map (byte_of law) (mix_of k.sums room (left_out_by c.own_row.result c.as_slice.result.now)))
+    c.new.ensures
     ∙ ap (λ (b : Option ℕ). map (byte_of law) (mix_of k.sums p.room (left_out_by b c.as_slice.result.now))) own
-    ∙ ap (λ (m : List ℕ). map (byte_of law) (mix_of k.sums p.room (left_out_by (cond (talks l.mode) (Some l.slot) None) m))) rows
+    ∙ ap (λ (m : List ℕ). map (byte_of law) (mix_of k.sums p.room
+    (left_out_by (cond (talks l.mode) (Some l.slot) None) m))) rows
     ∙ ap (λ (xs : List ℤ). map (byte_of law) xs) mixed
-    ∙ ap (λ (x : EngineState). map (byte_of law) (map (λ i. nearest_sample (heard_now x l i)) (range_with_len 0 160))) c.self.view_is
+    ∙ ap (λ (x : EngineState). map (byte_of law) (map (λ i. nearest_sample (heard_now x l i)) (range_with_len 0 160)))
+    c.self.view_is
 
 pub returns-clause-work : goal.returns-clause-work
 returns-clause-work c =
-    let k : EngineState = record { config = c.self.inside.config; rooms = c.self.inside.rooms; media = c.self.inside.media.items; flows = c.self.inside.flows; sums = c.self.inside.sums; shares = c.self.inside.shares } in
+    let k : EngineState = record {
+      config = c.self.inside.config;
+      rooms = c.self.inside.rooms;
+      media = c.self.inside.media.items;
+      flows = c.self.inside.flows;
+      sums = c.self.inside.sums;
+      shares = c.self.inside.shares;
+    } in
     let l = c.args.listener.now in
     let p = c.args.place in
     let sound = c.self.invariant.sound in
-    let on : IsOnPlace k.rooms l.number l p = subst (λ (x : EngineState). IsOnPlace x.rooms l.number l p) (sym c.self.view_is) c.requires.place in
+    let on : IsOnPlace k.rooms l.number l p =
+    subst (λ (x : EngineState). IsOnPlace x.rooms l.number l p) (sym c.self.view_is) c.requires.place in
     let mask = c.silenced.result.now in
     let (y, context, is) = seats_there l.seat (context_at k.rooms l.context) p on.place in
     let own = c.own_row.ensures.value in
     let rows = c.as_slice.ensures.value ∙ c.rows_on-silenced.ensures.value in
-    let many = how_many k c.self.inside.seating l p y mask sound c.self.invariant.members c.self.invariant.joined c.self.invariant.seats
+    let many = how_many k c.self.inside.seating l p y mask sound c.self.invariant.members c.self.invariant.joined
+    c.self.invariant.seats
     sound.by_number
     sound.there
     sound.one_room
     sound.one_seat
     (λ n r found. omega (arith, (sound.termination n r found).1.seat))
-    (λ i d lt. let (number, limited) = sound.termination (get_or k.rooms.terminations i d).number (get_or k.rooms.terminations i d) (sound.by_number i d lt) in omega (arith, limited.slot, sound.consistent.limits.0.few_slots))
+    (λ i d lt. let (number, limited) = sound.termination (get_or k.rooms.terminations i d).number
+    (get_or k.rooms.terminations i d) (sound.by_number i d lt) in
+    omega (arith, limited.slot, sound.consistent.limits.0.few_slots))
     c.self.invariant.row_count
     sound.one_slot
     context is on c.requires.listens c.silenced.ensures.kept c.silenced.ensures.held in
-    let count = ap (λ (xs : List ℕ). length xs) rows ∙ many ∙ ap (λ (x : EngineState). silenced_now x l) c.self.view_is in
+    let count = ap (λ (xs : List ℕ). length xs) rows ∙ many ∙
+    ap (λ (x : EngineState). silenced_now x l) c.self.view_is in
     let old = ap (λ (x : EngineState). x.sums.work) c.self.view_is in
     let now = ap (λ (s : SumsState). s.work) c.mix.ensures.kept in
     (1 + length c.as_slice.result.now, omega (arith, count), omega (arith, old, now))

@@ -29,7 +29,9 @@ tune-requires c =
     let sound = c.modify.ensures.sound in
     let at = c.in_ok-changed.ensures.member in
     let (a, _) = modify_changes old c.args.target n c.args.settings.now new d c.in_ok-changed.ensures.outcome in
-    let slots = slots_kept c.self.inside.config old new c.self.inside.ports c.self.inside.media.items c.self.inside.held.items c.self.inside.flows c.self.inside.seating c.self.inside.sums.rooms c.self.invariant a.limits in
+    let slots = slots_kept c.self.inside.config old new c.self.inside.ports c.self.inside.media.items
+    c.self.inside.held.items c.self.inside.flows c.self.inside.seating c.self.inside.sums.rooms c.self.invariant
+    a.limits in
     record { slot = omega (arith, (sound.termination n d at.found).1.slot, slots) }
 
 pub take_mode-requires : goal.take_mode-requires
@@ -45,7 +47,14 @@ take_mode-requires c =
     let p = member_place m in
     let settings = c.args.settings.now in
     let done = c.in_ok-changed.ensures.outcome in
-    let k : EngineState = record { config = c.self.inside.config; rooms = c.self.inside.rooms; media = c.self.inside.media.items; flows = c.self.inside.flows; sums = c.self.inside.sums; shares = c.self.inside.shares } in
+    let k : EngineState = record {
+      config = c.self.inside.config;
+      rooms = c.self.inside.rooms;
+      media = c.self.inside.media.items;
+      flows = c.self.inside.flows;
+      sums = c.self.inside.sums;
+      shares = c.self.inside.shares;
+    } in
     let others = c.in_ok-changed.ensures.others.termination in
     let on = on_its_place new n m at in
     let (a, context) = modify_changes old c.args.target n settings new d done in
@@ -70,17 +79,29 @@ invariant_of-self-2 c =
     let p = member_place m in
     let settings = c.args.settings.now in
     let done = c.in_ok-changed.ensures.outcome in
-    let k : EngineState = record { config = c.self.inside.config; rooms = c.self.inside.rooms; media = c.self.inside.media.items; flows = c.self.inside.flows; sums = c.self.inside.sums; shares = c.self.inside.shares } in
+    let k : EngineState = record {
+      config = c.self.inside.config;
+      rooms = c.self.inside.rooms;
+      media = c.self.inside.media.items;
+      flows = c.self.inside.flows;
+      sums = c.self.inside.sums;
+      shares = c.self.inside.shares;
+    } in
     let others = c.in_ok-changed.ensures.others.termination in
     let on = on_its_place new n m at in
     let (a, context) = modify_changes old c.args.target n settings new d done in
     let same = same_others old new n before.there sound.there c.modify.ensures.lasts.room others in
     let was = stayed_at old new n a.was d p before.there c.modify.ensures.lasts a.there context on in
-    let members = has_mode old new n a.was d p c.self.inside.flows c.take_mode.new.flows sound.one_room sound.one_seat same was on (sym context) c.take_mode.ensures.taken c.self.invariant.members in
+    let members = has_mode old new n a.was d p c.self.inside.flows c.take_mode.new.flows sound.one_room sound.one_seat
+    same was on (sym context) c.take_mode.ensures.taken c.self.invariant.members in
     let seats = seated_mode old new n a.was d p c.self.inside.seating same was on a.slot c.self.invariant.seats in
-    let joined = joined_changed old new n d p c.self.inside.sums.rooms c.take_mode.new.sums.rooms sound.one_slot same on (λ x there. ap (λ (y : Record). y.slot) (same_Some x a.was (sym there ∙ a.there)) ∙ sym a.slot) c.take_mode.ensures.joined c.self.invariant.joined in
+    let joined = joined_changed old new n d p c.self.inside.sums.rooms c.take_mode.new.sums.rooms sound.one_slot same
+    on (λ x there. ap (λ (y : Record). y.slot) (same_Some x a.was (sym there ∙ a.there)) ∙ sym a.slot)
+    c.take_mode.ensures.joined c.self.invariant.joined in
     let long = ap length c.tune.ensures.tuned ∙ length-set c.self.inside.media.items _ _ in
-    whole_changed k new n d c.self.inside.ports c.tune.new.media.items c.self.inside.held.items c.take_mode.new.flows c.self.inside.seating c.self.inside.seating c.take_mode.new.sums.rooms c.self.invariant a sound long members seats refl joined c.take_mode.ensures.rows
+    whole_changed k new n d c.self.inside.ports c.tune.new.media.items c.self.inside.held.items c.take_mode.new.flows
+    c.self.inside.seating c.self.inside.seating c.take_mode.new.sums.rooms c.self.invariant a sound long members
+    seats refl joined c.take_mode.ensures.rows
 
 pub returns-clause-outcome : goal.returns-clause-outcome
 returns-clause-outcome c w h =
@@ -95,18 +116,34 @@ returns-clause-outcome c w h =
     let p = member_place m in
     let settings = c.args.settings.now in
     let done = c.in_ok-changed.ensures.outcome in
-    let k : EngineState = record { config = c.self.inside.config; rooms = c.self.inside.rooms; media = c.self.inside.media.items; flows = c.self.inside.flows; sums = c.self.inside.sums; shares = c.self.inside.shares } in
+    let k : EngineState = record {
+      config = c.self.inside.config;
+      rooms = c.self.inside.rooms;
+      media = c.self.inside.media.items;
+      flows = c.self.inside.flows;
+      sums = c.self.inside.sums;
+      shares = c.self.inside.shares;
+    } in
     let others = c.in_ok-changed.ensures.others.termination in
     let on = on_its_place new n m at in
     let (a, context) = modify_changes old c.args.target n settings new d done in
     let same = same_others old new n before.there sound.there c.modify.ensures.lasts.room others in
     let was = stayed_at old new n a.was d p before.there c.modify.ensures.lasts a.there context on in
-    let slots = slots_kept k.config old new c.self.inside.ports c.self.inside.media.items c.self.inside.held.items c.self.inside.flows c.self.inside.seating c.self.inside.sums.rooms c.self.invariant a.limits in
+    let slots = slots_kept k.config old new c.self.inside.ports c.self.inside.media.items c.self.inside.held.items
+    c.self.inside.flows c.self.inside.seating c.self.inside.sums.rooms c.self.invariant a.limits in
     let lt : d.slot < length k.media = omega (arith, (sound.termination n d at.found).1.slot, slots) in
     let stands = subst (λ (x : EngineState). StandsFor x w) (sym c.self.view_is) h in
-    let hears = hears_mode old new n a.was d p k.flows c.take_mode.new.flows sound.one_room sound.one_seat same was on (sym context) c.take_mode.ensures.taken w.edits stands.hears in
-    let here = ap (λ (x : rooms.Registry). done_with (modified w settings) (commands.modify x c.args.target n settings)) stands.rooms ∙ ap (done_with (modified w settings)) done in
-    (modified w settings new d, here, changed_stands k new c.tune.new.media.items c.take_mode.new.flows c.take_mode.new.sums w (modified w settings new d) settings n d a sound.one_slot others lt c.tune.ensures.tuned c.take_mode.ensures.frames stands refl refl (ap (λ (m : _). media_with settings m w.media) (changed_at k new n d a)) hears)
+    let hears = hears_mode old new n a.was d p k.flows c.take_mode.new.flows sound.one_room sound.one_seat same was on
+    (sym context) c.take_mode.ensures.taken w.edits stands.hears in
+    let here = ap (λ (x : rooms.Registry). done_with (modified w settings)
+    (commands.modify x c.args.target n settings)) stands.rooms ∙ ap (done_with (modified w settings)) done in (
+      modified w settings new d,
+      here,
+      changed_stands k new c.tune.new.media.items c.take_mode.new.flows
+          c.take_mode.new.sums w (modified w settings new d) settings n d a sound.one_slot others lt
+          c.tune.ensures.tuned c.take_mode.ensures.frames stands refl refl
+          (ap (λ (m : _). media_with settings m w.media) (changed_at k new n d a)) hears,
+    )
 
 pub returns-clause-work : goal.returns-clause-work
 returns-clause-work c =
@@ -114,4 +151,5 @@ returns-clause-work c =
     (rises_less 2 4 c.self.inside.sums.work c.take_mode.new.sums.work (omega arith) c.take_mode.ensures.work)
 
 pub returns-clause-others : goal.returns-clause-others
-returns-clause-others c w next r context h done apart = modify_alone w next c.args.target c.args.number c.args.settings.now r context done apart
+returns-clause-others c w next r context h done apart =
+    modify_alone w next c.args.target c.args.number c.args.settings.now r context done apart

@@ -30,13 +30,18 @@ tune-requires c =
     let sound = c.move_to.ensures.sound in
     let at = c.in_ok-moved.ensures.to in
     let a = move_changes old c.args.target n c.args.settings.now new d c.in_ok-moved.ensures.outcome in
-    let slots = slots_kept c.self.inside.config old new c.self.inside.ports c.self.inside.media.items c.self.inside.held.items c.self.inside.flows c.self.inside.seating c.self.inside.sums.rooms c.self.invariant a.limits in
+    let slots = slots_kept c.self.inside.config old new c.self.inside.ports c.self.inside.media.items
+    c.self.inside.held.items c.self.inside.flows c.self.inside.seating c.self.inside.sums.rooms c.self.invariant
+    a.limits in
     record { slot = omega (arith, (sound.termination n d at.found).1.slot, slots) }
 
 pub vacate-requires : goal.vacate-requires
 vacate-requires c =
     let was = on_its_place c.self.inside.rooms c.args.number c.in_ok-moved.moved.from c.in_ok-moved.ensures.from in
-    record { held = (c.self.invariant.members.each c.args.number c.in_ok-moved.moved.from.record (member_place c.in_ok-moved.moved.from) was).held }
+    record {
+      held = (c.self.invariant.members.each c.args.number c.in_ok-moved.moved.from.record
+          (member_place c.in_ok-moved.moved.from) was).held;
+    }
 
 pub enter-requires : goal.enter-requires
 enter-requires c =
@@ -53,14 +58,23 @@ enter-requires c =
     let from = member_place c.in_ok-moved.moved.from in
     let settings = c.args.settings.now in
     let done = c.in_ok-moved.ensures.outcome in
-    let k : EngineState = record { config = c.self.inside.config; rooms = c.self.inside.rooms; media = c.self.inside.media.items; flows = c.self.inside.flows; sums = c.self.inside.sums; shares = c.self.inside.shares } in
+    let k : EngineState = record {
+      config = c.self.inside.config;
+      rooms = c.self.inside.rooms;
+      media = c.self.inside.media.items;
+      flows = c.self.inside.flows;
+      sums = c.self.inside.sums;
+      shares = c.self.inside.shares;
+    } in
     let others = c.in_ok-moved.ensures.others.termination in
     let was = on_its_place old n c.in_ok-moved.moved.from c.in_ok-moved.ensures.from in
     let on = on_its_place new n m at in
     let a = move_changes old c.args.target n settings new d done in
     let same = same_others old new n before.there sound.there c.move_to.ensures.lasts.room others in
     let left = c.vacate.ensures.left in
-    let without = carry old new n c.vacate.new.flows same (has_left old n r from c.self.inside.flows c.vacate.new.flows before.one_room before.one_seat was left c.self.invariant.members) in
+    let without = carry old new n c.vacate.new.flows same
+    (has_left old n r from c.self.inside.flows c.vacate.new.flows before.one_room before.one_seat was left
+    c.self.invariant.members) in
     record {
       within = member_within new n m sound at;
       slot = omega (arith, (sound.termination n d at.found).1.slot, sound.consistent.limits.0.few_slots);
@@ -82,21 +96,36 @@ invariant_of-self-2 c =
     let from = member_place c.in_ok-moved.moved.from in
     let settings = c.args.settings.now in
     let done = c.in_ok-moved.ensures.outcome in
-    let k : EngineState = record { config = c.self.inside.config; rooms = c.self.inside.rooms; media = c.self.inside.media.items; flows = c.self.inside.flows; sums = c.self.inside.sums; shares = c.self.inside.shares } in
+    let k : EngineState = record {
+      config = c.self.inside.config;
+      rooms = c.self.inside.rooms;
+      media = c.self.inside.media.items;
+      flows = c.self.inside.flows;
+      sums = c.self.inside.sums;
+      shares = c.self.inside.shares;
+    } in
     let others = c.in_ok-moved.ensures.others.termination in
     let was = on_its_place old n c.in_ok-moved.moved.from c.in_ok-moved.ensures.from in
     let on = on_its_place new n m at in
     let a = move_changes old c.args.target n settings new d done in
     let same = same_others old new n before.there sound.there c.move_to.ensures.lasts.room others in
     let left = c.vacate.ensures.left in
-    let without = carry old new n c.vacate.new.flows same (has_left old n r from c.self.inside.flows c.vacate.new.flows before.one_room before.one_seat was left c.self.invariant.members) in
-    let members = has_entered new n d p c.vacate.new.flows c.enter.new.flows sound.one_room sound.one_seat on c.enter.ensures.entered without in
+    let without = carry old new n c.vacate.new.flows same
+    (has_left old n r from c.self.inside.flows c.vacate.new.flows before.one_room before.one_seat was left
+    c.self.invariant.members) in
+    let members = has_entered new n d p c.vacate.new.flows c.enter.new.flows sound.one_room sound.one_seat on
+    c.enter.ensures.entered without in
     let seats = seated_put new n d p c.self.inside.seating c.self.invariant.places sound.one_room sound.one_seat
-    (λ x y q here. within new x y q here sound.termination sound.context) on (carry_seats old new n c.self.inside.seating same c.self.invariant.seats) in
+    (λ x y q here. within new x y q here sound.termination sound.context) on
+    (carry_seats old new n c.self.inside.seating same c.self.invariant.seats) in
     let put = c.enter.ensures.seated in
-    let joined = joined_changed old new n d p c.self.inside.sums.rooms c.enter.new.sums.rooms sound.one_slot same on (λ x there. ap (λ (y : Record). y.slot) (same_Some x a.was (sym there ∙ a.there)) ∙ sym a.slot) c.enter.ensures.joined c.self.invariant.joined in
+    let joined = joined_changed old new n d p c.self.inside.sums.rooms c.enter.new.sums.rooms sound.one_slot same on
+    (λ x there. ap (λ (y : Record). y.slot) (same_Some x a.was (sym there ∙ a.there)) ∙ sym a.slot)
+    c.enter.ensures.joined c.self.invariant.joined in
     let long = ap length c.tune.ensures.tuned ∙ length-set c.self.inside.media.items _ _ in
-    whole_changed k new n d c.self.inside.ports c.tune.new.media.items c.self.inside.held.items c.enter.new.flows c.self.inside.seating c.enter.new.seating c.enter.new.sums.rooms c.self.invariant a sound long members (rw put seats) (ap length put ∙ length-set c.self.inside.seating _ _) joined c.enter.ensures.rows
+    whole_changed k new n d c.self.inside.ports c.tune.new.media.items c.self.inside.held.items c.enter.new.flows
+    c.self.inside.seating c.enter.new.seating c.enter.new.sums.rooms c.self.invariant a sound long members
+    (rw put seats) (ap length put ∙ length-set c.self.inside.seating _ _) joined c.enter.ensures.rows
 
 pub returns-clause-outcome : goal.returns-clause-outcome
 returns-clause-outcome c w h =
@@ -113,22 +142,42 @@ returns-clause-outcome c w h =
     let from = member_place c.in_ok-moved.moved.from in
     let settings = c.args.settings.now in
     let done = c.in_ok-moved.ensures.outcome in
-    let k : EngineState = record { config = c.self.inside.config; rooms = c.self.inside.rooms; media = c.self.inside.media.items; flows = c.self.inside.flows; sums = c.self.inside.sums; shares = c.self.inside.shares } in
+    let k : EngineState = record {
+      config = c.self.inside.config;
+      rooms = c.self.inside.rooms;
+      media = c.self.inside.media.items;
+      flows = c.self.inside.flows;
+      sums = c.self.inside.sums;
+      shares = c.self.inside.shares;
+    } in
     let others = c.in_ok-moved.ensures.others.termination in
     let was = on_its_place old n c.in_ok-moved.moved.from c.in_ok-moved.ensures.from in
     let on = on_its_place new n m at in
     let a = move_changes old c.args.target n settings new d done in
     let same = same_others old new n before.there sound.there c.move_to.ensures.lasts.room others in
     let left = c.vacate.ensures.left in
-    let without = carry old new n c.vacate.new.flows same (has_left old n r from c.self.inside.flows c.vacate.new.flows before.one_room before.one_seat was left c.self.invariant.members) in
-    let slots = slots_kept k.config old new c.self.inside.ports c.self.inside.media.items c.self.inside.held.items c.self.inside.flows c.self.inside.seating c.self.inside.sums.rooms c.self.invariant a.limits in
+    let without = carry old new n c.vacate.new.flows same
+    (has_left old n r from c.self.inside.flows c.vacate.new.flows before.one_room before.one_seat was left
+    c.self.invariant.members) in
+    let slots = slots_kept k.config old new c.self.inside.ports c.self.inside.media.items c.self.inside.held.items
+    c.self.inside.flows c.self.inside.seating c.self.inside.sums.rooms c.self.invariant a.limits in
     let lt : d.slot < length k.media = omega (arith, (sound.termination n d at.found).1.slot, slots) in
     let stands = subst (λ (x : EngineState). StandsFor x w) (sym c.self.view_is) h in
-    let apart = hears_carry old new n c.vacate.new.flows w.edits same (hears_left old n r from k.flows c.vacate.new.flows before.one_room before.one_seat was left w.edits stands.hears) in
-    let entered = hears_entered new n d p c.vacate.new.flows c.enter.new.flows sound.one_room sound.one_seat on c.enter.ensures.entered without (Leave n ∷ w.edits) apart in
-    let hears = subst (λ (m : _). Hears new c.enter.new.flows (Enter m ∷ Leave m ∷ w.edits)) (sym (changed_at k new n d a)) entered in
-    let here = ap (λ (x : rooms.Registry). done_with (moved w settings) (commands.move_to x c.args.target n settings)) stands.rooms ∙ ap (done_with (moved w settings)) done in
-    (moved w settings new d, here, changed_stands k new c.tune.new.media.items c.enter.new.flows c.enter.new.sums w (moved w settings new d) settings n d a sound.one_slot others lt c.tune.ensures.tuned c.enter.ensures.frames stands refl refl (ap (λ (m : _). media_with settings m w.media) (changed_at k new n d a)) hears)
+    let apart = hears_carry old new n c.vacate.new.flows w.edits same
+    (hears_left old n r from k.flows c.vacate.new.flows before.one_room before.one_seat was left w.edits
+    stands.hears) in
+    let entered = hears_entered new n d p c.vacate.new.flows c.enter.new.flows sound.one_room sound.one_seat on
+    c.enter.ensures.entered without (Leave n ∷ w.edits) apart in
+    let hears = subst (λ (m : _). Hears new c.enter.new.flows (Enter m ∷ Leave m ∷ w.edits))
+    (sym (changed_at k new n d a)) entered in
+    let here = ap (λ (x : rooms.Registry). done_with (moved w settings) (commands.move_to x c.args.target n settings))
+    stands.rooms ∙ ap (done_with (moved w settings)) done in (
+      moved w settings new d,
+      here,
+      changed_stands k new c.tune.new.media.items c.enter.new.flows c.enter.new.sums w
+          (moved w settings new d) settings n d a sound.one_slot others lt c.tune.ensures.tuned c.enter.ensures.frames
+          stands refl refl (ap (λ (m : _). media_with settings m w.media) (changed_at k new n d a)) hears,
+    )
 
 pub returns-clause-work : goal.returns-clause-work
 returns-clause-work c =
@@ -136,4 +185,6 @@ returns-clause-work c =
     (rises_less 2 4 c.self.inside.sums.work c.enter.new.sums.work (omega arith) c.enter.ensures.work)
 
 pub returns-clause-others : goal.returns-clause-others
-returns-clause-others c w next r context h done there apart = move_alone w next c.args.target c.args.number c.args.settings.now r context (sound_as _ c.args.self.now w c.self.view_is c.self.invariant.sound h) done there apart
+returns-clause-others c w next r context h done there apart =
+    move_alone w next c.args.target c.args.number c.args.settings.now r context
+    (sound_as _ c.args.self.now w c.self.view_is c.self.invariant.sound h) done there apart

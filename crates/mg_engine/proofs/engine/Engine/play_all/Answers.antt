@@ -17,25 +17,41 @@ play_slots-requires c =
     let limit = ap (λ (l : Limits). l.slots) c.self.invariant.limits in
     record {
       slots = held_below w slots held (length c.self.inside.media.items) sound.by_number
-          (λ n r found. let (number, is) = sound.termination n r found in omega (arith, is.slot, limit, c.self.invariant.media));
+          (λ n r found. let (number, is) = sound.termination n r found in
+          omega (arith, is.slot, limit, c.self.invariant.media));
       few = omega (arith, limit, c.self.invariant.media, sound.consistent.limits.0.few_slots);
       apart = held_apart w slots held sound.by_number sound.one_slot sound.consistent.terminations.one_number;
     }
 
 pub returns-clause-after : goal.returns-clause-after
 returns-clause-after c w h =
-    let k : EngineState = record { config = c.self.inside.config; rooms = c.self.inside.rooms; media = c.self.inside.media.items; flows = c.self.inside.flows; sums = c.self.inside.sums; shares = c.self.inside.shares } in
+    let k : EngineState = record {
+      config = c.self.inside.config;
+      rooms = c.self.inside.rooms;
+      media = c.self.inside.media.items;
+      flows = c.self.inside.flows;
+      sums = c.self.inside.sums;
+      shares = c.self.inside.shares;
+    } in
     let slots = c.as_slice.result.now in
     let held = c.as_slice.ensures.value ∙ c.self.invariant.held in
     let stands = subst (λ (x : EngineState). StandsFor x w) (sym c.self.view_is) h in
     let all : ArePlayed k c.play_slots.new.media.items c.play_slots.new.sums.frames = λ n r found.
     let at = held_at k.rooms slots held n r found in
-    subst (λ (s : ℕ). IsPlayed k.media c.play_slots.new.media.items c.play_slots.new.sums.frames s) at.is (c.play_slots.ensures.each at.at at.within) in
+    subst (λ (s : ℕ). IsPlayed k.media c.play_slots.new.media.items c.play_slots.new.sums.frames s) at.is
+    (c.play_slots.ensures.each at.at at.within) in
     played_stands k w c.play_slots.new.media.items c.play_slots.new.sums all stands
 
 pub returns-clause-concealed : goal.returns-clause-concealed
 returns-clause-concealed c w h =
-    let k : EngineState = record { config = c.self.inside.config; rooms = c.self.inside.rooms; media = c.self.inside.media.items; flows = c.self.inside.flows; sums = c.self.inside.sums; shares = c.self.inside.shares } in
+    let k : EngineState = record {
+      config = c.self.inside.config;
+      rooms = c.self.inside.rooms;
+      media = c.self.inside.media.items;
+      flows = c.self.inside.flows;
+      sums = c.self.inside.sums;
+      shares = c.self.inside.shares;
+    } in
     let held = c.as_slice.ensures.value ∙ c.self.invariant.held in
     let stands = subst (λ (x : EngineState). StandsFor x w) (sym c.self.view_is) h in
     c.play_slots.ensures.concealed ∙ concealed_is k w c.as_slice.result.now stands c.self.invariant.sound.by_number held
@@ -46,5 +62,7 @@ returns-clause-work c =
     let slots = c.as_slice.result.now in
     let held = c.as_slice.ensures.value ∙ c.self.invariant.held in
     let twice : 2 * length slots ≡ 2 * length w.terminations = omega (arith, many w slots held) in
-    subst (λ (x : EngineState). RisesAtMost (2 * length x.rooms.terminations) x.sums.work c.play_slots.new.sums.work) c.self.view_is
-    (subst (λ (m : ℕ). RisesAtMost m c.self.inside.sums.work c.play_slots.new.sums.work) twice c.play_slots.ensures.work)
+    subst (λ (x : EngineState). RisesAtMost (2 * length x.rooms.terminations) x.sums.work c.play_slots.new.sums.work)
+    c.self.view_is
+    (subst (λ (m : ℕ). RisesAtMost m c.self.inside.sums.work c.play_slots.new.sums.work) twice
+    c.play_slots.ensures.work)

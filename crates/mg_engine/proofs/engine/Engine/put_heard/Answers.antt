@@ -15,42 +15,72 @@ use Rattle.mg_engine.proofs.engine.Engine.put_heard.Goals as goal
 
 pub open-talkers-requires : goal.open-talkers-requires
 open-talkers-requires c =
-    let k : EngineState = record { config = c.self.inside.config; rooms = c.self.inside.rooms; media = c.self.inside.media.items; flows = c.self.inside.flows; sums = c.self.inside.sums; shares = c.self.inside.shares } in
+    let k : EngineState = record {
+      config = c.self.inside.config;
+      rooms = c.self.inside.rooms;
+      media = c.self.inside.media.items;
+      flows = c.self.inside.flows;
+      sums = c.self.inside.sums;
+      shares = c.self.inside.shares;
+    } in
     let l = c.args.listener.now in
     let p = c.args.place in
     let outbox = c.args.outbox.now.items in
-    let on : IsOnPlace k.rooms l.number l p = subst (λ (x : EngineState). IsOnPlace x.rooms l.number l p) (sym c.self.view_is) c.requires.place in
-    let lent : AreShared k outbox = subst (λ (x : EngineState). AreShared x outbox) (sym c.self.view_is) c.requires.shared in
+    let on : IsOnPlace k.rooms l.number l p =
+    subst (λ (x : EngineState). IsOnPlace x.rooms l.number l p) (sym c.self.view_is) c.requires.place in
+    let lent : AreShared k outbox = subst (λ (x : EngineState). AreShared x outbox) (sym c.self.view_is)
+    c.requires.shared in
     (c.self.invariant.members.each l.number l p on).held
 
 pub lend-requires-clause-there : goal.lend-requires-clause-there
 lend-requires-clause-there c =
-    let k : EngineState = record { config = c.self.inside.config; rooms = c.self.inside.rooms; media = c.self.inside.media.items; flows = c.self.inside.flows; sums = c.self.inside.sums; shares = c.self.inside.shares } in
+    let k : EngineState = record {
+      config = c.self.inside.config;
+      rooms = c.self.inside.rooms;
+      media = c.self.inside.media.items;
+      flows = c.self.inside.flows;
+      sums = c.self.inside.sums;
+      shares = c.self.inside.shares;
+    } in
     let l = c.args.listener.now in
     let p = c.args.place in
     let outbox = c.args.outbox.now.items in
-    let on : IsOnPlace k.rooms l.number l p = subst (λ (x : EngineState). IsOnPlace x.rooms l.number l p) (sym c.self.view_is) c.requires.place in
-    let lent : AreShared k outbox = subst (λ (x : EngineState). AreShared x outbox) (sym c.self.view_is) c.requires.shared in
+    let on : IsOnPlace k.rooms l.number l p =
+    subst (λ (x : EngineState). IsOnPlace x.rooms l.number l p) (sym c.self.view_is) c.requires.place in
+    let lent : AreShared k outbox = subst (λ (x : EngineState). AreShared x outbox) (sym c.self.view_is)
+    c.requires.shared in
     let share : Share = record { talkers = c.open-talkers.result.now; law = c.args.law; packet = c.in-Some.packet } in
-    let is = All-contains (IsShared k outbox p.room) (shares_in k.shares p.room) share (lent p.room) c.in-Some.ensures.found in
+    let is = All-contains (IsShared k outbox p.room) (shares_in k.shares p.room) share (lent p.room)
+    c.in-Some.ensures.found in
     is.sent
 
 pub returns-in-Some-clause-put : goal.returns-in-Some-clause-put
 returns-in-Some-clause-put c =
-    let k : EngineState = record { config = c.self.inside.config; rooms = c.self.inside.rooms; media = c.self.inside.media.items; flows = c.self.inside.flows; sums = c.self.inside.sums; shares = c.self.inside.shares } in
+    let k : EngineState = record {
+      config = c.self.inside.config;
+      rooms = c.self.inside.rooms;
+      media = c.self.inside.media.items;
+      flows = c.self.inside.flows;
+      sums = c.self.inside.sums;
+      shares = c.self.inside.shares;
+    } in
     let l = c.args.listener.now in
     let p = c.args.place in
     let outbox = c.args.outbox.now.items in
-    let on : IsOnPlace k.rooms l.number l p = subst (λ (x : EngineState). IsOnPlace x.rooms l.number l p) (sym c.self.view_is) c.requires.place in
-    let lent : AreShared k outbox = subst (λ (x : EngineState). AreShared x outbox) (sym c.self.view_is) c.requires.shared in
+    let on : IsOnPlace k.rooms l.number l p =
+    subst (λ (x : EngineState). IsOnPlace x.rooms l.number l p) (sym c.self.view_is) c.requires.place in
+    let lent : AreShared k outbox = subst (λ (x : EngineState). AreShared x outbox) (sym c.self.view_is)
+    c.requires.shared in
     let share : Share = record { talkers = c.open-talkers.result.now; law = c.args.law; packet = c.in-Some.packet } in
-    let is = All-contains (IsShared k outbox p.room) (shares_in k.shares p.room) share (lent p.room) c.in-Some.ensures.found in
+    let is = All-contains (IsShared k outbox p.room) (shares_in k.shares p.room) share (lent p.room)
+    c.in-Some.ensures.found in
     record {
       last = packet_at outbox c.in-Some.packet;
       all = c.lend.ensures.value;
       same = is.payload
           ∙ sym (payload_is_on k l p c.open-talkers.result.now on.place c.open-talkers.ensures.kept c.args.law)
-          ∙ ap (λ (x : EngineState). map (byte_of c.args.law) (map (λ i. nearest_sample (heard_now x l i)) (range_with_len 0 160))) c.self.view_is;
+          ∙ ap (λ (x : EngineState). map (byte_of c.args.law)
+          (map (λ i. nearest_sample (heard_now x l i)) (range_with_len 0 160))) c.self.view_is;
     }
 
 pub returns-in-Some-clause-shared : goal.returns-in-Some-clause-shared
@@ -64,25 +94,40 @@ returns-clause-put c =
       last = put.last;
       all = put.all;
       same = put.same ∙ c.mix-payload.ensures.value
-          ∙ ap (λ (x : EngineState). map (byte_of c.args.law) (map (λ i. nearest_sample (heard_now x l i)) (range_with_len 0 160))) c.self.view_is;
+          ∙ ap (λ (x : EngineState). map (byte_of c.args.law)
+          (map (λ i. nearest_sample (heard_now x l i)) (range_with_len 0 160))) c.self.view_is;
     }
 
 pub returns-clause-shared : goal.returns-clause-shared
 returns-clause-shared c sent e =
-    let k : EngineState = record { config = c.self.inside.config; rooms = c.self.inside.rooms; media = c.self.inside.media.items; flows = c.self.inside.flows; sums = c.self.inside.sums; shares = c.self.inside.shares } in
+    let k : EngineState = record {
+      config = c.self.inside.config;
+      rooms = c.self.inside.rooms;
+      media = c.self.inside.media.items;
+      flows = c.self.inside.flows;
+      sums = c.self.inside.sums;
+      shares = c.self.inside.shares;
+    } in
     let l = c.args.listener.now in
     let p = c.args.place in
     let outbox = c.args.outbox.now.items in
-    let on : IsOnPlace k.rooms l.number l p = subst (λ (x : EngineState). IsOnPlace x.rooms l.number l p) (sym c.self.view_is) c.requires.place in
-    let lent : AreShared k outbox = subst (λ (x : EngineState). AreShared x outbox) (sym c.self.view_is) c.requires.shared in
-    let share : Share = record { talkers = c.open-talkers.result.now; law = c.args.law; packet = c.len-packet.result } in
+    let on : IsOnPlace k.rooms l.number l p =
+    subst (λ (x : EngineState). IsOnPlace x.rooms l.number l p) (sym c.self.view_is) c.requires.place in
+    let lent : AreShared k outbox = subst (λ (x : EngineState). AreShared x outbox) (sym c.self.view_is)
+    c.requires.shared in
+    let share : Share = record { talkers = c.open-talkers.result.now; law = c.args.law; packet = c.len-packet.result }
+    in
     let work = c.mix-payload.new.self.sums.work in
-    let payload = e ∙ sym (ap (λ (x : EngineState). map (byte_of c.args.law) (map (λ i. nearest_sample (heard_now x l i)) (range_with_len 0 160))) c.self.view_is) ∙ payload_is_on k l p c.open-talkers.result.now on.place c.open-talkers.ensures.kept c.args.law in
+    let payload = e ∙ sym (ap (λ (x : EngineState). map (byte_of c.args.law)
+    (map (λ i. nearest_sample (heard_now x l i)) (range_with_len 0 160))) c.self.view_is) ∙
+    payload_is_on k l p c.open-talkers.result.now on.place c.open-talkers.ensures.kept c.args.law in
     let now = now_shared k outbox sent work p.room share c.put.ensures.there c.len-packet.ensures.value payload lent in
     subst (λ (x : EngineState). AreShared x (outbox ++ sent ∷ [])) (sym c.mix-payload.ensures.same)
-    (subst (λ (s : List (List Share)). AreShared (with_mixes k work s) (outbox ++ sent ∷ [])) (sym c.put.ensures.value) now)
+    (subst (λ (s : List (List Share)). AreShared (with_mixes k work s) (outbox ++ sent ∷ []))
+    (sym c.put.ensures.value) now)
 
 pub returns-clause-work : goal.returns-clause-work
 returns-clause-work c =
     let l = c.args.listener.now in
-    subst (λ (x : EngineState). RisesAtMost (1 + silenced_now x l) x.sums.work c.mix-payload.new.self.sums.work) c.self.view_is c.mix-payload.ensures.work
+    subst (λ (x : EngineState). RisesAtMost (1 + silenced_now x l) x.sums.work c.mix-payload.new.self.sums.work)
+    c.self.view_is c.mix-payload.ensures.work

@@ -12,9 +12,17 @@ use Rattle.mg_engine.proofs.engine.Engine.stats.Goals as goal
 pub returns-in-Some : goal.returns-in-Some
 returns-in-Some c = record {
   value = λ w h.
-      let k : EngineState = record { config = c.self.inside.config; rooms = c.self.inside.rooms; media = c.self.inside.media.items; flows = c.self.inside.flows; sums = c.self.inside.sums; shares = c.self.inside.shares } in
+      let k : EngineState = record {
+        config = c.self.inside.config;
+        rooms = c.self.inside.rooms;
+        media = c.self.inside.media.items;
+        flows = c.self.inside.flows;
+        sums = c.self.inside.sums;
+        shares = c.self.inside.shares;
+      } in
       let stands = subst (λ (x : EngineState). StandsFor x w) (sym c.self.view_is) h in
-      let (r, there, slot) = with_slot (record_at k.rooms c.args.number) c.in-Some.slot (sym c.slot_of.ensures.value ∙ c.in-Some.is) in
+      let (r, there, slot) = with_slot (record_at k.rooms c.args.number) c.in-Some.slot
+      (sym c.slot_of.ensures.value ∙ c.in-Some.is) in
       let (s, found, is) = has_media k w c.args.number r stands there in
       let stats = c.stats_in.ensures.value
       ∙ ap (λ (ms : List media.SlotMedia). (media_at ms c.in-Some.slot).stats) c.as_slice.ensures.value
@@ -26,8 +34,16 @@ returns-in-Some c = record {
 pub returns-in-None : goal.returns-in-None
 returns-in-None c = record {
   value = λ w h.
-      let k : EngineState = record { config = c.self.inside.config; rooms = c.self.inside.rooms; media = c.self.inside.media.items; flows = c.self.inside.flows; sums = c.self.inside.sums; shares = c.self.inside.shares } in
+      let k : EngineState = record {
+        config = c.self.inside.config;
+        rooms = c.self.inside.rooms;
+        media = c.self.inside.media.items;
+        flows = c.self.inside.flows;
+        sums = c.self.inside.sums;
+        shares = c.self.inside.shares;
+      } in
       let stands = subst (λ (x : EngineState). StandsFor x w) (sym c.self.view_is) h in
       let none = with_no_slot (record_at k.rooms c.args.number) (sym c.slot_of.ensures.value ∙ c.in-None.is) in
-      ap (option_map (λ (x : TerminationMedia). x.stats)) (sym (none_too k w c.args.number stands.numbers none (media_of w c.args.number) refl));
+      ap (option_map (λ (x : TerminationMedia). x.stats))
+      (sym (none_too k w c.args.number stands.numbers none (media_of w c.args.number) refl));
 }

@@ -19,7 +19,10 @@ use Rattle.mg_engine.proofs.engine.Engine.subtract.Goals as goal
 pub vacate-requires : goal.vacate-requires
 vacate-requires c =
     let m = c.in_ok-gone.gone in
-    record { held = (c.self.invariant.members.each c.args.number m.record (member_place m) (on_its_place c.self.inside.rooms c.args.number m c.in_ok-gone.ensures.member)).held }
+    record {
+      held = (c.self.invariant.members.each c.args.number m.record (member_place m)
+          (on_its_place c.self.inside.rooms c.args.number m c.in_ok-gone.ensures.member)).held;
+    }
 
 pub invariant_of-self-2 : goal.invariant_of-self-2
 invariant_of-self-2 c =
@@ -30,7 +33,14 @@ invariant_of-self-2 c =
     let d = m.record in
     let p = member_place m in
     let done = c.in_ok-gone.ensures.outcome in
-    let k : EngineState = record { config = c.self.inside.config; rooms = c.self.inside.rooms; media = c.self.inside.media.items; flows = c.self.inside.flows; sums = c.self.inside.sums; shares = c.self.inside.shares } in
+    let k : EngineState = record {
+      config = c.self.inside.config;
+      rooms = c.self.inside.rooms;
+      media = c.self.inside.media.items;
+      flows = c.self.inside.flows;
+      sums = c.self.inside.sums;
+      shares = c.self.inside.shares;
+    } in
     let before = c.self.invariant.sound in
     let sound = c.subtract.ensures.sound in
     let a = subtract_removes old c.args.target n new d done in
@@ -39,11 +49,19 @@ invariant_of-self-2 c =
     let none = gone k new n d a before in
     let same = same_others old new n before.there sound.there c.subtract.ensures.lasts.room others in
     let left = c.vacate.ensures.left in
-    let members = members_all new n c.vacate.new.flows none (carry old new n c.vacate.new.flows same (has_left old n d p c.self.inside.flows c.vacate.new.flows before.one_room before.one_seat was left c.self.invariant.members)) in
-    let seats = seated_all new n c.self.inside.seating none (carry_seats old new n c.self.inside.seating same c.self.invariant.seats) in
-    let apart = subst (λ (row : ℕ). SetsRow c.self.inside.sums.rooms c.part.new.sums.rooms row None) c.new.ensures c.part.ensures.rooms in
-    let joined = joined_left old new n d c.self.inside.sums.rooms c.part.new.sums.rooms before.one_slot same was.found none apart c.self.invariant.joined in
-    whole_removed k new n d c.self.inside.ports c.self.inside.held.items c.without.new.held.items c.vacate.new.flows c.self.inside.seating c.part.new.sums.rooms c.self.invariant a before sound c.without.ensures.value members seats joined c.part.ensures.rows
+    let members = members_all new n c.vacate.new.flows none
+    (carry old new n c.vacate.new.flows same
+    (has_left old n d p c.self.inside.flows c.vacate.new.flows before.one_room before.one_seat was left
+    c.self.invariant.members)) in
+    let seats = seated_all new n c.self.inside.seating none
+    (carry_seats old new n c.self.inside.seating same c.self.invariant.seats) in
+    let apart = subst (λ (row : ℕ). SetsRow c.self.inside.sums.rooms c.part.new.sums.rooms row None) c.new.ensures
+    c.part.ensures.rooms in
+    let joined = joined_left old new n d c.self.inside.sums.rooms c.part.new.sums.rooms before.one_slot same was.found
+    none apart c.self.invariant.joined in
+    whole_removed k new n d c.self.inside.ports c.self.inside.held.items c.without.new.held.items c.vacate.new.flows
+    c.self.inside.seating c.part.new.sums.rooms c.self.invariant a before sound c.without.ensures.value members
+    seats joined c.part.ensures.rows
 
 pub returns-clause-outcome : goal.returns-clause-outcome
 returns-clause-outcome c w h =
@@ -54,7 +72,14 @@ returns-clause-outcome c w h =
     let d = m.record in
     let p = member_place m in
     let done = c.in_ok-gone.ensures.outcome in
-    let k : EngineState = record { config = c.self.inside.config; rooms = c.self.inside.rooms; media = c.self.inside.media.items; flows = c.self.inside.flows; sums = c.self.inside.sums; shares = c.self.inside.shares } in
+    let k : EngineState = record {
+      config = c.self.inside.config;
+      rooms = c.self.inside.rooms;
+      media = c.self.inside.media.items;
+      flows = c.self.inside.flows;
+      sums = c.self.inside.sums;
+      shares = c.self.inside.shares;
+    } in
     let before = c.self.invariant.sound in
     let sound = c.subtract.ensures.sound in
     let a = subtract_removes old c.args.target n new d done in
@@ -64,9 +89,17 @@ returns-clause-outcome c w h =
     let same = same_others old new n before.there sound.there c.subtract.ensures.lasts.room others in
     let left = c.vacate.ensures.left in
     let stands = subst (λ (x : EngineState). StandsFor x w) (sym c.self.view_is) h in
-    let hears = hears_all new n c.vacate.new.flows w.edits none (hears_carry old new n c.vacate.new.flows w.edits same (hears_left old n d p k.flows c.vacate.new.flows before.one_room before.one_seat was left w.edits stands.hears)) in
-    let here = ap (λ (x : rooms.Registry). done_with (subtracted w) (commands.subtract x c.args.target n)) stands.rooms ∙ ap (done_with (subtracted w)) done in
-    (subtracted w new d, here, removed_stands k new c.vacate.new.flows c.part.new.sums w n d a before others hears c.part.ensures.frames stands)
+    let hears = hears_all new n c.vacate.new.flows w.edits none
+    (hears_carry old new n c.vacate.new.flows w.edits same
+    (hears_left old n d p k.flows c.vacate.new.flows before.one_room before.one_seat was left w.edits
+    stands.hears)) in
+    let here = ap (λ (x : rooms.Registry). done_with (subtracted w) (commands.subtract x c.args.target n))
+    stands.rooms ∙ ap (done_with (subtracted w)) done in (
+      subtracted w new d,
+      here,
+      removed_stands k new c.vacate.new.flows c.part.new.sums w n d a before others hears
+          c.part.ensures.frames stands,
+    )
 
 pub returns-clause-work : goal.returns-clause-work
 returns-clause-work c =
@@ -74,4 +107,6 @@ returns-clause-work c =
     (rises_less 1 4 c.self.inside.sums.work c.part.new.sums.work (omega arith) c.part.ensures.work)
 
 pub returns-clause-others : goal.returns-clause-others
-returns-clause-others c w next r context h done apart = subtract_alone w next c.args.target c.args.number r context (sound_as _ c.args.self.now w c.self.view_is c.self.invariant.sound h) done apart
+returns-clause-others c w next r context h done apart =
+    subtract_alone w next c.args.target c.args.number r context
+    (sound_as _ c.args.self.now w c.self.view_is c.self.invariant.sound h) done apart

@@ -9,12 +9,20 @@ use Rattle.mg_engine.proofs.engine.Engine.sums.Goals as goal
 
 pub returns-clause-told : goal.returns-clause-told
 returns-clause-told c w h =
-    let k : EngineState = record { config = c.self.inside.config; rooms = c.self.inside.rooms; media = c.self.inside.media.items; flows = c.self.inside.flows; sums = c.self.inside.sums; shares = c.self.inside.shares } in
+    let k : EngineState = record {
+      config = c.self.inside.config;
+      rooms = c.self.inside.rooms;
+      media = c.self.inside.media.items;
+      flows = c.self.inside.flows;
+      sums = c.self.inside.sums;
+      shares = c.self.inside.shares;
+    } in
     let sound = c.self.invariant.sound in
     let stands = subst (λ (x : EngineState). StandsFor x w) (sym c.self.view_is) h in
     record {
       frames = λ n r found.
-          let (s, there, is) = has_media k w n r stands (ap (λ (x : rooms.Registry). record_at x n) (sym stands.rooms) ∙ found) in
+          let (s, there, is) = has_media k w n r stands
+          (ap (λ (x : rooms.Registry). record_at x n) (sym stands.rooms) ∙ found) in
           is.frame ∙ sym (ap (λ (o : Option TerminationMedia). frame_in o) there);
       totals = λ context i x found lt.
           total_is k w context i x sound c.self.invariant.joined sound.by_number
@@ -23,6 +31,9 @@ returns-clause-told c w h =
           sound.termination
           (sound.members context)
           (sound.once context)
-          (λ j d lt. let (number, limited) = sound.termination (get_or k.rooms.terminations j d).number (get_or k.rooms.terminations j d) (sound.by_number j d lt) in omega (arith, limited.slot, sound.consistent.limits.0.few_slots))
-          c.self.invariant.row_count stands (ap (λ (y : rooms.Registry). context_at y context) (sym stands.rooms) ∙ found);
+          (λ j d lt. let (number, limited) = sound.termination (get_or k.rooms.terminations j d).number
+          (get_or k.rooms.terminations j d) (sound.by_number j d lt) in
+          omega (arith, limited.slot, sound.consistent.limits.0.few_slots))
+          c.self.invariant.row_count stands (ap (λ (y : rooms.Registry). context_at y context) (sym stands.rooms) ∙
+          found);
     }

@@ -9,11 +9,19 @@ use Rattle.mg_engine.proofs.engine.Engine.total.Goals as goal
 pub returns : goal.returns
 returns c = record {
   value = λ w h.
-      let k : EngineState = record { config = c.self.inside.config; rooms = c.self.inside.rooms; media = c.self.inside.media.items; flows = c.self.inside.flows; sums = c.self.inside.sums; shares = c.self.inside.shares } in
+      let k : EngineState = record {
+        config = c.self.inside.config;
+        rooms = c.self.inside.rooms;
+        media = c.self.inside.media.items;
+        flows = c.self.inside.flows;
+        sums = c.self.inside.sums;
+        shares = c.self.inside.shares;
+      } in
       let sound = c.self.invariant.sound in
       let stands = subst (λ (x : EngineState). StandsFor x w) (sym c.self.view_is) h in
       let lt : c.args.i < 160 = omega (arith, c.if-i-ge-SAMPLES.false) in
-      let (x, found, room) = context_with (context_at k.rooms c.args.context) c.in_ok-room.room (sym c.room.ensures.value ∙ c.in_ok-room.was) in
+      let (x, found, room) = context_with (context_at k.rooms c.args.context) c.in_ok-room.room
+      (sym c.room.ensures.value ∙ c.in_ok-room.was) in
       ap (λ (z : ℤ). Some z)
       (to_z-of_z w32 c.total.result.now (search rules)
       ∙ c.total.ensures.value
@@ -24,7 +32,9 @@ returns c = record {
       sound.termination
       (sound.members c.args.context)
       (sound.once c.args.context)
-      (λ j d lt. let (number, limited) = sound.termination (get_or k.rooms.terminations j d).number (get_or k.rooms.terminations j d) (sound.by_number j d lt) in omega (arith, limited.slot, sound.consistent.limits.0.few_slots))
+      (λ j d lt. let (number, limited) = sound.termination (get_or k.rooms.terminations j d).number
+      (get_or k.rooms.terminations j d) (sound.by_number j d lt) in
+      omega (arith, limited.slot, sound.consistent.limits.0.few_slots))
       c.self.invariant.row_count stands found)
       ∙ total_there k w c.args.context c.args.i x stands lt found;
 }

@@ -7,7 +7,8 @@ use Rattle.mg_flow.proofs.flow_table.FlowTable.on_leave.Goals as goal
 
 pub returns-clause-edits : goal.returns-clause-edits
 returns-clause-edits c =
-    let held : holds c.self.inside.rooms.items c.args.place ≡ true = ap (λ x. holds x c.args.place) c.self.view_is ∙ c.requires in
+    let held : holds c.self.inside.rooms.items c.args.place ≡ true = ap (λ x. holds x c.args.place) c.self.view_is ∙
+    c.requires in
     let read : IsRead c.self.inside.rooms.items c.args.place c.from.result c.from-2.result c.index_mut-room.result.now =
     record {
       number = c.from.ensures;
@@ -18,11 +19,13 @@ returns-clause-edits c =
     rw (← c.self.view_is) (leave_stands read c.leave.ensures.edits c.leave.ensures.seat)
 
 pub returns-clause-hears : goal.returns-clause-hears
-returns-clause-hears c = leave_hears c.args.self.now _ c.args.place (rw (← c.self.view_is) c.self.invariant.edits) (returns-clause-edits c)
+returns-clause-hears c = leave_hears c.args.self.now _ c.args.place (rw (← c.self.view_is) c.self.invariant.edits)
+    (returns-clause-edits c)
 
 pub invariant_of-self : goal.invariant_of-self
 invariant_of-self c =
-    let held : holds c.self.inside.rooms.items c.args.place ≡ true = ap (λ x. holds x c.args.place) c.self.view_is ∙ c.requires in
+    let held : holds c.self.inside.rooms.items c.args.place ≡ true = ap (λ x. holds x c.args.place) c.self.view_is ∙
+    c.requires in
     let read : IsRead c.self.inside.rooms.items c.args.place c.from.result c.from-2.result c.index_mut-room.result.now =
     record {
       number = c.from.ensures;
@@ -30,4 +33,5 @@ invariant_of-self c =
       within = held_within _ _ _ c.from.ensures held;
       is = c.index_mut-room.ensures.value;
     } in
-    IsTable-edited _ _ _ (λ es. Leave c.args.place ∷ es) (leave_stands read c.leave.ensures.edits c.leave.ensures.seat) c.self.invariant
+    IsTable-edited _ _ _ (λ es. Leave c.args.place ∷ es)
+    (leave_stands read c.leave.ensures.edits c.leave.ensures.seat) c.self.invariant

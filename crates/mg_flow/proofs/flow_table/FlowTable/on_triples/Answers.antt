@@ -8,10 +8,12 @@ use Rattle.mg_flow.proofs.flow_table.FlowTable.on_triples.Goals as goal
 pub returns-clause-ok : goal.returns-clause-ok
 returns-clause-ok c =
     let within : c.from.result < length c.self.inside.rooms.items = omega (arith, c.self.invariant.rooms) in
-    let stand = triples_stand c.self.inside.rooms.items c.args.room c.from.result c.args.triples.now c.index_mut-spoken_of.result.now c.apply.new.self in
+    let stand = triples_stand c.self.inside.rooms.items c.args.room c.from.result c.args.triples.now
+    c.index_mut-spoken_of.result.now c.apply.new.self in
     rw (← c.self.view_is)
     (on_ok_weaker c.apply.result
-    (λ edits. stand c.from.ensures within c.index_mut-spoken_of.ensures.value edits c.apply.ensures.talks c.apply.ensures.listens)
+    (λ edits. stand c.from.ensures within c.index_mut-spoken_of.ensures.value edits c.apply.ensures.talks
+    c.apply.ensures.listens)
     c.apply.ensures.ok)
 
 pub returns-clause-hears : goal.returns-clause-hears
@@ -23,9 +25,12 @@ returns-clause-hears c =
 pub invariant_of-self : goal.invariant_of-self
 invariant_of-self c =
     let within : c.from.result < length c.self.inside.rooms.items = omega (arith, c.self.invariant.rooms) in
-    let stand = triples_stand c.self.inside.rooms.items c.args.room c.from.result c.args.triples.now c.index_mut-spoken_of.result.now c.apply.new.self in
-    IsTable-tried c.apply.result _ _ _ _ (apply_all c.args.room c.args.triples.now) within c.index_mut-spoken_of.ensures.value
+    let stand = triples_stand c.self.inside.rooms.items c.args.room c.from.result c.args.triples.now
+    c.index_mut-spoken_of.result.now c.apply.new.self in
+    IsTable-tried c.apply.result _ _ _ _ (apply_all c.args.room c.args.triples.now) within
+    c.index_mut-spoken_of.ensures.value
     (on_ok_weaker c.apply.result
-    (λ edits. stand c.from.ensures within c.index_mut-spoken_of.ensures.value edits c.apply.ensures.talks c.apply.ensures.listens)
+    (λ edits. stand c.from.ensures within c.index_mut-spoken_of.ensures.value edits c.apply.ensures.talks
+    c.apply.ensures.listens)
     c.apply.ensures.ok)
     c.apply.ensures.err c.self.invariant

@@ -5,9 +5,11 @@ use Rattle.mg_flow.specs.Table.{holds, flows}
 use Rattle.mg_flow.proofs.TableLemmas.{IsRead, held_within, flows-read, flows-stands}
 use Rattle.mg_flow.proofs.flow_table.FlowTable.open.Goals as goal
 
-told : (c : goal.After-open) → (seat : ℕ) → has_seat c.open.result.now seat ≡ flows c.args.self.now (beside c.args.place seat) c.args.place
+told : (c : goal.After-open) → (seat : ℕ) →
+    has_seat c.open.result.now seat ≡ flows c.args.self.now (beside c.args.place seat) c.args.place
 told c seat =
-    let held : holds c.self.inside.rooms.items c.args.place ≡ true = ap (λ x. holds x c.args.place) c.self.view_is ∙ c.requires in
+    let held : holds c.self.inside.rooms.items c.args.place ≡ true = ap (λ x. holds x c.args.place) c.self.view_is ∙
+    c.requires in
     let read : IsRead c.self.inside.rooms.items c.args.place c.from.result c.from-2.result c.index-room.result.now =
     record {
       number = c.from.ensures;
@@ -21,4 +23,5 @@ pub returns-clause-kept : goal.returns-clause-kept
 returns-clause-kept c = told c
 
 pub returns-clause-edits : goal.returns-clause-edits
-returns-clause-edits c = λ es h seat. told c seat ∙ flows-stands c.args.self.now es (beside c.args.place seat) c.args.place h
+returns-clause-edits c = λ es h seat. told c seat ∙
+    flows-stands c.args.self.now es (beside c.args.place seat) c.args.place h

@@ -8,6 +8,8 @@ abbrev pub invariant-loop-listener : goal.invariant-loop-listener
 invariant-loop-listener l = record {
   open_length : length l.open ≡ seat_limit;
   silenced_length : length l.silenced ≡ seat_limit;
-  flows : (talker k : ℕ) → k < l.listener → has_seat (slice_index l.open k) talker ≡ flows_to l.topology l.talks l.listens talker k;
-  kept : (talker k : ℕ) → k < l.listener → has_seat (slice_index l.silenced k) talker ≡ is_kept_from l.topology l.talks talker k;
+  flows : (talker k : ℕ) → k < l.listener → has_seat (slice_index l.open k) talker ≡
+      flows_to l.topology l.talks l.listens talker k;
+  kept : (talker k : ℕ) → k < l.listener → has_seat (slice_index l.silenced k) talker ≡
+      is_kept_from l.topology l.talks talker k;
 }

@@ -4,22 +4,34 @@ use Rattle.mg_rooms.proofs.SoundLaws.{sound_if, add_leaves, made_as}
 use Rattle.mg_rooms.proofs.rooms.Rooms.add.Goals as goal
 
 pub returns-in_err-made-clause-sound : goal.returns-in_err-made-clause-sound
-returns-in_err-made-clause-sound c = subst IsSound (sym c.in_err-made.ensures.outcome.1) (sound_if c.self.inside.tables c.self.invariant)
+returns-in_err-made-clause-sound c = subst IsSound (sym c.in_err-made.ensures.outcome.1)
+    (sound_if c.self.inside.tables c.self.invariant)
 
 pub member_of-requires : goal.member_of-requires
-member_of-requires c = record { there = (add_leaves c.self.inside.tables c.add.new.self c.args.target c.args.settings.now c.in_ok-made.made c.self.invariant c.in_ok-made.ensures.outcome).there }
+member_of-requires c = record {
+  there = (add_leaves c.self.inside.tables c.add.new.self c.args.target
+      c.args.settings.now c.in_ok-made.made c.self.invariant c.in_ok-made.ensures.outcome).there;
+}
 
 pub invariant_of-self-2 : goal.invariant_of-self-2
-invariant_of-self-2 c = (add_leaves c.self.inside.tables c.add.new.self c.args.target c.args.settings.now c.in_ok-made.made c.self.invariant c.in_ok-made.ensures.outcome).sound.consistent
+invariant_of-self-2 c = (add_leaves c.self.inside.tables c.add.new.self c.args.target c.args.settings.now
+    c.in_ok-made.made c.self.invariant c.in_ok-made.ensures.outcome).sound.consistent
 
 pub returns-clause-sound : goal.returns-clause-sound
-returns-clause-sound c = (add_leaves c.self.inside.tables c.add.new.self c.args.target c.args.settings.now c.in_ok-made.made c.self.invariant c.in_ok-made.ensures.outcome).sound
+returns-clause-sound c = (add_leaves c.self.inside.tables c.add.new.self c.args.target c.args.settings.now
+    c.in_ok-made.made c.self.invariant c.in_ok-made.ensures.outcome).sound
 
 pub returns-clause-member : goal.returns-clause-member
-returns-clause-member c = made_as c.add.new.self c.in_ok-made.made c.member_of.result (add_leaves c.self.inside.tables c.add.new.self c.args.target c.args.settings.now c.in_ok-made.made c.self.invariant c.in_ok-made.ensures.outcome).own c.member_of.ensures.termination c.member_of.ensures.room
+returns-clause-member c = made_as c.add.new.self c.in_ok-made.made c.member_of.result
+    (add_leaves c.self.inside.tables c.add.new.self c.args.target c.args.settings.now c.in_ok-made.made
+    c.self.invariant c.in_ok-made.ensures.outcome).own c.member_of.ensures.termination c.member_of.ensures.room
 
 pub returns-clause-lasts : goal.returns-clause-lasts
-returns-clause-lasts c = rw (← c.self.view_is) (add_leaves c.self.inside.tables c.add.new.self c.args.target c.args.settings.now c.in_ok-made.made c.self.invariant c.in_ok-made.ensures.outcome).lasts
+returns-clause-lasts c = rw (← c.self.view_is)
+    (add_leaves c.self.inside.tables c.add.new.self c.args.target c.args.settings.now c.in_ok-made.made
+    c.self.invariant c.in_ok-made.ensures.outcome).lasts
 
 pub returns-clause-others : goal.returns-clause-others
-returns-clause-others c = rw (← c.self.view_is, c.member_of.ensures.termination) (add_leaves c.self.inside.tables c.add.new.self c.args.target c.args.settings.now c.in_ok-made.made c.self.invariant c.in_ok-made.ensures.outcome).others
+returns-clause-others c = rw (← c.self.view_is, c.member_of.ensures.termination)
+    (add_leaves c.self.inside.tables c.add.new.self c.args.target c.args.settings.now c.in_ok-made.made
+    c.self.invariant c.in_ok-made.ensures.outcome).others

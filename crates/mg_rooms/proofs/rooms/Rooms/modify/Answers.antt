@@ -4,22 +4,35 @@ use Rattle.mg_rooms.proofs.SoundLaws.{sound_if, modify_leaves, there_as}
 use Rattle.mg_rooms.proofs.rooms.Rooms.modify.Goals as goal
 
 pub returns-in_err-changed-clause-sound : goal.returns-in_err-changed-clause-sound
-returns-in_err-changed-clause-sound c = subst IsSound (sym c.in_err-changed.ensures.outcome.1) (sound_if c.self.inside.tables c.self.invariant)
+returns-in_err-changed-clause-sound c = subst IsSound (sym c.in_err-changed.ensures.outcome.1)
+    (sound_if c.self.inside.tables c.self.invariant)
 
 pub member_of-requires : goal.member_of-requires
-member_of-requires c = record { there = (modify_leaves c.self.inside.tables c.modify.new.self c.args.target c.args.number c.args.settings.now c.in_ok-changed.changed c.self.invariant c.in_ok-changed.ensures.outcome).there }
+member_of-requires c = record {
+  there = (modify_leaves c.self.inside.tables c.modify.new.self c.args.target
+      c.args.number c.args.settings.now c.in_ok-changed.changed c.self.invariant c.in_ok-changed.ensures.outcome).there;
+}
 
 pub invariant_of-self-2 : goal.invariant_of-self-2
-invariant_of-self-2 c = (modify_leaves c.self.inside.tables c.modify.new.self c.args.target c.args.number c.args.settings.now c.in_ok-changed.changed c.self.invariant c.in_ok-changed.ensures.outcome).sound.consistent
+invariant_of-self-2 c = (modify_leaves c.self.inside.tables c.modify.new.self c.args.target c.args.number
+    c.args.settings.now c.in_ok-changed.changed c.self.invariant c.in_ok-changed.ensures.outcome).sound.consistent
 
 pub returns-clause-sound : goal.returns-clause-sound
-returns-clause-sound c = (modify_leaves c.self.inside.tables c.modify.new.self c.args.target c.args.number c.args.settings.now c.in_ok-changed.changed c.self.invariant c.in_ok-changed.ensures.outcome).sound
+returns-clause-sound c = (modify_leaves c.self.inside.tables c.modify.new.self c.args.target c.args.number
+    c.args.settings.now c.in_ok-changed.changed c.self.invariant c.in_ok-changed.ensures.outcome).sound
 
 pub returns-clause-member : goal.returns-clause-member
-returns-clause-member c = there_as c.modify.new.self c.args.number c.in_ok-changed.changed c.member_of.result (modify_leaves c.self.inside.tables c.modify.new.self c.args.target c.args.number c.args.settings.now c.in_ok-changed.changed c.self.invariant c.in_ok-changed.ensures.outcome).own c.member_of.ensures.termination c.member_of.ensures.room
+returns-clause-member c = there_as c.modify.new.self c.args.number c.in_ok-changed.changed c.member_of.result
+    (modify_leaves c.self.inside.tables c.modify.new.self c.args.target c.args.number c.args.settings.now
+    c.in_ok-changed.changed c.self.invariant c.in_ok-changed.ensures.outcome).own c.member_of.ensures.termination
+    c.member_of.ensures.room
 
 pub returns-clause-lasts : goal.returns-clause-lasts
-returns-clause-lasts c = rw (← c.self.view_is) (modify_leaves c.self.inside.tables c.modify.new.self c.args.target c.args.number c.args.settings.now c.in_ok-changed.changed c.self.invariant c.in_ok-changed.ensures.outcome).lasts
+returns-clause-lasts c = rw (← c.self.view_is)
+    (modify_leaves c.self.inside.tables c.modify.new.self c.args.target c.args.number c.args.settings.now
+    c.in_ok-changed.changed c.self.invariant c.in_ok-changed.ensures.outcome).lasts
 
 pub returns-clause-others : goal.returns-clause-others
-returns-clause-others c = rw (← c.self.view_is, c.member_of.ensures.termination) (modify_leaves c.self.inside.tables c.modify.new.self c.args.target c.args.number c.args.settings.now c.in_ok-changed.changed c.self.invariant c.in_ok-changed.ensures.outcome).others
+returns-clause-others c = rw (← c.self.view_is, c.member_of.ensures.termination)
+    (modify_leaves c.self.inside.tables c.modify.new.self c.args.target c.args.number c.args.settings.now
+    c.in_ok-changed.changed c.self.invariant c.in_ok-changed.ensures.outcome).others

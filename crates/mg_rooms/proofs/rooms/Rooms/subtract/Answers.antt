@@ -6,13 +6,21 @@ pub returns-in_err-old-clause-sound : goal.returns-in_err-old-clause-sound
 returns-in_err-old-clause-sound c = rw (← c.self.view_is) (sound_if c.self.inside.tables c.self.invariant)
 
 pub invariant_of-self : goal.invariant_of-self
-invariant_of-self c = (subtract_ends c.self.inside.tables c.end.new.self c.args.target c.args.number c.in_ok-old.old c.self.invariant (sym c.in_ok-old.ensures.value) (rw c.member_of-gone.ensures.termination at c.end.ensures.value)).sound.consistent
+invariant_of-self c = (subtract_ends c.self.inside.tables c.end.new.self c.args.target c.args.number c.in_ok-old.old
+    c.self.invariant (sym c.in_ok-old.ensures.value)
+    (rw c.member_of-gone.ensures.termination at c.end.ensures.value)).sound.consistent
 
 pub returns-clause-sound : goal.returns-clause-sound
-returns-clause-sound c = (subtract_ends c.self.inside.tables c.end.new.self c.args.target c.args.number c.in_ok-old.old c.self.invariant (sym c.in_ok-old.ensures.value) (rw c.member_of-gone.ensures.termination at c.end.ensures.value)).sound
+returns-clause-sound c = (subtract_ends c.self.inside.tables c.end.new.self c.args.target c.args.number
+    c.in_ok-old.old c.self.invariant (sym c.in_ok-old.ensures.value)
+    (rw c.member_of-gone.ensures.termination at c.end.ensures.value)).sound
 
 pub returns-clause-lasts : goal.returns-clause-lasts
-returns-clause-lasts c = rw (← c.self.view_is) (subtract_ends c.self.inside.tables c.end.new.self c.args.target c.args.number c.in_ok-old.old c.self.invariant (sym c.in_ok-old.ensures.value) (rw c.member_of-gone.ensures.termination at c.end.ensures.value)).lasts
+returns-clause-lasts c = rw (← c.self.view_is)
+    (subtract_ends c.self.inside.tables c.end.new.self c.args.target c.args.number c.in_ok-old.old c.self.invariant
+    (sym c.in_ok-old.ensures.value) (rw c.member_of-gone.ensures.termination at c.end.ensures.value)).lasts
 
 pub returns-clause-others : goal.returns-clause-others
-returns-clause-others c = rw (← c.self.view_is, c.member_of-gone.ensures.termination) (subtract_ends c.self.inside.tables c.end.new.self c.args.target c.args.number c.in_ok-old.old c.self.invariant (sym c.in_ok-old.ensures.value) (rw c.member_of-gone.ensures.termination at c.end.ensures.value)).others
+returns-clause-others c = rw (← c.self.view_is, c.member_of-gone.ensures.termination)
+    (subtract_ends c.self.inside.tables c.end.new.self c.args.target c.args.number c.in_ok-old.old c.self.invariant
+    (sym c.in_ok-old.ensures.value) (rw c.member_of-gone.ensures.termination at c.end.ensures.value)).others

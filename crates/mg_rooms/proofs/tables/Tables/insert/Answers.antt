@@ -23,5 +23,6 @@ returns c = record {
   value =
       let free = rw (← c.self.view_is) at c.requires.slot in
       let number = rw (← c.self.view_is) at c.requires.number in
-      rw (← c.self.view_is) (ap (with_more (world_of c.self.inside)) (inserted_is c.self.inside c.args.fresh c.self.invariant free number));
+      rw (← c.self.view_is) (ap (with_more (world_of c.self.inside))
+      (inserted_is c.self.inside c.args.fresh c.self.invariant free number));
 }

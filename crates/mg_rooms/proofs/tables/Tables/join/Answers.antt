@@ -7,7 +7,10 @@ pub enter_entry-requires : goal.enter_entry-requires
 enter_entry-requires c =
     let found = rw c.deref.ensures.value at c.in-Some.ensures.value in
     let few = rw (← c.self.view_is) at c.requires.room in
-    record { room = may_enter c.self.inside c.args.context c.in-Some.room c.index_mut.result.now found c.index_mut.ensures.value few }
+    record {
+      room = may_enter c.self.inside c.args.context c.in-Some.room c.index_mut.result.now found
+          c.index_mut.ensures.value few;
+    }
 
 pub invariant_of-self : goal.invariant_of-self
 invariant_of-self c =
@@ -15,7 +18,8 @@ invariant_of-self c =
     record {
       limits = c.self.invariant.limits;
       slots = c.self.invariant.slots;
-      rooms = (entered_there c.self.inside c.args.context c.args.number c.in-Some.room c.index_mut.result.now c.enter_entry.new.entry c.self.invariant found c.index_mut.ensures.value c.enter_entry.ensures.value).0;
+      rooms = (entered_there c.self.inside c.args.context c.args.number c.in-Some.room c.index_mut.result.now
+          c.enter_entry.new.entry c.self.invariant found c.index_mut.ensures.value c.enter_entry.ensures.value).0;
     }
 
 pub returns-in-Some : goal.returns-in-Some
@@ -24,7 +28,8 @@ returns-in-Some c = record {
       let found = rw c.deref.ensures.value at c.in-Some.ensures.value in
       rw (← c.self.view_is)
       (ap (with_contexts (world_of c.self.inside))
-      (entered_there c.self.inside c.args.context c.args.number c.in-Some.room c.index_mut.result.now c.enter_entry.new.entry c.self.invariant found c.index_mut.ensures.value c.enter_entry.ensures.value).1);
+      (entered_there c.self.inside c.args.context c.args.number c.in-Some.room c.index_mut.result.now
+      c.enter_entry.new.entry c.self.invariant found c.index_mut.ensures.value c.enter_entry.ensures.value).1);
 }
 
 pub returns-in_default : goal.returns-in_default

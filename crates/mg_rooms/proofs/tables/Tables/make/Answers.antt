@@ -23,5 +23,6 @@ returns c = record {
       let can = rw (← c.self.view_is) at c.requires.can in
       rw (← c.self.view_is)
       (ap (with_made (world_of c.self.inside))
-      (made_context_is c.self.inside c.args.context c.args.room c.args.member c.alone.result c.self.invariant can.0 can.1 c.alone.ensures.value));
+      (made_context_is c.self.inside c.args.context c.args.room c.args.member c.alone.result c.self.invariant can.0
+      can.1 c.alone.ensures.value));
 }

@@ -9,4 +9,5 @@ returns-in_err-slot-clause-value c =
 pub returns-clause-value : goal.returns-clause-value
 returns-clause-value c =
     let found = rw c.deref.ensures.value at c.in_ok-slot.ensures.value in
-    rw (← c.self.view_is) (record_some c.self.inside c.args.number c.in_ok-slot.slot c.index.result.now found c.index.ensures)
+    rw (← c.self.view_is) (record_some c.self.inside c.args.number c.in_ok-slot.slot c.index.result.now found
+    c.index.ensures)

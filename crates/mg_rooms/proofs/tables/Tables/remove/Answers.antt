@@ -14,7 +14,8 @@ pub returns-in-Some : goal.returns-in-Some
 returns-in-Some c = record {
   value =
       let found = rw c.deref.ensures.value at c.in-Some.ensures.value in
-      rw (← c.self.view_is) (ap (with_terminations (world_of c.self.inside)) (removed_is c.self.inside.slots.items c.args.old.number c.in-Some.slot found));
+      rw (← c.self.view_is) (ap (with_terminations (world_of c.self.inside))
+      (removed_is c.self.inside.slots.items c.args.old.number c.in-Some.slot found));
 }
 
 pub returns-in_default : goal.returns-in_default

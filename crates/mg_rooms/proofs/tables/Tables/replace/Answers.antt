@@ -5,7 +5,10 @@ use Rattle.mg_rooms.proofs.CallLaws.{replaced_kept, replaced_is, with_terminatio
 use Rattle.mg_rooms.proofs.tables.Tables.replace.Goals as goal
 
 pub slot_of-requires : goal.slot_of-requires
-slot_of-requires c = record { once = subst (λ (t : List (Option Record)). HoldsOnce (λ r. r.number) t) (sym c.deref.ensures.value) c.self.invariant.slots.once }
+slot_of-requires c = record {
+  once = subst (λ (t : List (Option Record)). HoldsOnce (λ r. r.number) t)
+      (sym c.deref.ensures.value) c.self.invariant.slots.once;
+}
 
 pub invariant_of-self : goal.invariant_of-self
 invariant_of-self c =
@@ -21,12 +24,14 @@ pub returns-in-Some : goal.returns-in-Some
 returns-in-Some c = record {
   value =
       let found = rw c.deref.ensures.value at c.in-Some.ensures.value in
-      rw (← c.self.view_is) (ap (with_terminations (world_of c.self.inside)) (replaced_is c.self.inside.slots.items c.args.changed c.in-Some.slot found));
+      rw (← c.self.view_is) (ap (with_terminations (world_of c.self.inside))
+      (replaced_is c.self.inside.slots.items c.args.changed c.in-Some.slot found));
 }
 
 pub returns-in_default : goal.returns-in_default
 returns-in_default c = record {
   value =
       let found = rw c.deref.ensures.value at c.in_default.ensures.value in
-      rw (← c.self.view_is) (unchanged_termination c.self.inside c.args.changed.number (λ _. Some c.args.changed) found);
+      rw (← c.self.view_is) (unchanged_termination c.self.inside c.args.changed.number (λ _. Some c.args.changed)
+      found);
 }

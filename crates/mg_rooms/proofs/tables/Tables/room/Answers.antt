@@ -7,7 +7,8 @@ pub returns-in_err-room : goal.returns-in_err-room
 returns-in_err-room c = record {
   value =
       let found = rw c.deref.ensures.value at c.in_err-room.ensures.value in
-      rw (c.from_residual.ensures, ← c.self.view_is) (ap (option_map (λ (x : Context). x.room)) (context_none c.self.inside c.args.context found));
+      rw (c.from_residual.ensures, ← c.self.view_is)
+      (ap (option_map (λ (x : Context). x.room)) (context_none c.self.inside c.args.context found));
 }
 
 pub returns : goal.returns

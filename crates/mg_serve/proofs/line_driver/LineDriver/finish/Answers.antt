@@ -10,7 +10,8 @@ pub returns-then-is_empty-clause-value : goal.returns-then-is_empty-clause-value
 returns-then-is_empty-clause-value g c =
     let seen = c.as_slice-line.ensures.value in
     let none : length c.args.self.now.begun ≡ 0 = grind (arith, ap length seen) in
-    takes_none c.args.self.now.server.core.state (g.P.Ports.calls c.args.ports.now) (Finished c.args.config c.args.self.now.begun)
+    takes_none c.args.self.now.server.core.state (g.P.Ports.calls c.args.ports.now)
+    (Finished c.args.config c.args.self.now.begun)
     (λ w. finished_none c.args.config c.args.self.now.begun w none)
 
 pub returns-clause-value : goal.returns-clause-value
@@ -18,7 +19,8 @@ returns-clause-value g c =
     let seen = c.as_slice-line.ensures.value in
     let config = c.args.config in
     let some : length c.args.self.now.begun ≢ 0 = grind (arith, ap length seen) in
-    takes_as c.args.self.now.server.core.state c.take_command.new.self.core.state (g.P.Ports.calls c.args.ports.now) (g.P.Ports.calls c.take_command.new.ports)
+    takes_as c.args.self.now.server.core.state c.take_command.new.self.core.state (g.P.Ports.calls c.args.ports.now)
+    (g.P.Ports.calls c.take_command.new.ports)
     (Does config (line_command c.args.self.now.begun)) (Finished config c.args.self.now.begun)
     (rw seen at (rw c.of-command.ensures.value at c.take_command.ensures.value))
     (λ w next p h. finished_some config c.args.self.now.begun w next p some h)

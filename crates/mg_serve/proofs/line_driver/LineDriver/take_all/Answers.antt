@@ -5,42 +5,72 @@ use Rattle.mg_serve.proofs.line_driver.LineDriver.take_all.Goals as goal
 
 pub loop-init : goal.loop-init
 loop-init g c =
-    read_start c.args.config (g.R.Read.remaining c.args.reader.now) c.args.self.now.begun c.args.self.now.server.core.state (g.P.Ports.calls c.args.ports.now) c.requires.begun
+    read_start c.args.config (g.R.Read.remaining c.args.reader.now) c.args.self.now.begun
+    c.args.self.now.server.core.state (g.P.Ports.calls c.args.ports.now) c.requires.begun
 
 pub returns-in_default-clause-value : goal.returns-in_default-clause-value
 returns-in_default-clause-value g c =
-    takes_unread c.args.config (g.R.Read.remaining c.args.reader.now) (g.R.Read.remaining c.loop.reader) (g.R.Read.remaining c.read_some.new.reader) c.loop.self.begun c.args.self.now.server.core.state c.loop.self.server.core.state (g.P.Ports.calls c.args.ports.now) (g.P.Ports.calls c.loop.ports) c.in_default.ensures.value c.loop.invariant
+    takes_unread c.args.config (g.R.Read.remaining c.args.reader.now) (g.R.Read.remaining c.loop.reader)
+    (g.R.Read.remaining c.read_some.new.reader) c.loop.self.begun c.args.self.now.server.core.state
+    c.loop.self.server.core.state (g.P.Ports.calls c.args.ports.now) (g.P.Ports.calls c.loop.ports)
+    c.in_default.ensures.value c.loop.invariant
 
 pub returns-in-Ok-finish-clause-value : goal.returns-in-Ok-finish-clause-value
 returns-in-Ok-finish-clause-value g c =
-    takes_end c.args.config (g.R.Read.remaining c.args.reader.now) (g.R.Read.remaining c.loop.reader) (g.R.Read.remaining c.read_some.new.reader) c.loop.self.begun (Ok tt) c.args.self.now.server.core.state c.loop.self.server.core.state c.finish.new.self.server.core.state (g.P.Ports.calls c.args.ports.now) (g.P.Ports.calls c.loop.ports) (g.P.Ports.calls c.finish.new.ports)
+    takes_end c.args.config (g.R.Read.remaining c.args.reader.now) (g.R.Read.remaining c.loop.reader)
+    (g.R.Read.remaining c.read_some.new.reader) c.loop.self.begun (Ok tt) c.args.self.now.server.core.state
+    c.loop.self.server.core.state c.finish.new.self.server.core.state (g.P.Ports.calls c.args.ports.now)
+    (g.P.Ports.calls c.loop.ports) (g.P.Ports.calls c.finish.new.ports)
     c.loop.invariant (rw c.in_default-read.is at c.in-Ok.ensures.value) tt c.finish.ensures.value
 
 pub returns-in-Err-clause-value : goal.returns-in-Err-clause-value
 returns-in-Err-clause-value g c =
-    takes_end c.args.config (g.R.Read.remaining c.args.reader.now) (g.R.Read.remaining c.loop.reader) (g.R.Read.remaining c.read_some.new.reader) c.loop.self.begun (Err faults.Write) c.args.self.now.server.core.state c.loop.self.server.core.state c.finish.new.self.server.core.state (g.P.Ports.calls c.args.ports.now) (g.P.Ports.calls c.loop.ports) (g.P.Ports.calls c.finish.new.ports)
-    c.loop.invariant (rw c.in_default-read.is at c.in-Ok.ensures.value) (c.in-Err.ensures.some, c.in-Err.ensures.printed) c.finish.ensures.value
+    takes_end c.args.config (g.R.Read.remaining c.args.reader.now) (g.R.Read.remaining c.loop.reader)
+    (g.R.Read.remaining c.read_some.new.reader) c.loop.self.begun (Err faults.Write)
+    c.args.self.now.server.core.state c.loop.self.server.core.state c.finish.new.self.server.core.state
+    (g.P.Ports.calls c.args.ports.now) (g.P.Ports.calls c.loop.ports) (g.P.Ports.calls c.finish.new.ports)
+    c.loop.invariant (rw c.in_default-read.is at c.in-Ok.ensures.value)
+    (c.in-Err.ensures.some, c.in-Err.ensures.printed) c.finish.ensures.value
 
 pub returns-in-Ok-true-clause-value : goal.returns-in-Ok-true-clause-value
 returns-in-Ok-true-clause-value g c =
     let read = rw c.in-Some.is at c.in-Ok.ensures.value in
-    takes_quit c.args.config (g.R.Read.remaining c.args.reader.now) (g.R.Read.remaining c.read_some.new.reader) c.take_bytes.new.self.begun c.args.self.now.server.core.state c.take_bytes.new.self.server.core.state (g.P.Ports.calls c.args.ports.now) (g.P.Ports.calls c.take_bytes.new.ports)
-    (read_more c.args.config (g.R.Read.remaining c.args.reader.now) (g.R.Read.remaining c.loop.reader) (g.R.Read.remaining c.read_some.new.reader) (take c.in-Some.n c.read_some.new.buffer) c.loop.self.begun c.take_bytes.new.self.begun (Ok true) c.args.self.now.server.core.state c.loop.self.server.core.state c.take_bytes.new.self.server.core.state (g.P.Ports.calls c.args.ports.now) (g.P.Ports.calls c.loop.ports) (g.P.Ports.calls c.take_bytes.new.ports)
+    takes_quit c.args.config (g.R.Read.remaining c.args.reader.now) (g.R.Read.remaining c.read_some.new.reader)
+    c.take_bytes.new.self.begun c.args.self.now.server.core.state c.take_bytes.new.self.server.core.state
+    (g.P.Ports.calls c.args.ports.now) (g.P.Ports.calls c.take_bytes.new.ports)
+    (read_more c.args.config (g.R.Read.remaining c.args.reader.now) (g.R.Read.remaining c.loop.reader)
+    (g.R.Read.remaining c.read_some.new.reader) (take c.in-Some.n c.read_some.new.buffer) c.loop.self.begun
+    c.take_bytes.new.self.begun (Ok true) c.args.self.now.server.core.state c.loop.self.server.core.state
+    c.take_bytes.new.self.server.core.state (g.P.Ports.calls c.args.ports.now) (g.P.Ports.calls c.loop.ports)
+    (g.P.Ports.calls c.take_bytes.new.ports)
     c.loop.invariant read.1 (rw c.in-Ok-true.field-0-test at (rw c.in-Ok-true.is at c.take_bytes.ensures.value)))
 
 pub returns-in-Err-take_bytes-clause-value : goal.returns-in-Err-take_bytes-clause-value
 returns-in-Err-take_bytes-clause-value g c =
     let read = rw c.in-Some.is at c.in-Ok.ensures.value in
-    takes_broken c.args.config (g.R.Read.remaining c.args.reader.now) (g.R.Read.remaining c.read_some.new.reader) c.take_bytes.new.self.begun c.in-Err-take_bytes.field-0 c.args.self.now.server.core.state c.take_bytes.new.self.server.core.state (g.P.Ports.calls c.args.ports.now) (g.P.Ports.calls c.take_bytes.new.ports)
-    (read_more c.args.config (g.R.Read.remaining c.args.reader.now) (g.R.Read.remaining c.loop.reader) (g.R.Read.remaining c.read_some.new.reader) (take c.in-Some.n c.read_some.new.buffer) c.loop.self.begun c.take_bytes.new.self.begun (Err c.in-Err-take_bytes.field-0) c.args.self.now.server.core.state c.loop.self.server.core.state c.take_bytes.new.self.server.core.state (g.P.Ports.calls c.args.ports.now) (g.P.Ports.calls c.loop.ports) (g.P.Ports.calls c.take_bytes.new.ports)
+    takes_broken c.args.config (g.R.Read.remaining c.args.reader.now) (g.R.Read.remaining c.read_some.new.reader)
+    c.take_bytes.new.self.begun c.in-Err-take_bytes.field-0 c.args.self.now.server.core.state
+    c.take_bytes.new.self.server.core.state (g.P.Ports.calls c.args.ports.now)
+    (g.P.Ports.calls c.take_bytes.new.ports)
+    (read_more c.args.config (g.R.Read.remaining c.args.reader.now) (g.R.Read.remaining c.loop.reader)
+    (g.R.Read.remaining c.read_some.new.reader) (take c.in-Some.n c.read_some.new.buffer) c.loop.self.begun
+    c.take_bytes.new.self.begun (Err c.in-Err-take_bytes.field-0) c.args.self.now.server.core.state
+    c.loop.self.server.core.state c.take_bytes.new.self.server.core.state (g.P.Ports.calls c.args.ports.now)
+    (g.P.Ports.calls c.loop.ports) (g.P.Ports.calls c.take_bytes.new.ports)
     c.loop.invariant read.1 (rw c.in-Err-take_bytes.is at c.take_bytes.ensures.value))
 
 pub loop-preserved : goal.loop-preserved
 loop-preserved g c =
     let read = rw c.in-Some.is at c.in-Ok.ensures.value in
-    read_more c.args.config (g.R.Read.remaining c.args.reader.now) (g.R.Read.remaining c.loop.reader) (g.R.Read.remaining c.read_some.new.reader) (take c.in-Some.n c.read_some.new.buffer) c.loop.self.begun c.take_bytes.new.self.begun (Ok false) c.args.self.now.server.core.state c.loop.self.server.core.state c.take_bytes.new.self.server.core.state (g.P.Ports.calls c.args.ports.now) (g.P.Ports.calls c.loop.ports) (g.P.Ports.calls c.take_bytes.new.ports)
+    read_more c.args.config (g.R.Read.remaining c.args.reader.now) (g.R.Read.remaining c.loop.reader)
+    (g.R.Read.remaining c.read_some.new.reader) (take c.in-Some.n c.read_some.new.buffer) c.loop.self.begun
+    c.take_bytes.new.self.begun (Ok false) c.args.self.now.server.core.state c.loop.self.server.core.state
+    c.take_bytes.new.self.server.core.state (g.P.Ports.calls c.args.ports.now) (g.P.Ports.calls c.loop.ports)
+    (g.P.Ports.calls c.take_bytes.new.ports)
     c.loop.invariant read.1 (rw c.in-Ok-false.field-0-test at (rw c.in-Ok-false.is at c.take_bytes.ensures.value))
 
 pub returns-clause-value : goal.returns-clause-value
 returns-clause-value g c =
-    takes_enough c.args.config (g.R.Read.remaining c.args.reader.now) (g.R.Read.remaining c.loop.reader) c.loop.self.begun c.args.self.now.server.core.state c.loop.self.server.core.state (g.P.Ports.calls c.args.ports.now) (g.P.Ports.calls c.loop.ports) c.loop.invariant
+    takes_enough c.args.config (g.R.Read.remaining c.args.reader.now) (g.R.Read.remaining c.loop.reader)
+    c.loop.self.begun c.args.self.now.server.core.state c.loop.self.server.core.state
+    (g.P.Ports.calls c.args.ports.now) (g.P.Ports.calls c.loop.ports) c.loop.invariant

@@ -5,24 +5,34 @@ use Rattle.mg_serve.proofs.Running.{bytes_start, index_plain, index_feed, index_
 use Rattle.mg_serve.proofs.line_driver.LineDriver.take_bytes.Goals as goal
 
 pub loop-b-init : goal.loop-b-init
-loop-b-init g c = λ begun is. bytes_start c.args.config begun c.args.self.now.begun c.args.self.now.server.core.state (g.P.Ports.calls c.args.ports.now) is
+loop-b-init g c = λ begun is. bytes_start c.args.config begun c.args.self.now.begun c.args.self.now.server.core.state
+    (g.P.Ports.calls c.args.ports.now) is
 
 pub loop-b-preserved-then-b-ne10 : goal.loop-b-preserved-then-b-ne10
 loop-b-preserved-then-b-ne10 g c = λ begun is.
-    index_plain c.args.config begun c.args.bytes.now c.loop-b.self.begun c.push.new.self c.loop-b.b-index c.args.self.now.server.core.state c.loop-b.self.server.core.state (g.P.Ports.calls c.args.ports.now) (g.P.Ports.calls c.loop-b.ports)
+    index_plain c.args.config begun c.args.bytes.now c.loop-b.self.begun c.push.new.self c.loop-b.b-index
+    c.args.self.now.server.core.state c.loop-b.self.server.core.state (g.P.Ports.calls c.args.ports.now)
+    (g.P.Ports.calls c.loop-b.ports)
     c.loop-b-test.true c.if-b-ne10.true c.push.ensures.value (c.loop-b.invariant begun is)
 
 pub loop-b-preserved : goal.loop-b-preserved
 loop-b-preserved g c = λ begun is.
-    index_feed c.args.config begun c.args.bytes.now c.loop-b.self.begun c.end_line.new.self.begun c.loop-b.b-index false c.args.self.now.server.core.state c.loop-b.self.server.core.state c.end_line.new.self.server.core.state (g.P.Ports.calls c.args.ports.now) (g.P.Ports.calls c.loop-b.ports) (g.P.Ports.calls c.end_line.new.ports)
-    c.loop-b-test.true c.if-b-ne10.false (c.loop-b.invariant begun is) (sym c.if-branch.false ∙ c.in_ok-end_line.ensures.quit) c.in_ok-end_line.ensures.begun c.end_line.ensures.value
+    index_feed c.args.config begun c.args.bytes.now c.loop-b.self.begun c.end_line.new.self.begun c.loop-b.b-index
+    false c.args.self.now.server.core.state c.loop-b.self.server.core.state c.end_line.new.self.server.core.state
+    (g.P.Ports.calls c.args.ports.now) (g.P.Ports.calls c.loop-b.ports) (g.P.Ports.calls c.end_line.new.ports)
+    c.loop-b-test.true c.if-b-ne10.false (c.loop-b.invariant begun is)
+    (sym c.if-branch.false ∙ c.in_ok-end_line.ensures.quit) c.in_ok-end_line.ensures.begun c.end_line.ensures.value
 
 pub returns-then-branch : goal.returns-then-branch
 returns-then-branch g c = record {
   value =
       λ begun is.
-      index_quit c.args.config begun c.args.bytes.now c.loop-b.self.begun c.end_line.new.self.begun c.loop-b.b-index c.args.self.now.server.core.state c.loop-b.self.server.core.state c.end_line.new.self.server.core.state (g.P.Ports.calls c.args.ports.now) (g.P.Ports.calls c.loop-b.ports) (g.P.Ports.calls c.end_line.new.ports)
-      c.loop-b-test.true c.if-b-ne10.false (c.loop-b.invariant begun is) (sym c.if-branch.true ∙ c.in_ok-end_line.ensures.quit) c.in_ok-end_line.ensures.begun c.end_line.ensures.value;
+      index_quit c.args.config begun c.args.bytes.now c.loop-b.self.begun c.end_line.new.self.begun c.loop-b.b-index
+      c.args.self.now.server.core.state c.loop-b.self.server.core.state c.end_line.new.self.server.core.state
+      (g.P.Ports.calls c.args.ports.now) (g.P.Ports.calls c.loop-b.ports) (g.P.Ports.calls c.end_line.new.ports)
+      c.loop-b-test.true c.if-b-ne10.false (c.loop-b.invariant begun is)
+      (sym c.if-branch.true ∙ c.in_ok-end_line.ensures.quit) c.in_ok-end_line.ensures.begun
+      c.end_line.ensures.value;
 }
 
 pub returns-in_err-end_line : goal.returns-in_err-end_line
@@ -30,8 +40,12 @@ returns-in_err-end_line g c = record {
   value =
       λ begun is.
       let p = err_from_is_err_and c.from_residual.result c.from_residual.ensures.1 in
-      rw p.1 (index_fault c.args.config begun c.args.bytes.now c.loop-b.self.begun c.end_line.new.self.begun c.loop-b.b-index _ c.args.self.now.server.core.state c.loop-b.self.server.core.state c.end_line.new.self.server.core.state (g.P.Ports.calls c.args.ports.now) (g.P.Ports.calls c.loop-b.ports) (g.P.Ports.calls c.end_line.new.ports)
-      c.loop-b-test.true c.if-b-ne10.false (c.loop-b.invariant begun is) c.in_err-end_line.ensures.printed c.end_line.ensures.value);
+      rw p.1 (index_fault c.args.config begun c.args.bytes.now c.loop-b.self.begun c.end_line.new.self.begun
+      c.loop-b.b-index _ c.args.self.now.server.core.state c.loop-b.self.server.core.state
+      c.end_line.new.self.server.core.state (g.P.Ports.calls c.args.ports.now) (g.P.Ports.calls c.loop-b.ports)
+      (g.P.Ports.calls c.end_line.new.ports)
+      c.loop-b-test.true c.if-b-ne10.false (c.loop-b.invariant begun is) c.in_err-end_line.ensures.printed
+      c.end_line.ensures.value);
 }
 
 pub returns : goal.returns

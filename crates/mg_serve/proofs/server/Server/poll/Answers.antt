@@ -7,14 +7,18 @@ use Rattle.mg_serve.proofs.server.Server.poll.Goals as goal
 
 pub loop-slot-preserved : goal.loop-slot-preserved
 loop-slot-preserved g c =
-    one_turn_more c.args.self.now.core.state c.loop-slot.self.core.state c.turn.new.self.core.state (g.P.Ports.calls c.args.ports.now) (g.P.Ports.calls c.loop-slot.ports) (g.P.Ports.calls c.turn.new.ports)
+    one_turn_more c.args.self.now.core.state c.loop-slot.self.core.state c.turn.new.self.core.state
+    (g.P.Ports.calls c.args.ports.now) (g.P.Ports.calls c.loop-slot.ports) (g.P.Ports.calls c.turn.new.ports)
     c.args.config c.loop-slot.slot c.loop-slot.invariant c.turn.ensures.value
 
 pub returns-2 : goal.returns-2
 returns-2 g c =
     let last : c.loop-slot.slot ≡ c.args.config.slots = omega (arith, c.loop-slot-test.true) in
     record {
-      value = subst (λ (n : ℕ). Takes c.args.self.now.core.state c.turn.new.self.core.state (g.P.Ports.calls c.args.ports.now) (g.P.Ports.calls c.turn.new.ports) (Each (SlotTurn c.args.config) (range_with_len 0 (n + 1)))) last
-          (one_turn_more c.args.self.now.core.state c.loop-slot.self.core.state c.turn.new.self.core.state (g.P.Ports.calls c.args.ports.now) (g.P.Ports.calls c.loop-slot.ports) (g.P.Ports.calls c.turn.new.ports)
+      value = subst (λ (n : ℕ). Takes c.args.self.now.core.state c.turn.new.self.core.state
+          (g.P.Ports.calls c.args.ports.now) (g.P.Ports.calls c.turn.new.ports)
+          (Each (SlotTurn c.args.config) (range_with_len 0 (n + 1)))) last
+          (one_turn_more c.args.self.now.core.state c.loop-slot.self.core.state c.turn.new.self.core.state
+          (g.P.Ports.calls c.args.ports.now) (g.P.Ports.calls c.loop-slot.ports) (g.P.Ports.calls c.turn.new.ports)
           c.args.config c.loop-slot.slot c.loop-slot.invariant c.turn.ensures.value);
     }

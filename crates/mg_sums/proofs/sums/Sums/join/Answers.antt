@@ -8,20 +8,29 @@ use Rattle.mg_sums.proofs.sums.Sums.join.Goals as goal
 pub add-requires : goal.add-requires
 add-requires c =
     let lt : c.number-3.result < length c.self.inside.totals.items = omega (arith, c.self.invariant.rooms) in
-    let total : c.index_mut.result.now ≡ slice_index_or c.self.inside.totals.items c.number-3.result [] = get_or_read _ _ _ lt c.index_mut.ensures.value [] in
-    record { near = λ i l. let near = read_near _ _ c.number-3.result _ c.self.invariant (omega arith) total i l in omega arith }
+    let total : c.index_mut.result.now ≡ slice_index_or c.self.inside.totals.items c.number-3.result [] =
+    get_or_read _ _ _ lt c.index_mut.ensures.value [] in
+    record {
+      near = λ i l. let near = read_near _ _ c.number-3.result _ c.self.invariant (omega arith) total i l in
+          omega arith;
+    }
 
 pub invariant_of-self : goal.invariant_of-self
 invariant_of-self c =
     let lt : c.number-3.result < length c.self.inside.totals.items = omega (arith, c.self.invariant.rooms) in
     let within : c.number-2.result < length c.self.inside.frames.items = omega (arith, c.self.invariant.valid.frames) in
-    let total : c.index_mut.result.now ≡ slice_index_or c.self.inside.totals.items c.number-3.result [] = get_or_read _ _ _ lt c.index_mut.ensures.value [] in
-    let frame : c.index-frame.result.now ≡ slice_index_or c.self.inside.frames.items c.number-2.result [] = get_or_read _ _ _ within c.index-frame.ensures [] in
-    let free : get_or c.self.inside.rooms c.args.row None ≡ None = ap (λ (k : SumsState). room_of k c.args.row) c.self.view_is ∙ c.requires.free in
-    rw (c.number.ensures.value, c.number-3.ensures.value) (joined_totals _ _ _ _ _ c.self.invariant c.args.row c.args.room _ (omega arith) (omega arith) free (λ i l.
+    let total : c.index_mut.result.now ≡ slice_index_or c.self.inside.totals.items c.number-3.result [] =
+    get_or_read _ _ _ lt c.index_mut.ensures.value [] in
+    let frame : c.index-frame.result.now ≡ slice_index_or c.self.inside.frames.items c.number-2.result [] =
+    get_or_read _ _ _ within c.index-frame.ensures [] in
+    let free : get_or c.self.inside.rooms c.args.row None ≡ None =
+    ap (λ (k : SumsState). room_of k c.args.row) c.self.view_is ∙ c.requires.free in
+    rw (c.number.ensures.value, c.number-3.ensures.value)
+    (joined_totals _ _ _ _ _ c.self.invariant c.args.row c.args.room _ (omega arith) (omega arith) free (λ i l.
     c.add.ensures.sums i l
     ∙ (ap (λ (xs : List ℤ). sample xs i +ℤ sample c.index-frame.result.now i) (rw c.number-3.ensures.value at total)
-    ∙ ap (λ (xs : List ℤ). sample (slice_index_or c.self.inside.totals.items c.args.room []) i +ℤ sample xs i) (rw c.number-2.ensures.value at frame))))
+    ∙ ap (λ (xs : List ℤ). sample (slice_index_or c.self.inside.totals.items c.args.room []) i +ℤ sample xs i)
+    (rw c.number-2.ensures.value at frame))))
 
 pub returns-clause-valid : goal.returns-clause-valid
 returns-clause-valid c = (invariant_of-self c).valid

@@ -5,5 +5,6 @@ use Rattle.mg_topology.proofs.seats.SeatsIterator.next.Goals as goal
 -- nothing was left
 pub returns-in_err-seat-clause-steps : goal.returns-in_err-seat-clause-steps
 returns-in_err-seat-clause-steps c =
-    let nothing : c.args.self.now ≡ [] = sym c.self.view_is ∙ seats_of-empty c.self.inside.left c.in_err-seat.ensures.none in
+    let nothing : c.args.self.now ≡ [] = sym c.self.view_is ∙
+    seats_of-empty c.self.inside.left c.in_err-seat.ensures.none in
     rw c.from_residual.ensures (nothing, nothing)

@@ -18,7 +18,8 @@ returns-clause-overlap c = (
 pub loop-triple-preserved : goal.loop-triple-preserved
 loop-triple-preserved c = record {
   edits = λ es h.
-      let next = c.apply_one.ensures.edits (apply_all (take c.loop-triple.triple-index c.args.triples.now) es) (c.loop-triple.invariant.edits es h) in
+      let next = c.apply_one.ensures.edits (apply_all (take c.loop-triple.triple-index c.args.triples.now) es)
+      (c.loop-triple.invariant.edits es h) in
       search (rules, next, apply_all-more);
   held = c.apply_one.ensures.held ∙ c.loop-triple.invariant.held;
 }

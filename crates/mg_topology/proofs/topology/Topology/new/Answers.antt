@@ -6,4 +6,5 @@ use Rattle.mg_topology.proofs.topology.Topology.new.Goals as goal
 
 pub returns : goal.returns
 returns c =
-    stands_from _ _ (λ s. sym (has_seat-inside 0 s (omega arith)) ∙ has_seat-empty s) (λ t l p q d. absurd (false≢true p))
+    stands_from _ _ (λ s. sym (has_seat-inside 0 s (omega arith)) ∙ has_seat-empty s)
+    (λ t l p q d. absurd (false≢true p))

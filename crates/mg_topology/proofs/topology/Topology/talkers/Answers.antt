@@ -5,7 +5,8 @@ use Rattle.mg_topology.specs.Topology.{holds, hears}
 use Rattle.mg_topology.proofs.TopologyLemmas.{row_tells}
 use Rattle.mg_topology.proofs.topology.Topology.talkers.Goals as goal
 
-told : (c : goal.After-without_seat) → (t : ℕ) → has_seat c.without_seat.result t ≡ hears c.args.self.now t c.args.listener
+told : (c : goal.After-without_seat) → (t : ℕ) →
+    has_seat c.without_seat.result t ≡ hears c.args.self.now t c.args.listener
 told c t =
     let seated : holds c.args.self.now c.args.listener ≡ true = grind (arith, c.holds.ensures.kept) in
     row_tells _ t c.args.listener _ (omega arith) (ap (λ k. holds k c.args.listener) c.self.view_is ∙ seated)

@@ -4,7 +4,6 @@ use Rattle.std.proofs.lemmas.List.{at_drop_more}
 use Rattle.mg_words.specs.Address.{address_of}
 use Rattle.mg_words.specs.ResultSteps.{◌>>=◌}
 use Rattle.mg_bridge.specs.declared.controller_fault.ControllerFault.{ControllerFault}
-use Rattle.mg_bridge.specs.declared.controller_fault.ControllerFault.TheVariants.{Unreadable}
 use Rattle.mg_bridge.specs.Controllers.{all_named}
 
 -- addresses that were read, and then those that are named

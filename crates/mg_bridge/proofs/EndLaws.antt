@@ -3,6 +3,7 @@ use Rattle.std.proofs.Common.{◌≡◌, ℕ, List, Option, Result, Ok, Err, ref
 use Rattle.std.proofs.KnownBytes.{Keeps-refl}
 use Rattle.clap.specs.declared.error.kind.ErrorKind.{ErrorKind}
 use Rattle.clap.specs.Kinds.{Kinds}
+use Rattle.mg_core.specs.declared.shown.Shown.{Shown}
 use Rattle.mg_engine.specs.declared.config.Config.{Config}
 use Rattle.mg_core.specs.declared.fault.RunFault.{RunFault}
 use Rattle.mg_core.specs.declared.fault.RunFault.TheVariants as faults
@@ -24,9 +25,10 @@ no_memory = Err faults.NoMemory
 not_bad : (config : Config) → no_memory ≡ Err faults.BadConfig → IsValidConfig config → ⊥
 not_bad config e h = cc e
 
-not_begun : (config : Config) (input old : Option (List ℕ)) → Replays config input input old old NoMemory
+not_begun : (config : Config) (shown : Shown) (input old : Option (List ℕ)) → Replays config shown input input old old
+    NoMemory
 unfolding status_of
-not_begun config input old = record {
+not_begun config shown input old = record {
   outcome = no_memory;
   is = refl;
   ran = inl (Keeps-refl input, Keeps-refl old);
@@ -39,14 +41,13 @@ pub ends_told : {R W : Type 0} (remaining : R → Option (List ℕ)) (contents :
     (asked : Result Invocation Kinds) (kind : ErrorKind)
     (input rest : R) (old new : W) (status : Status) → IsRefused asked kind → Tells kind old new status → rest ≡ input
     → Ends remaining contents asked input rest old new status
-ends_told remaining contents (Ok (Replay config)) kind input rest old new status memory told left =
+ends_told remaining contents (Ok (Replay config shown)) kind input rest old new status memory told left =
     let ended = subst (λ k. Tells k old new status) memory told in
-    rw (ended.0, ended.1, left) (not_begun config (remaining input) (contents old))
-ends_told remaining contents (Ok (Serve config controllers report)) kind input rest old new status memory told left =
+    rw (ended.0, ended.1, left) (not_begun config shown (remaining input) (contents old))
+ends_told remaining contents (Ok (Serve config service)) kind input rest old new status memory told left =
     let ended = subst (λ k. Tells k old new status) memory told in
     inr (subst (IsNotBegun config) (sym ended.0) tt, left, ended.1)
-ends_told remaining contents (Ok (Live config controllers late report)) kind input rest old new status memory told
-    left =
+ends_told remaining contents (Ok (Live config service late)) kind input rest old new status memory told left =
     let ended = subst (λ k. Tells k old new status) memory told in
     (left, inr (inl (subst (IsNotBegun config) (sym ended.0) tt), ended.1))
 ends_told remaining contents (Err kinds) kind input rest old new status why told left =

@@ -17,12 +17,13 @@ use Rattle.clap.specs.declared.parser.matches.ArgMatches.TheViews.{out-ArgMatche
 use Rattle.clap.specs.declared.error.kind.ErrorKind.TheVariants.{OutOfMemory, ValueValidation}
 use Rattle.clap.specs.declared.parser.matches.SubCommand.{SubCommand}
 use Rattle.std.specs.Box.{box_value}
+use Rattle.mg_core.specs.declared.shown.Shown.{Shown}
 use Rattle.mg_engine.specs.declared.config.Config.{Config}
 use Rattle.mg_engine.specs.Config.{standard}
 use Rattle.mg_bridge.specs.declared.invocation.Invocation.{Invocation}
 use Rattle.mg_bridge.specs.declared.address.AddressFault.{AddressFault}
 use Rattle.mg_bridge.specs.declared.controller_fault.ControllerFault.{ControllerFault}
-use Rattle.mg_bridge.specs.Options.{IsRefused, address_in, asked, asked_by, command_line, config_at, controllers_in, late_in, options, report_in, run_at, run_named, run_of, run_under}
+use Rattle.mg_bridge.specs.Options.{IsRefused, address_in, asked, asked_by, command_line, config_at, controllers_in, is_set, late_in, options, report_in, run_at, run_named, run_of, run_under, shown_in}
 
 abbrev has_kinds : Kinds → Bool
 has_kinds [] = false
@@ -144,15 +145,17 @@ at_address name rows config found is named =
 
 -- the run of a subcommand at an address
 pub run_is : (name : Text) (rows : List Row) (address control : List ℕ) (config : Config)
-    (controllers : List (List ℕ)) (late report : ℕ) (run : Invocation)
+    (controllers : List (List ℕ)) (late report : ℕ) (records : Bool) (shown : Shown) (run : Invocation)
     → Ok control ≡ address_in (codes "control-address") address rows → config ≡ config_at address control rows →
     Ok controllers ≡ controllers_in rows → late ≡ late_in rows
-    → report ≡ report_in rows → run ≡ run_of name config controllers late report →
+    → report ≡ report_in rows → records ≡ is_set (codes "record") rows → shown ≡ shown_in rows →
+    run ≡ run_of name config (record { controllers = controllers; report = report; records = records }) late shown →
     run_at name rows (Ok address) ≡ Ok run
-run_is name rows address control config controllers late report run named configured listed allowed often is =
+run_is name rows address control config controllers late report records shown run named configured listed allowed often
+    kept told is =
     ap (run_named name rows address) (sym named) ∙
     (ap (run_under name rows (config_at address control rows)) (sym listed) ∙
-    rw (is, configured, allowed, often) refl)
+    rw (is, configured, allowed, often, kept, told) refl)
 
 -- an error says why there is none under texts that name no controllers
 pub refuses_controllers : (asked : Result Invocation Kinds) (name : Text) (rows : List Row) (address control : List ℕ)

@@ -1,5 +1,5 @@
 -- The command line, as the parser of its words knows it, and what words ask of the program.
-use Rattle.std.specs.Prelude.{◌≡◌, ℕ, true, if◌then◌else◌, List, [], ◌∷◌, Option, Some, unwrap_or}
+use Rattle.std.specs.Prelude.{◌≡◌, ℕ, Bool, true, false, if◌then◌else◌, List, [], ◌∷◌, Option, Some, unwrap_or}
 use Rattle.std.specs.Prelude.{Result, Ok, Err, codes}
 use Rattle.std.specs.Option.{option_map_or}
 use Rattle.std.specs.Str.{bytes_eq}
@@ -8,15 +8,18 @@ use Rattle.clap.specs.Simple.{App, new_app, new_rule, on_top, subcommand_of, wit
 use Rattle.clap.specs.Simple.{with_subcommand}
 use Rattle.clap.specs.Kinds.{Kinds, IsAmong}
 use Rattle.clap.specs.Faults.{fault_of}
-use Rattle.clap.specs.declared.builder.action.ArgAction.TheVariants.{Append}
+use Rattle.clap.specs.declared.builder.action.ArgAction.TheVariants.{Append, SetTrue}
 use Rattle.clap.specs.declared.error.kind.ErrorKind.{ErrorKind}
 use Rattle.clap.specs.declared.error.kind.ErrorKind.TheVariants.{OutOfMemory, ValueValidation}
 use Rattle.mg_options.specs.Numbers.{number_given, number_rule}
+use Rattle.mg_core.specs.declared.shown.Shown.{Shown}
+use Rattle.mg_core.specs.declared.shown.Shown.TheVariants.{Sent, SentAndFlows}
 use Rattle.mg_engine.specs.declared.config.Config.{Config}
 use Rattle.mg_engine.specs.Config.{standard}
 use Rattle.mg_bridge.specs.declared.address.AddressFault.{AddressFault}
 use Rattle.mg_bridge.specs.declared.invocation.Invocation.{Invocation}
 use Rattle.mg_bridge.specs.declared.invocation.Invocation.TheVariants.{Replay, Serve, Live}
+use Rattle.mg_bridge.specs.declared.service.Service.{Service}
 use Rattle.mg_bridge.specs.declared.controller_fault.ControllerFault.{ControllerFault}
 use Rattle.mg_bridge.specs.Address.{own_address}
 use Rattle.mg_bridge.specs.Controllers.{controllers_of}
@@ -49,11 +52,19 @@ subcommand_line name = with_rules (new_app name) options
 abbrev pub controller_rule : Rule
 controller_rule = record (text_rule (codes "controller")) { action = Some Append }
 
+-- an option with this name that takes nothing, and is set where it is given
+abbrev pub flag_rule : Text → Rule
+flag_rule name = record (new_rule name) { long = Some name; action = Some SetTrue }
+
 -- a subcommand of a gateway on sockets
 abbrev pub sockets_line : Text → App
 sockets_line name =
-    with_rule (with_rule (subcommand_line name) controller_rule)
-    (number_rule (codes "report") 0 65535)
+    with_rule (with_rule (with_rule (subcommand_line name) controller_rule)
+    (number_rule (codes "report") 0 65535)) (flag_rule (codes "record"))
+
+-- the subcommand that runs a script
+abbrev pub replay_line : App
+replay_line = with_rule (subcommand_line (codes "replay")) (flag_rule (codes "flows"))
 
 -- and the one that has a clock
 abbrev pub live_line : App
@@ -67,7 +78,7 @@ command_line =
       subcommand_required = true;
       has_version = true;
     }) (new_app (codes "mg_bridge")))
-    (subcommand_line (codes "replay")).top)
+    replay_line.top)
     (sockets_line (codes "serve")).top)
     live_line.top
 
@@ -110,20 +121,36 @@ late_in found = short_in (codes "late") found 5
 abbrev pub report_in : List Row → ℕ
 report_in found = short_in (codes "report") found 0
 
+-- whether a flag is set
+abbrev pub is_set : Text → List Row → Bool
+is_set name found =
+    option_map_or (λ text. bytes_eq text (codes "true")) (first_of name found) false
+
+-- what is written of a script
+abbrev pub shown_in : List Row → Shown
+shown_in found = if is_set (codes "flows") found then SentAndFlows else Sent
+
 -- the controllers that the options name
 abbrev pub controllers_in : List Row → Result (List (List ℕ)) ControllerFault
 controllers_in found = controllers_of (unwrap_or (all_of (codes "controller") found) [])
 
-abbrev pub run_of : Text → Config → List (List ℕ) → ℕ → ℕ → Invocation
-run_of name config controllers late report =
-    if bytes_eq name (codes "serve") then Serve config controllers report
-    else (if bytes_eq name (codes "live") then Live config controllers late report
-    else Replay config)
+abbrev pub run_of : Text → Config → Service → ℕ → Shown → Invocation
+run_of name config service late shown =
+    if bytes_eq name (codes "serve") then Serve config service
+    else (if bytes_eq name (codes "live") then Live config service late else Replay config shown)
+
+-- what the options ask of a gateway on sockets
+abbrev pub service_of : List (List ℕ) → List Row → Service
+service_of controllers found = record {
+  controllers = controllers;
+  report = report_in found;
+  records = is_set (codes "record") found;
+}
 
 abbrev pub run_under : Text → List Row → Config → Result (List (List ℕ)) ControllerFault
     → Result Invocation Kinds
 run_under name found config (Ok controllers) =
-    Ok (run_of name config controllers (late_in found) (report_in found))
+    Ok (run_of name config (service_of controllers found) (late_in found) (shown_in found))
 run_under name found config (Err fault) = Err (ValueValidation ∷ [])
 
 abbrev pub run_named : Text → List Row → List ℕ → Result (List ℕ) AddressFault

@@ -7,6 +7,7 @@ use Rattle.clap.specs.declared.error.kind.ErrorKind.TheVariants.{DisplayVersion}
 use Rattle.mg_engine.specs.declared.config.Config.{Config}
 use Rattle.mg_bridge.specs.declared.invocation.Invocation.{Invocation}
 use Rattle.mg_bridge.specs.declared.invocation.Invocation.TheVariants.{Replay, Serve, Live}
+use Rattle.mg_bridge.specs.declared.service.Service.{Service}
 use Rattle.mg_bridge.specs.declared.status.Status.{Status}
 use Rattle.mg_bridge.specs.declared.status.Status.TheVariants.{Done, Usage, Failed, NoMemory}
 use Rattle.mg_bridge.specs.Status.{code_of}
@@ -31,12 +32,12 @@ pub record TellsOne {W : Type 0} (kinds : Kinds) (old new : W) (status : Status)
 -- unread. By the clock no input is read.
 abbrev pub Ends : {R W : Type 0} → (R → Option (List ℕ)) → (W → Option (List ℕ))
     → Result Invocation Kinds → R → R → W → W → Status → Type 0
-Ends remaining contents (Ok (Replay config)) input rest old new status =
-    Replays config (remaining input) (remaining rest) (contents old) (contents new) status
-Ends remaining contents (Ok (Serve config controllers report)) input rest old new status =
-    Serves remaining config input rest old new status
-Ends remaining contents (Ok (Live config controllers late report)) input rest old new status =
-    (rest ≡ input) × ServesByClock config old new status
+Ends remaining contents (Ok (Replay config shown)) input rest old new status =
+    Replays config shown (remaining input) (remaining rest) (contents old) (contents new) status
+Ends remaining contents (Ok (Serve config service)) input rest old new status =
+    Serves remaining contents config service.records input rest old new status
+Ends remaining contents (Ok (Live config service late)) input rest old new status =
+    (rest ≡ input) × ServesByClock contents config service.records old new status
 Ends remaining contents (Err kinds) input rest old new status =
     (rest ≡ input) × TellsOne kinds old new status
 
@@ -51,5 +52,4 @@ pub record EndsWith {R W : Type 0} (remaining : R → Option (List ℕ))
 -- the words ask for a gateway by the clock
 abbrev pub IsLive : Result Invocation Kinds → Type 0
 IsLive asked =
-    (config : Config) × (controllers : List (List ℕ)) × (late : ℕ) × (report : ℕ)
-    × (asked ≡ Ok (Live config controllers late report))
+    (config : Config) × (service : Service) × (late : ℕ) × (asked ≡ Ok (Live config service late))

@@ -1,5 +1,6 @@
 -- What the program does as a server.
-use Rattle.std.specs.Prelude.{◌≡◌, ◌≢◌, ◌⊎◌, ℕ, ◌+◌, ◌*◌, ◌<◌, List, Option, None, Result, Err}
+use Rattle.std.specs.Prelude.{◌≡◌, ◌≢◌, ◌⊎◌, ℕ, ◌+◌, ◌*◌, ◌<◌, Bool, List, Option, None, is_some}
+use Rattle.std.specs.Prelude.{Result, Err}
 use Rattle.mg_engine.specs.declared.config.Config.{Config}
 use Rattle.mg_engine.specs.Config.{IsValidConfig}
 use Rattle.mg_core.specs.declared.counts.Counts.{Counts}
@@ -23,25 +24,29 @@ IsNotBegun config NoMemory = Unit {0}
 IsNotBegun config status = ⊥
 
 -- The ports were bound, and a gateway was served as far as the status says. Its sockets don't tell
--- their calls.
-pub record ServesOnPorts (config : Config) (input rest : Option (List ℕ))
-    (status : Status) : Type 0 where
+-- their calls. Where it records, what it printed is a recording, which has a title.
+pub record ServesOnPorts (config : Config) (records : Bool)
+    (input rest held written : Option (List ℕ)) (status : Status) : Type 0 where
   pub outcome : Result Counts RunFault
   pub is : status ≡ status_of outcome
   pub sound : IsValidConfig config
   pub begun : outcome ≢ Err faults.BadConfig
-  pub served : ServedSession config input rest None None outcome
+  pub title : Option (List ℕ)
+  pub titled : is_some title ≡ records
+  pub served : ServedSession config title input rest None None held written outcome
 
 -- a gateway was served, or nothing was read and printed
-abbrev pub Serves : {R W : Type 0} → (R → Option (List ℕ)) → Config → R → R → W → W → Status
-    → Type 0
-Serves remaining config input rest old new status =
-    ServesOnPorts config (remaining input) (remaining rest) status
+abbrev pub Serves : {R W : Type 0} → (R → Option (List ℕ)) → (W → Option (List ℕ)) → Config → Bool
+    → R → R → W → W → Status → Type 0
+Serves remaining contents config records input rest old new status =
+    ServesOnPorts config records (remaining input) (remaining rest) (contents old) (contents new)
+    status
     ⊎ (IsNotBegun config status × (rest ≡ input) × (new ≡ old))
 
 -- A gateway was served by the clock, whose lines nobody else gives and which never ends, or nothing
 -- was printed: it didn't begin, or the clock couldn't be read.
-abbrev pub ServesByClock : {W : Type 0} → Config → W → W → Status → Type 0
-ServesByClock config old new status =
-    ServesOnPorts config None None status
+abbrev pub ServesByClock : {W : Type 0} → (W → Option (List ℕ)) → Config → Bool → W → W → Status
+    → Type 0
+ServesByClock contents config records old new status =
+    ServesOnPorts config records None None (contents old) (contents new) status
     ⊎ ((IsNotBegun config status ⊎ (status ≡ Failed)) × (new ≡ old))

@@ -1,15 +1,14 @@
-use crate::controllers::Controllers;
-use mg_core::Config;
+use crate::service::Service;
+use mg_core::{Config, Shown};
 
 /// A run that the program's arguments ask for.
 #[derive(Drop)]
 pub enum Invocation {
-    /// To run a script.
-    Replay(Config),
-    /// To serve a gateway on UDP ports, by the lines that are read, under these controllers, and to report every so
-    /// many seconds.
-    Serve(Config, Controllers, u16),
-    /// To serve a gateway on UDP ports, by the clock, under these controllers. The packets of a tick that is late by
-    /// more than the first number are not sent, and it reports every second number of seconds.
-    Live(Config, Controllers, u16, u16),
+    /// To run a script, and to write this of it.
+    Replay(Config, Shown),
+    /// To serve a gateway on UDP ports, by the lines that are read.
+    Serve(Config, Service),
+    /// To serve a gateway on UDP ports, by the clock. The packets of a tick that is late by more ticks than the number
+    /// are not sent.
+    Live(Config, Service, u16),
 }

@@ -1,13 +1,14 @@
-ghost use Rattle.std.specs.Prelude.{◌≡◌, ◌↔◌, None, Err};
+ghost use Rattle.std.specs.Prelude.{◌≡◌, ◌↔◌, ℕ, List, Option, None, Err, is_some};
 ghost use Rattle.mg_engine.specs.Config.{IsValidConfig};
 ghost use Rattle.mg_serve.specs.Serve.{ServedSession};
 ghost use Rattle.mg_bridge.specs.Serve.{ServesByClock};
 
-use crate::controllers::Controllers;
 use crate::serve::bind;
+use crate::service::Service;
 use crate::sockets::Sockets;
 use crate::status::Status;
 use crate::tick_deadline::TickDeadline;
+use crate::title::title_of;
 use crate::udp_ports::UdpPorts;
 use mg_clock::{ClockLines, SystemWatch, Watch};
 use mg_core::{Config, Counts, RunFault};
@@ -25,26 +26,34 @@ const POLLS: u16 = 1;
 fn serve_by<K: Watch + Drop, W: Write, E: Write, T: Write>(
     alloc: Global,
     config: Config,
-    controllers: &Controllers,
+    service: &Service,
     late: u16,
     sockets: Sockets,
     clock: K,
     again: K,
     output: &mut W,
     errors: &mut E,
-    seconds: u16,
     reports: &mut T,
 ) -> Result<Counts, RunFault>
-    ensures session { ServedSession config None None None None result }
+    ensures session { (title : Option (List ℕ)) × (is_some title ≡ service.now.records)
+        × ServedSession config title None None None None (W.contents output.old) (W.contents output.new) result }
     ensures bad { (result ≡ Err RunFault.BadConfig) ↔ ¬ IsValidConfig config }
 {
     let ticks = Cell::new(0);
     let deadline = TickDeadline::new(again, &ticks, late, errors);
     let ports = UdpPorts::new(sockets, deadline);
-    let mut ports = GuardedPorts::new(ports, controllers.as_slice());
+    let mut ports = GuardedPorts::new(ports, service.controllers.as_slice());
+    let title = title_of(&config);
     let mut lines = ClockLines::new(clock, &ticks, POLLS);
     mg_serve::serve(
-        alloc, config, &mut ports, &mut lines, output, seconds, reports,
+        alloc,
+        config,
+        service.title(title.as_slice()),
+        &mut ports,
+        &mut lines,
+        output,
+        service.report,
+        reports,
     )
 }
 
@@ -52,20 +61,19 @@ fn serve_by<K: Watch + Drop, W: Write, E: Write, T: Write>(
 ///
 /// After a delay all polls and ticks that were missed are done at once. The packets of a tick that is late by more
 /// ticks than are allowed are not sent, so that callers hear a gap, and timestamps stay with the clock. How many
-/// weren't sent goes to `errors`. Every so many seconds, if any, a report goes to `reports`.
+/// weren't sent goes to `errors`. A report now and then, if that is asked for, goes to `reports`.
 pub fn live<N: Net, C: Clock, W: Write, E: Write, T: Write>(
     net: &N,
     clock: &C,
     alloc: Global,
     config: Config,
-    controllers: &Controllers,
+    service: &Service,
     late: u16,
     output: &mut W,
     errors: &mut E,
-    seconds: u16,
     reports: &mut T,
 ) -> Status
-    ensures value { ServesByClock config output.old output.new result }
+    ensures value { ServesByClock W.contents config service.now.records output.old output.new result }
 {
     let sockets = match bind(net, alloc, &config, errors) {
         Ok(sockets) => sockets,
@@ -80,17 +88,7 @@ pub fn live<N: Net, C: Clock, W: Write, E: Write, T: Write>(
     };
     let again = watch.again();
     let outcome = serve_by(
-        alloc,
-        config,
-        controllers,
-        late,
-        sockets,
-        watch,
-        again,
-        output,
-        errors,
-        seconds,
-        reports,
+        alloc, config, service, late, sockets, watch, again, output, errors, reports,
     );
     Status::after(&outcome, &config, errors)
 }

@@ -8,6 +8,8 @@
 //! `mg_bridge serve` is the same gateway, driven by lines on standard input: `poll` takes what came to the ports,
 //! `tick` passes on by 20 ms and sends the packets, `stats` prints what was counted, `quit` ends it. Another program,
 //! `mg_pace`, writes these lines by the clock.
+//!
+//! With `--record`, what `live` and `serve` print is a recording: a script of the events that happened.
 #![tactic(auto)]
 
 ghost use Rattle.std.specs.Prelude.{◌≡◌, ◌≢◌};
@@ -27,11 +29,13 @@ mod program;
 mod readiness;
 mod replay;
 mod serve;
+mod service;
 mod sockets;
 mod status;
 #[cfg(test)]
 mod tests;
 mod tick_deadline;
+mod title;
 mod udp_ports;
 
 use crate::program::program;

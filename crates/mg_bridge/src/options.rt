@@ -1,17 +1,18 @@
 ghost use Rattle.std.specs.Prelude.{◌≡◌, IfErr, IfOk, Ok, map};
 ghost use Rattle.clap.specs.Words.{app_of, found_of, kind_of, rows_of, rule_of, with_rule};
 ghost use Rattle.mg_bridge.specs.Options.{IsRefused, address_in, asked, command_line, config_at, controller_rule};
-ghost use Rattle.mg_bridge.specs.Options.{controllers_in, late_in, live_line, report_in, sockets_line};
-ghost use Rattle.mg_bridge.specs.Options.{options, run_of, subcommand_line, text_rule};
+ghost use Rattle.mg_bridge.specs.Options.{controllers_in, flag_rule, is_set, late_in, live_line, replay_line, report_in};
+ghost use Rattle.mg_bridge.specs.Options.{options, run_of, shown_in, sockets_line, subcommand_line, text_rule};
 ghost use Rattle.mg_bridge.specs.Options.{with_rules};
 
 use crate::address::{AddressFault, own_address};
 use crate::controller_fault::ControllerFault;
 use crate::controllers::Controllers;
 use crate::invocation::Invocation;
+use crate::service::Service;
 use clap::error::ErrorKind;
 use clap::{Arg, ArgAction, ArgMatches, Command, Error};
-use mg_core::Config;
+use mg_core::{Config, Shown};
 use mg_options::{long_number, long_value, short_number, short_value};
 use std::alloc::Global;
 use std::convert::AsStr;
@@ -75,6 +76,13 @@ fn controller_option<'a>(alloc: Global) -> Arg<'a>
         )
 }
 
+/// An option without a value, which is set where it is given.
+fn flag<'a>(alloc: Global, name: &'a str) -> Arg<'a>
+    ensures rule { rule_of result ≡ flag_rule name.now }
+{
+    Arg::new(alloc, name).long(name).action(ArgAction::SetTrue)
+}
+
 /// A subcommand with the options of a gateway.
 fn subcommand<'a>(alloc: Global, name: &'a str, about: &'a str) -> Result<Command<'a>, Error>
     ensures app { IfOk result (λ command. app_of command ≡ subcommand_line name.now) }
@@ -92,7 +100,22 @@ fn on_sockets<'a>(alloc: Global, name: &'a str, about: &'a str) -> Result<Comman
         .arg(controller_option(alloc))?
         .arg(short_number(alloc, "report").help(
             "Reports on standard error every so many seconds; never where this isn't given, or 0",
+        ))?
+        .arg(flag(alloc, "record").help(
+            "Prints a script of the events that happen, for `mg_bridge replay`",
         ))?;
+    Ok(command)
+}
+
+/// The subcommand that runs a script.
+fn replay<'a>(alloc: Global) -> Result<Command<'a>, Error>
+    ensures app { IfOk result (λ command. app_of command ≡ replay_line) }
+    ensures memory { IfErr result (λ error. kind_of error ≡ ErrorKind.OutOfMemory) }
+{
+    let about = "Runs a script from standard input, and writes its answers to standard output";
+    let command = subcommand(alloc, "replay", about)?.arg(flag(alloc, "flows").help(
+        "Writes too, as comments, what each event changes of the terminations and of who hears whom",
+    ))?;
     Ok(command)
 }
 
@@ -114,11 +137,7 @@ fn command<'a>(alloc: Global) -> Result<Command<'a>, Error>
     ensures app { IfOk result (λ command. app_of command ≡ command_line) }
     ensures memory { IfErr result (λ error. kind_of error ≡ ErrorKind.OutOfMemory) }
 {
-    let replay = subcommand(
-        alloc,
-        "replay",
-        "Runs a script from standard input, and writes its answers to standard output",
-    )?;
+    let replay = replay(alloc)?;
     let serve = on_sockets(
         alloc,
         "serve",
@@ -185,6 +204,27 @@ fn report_of(matches: &ArgMatches<'_>) -> u16
     short_value(matches, "report").unwrap_or(0)
 }
 
+/// Whether a flag is set.
+fn is_set(name: &str, matches: &ArgMatches<'_>) -> bool
+    ensures value { result ≡ is_set name.now (rows_of (found_of matches.now)) }
+{
+    match matches.get_str(name) {
+        Some(text) => text == "true",
+        None => false,
+    }
+}
+
+/// What is written of a script.
+fn shown_of(matches: &ArgMatches<'_>) -> Shown
+    ensures value { result ≡ shown_in (rows_of (found_of matches.now)) }
+{
+    if is_set("flows", matches) {
+        Shown::SentAndFlows
+    } else {
+        Shown::Sent
+    }
+}
+
 /// The controllers that the options name.
 fn controllers_of(matches: &ArgMatches<'_>) -> Result<Controllers, ControllerFault>
     ensures value { result ≡ controllers_in (rows_of (found_of matches.now)) }
@@ -196,21 +236,15 @@ fn controllers_of(matches: &ArgMatches<'_>) -> Result<Controllers, ControllerFau
 }
 
 /// The run of a subcommand.
-fn run_of(
-    name: &str,
-    config: Config,
-    controllers: Controllers,
-    late: u16,
-    report: u16,
-) -> Invocation
-    ensures value { result ≡ run_of name.now config controllers late report }
+fn run_of(name: &str, config: Config, service: Service, late: u16, shown: Shown) -> Invocation
+    ensures value { result ≡ run_of name.now config service late shown }
 {
     if name == "serve" {
-        Invocation::Serve(config, controllers, report)
+        Invocation::Serve(config, service)
     } else if name == "live" {
-        Invocation::Live(config, controllers, late, report)
+        Invocation::Live(config, service, late)
     } else {
-        Invocation::Replay(config)
+        Invocation::Replay(config, shown)
     }
 }
 
@@ -241,9 +275,13 @@ pub fn asked_run<'a, S: AsStr>(alloc: Global, words: &'a [S]) -> Result<Invocati
         Ok(controllers) => Ok(run_of(
             name,
             config_at(address, control, options),
-            controllers,
+            Service {
+                controllers,
+                report: report_of(options),
+                records: is_set("record", options),
+            },
             late_of(options),
-            report_of(options),
+            shown_of(options),
         )),
         Err(fault) => Err(command.error(ErrorKind::ValueValidation, fault.message())?),
     }

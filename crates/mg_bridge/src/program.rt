@@ -63,34 +63,15 @@ pub fn program<'a, N: Net, C: Clock, S: AsStr, R: Read, W: Write, E: Write, T: W
     ensures quiet { result ≡ 0 → IsLive (asked (map S.text words.now)) ⊎ (errors.new ≡ errors.old) }
 {
     let status = match asked_run(alloc, words) {
-        Ok(Invocation::Replay(config)) => replay(alloc, config, input, output, errors),
-        Ok(Invocation::Serve(config, controllers, seconds)) => {
-            serve(
-                net,
-                alloc,
-                config,
-                &controllers,
-                input,
-                output,
-                errors,
-                seconds,
-                reports,
-            )
+        Ok(Invocation::Replay(config, shown)) => {
+            replay(alloc, config, shown, input, output, errors)
         }
-        Ok(Invocation::Live(config, controllers, late, seconds)) => {
-            live(
-                net,
-                clock,
-                alloc,
-                config,
-                &controllers,
-                late,
-                output,
-                errors,
-                seconds,
-                reports,
-            )
+        Ok(Invocation::Serve(config, service)) => {
+            serve(net, alloc, config, &service, input, output, errors, reports)
         }
+        Ok(Invocation::Live(config, service, late)) => live(
+            net, clock, alloc, config, &service, late, output, errors, reports,
+        ),
         Err(error) => tell(&error, output, errors),
     };
     status.code()

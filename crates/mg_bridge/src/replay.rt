@@ -2,7 +2,7 @@ ghost use Rattle.std.specs.Prelude.{◌≡◌};
 ghost use Rattle.mg_bridge.specs.Replay.{Replays};
 
 use crate::status::Status;
-use mg_core::{Config, run};
+use mg_core::{Config, Shown, run};
 use std::alloc::Global;
 use std::io::{Read, Write};
 
@@ -11,14 +11,15 @@ use std::io::{Read, Write};
 pub fn replay<R: Read, W: Write, E: Write>(
     alloc: Global,
     config: Config,
+    shown: Shown,
     input: &mut R,
     output: &mut W,
     errors: &mut E,
 ) -> Status
-    ensures value { Replays config (R.remaining input.old) (R.remaining input.new) (W.contents output.old)
+    ensures value { Replays config shown (R.remaining input.old) (R.remaining input.new) (W.contents output.old)
         (W.contents output.new) result }
     ensures quiet { result ≡ Status.Done → errors.new ≡ errors.old }
 {
-    let outcome = run(alloc, config, input, output);
+    let outcome = run(alloc, config, shown, input, output);
     Status::after(&outcome, &config, errors)
 }

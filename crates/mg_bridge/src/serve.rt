@@ -3,11 +3,12 @@ ghost use Rattle.mg_engine.specs.Config.{IsValidConfig};
 ghost use Rattle.mg_bridge.specs.Serve.{IsNotBegun, Serves};
 
 use crate::config_fault::ConfigFault;
-use crate::controllers::Controllers;
 use crate::no_deadline::NoDeadline;
 use crate::readiness::SOCKETS;
+use crate::service::Service;
 use crate::sockets::Sockets;
 use crate::status::Status;
+use crate::title::title_of;
 use crate::udp_ports::UdpPorts;
 use mg_core::{Config, RunFault};
 use mg_ports::GuardedPorts;
@@ -46,8 +47,8 @@ pub fn bind<N: Net, E: Write>(
     }
 }
 
-/// Serves a new gateway on UDP ports by the lines that are read, under these controllers. The text of a fault goes to
-/// `errors`, and every so many seconds, if any, a report to `reports`.
+/// Serves a new gateway on UDP ports by the lines that are read. The text of a fault goes to `errors`, and a report now
+/// and then, if that is asked for, to `reports`.
 ///
 /// A configuration that can't be used is told before a port is bound, and a port that can't be bound before a line
 /// is read.
@@ -55,14 +56,14 @@ pub fn serve<N: Net, R: Read, W: Write, E: Write, T: Write>(
     net: &N,
     alloc: Global,
     config: Config,
-    controllers: &Controllers,
+    service: &Service,
     input: &mut R,
     output: &mut W,
     errors: &mut E,
-    seconds: u16,
     reports: &mut T,
 ) -> Status
-    ensures value { Serves R.remaining config input.old input.new output.old output.new result }
+    ensures value { Serves R.remaining W.contents config service.now.records input.old input.new output.old output.new
+        result }
     ensures quiet { result ≡ Status.Done → errors.new ≡ errors.old }
 {
     let sockets = match bind(net, alloc, &config, errors) {
@@ -70,7 +71,17 @@ pub fn serve<N: Net, R: Read, W: Write, E: Write, T: Write>(
         Err(status) => return status,
     };
     let ports = UdpPorts::new(sockets, NoDeadline);
-    let mut ports = GuardedPorts::new(ports, controllers.as_slice());
-    let outcome = mg_serve::serve(alloc, config, &mut ports, input, output, seconds, reports);
+    let mut ports = GuardedPorts::new(ports, service.controllers.as_slice());
+    let title = title_of(&config);
+    let outcome = mg_serve::serve(
+        alloc,
+        config,
+        service.title(title.as_slice()),
+        &mut ports,
+        input,
+        output,
+        service.report,
+        reports,
+    );
     Status::after(&outcome, &config, errors)
 }

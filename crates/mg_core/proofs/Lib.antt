@@ -3,6 +3,10 @@ pub mod ReplyLaws
 pub mod WorkLaws
 pub mod EscapeSteps
 pub mod OutputLaws
+pub mod ChangeLaws
+pub mod ListenerLaws
+pub mod QuietLaws
+pub mod ToldLaws
 pub mod LineLaws
 pub mod RunLaws
 pub mod HeadlineLaws
@@ -12,3 +16,5 @@ pub mod InterleavingLaws
 pub mod ApartLaws
 pub mod CountingLaws
 pub mod RepeatLaws
+pub mod ReadBackLaws
+pub mod RecordingLaws

@@ -11,6 +11,7 @@ use Rattle.mg_engine.specs.Gateway.{Gateway}
 use Rattle.mg_core.specs.declared.counts.Counts.{Counts}
 use Rattle.mg_core.specs.declared.event.Event.{Event}
 use Rattle.mg_core.specs.declared.event.Event.TheVariants.{Control, Media, Tick}
+use Rattle.mg_core.specs.declared.shown.Shown.{Shown}
 use Rattle.mg_core.specs.declared.state.CoreState.{CoreState}
 use Rattle.mg_core.specs.Headline.{CameTo}
 use Rattle.mg_core.specs.Run.{RanToEnd}
@@ -124,12 +125,13 @@ UnheardInHistories =
     → CameTo config (first_of xs) s v one → CameTo config (second_of xs) t w other
     → packets_from port s ≡ packets_from port t
 
--- .. and of two scripts that were run whole.
+-- .. and of two scripts that were run whole, in either form.
 abbrev pub UnheardInScripts : Type 0
 UnheardInScripts =
-    (some : List ℕ) (port : ℕ) (config : Config) (xs : List Happening)
+    (some : List ℕ) (port : ℕ) (config : Config) (xs : List Happening) (first second : Shown)
     (one other : List ℕ) (counts more : Counts) (old new was is : Option (List ℕ))
-    (a : RanToEnd config one counts old new) (b : RanToEnd config other more was is)
+    (a : RanToEnd config first one counts old new)
+    (b : RanToEnd config second other more was is)
     → IsUnheardAt some port (start_of config) xs
     → a.ran.events ≡ first_of xs → b.ran.events ≡ second_of xs
     → packets_from port a.ran.sent ≡ packets_from port b.ran.sent

@@ -1,9 +1,10 @@
 -- In which order the packets of different callers came makes no difference.
-use Rattle.std.specs.Prelude.{◌≡◌, ◌<◌, ◌^◌, ◌==◌, not, ℕ, Bool, false, List, Option, filter}
+use Rattle.std.specs.Prelude.{◌≡◌, ◌==◌, not, ℕ, Bool, false, List, Option, filter}
 use Rattle.mg_engine.specs.declared.config.Config.{Config}
 use Rattle.mg_core.specs.declared.counts.Counts.{Counts}
 use Rattle.mg_core.specs.declared.event.Event.{Event}
 use Rattle.mg_core.specs.declared.event.Event.TheVariants.{Control, Media, Tick}
+use Rattle.mg_core.specs.declared.shown.Shown.{Shown}
 use Rattle.mg_core.specs.declared.state.CoreState.{CoreState}
 use Rattle.mg_core.specs.Headline.{CameTo, IsStart}
 use Rattle.mg_core.specs.Run.{RanToEnd}
@@ -40,11 +41,13 @@ HistoriesAreOne =
     → IsStart config → AreSameToEachPort a b
     → CameTo config a s v one → CameTo config b t w other → (s ≡ t) × (v ≡ w)
 
--- .. and of two scripts that were run whole: they have had the same datagrams written.
+-- .. and of two scripts that were run whole, in either form: they have had the same datagrams
+-- written.
 abbrev pub ScriptsAreOne : Type 0
 ScriptsAreOne =
-    (config : Config) (one other : List ℕ) (counts more : Counts) (old new was is : Option (List ℕ))
-    → IsStart config
-    → (a : RanToEnd config one counts old new) (b : RanToEnd config other more was is)
+    (config : Config) (first second : Shown) (one other : List ℕ) (counts more : Counts)
+    (old new was is : Option (List ℕ)) → IsStart config
+    → (a : RanToEnd config first one counts old new)
+    (b : RanToEnd config second other more was is)
     → AreSameToEachPort a.ran.events b.ran.events
     → (a.ran.sent ≡ b.ran.sent) × (a.last ≡ b.last)

@@ -5,7 +5,9 @@ pub mod Answer
 pub mod Step
 pub mod Work
 pub mod Script
+pub mod Flows
 pub mod Run
+pub mod Recording
 pub mod Headline
 pub mod Interleaving
 pub mod Apart

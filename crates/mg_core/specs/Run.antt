@@ -11,9 +11,12 @@ use Rattle.mg_core.specs.declared.counts.Counts.{Counts}
 use Rattle.mg_core.specs.declared.event.Event.{Event}
 use Rattle.mg_core.specs.declared.fault.RunFault.{RunFault}
 use Rattle.mg_core.specs.declared.fault.RunFault.TheVariants as faults
+use Rattle.mg_core.specs.declared.shown.Shown.{Shown}
+use Rattle.mg_core.specs.declared.shown.Shown.TheVariants as shows
 use Rattle.mg_core.specs.World.{World, start_of, capped, counts_of}
 use Rattle.mg_core.specs.Peer.{peer_text}
-use Rattle.mg_core.specs.Step.{Sent, Reply, Packet, Run}
+use Rattle.mg_core.specs.Step.{Sent, Reply, Packet, Step, Run}
+use Rattle.mg_core.specs.Flows.{changes_by}
 use Rattle.mg_lines.specs.Lines.{lines_of}
 use Rattle.mg_core.specs.Script.{event_of, events_of, escaped}
 
@@ -37,28 +40,53 @@ line_of (Packet d) = packet_line d
 abbrev pub lines_for : List Sent → List ℕ
 lines_for sent = flat_map line_of sent
 
+-- Events one after another, each in the world that the one before it left. Of each the lines for
+-- what it sends are written, and after them those that tell what it changed.
+abbrev pub Tells : World → List Event → List ℕ → World → Type 0
+Tells w [] text last = (text ≡ []) × (last ≡ w)
+Tells w (event ∷ events) text last =
+    (sent : List Sent) × (others : List ℕ) × (next : World)
+    × Step w event sent next × Tells next events others last
+    × (text ≡ lines_for sent ++ (changes_by w next ++ others))
+
+-- what is written of events, one after another, that have these datagrams sent
+abbrev pub IsText : Shown → World → List Event → List Sent → List ℕ → World → Type 0
+IsText shows.Sent w events sent text last = text ≡ lines_for sent
+IsText shows.SentAndFlows w events sent text last = Tells w events text last
+
+-- events that run in a world have one text, in each form
+abbrev pub TextsAreOne : Type 0
+TextsAreOne =
+    (shown : Shown) (w x y : World) (events : List Event) (s t : List Sent) (a b : List ℕ)
+    → Run w events s x → Run w events t y
+    → IsText shown w events s a x → IsText shown w events t b y → a ≡ b
+
 -- ## Lines in
 
 -- Lines were run from the world w: they are these events, one after another these have these
--- datagrams sent and lead to the last world, and a writer holds the lines of the datagrams.
-pub record Ran (w : World) (lines : List (List ℕ)) (last : World)
+-- datagrams sent and lead to the last world, and a writer holds the text of them.
+pub record Ran (shown : Shown) (w : World) (lines : List (List ℕ)) (last : World)
     (old new : Option (List ℕ)) : Type 0 where
   pub events : List Event
   pub sent : List Sent
+  pub text : List ℕ
   pub are : events_of lines ≡ Some events
   pub run : Run w events sent last
-  pub written : Appends old new (lines_for sent)
+  pub is_text : IsText shown w events sent text last
+  pub written : Appends old new text
 
--- the same, but that a writer holds the front of those lines alone
-pub record RanInPart (w : World) (lines : List (List ℕ)) (last : World)
+-- the same, but that a writer holds the front of that text alone
+pub record RanInPart (shown : Shown) (w : World) (lines : List (List ℕ)) (last : World)
     (old new : Option (List ℕ)) : Type 0 where
   pub events : List Event
   pub sent : List Sent
+  pub text : List ℕ
   pub front : List ℕ
   pub rest : List ℕ
   pub are : events_of lines ≡ Some events
   pub run : Run w events sent last
-  pub parts : lines_for sent ≡ front ++ rest
+  pub is_text : IsText shown w events sent text last
+  pub parts : text ≡ front ++ rest
   pub written : Appends old new front
 
 -- ## How far a script was read
@@ -82,10 +110,10 @@ pub record RanBeforeMore (text : List ℕ) (ended : Bool) (lines : List (List �
 -- ## The outcome of a run over a script on a new gateway
 
 -- all of the script was run, and its lines, its events and what they have sent were counted
-pub record RanToEnd (config : Config) (script : List ℕ) (counts : Counts)
+pub record RanToEnd (config : Config) (shown : Shown) (script : List ℕ) (counts : Counts)
     (old new : Option (List ℕ)) : Type 0 where
   pub last : World
-  pub ran : Ran (start_of config) (lines_of true script) last old new
+  pub ran : Ran shown (start_of config) (lines_of true script) last old new
   pub lines : counts.lines ≡ length (lines_of true script)
   pub sent : counts.sent ≡ capped (length ran.sent)
   pub counted : record counts { lines = 0; sent = 0; failed = 0 } ≡ counts_of last.tally
@@ -99,8 +127,8 @@ pub record HasBadAfter (lines all : List (List ℕ)) : Type 0 where
 
 -- The lines before the first bad one were run, which has this number. It is bad whatever may
 -- follow what was read: after the end nothing does.
-pub record RanToBadLine (config : Config) (input rest : Option (List ℕ)) (number : ℕ)
-    (old new : Option (List ℕ)) : Type 0 where
+pub record RanToBadLine (config : Config) (shown : Shown) (input rest : Option (List ℕ))
+    (number : ℕ) (old new : Option (List ℕ)) : Type 0 where
   pub text : List ℕ
   pub ended : Bool
   pub read : HasRead input rest text ended
@@ -110,18 +138,19 @@ pub record RanToBadLine (config : Config) (input rest : Option (List ℕ)) (numb
       → HasBadAfter lines (lines_of true (text ++ more))
   pub number_is : number ≡ length lines + 1
   pub last : World
-  pub ran : Ran (start_of config) lines last old new
+  pub ran : Ran shown (start_of config) lines last old new
 
 -- all lines that end in what was read were run, no more and no fewer
-pub record RanAllRead (config : Config) (input rest old new : Option (List ℕ)) : Type 0 where
+pub record RanAllRead (config : Config) (shown : Shown) (input rest old new : Option (List ℕ))
+    : Type 0 where
   pub text : List ℕ
   pub read : HasRead input rest text false
   pub last : World
-  pub ran : Ran (start_of config) (lines_of false text) last old new
+  pub ran : Ran shown (start_of config) (lines_of false text) last old new
 
 -- Of the lines of what was read, those before this one were run and led to this world.
-pub record RanUpTo (config : Config) (input rest : Option (List ℕ)) (line : List ℕ) (now : World)
-    (old new : Option (List ℕ)) : Type 0 where
+pub record RanUpTo (config : Config) (shown : Shown) (input rest : Option (List ℕ))
+    (line : List ℕ) (now : World) (old new : Option (List ℕ)) : Type 0 where
   pub text : List ℕ
   pub ended : Bool
   pub read : HasRead input rest text ended
@@ -129,22 +158,24 @@ pub record RanUpTo (config : Config) (input rest : Option (List ℕ)) (line : Li
   pub before_more : RanBeforeMore text ended lines
   pub others : List (List ℕ)
   pub line_is : lines_of ended text ≡ lines ++ line ∷ others
-  pub ran : Ran (start_of config) lines now old new
+  pub ran : Ran shown (start_of config) lines now old new
 
 -- the lines before one were run, and that one too, but for what was not written of it
-pub record RanToCutLine (config : Config) (input rest old new : Option (List ℕ)) : Type 0 where
+pub record RanToCutLine (config : Config) (shown : Shown) (input rest old new : Option (List ℕ))
+    : Type 0 where
   pub line : List ℕ
   pub now : World
   pub held : Option (List ℕ)
-  pub up_to : RanUpTo config input rest line now old held
+  pub up_to : RanUpTo config shown input rest line now old held
   pub last : World
-  pub cut : RanInPart now (line ∷ []) last held new
+  pub cut : RanInPart shown now (line ∷ []) last held new
 
 -- the lines before one were run, and that one had no effect
-pub record RanToUnrunLine (config : Config) (input rest old new : Option (List ℕ)) : Type 0 where
+pub record RanToUnrunLine (config : Config) (shown : Shown) (input rest old new : Option (List ℕ))
+    : Type 0 where
   pub line : List ℕ
   pub now : World
-  pub up_to : RanUpTo config input rest line now old new
+  pub up_to : RanUpTo config shown input rest line now old new
 
 -- nothing was read, and nothing was written
 abbrev pub NothingRan : (input rest old new : Option (List ℕ)) → Type 0
@@ -152,14 +183,17 @@ NothingRan input rest old new = Keeps input rest × Keeps old new
 
 -- what a run came to, by its result: how far it has read, which lines of that it has run, and what
 -- was written of them
-abbrev pub ScriptRan : Config → (input rest old new : Option (List ℕ)) → Result Counts RunFault
-    → Type 0
-ScriptRan config input rest old new (Ok counts) =
-    (script : List ℕ) × HasRead input rest script true × RanToEnd config script counts old new
-ScriptRan config input rest old new (Err (faults.Script number)) =
-    RanToBadLine config input rest number old new
-ScriptRan config input rest old new (Err faults.Read) = RanAllRead config input rest old new
-ScriptRan config input rest old new (Err faults.Write) = RanToCutLine config input rest old new
-ScriptRan config input rest old new (Err faults.NoMemory) =
-    NothingRan input rest old new ⊎ RanToUnrunLine config input rest old new
-ScriptRan config input rest old new (Err faults.BadConfig) = NothingRan input rest old new
+abbrev pub ScriptRan : Config → Shown → (input rest old new : Option (List ℕ))
+    → Result Counts RunFault → Type 0
+ScriptRan config shown input rest old new (Ok counts) =
+    (script : List ℕ) × HasRead input rest script true
+    × RanToEnd config shown script counts old new
+ScriptRan config shown input rest old new (Err (faults.Script number)) =
+    RanToBadLine config shown input rest number old new
+ScriptRan config shown input rest old new (Err faults.Read) =
+    RanAllRead config shown input rest old new
+ScriptRan config shown input rest old new (Err faults.Write) =
+    RanToCutLine config shown input rest old new
+ScriptRan config shown input rest old new (Err faults.NoMemory) =
+    NothingRan input rest old new ⊎ RanToUnrunLine config shown input rest old new
+ScriptRan config shown input rest old new (Err faults.BadConfig) = NothingRan input rest old new

@@ -8,7 +8,10 @@ ghost use Rattle.mg_core.specs.Counting.{EventsAreCounted, RunsTake};
 ghost use Rattle.mg_core.specs.Headline.{EventsLeadToOneWorld, OneGatewayOneFuture, WorldsAreConsistent};
 ghost use Rattle.mg_engine.specs.Isolation.{NobodyHearsHimself, IsolatedAreNotHeard, UnheardChangesNoPacket, PayloadsAreMixes};
 ghost use Rattle.mg_core.specs.Interleaving.{OrderOfPortsIsNothing, HistoriesAreOne, ScriptsAreOne};
+ghost use Rattle.mg_core.specs.Recording.{RecordingsAreRead, CutRecordingsAreRead};
 ghost use Rattle.mg_core.specs.Repeats.{KeptRepliesAreSent, RepetitionsAreAnsweredAlike, OthersAreRun, RepliesLast, NoneIsNewer, AcknowledgedAreGone, PushedOutAreGone, GoneAreRun, RepliesAreKept};
+ghost use Rattle.mg_core.specs.Flows.{NoneIsToldInVain, NoneIsUntold};
+ghost use Rattle.mg_core.specs.Run.{TextsAreOne};
 ghost use Rattle.mg_core.specs.Step.{Sent, Step, Run};
 ghost use Rattle.mg_core.specs.World.{World};
 
@@ -25,12 +28,14 @@ pub fn each_event_has_an_outcome(event: &Event)
     }
 }
 
-/// In each world each event has at most one outcome, and so have events one after another.
+/// In each world each event has at most one outcome, and so have events one after another: one world, the same
+/// datagrams sent, and the same text written.
 pub fn outcomes_are_one()
     ensures event { (w : World) (event : Event) (a b : List Sent) (x y : World) →
         Step w event a x → Step w event b y → (a ≡ b) × (x ≡ y) }
     ensures events { (w : World) (events : List Event) (a b : List Sent) (x y : World) →
         Run w events a x → Run w events b y → (a ≡ b) × (x ≡ y) }
+    ensures texts { TextsAreOne }
 {
     mg_text::laws::one_reading(b"");
     mg_engine::laws::one_arrival(b"");
@@ -111,11 +116,24 @@ pub fn unheard_changes_nothing()
     mg_commands::laws::requests_keep_agreement();
 }
 
+/// What is told of changes is all that changed, and nothing else.
+pub fn changes_are_told()
+    ensures untold { NoneIsUntold }
+    ensures vain { NoneIsToldInVain }
+{}
+
 /// The counts are the numbers of the events that came: control datagrams, RTP datagrams, those of them that were placed
 /// in each way and dropped for each cause, ticks, and the frames that stood in for missing ones in them.
 pub fn events_are_counted()
     ensures law { EventsAreCounted }
     ensures runs { RunsTake }
+{}
+
+/// A recording is a script of its events: each line of an event is read as that event, any other line as a comment.
+/// Where it was cut, whatever the byte, the lines that are whole are a script of its first events.
+pub fn recordings_are_read()
+    ensures law { RecordingsAreRead }
+    ensures cut { CutRecordingsAreRead }
 {}
 
 /// The headline, joined. By its clauses `headline` and `packets` a [`Core`](crate::Core) answers and sends, after any

@@ -16,26 +16,34 @@
 
 mod answer;
 mod answering;
+mod changes;
 mod counts;
 mod event;
+mod event_line;
 mod fault;
 pub mod laws;
 mod line_runner;
+mod listener;
+mod listeners;
 mod machine;
 mod output;
 mod peer;
 mod running;
 mod script;
 mod script_runner;
+mod shown;
 mod state;
+mod watched;
 
 pub use crate::answer::Answer;
 pub use crate::counts::Counts;
 pub use crate::event::Event;
+pub use crate::event_line::EventLine;
 pub use crate::fault::{NoMemory, RunFault};
 pub use crate::machine::{ANSWER_LIMIT, Core};
 pub use crate::peer::peer_of;
 pub use crate::running::run;
+pub use crate::shown::Shown;
 // A crate can name a core in a contract only if the type of its state is exported.
 #[doc(hidden)]
 pub use crate::state::CoreState;

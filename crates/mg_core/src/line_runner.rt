@@ -1,9 +1,11 @@
 ghost use Rattle.std.specs.Prelude.{◌≡◌, ◌+◌, ◌↔◌, [], Some, length, IfOk, OnOk};
+ghost use Rattle.mg_engine.specs.declared.config.Config.{Config};
 ghost use Rattle.mg_engine.specs.Config.{IsValidConfig};
 ghost use Rattle.mg_words.specs.Leads.{Leads};
 ghost use Rattle.mg_core.specs.Step.{Step};
-ghost use Rattle.mg_core.specs.aids.Steps.{EventRan, LineRan};
-ghost use Rattle.mg_core.specs.World.{StandsFor, start_of};
+ghost use Rattle.mg_core.specs.aids.Steps.{AreKept, ChangesWritten, EventRan, Follows, LeadsOn, LineRan};
+ghost use Rattle.mg_core.specs.declared.shown.Shown.{Shown};
+ghost use Rattle.mg_core.specs.World.{World, StandsFor, start_of};
 
 use crate::answer::Answer;
 use crate::event::Event;
@@ -11,15 +13,30 @@ use crate::fault::{EventFault, LineFault};
 use crate::machine::{ANSWER_LIMIT, Core};
 use crate::output::{push_answer, push_packets};
 use crate::script::{ParseFault, event_of};
+use crate::shown::Shown;
+use crate::watched::Watched;
 use mg_engine::{Config, Peer, StartFault};
 use mg_lines::write_whole;
 use mg_text::Bytes;
-use std::alloc::Global;
+use std::alloc::{AllocError, Global};
 use std::io::Write;
 
 /// The bytes of the longest line that is written: a key word, a peer, and an answer whose bytes may all
 /// take an escape.
 const OUTPUT_LIMIT: usize = 27 + 2 * ANSWER_LIMIT;
+
+/// What is kept of terminations for a form of a run, on a gateway without terminations.
+fn watched_for(alloc: Global, shown: Shown) -> Result<Option<Watched>, AllocError>
+    ensures value { (config : Config) → IfOk result (λ watched. AreKept shown watched (start_of config)) }
+{
+    match shown {
+        Shown::Sent => Ok(None),
+        Shown::SentAndFlows => {
+            let watched = Watched::new(alloc)?;
+            Ok(Some(watched))
+        }
+    }
+}
 
 /// Runs lines of a script on a gateway.
 #[derive(Drop)]
@@ -28,15 +45,17 @@ pub struct LineRunner {
     pub output: Bytes,
     /// Answers and packets whose lines were written.
     pub sent: u64,
+    /// The terminations as the last event left them, where changes are shown.
+    pub watched: Option<Watched>,
     ghost output_size: { output.room + length output.text ≡ 128099 },
 }
 
 impl LineRunner {
     /// A runner on a new gateway.
-    pub fn new(alloc: Global, config: Config) -> Result<Self, StartFault>
+    pub fn new(alloc: Global, config: Config, shown: Shown) -> Result<Self, StartFault>
         ensures bad { (result ≡ Err StartFault.BadConfig) ↔ ¬ IsValidConfig config }
         ensures sound { OnOk result (IsValidConfig config) }
-        ensures start { IfOk result (λ runner. StandsFor runner.core.state (start_of config)) }
+        ensures start { IfOk result (λ runner. Follows shown runner.core.state runner.watched (start_of config)) }
         ensures sent { IfOk result (λ runner. runner.sent ≡ 0) }
     {
         let core = Core::new(alloc, config)?;
@@ -44,6 +63,7 @@ impl LineRunner {
             core,
             output: Bytes::new(alloc, OUTPUT_LIMIT)?,
             sent: 0,
+            watched: watched_for(alloc, shown)?,
         })
     }
 
@@ -57,8 +77,9 @@ impl LineRunner {
         writer: &mut W,
     ) -> Result<(), EventFault>
         ensures value { Leads StandsFor self.old.core.state self.new.core.state (λ w next.
-            EventRan (Event.Control source bytes.now) w next self.old.sent self.new.sent (W.contents writer.old)
-            (W.contents writer.new) result) }
+            EventRan Shown.Sent (Event.Control source bytes.now) w next self.old.sent self.new.sent
+            (W.contents writer.old) (W.contents writer.new) result) }
+        ensures watched { self.new.watched ≡ self.old.watched }
     {
         let Ok(answer) = self.core.control(alloc, source, bytes) else {
             return Err(EventFault::NoMemory);
@@ -79,6 +100,7 @@ impl LineRunner {
     fn take_media(&mut self, port: u16, source: Peer, bytes: &[u8])
         ensures value { Leads StandsFor self.old.core.state self.new.core.state (λ w next.
             Step w (Event.Media port source bytes.now) [] next) }
+        ensures watched { self.new.watched ≡ self.old.watched }
         ensures sent { self.new.sent ≡ self.old.sent }
     {
         let _ = self.core.media(port, source, bytes);
@@ -88,8 +110,9 @@ impl LineRunner {
     #[tactic(auto, using(crate::proofs::AnswerLaws::totals))]
     fn take_tick<W: Write>(&mut self, writer: &mut W) -> Result<(), EventFault>
         ensures value { Leads StandsFor self.old.core.state self.new.core.state (λ w next.
-            EventRan Event.Tick w next self.old.sent self.new.sent (W.contents writer.old) (W.contents writer.new)
-            result) }
+            EventRan Shown.Sent Event.Tick w next self.old.sent self.new.sent (W.contents writer.old)
+            (W.contents writer.new) result) }
+        ensures watched { self.new.watched ≡ self.old.watched }
     {
         self.core.tick();
         self.output.clear();
@@ -100,6 +123,24 @@ impl LineRunner {
         Ok(())
     }
 
+    /// Writes what a control datagram changed, where that is shown.
+    fn show_changes<W: Write>(&mut self, writer: &mut W) -> Result<(), EventFault>
+        ensures core { self.new.core ≡ self.old.core }
+        ensures sent { self.new.sent ≡ self.old.sent }
+        ensures value { (shown : Shown) (w next : World) → AreKept shown self.old.watched w →
+            StandsFor self.old.core.state next →
+            ChangesWritten shown w next (W.contents writer.old) (W.contents writer.new) result
+            × AreKept shown self.new.watched next }
+    {
+        match &mut self.watched {
+            None => Ok(()),
+            Some(watched) => {
+                watched.write_changes(&self.core, writer)?;
+                Ok(())
+            }
+        }
+    }
+
     /// Runs an event.
     fn take_event<W: Write>(
         &mut self,
@@ -107,10 +148,12 @@ impl LineRunner {
         event: &Event,
         writer: &mut W,
     ) -> Result<(), EventFault>
-        ensures value { Leads StandsFor self.old.core.state self.new.core.state (λ w next.
-            EventRan event.now w next self.old.sent self.new.sent (W.contents writer.old) (W.contents writer.new)
+        ensures value { (shown : Shown) → LeadsOn (Follows shown self.old.core.state self.old.watched)
+            (Follows shown self.new.core.state self.new.watched) result (λ w next.
+            EventRan shown event.now w next self.old.sent self.new.sent (W.contents writer.old) (W.contents writer.new)
             result) }
     {
+        self.core.know();
         match event {
             Event::Tick => self.take_tick(writer),
             Event::Media(port, source, bytes) => {
@@ -118,7 +161,8 @@ impl LineRunner {
                 Ok(())
             }
             Event::Control(source, bytes) => {
-                self.take_control(alloc, *source, bytes.as_slice(), writer)
+                self.take_control(alloc, *source, bytes.as_slice(), writer)?;
+                self.show_changes(writer)
             }
         }
     }
@@ -131,9 +175,10 @@ impl LineRunner {
         line: &[u8],
         writer: &mut W,
     ) -> Result<(), LineFault>
-        ensures value { Leads StandsFor self.old.core.state self.new.core.state (λ w next.
-            LineRan number line.now w next self.old.sent self.new.sent (W.contents writer.old) (W.contents writer.new)
-            result) }
+        ensures value { (shown : Shown) → LeadsOn (Follows shown self.old.core.state self.old.watched)
+            (Follows shown self.new.core.state self.new.watched) result (λ w next.
+            LineRan shown number line.now w next self.old.sent self.new.sent (W.contents writer.old)
+            (W.contents writer.new) result) }
     {
         match event_of(alloc, line) {
             Err(ParseFault::Bad) => Err(LineFault::Bad(number)),

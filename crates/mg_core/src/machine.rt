@@ -1,4 +1,7 @@
-ghost use Rattle.std.specs.Prelude.{◌≡◌, ◌≤◌, ◌+◌, ◌*◌, ◌↔◌, [], true, length, IfOk, OnOk, OnErr, Option, List, map, ℕ};
+ghost use Rattle.std.specs.Prelude.{◌≡◌, ◌<◌, ◌≤◌, ◌+◌, ◌*◌, ◌↔◌, [], true, length, Some, IfOk, OnOk, OnErr, Option, List, map, ℕ};
+ghost use Rattle.std.specs.List.{slice_get};
+ghost use Rattle.mg_rooms.specs.Limits.{slot_port};
+ghost use Rattle.mg_rooms.specs.Sound.{IsSound};
 ghost use Rattle.mg_engine.specs.Config.{IsValidConfig};
 ghost use Rattle.mg_engine.specs.Flow.{flow};
 ghost use Rattle.mg_engine.specs.Mix.{total_at};
@@ -22,7 +25,7 @@ use crate::counts::Counts;
 use crate::fault::NoMemory;
 use crate::state::CoreState;
 use mg_commands::Kept;
-use mg_engine::{Config, Datagram, Engine, Outbox, Peer, Rooms, StartFault, Stats, Taken};
+use mg_engine::{Config, Datagram, Engine, Outbox, Peer, Record, Rooms, StartFault, Stats, Taken};
 use mg_rooms::TERMINATIONS;
 use mg_text::{Bytes, ErrorNumber, Message, Reply, read, write_head};
 use std::alloc::Global;
@@ -226,6 +229,39 @@ impl Core {
         ensures value { (w : World) → StandsFor self.now.state w → result.now ≡ w.gateway.rooms }
     {
         self.state.engine.rooms()
+    }
+
+    /// How many terminations there are.
+    pub fn terminations(&self) -> usize
+        ensures value { result ≡ length self.now.state.engine.rooms.terminations }
+        ensures few { result ≤ TERMINATIONS }
+        ensures sound { IsSound self.now.state.engine.rooms }
+    {
+        self.state.engine.terminations()
+    }
+
+    /// The termination on a place among all, counted from 0 by rising numbers.
+    pub fn termination(&self, place: usize) -> Record
+        requires there { place < length self.now.state.engine.rooms.terminations }
+        ensures value { slice_get self.now.state.engine.rooms.terminations place ≡ Some result }
+        ensures slot { result.slot < self.now.state.engine.rooms.limits.slots }
+    {
+        self.state.engine.termination(place)
+    }
+
+    /// Shows what holds of the terminations, and does nothing.
+    pub(crate) fn know(&self)
+        ensures sound { IsSound self.now.state.engine.rooms }
+    {
+        let _count = self.state.engine.terminations();
+    }
+
+    /// The UDP port of a slot.
+    pub fn port(&self, slot: u8) -> u16
+        requires slot { slot < self.now.state.engine.rooms.limits.slots }
+        ensures value { result ≡ slot_port self.now.state.engine.rooms.limits slot }
+    {
+        self.state.engine.port(slot)
     }
 
     /// The counters of a termination.

@@ -36,7 +36,7 @@ fn push_escaped(text: &[u8], out: &mut Bytes)
 
 /// Writes a peer: an address, a colon and a port.
 #[tactic(auto, using(crate::proofs::OutputLaws::steps))]
-fn push_peer(peer: Peer, out: &mut Bytes)
+pub fn push_peer(peer: Peer, out: &mut Bytes)
     requires room { 21 ≤ out.old.room }
     ensures value { out.new ≡ appended out.old (peer_text peer) }
     ensures short { length (peer_text peer) ≤ 21 }

@@ -5,6 +5,7 @@ ghost use Rattle.mg_core.specs.Run.{ScriptRan};
 use crate::counts::Counts;
 use crate::fault::RunFault;
 use crate::script_runner::ScriptRunner;
+use crate::shown::Shown;
 use mg_engine::Config;
 use std::alloc::Global;
 use std::io::{Read, Write};
@@ -24,15 +25,16 @@ use std::io::{Read, Write};
 pub fn run<R: Read, W: Write>(
     alloc: Global,
     config: Config,
+    shown: Shown,
     reader: &mut R,
     writer: &mut W,
 ) -> Result<Counts, RunFault>
-    ensures script { ScriptRan config (R.remaining reader.old) (R.remaining reader.new) (W.contents writer.old)
+    ensures script { ScriptRan config shown (R.remaining reader.old) (R.remaining reader.new) (W.contents writer.old)
         (W.contents writer.new) result }
     ensures bad { (result ≡ Err RunFault.BadConfig) ↔ ¬ IsValidConfig config }
     ensures sound { OnOk result (IsValidConfig config) }
 {
-    let mut runner = ScriptRunner::new(alloc, config)?;
+    let mut runner = ScriptRunner::new(alloc, config, shown)?;
     runner.take_all(alloc, reader, writer)?;
     Ok(runner.counts())
 }

@@ -1,14 +1,15 @@
 ghost use Rattle.std.specs.Prelude.{◌≡◌, ◌+◌, ◌*◌, ◌^◌, ◌<◌, ◌≤◌, ◌↔◌, [], ℕ, List, length, Some, OnOk, IfOk, Result};
 ghost use Rattle.mg_engine.specs.declared.config.Config.{Config};
 ghost use Rattle.mg_engine.specs.Config.{IsValidConfig};
-ghost use Rattle.mg_words.specs.Leads.{Leads};
 ghost use Rattle.mg_core.specs.World.{World, StandsFor, counts_of, start_of};
 ghost use Rattle.mg_lines.specs.Lines.{without_return};
-ghost use Rattle.mg_core.specs.aids.Steps.{AllRan, LineRan, BytesRan, Finishes};
+ghost use Rattle.mg_core.specs.aids.Steps.{AllRan, Follows, LeadsOn, LineRan, BytesRan, Finishes};
+ghost use Rattle.mg_core.specs.declared.shown.Shown.{Shown};
 
 use crate::counts::Counts;
 use crate::fault::{LineFault, ScriptFault};
 use crate::line_runner::LineRunner;
+use crate::shown::Shown;
 use mg_engine::{Config, StartFault};
 use mg_lines::{READ_SIZE, read_some, without_return};
 use mg_text::Bytes;
@@ -30,15 +31,16 @@ pub struct ScriptRunner {
 
 impl ScriptRunner {
     /// A runner on a new gateway, at the start of a script.
-    pub fn new(alloc: Global, config: Config) -> Result<Self, StartFault>
+    pub fn new(alloc: Global, config: Config, shown: Shown) -> Result<Self, StartFault>
         ensures bad { (result ≡ Err StartFault.BadConfig) ↔ ¬ IsValidConfig config }
         ensures sound { OnOk result (IsValidConfig config) }
-        ensures start { IfOk result (λ s. StandsFor s.runner.core.state (start_of config)) }
+        ensures start { IfOk result (λ s.
+            Follows shown s.runner.core.state s.runner.watched (start_of config)) }
         ensures lines { IfOk result (λ s. s.lines ≡ 0) }
         ensures sent { IfOk result (λ s. s.runner.sent ≡ 0) }
         ensures begun { IfOk result (λ s. s.begun.text ≡ []) }
     {
-        let runner = LineRunner::new(alloc, config)?;
+        let runner = LineRunner::new(alloc, config, shown)?;
         Ok(ScriptRunner {
             runner,
             lines: 0,
@@ -51,8 +53,9 @@ impl ScriptRunner {
         requires few { self.old.lines + 1 < 2 ^ 64 }
         ensures begun { OnOk result (self.new.begun.text ≡ []) }
         ensures lines { OnOk result (self.new.lines ≡ self.old.lines + 1) }
-        ensures value { Leads StandsFor self.old.runner.core.state self.new.runner.core.state (λ w next.
-            LineRan (self.old.lines + 1) (without_return self.old.begun.text)
+        ensures value { (shown : Shown) → LeadsOn (Follows shown self.old.runner.core.state self.old.runner.watched)
+            (Follows shown self.new.runner.core.state self.new.runner.watched) result (λ w next.
+            LineRan shown (self.old.lines + 1) (without_return self.old.begun.text)
             w next self.old.runner.sent self.new.runner.sent (W.contents writer.old) (W.contents writer.new) result) }
     {
         let number = self.lines + 1;
@@ -72,8 +75,9 @@ impl ScriptRunner {
     ) -> Result<(), LineFault>
         requires few { self.old.lines + length bytes.now < 2 ^ 64 }
         ensures lines { OnOk result (self.new.lines ≤ self.old.lines + length bytes.now) }
-        ensures value { Leads StandsFor self.old.runner.core.state self.new.runner.core.state (λ w next.
-            BytesRan self.old.lines self.new.lines self.old.begun.text bytes.now self.new.begun.text
+        ensures value { (shown : Shown) → LeadsOn (Follows shown self.old.runner.core.state self.old.runner.watched)
+            (Follows shown self.new.runner.core.state self.new.runner.watched) result (λ w next.
+            BytesRan shown self.old.lines self.new.lines self.old.begun.text bytes.now self.new.begun.text
             w next self.old.runner.sent self.new.runner.sent (W.contents writer.old) (W.contents writer.new) result) }
     {
         for b in bytes {
@@ -92,8 +96,9 @@ impl ScriptRunner {
     /// Takes the last line, if one was begun: it has no line feed.
     fn finish<W: Write>(&mut self, alloc: Global, writer: &mut W) -> Result<(), LineFault>
         requires few { self.old.lines + 1 < 2 ^ 64 }
-        ensures value { Leads StandsFor self.old.runner.core.state self.new.runner.core.state (λ w next.
-            Finishes self.old.lines self.new.lines self.old.begun.text w next self.old.runner.sent
+        ensures value { (shown : Shown) → LeadsOn (Follows shown self.old.runner.core.state self.old.runner.watched)
+            (Follows shown self.new.runner.core.state self.new.runner.watched) result (λ w next.
+            Finishes shown self.old.lines self.new.lines self.old.begun.text w next self.old.runner.sent
             self.new.runner.sent (W.contents writer.old) (W.contents writer.new) result) }
     {
         let line = self.begun.as_slice();
@@ -116,8 +121,9 @@ impl ScriptRunner {
         requires lines { self.old.lines ≡ 0 }
         requires begun { self.old.begun.text ≡ [] }
         requires sent { self.old.runner.sent ≡ 0 }
-        ensures value { (config : Config) → StandsFor self.old.runner.core.state (start_of config) →
-            AllRan config (R.remaining reader.old) (R.remaining reader.new) self.new.runner.core.state
+        ensures value { (shown : Shown) (config : Config) →
+            Follows shown self.old.runner.core.state self.old.runner.watched (start_of config) →
+            AllRan config shown (R.remaining reader.old) (R.remaining reader.new) self.new.runner.core.state
             self.new.lines self.new.runner.sent (W.contents writer.old) (W.contents writer.new) result }
     {
         let mut buffer = [0; READ_SIZE];

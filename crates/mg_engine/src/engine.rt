@@ -1,7 +1,8 @@
 ghost use Rattle.std.specs.Prelude.{All, ◌≡◌, ◌≢◌, ℕ, List, [], ◌∷◌, ◌<◌, ◌≤◌, ◌+◌, ◌++◌, ◌↔◌, ◌==◌, not, Err, Some, IfOk, IfSome, IsSome, OnOk, OnErr, MatchResult, Ok, EachIndex, length, map, filter, replicate, slice_set, option_map, option_to_list, slice_index_or, IsTrue, false, None, ◌*◌, sum_by, count_by};
 ghost use Rattle.mg_rooms.specs.declared.record.Record.{Record};
 ghost use Rattle.mg_words.specs.declared.limits.TheConstants.{TERMINATIONS};
-ghost use Rattle.std.specs.List.{range_with_len};
+ghost use Rattle.std.specs.List.{range_with_len, slice_get};
+ghost use Rattle.mg_rooms.specs.Limits.{slot_port};
 ghost use Rattle.mg_rooms.specs.Outcome.{is_number};
 ghost use Rattle.mg_rooms.specs.Registry.{holder_of, record_at, context_at, members_at};
 ghost use Rattle.mg_words.specs.Limits.{context_limit, termination_limit};
@@ -159,6 +160,33 @@ impl Engine {
         ensures value { (w : Gateway) → StandsFor self.now w → result.now ≡ w.rooms }
     {
         &self.rooms
+    }
+
+    /// How many terminations there are.
+    pub fn terminations(&self) -> usize
+        ensures value { result ≡ length self.now.rooms.terminations }
+        ensures few { result ≤ TERMINATIONS }
+        ensures sound { IsSound self.now.rooms }
+    {
+        self.held.len()
+    }
+
+    /// The termination on a place among all, counted from 0 by rising numbers.
+    pub fn termination(&self, place: usize) -> Record
+        requires there { place < length self.now.rooms.terminations }
+        ensures value { slice_get self.now.rooms.terminations place ≡ Some result }
+        ensures slot { result.slot < self.now.rooms.limits.slots }
+    {
+        let slot = self.held_at(place);
+        self.rooms.held(slot).unwrap()
+    }
+
+    /// The UDP port of a slot.
+    pub fn port(&self, slot: u8) -> u16
+        requires slot { slot < self.now.rooms.limits.slots }
+        ensures value { result ≡ slot_port self.now.rooms.limits slot }
+    {
+        self.config.limits().slot_port(slot)
     }
 
     /// Who hears whom, by the places of members.

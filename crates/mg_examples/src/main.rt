@@ -3,19 +3,20 @@
 #![tactic(auto)]
 
 use anyhow::{Result, anyhow};
-use mg_core::{Config, run};
+use mg_core::{Config, Shown, run};
 use std::alloc::Global;
 use std::fs;
 use std::io::Cursor;
 use std::rt::Files;
 
 /// The scripts, each by the name of its file and of the file with its output, without their ends.
-const SCRIPTS: [&str; 55] = [
+const SCRIPTS: [&str; 56] = [
     "conference",
     "speech",
     "coaching",
     "lost_packets",
     "repeats",
+    "recording",
     "rules/a_context_is_made_with_what_is_done",
     "rules/a_full_context",
     "rules/a_full_gateway",
@@ -68,27 +69,41 @@ const SCRIPTS: [&str; 55] = [
     "rules/who_moves_is_heard_elsewhere",
 ];
 
+/// Those of them whose output is stored with what each event changed, too.
+const WITH_FLOWS: [&str; 2] = ["coaching", "recording"];
+
 /// What a script writes on a gateway with the standard configuration.
-fn written(alloc: Global, script: &[u8]) -> Result<Vec<u8>> {
+fn written(alloc: Global, shown: Shown, script: &[u8]) -> Result<Vec<u8>> {
     let mut reader = Cursor::new(script);
     let mut writer = Vec::new(alloc);
-    run(alloc, Config::default(), &mut reader, &mut writer)?;
+    run(alloc, Config::default(), shown, &mut reader, &mut writer)?;
     Ok(writer)
 }
 
-/// Whether a script writes what is stored.
-fn is_as_stored<R: Files + AllocGlobal>(rt: &R, name: &str) -> Result<bool> {
+/// Whether a script writes what is stored under its name with this end.
+fn is_as_stored<R: Files + AllocGlobal>(
+    rt: &R,
+    name: &str,
+    shown: Shown,
+    end: &str,
+) -> Result<bool> {
     let script = fs::read(rt, format!(in rt.alloc(); "{name}.txt")?.as_str())?;
-    let output = fs::read(rt, format!(in rt.alloc(); "{name}.out")?.as_str())?;
-    Ok(written(rt.alloc(), script.as_slice())?.as_slice() == output.as_slice())
+    let output = fs::read(rt, format!(in rt.alloc(); "{name}.{end}")?.as_str())?;
+    Ok(written(rt.alloc(), shown, script.as_slice())?.as_slice() == output.as_slice())
 }
 
 fn main(rt: HostRuntime) -> Result<()> {
     for name in SCRIPTS {
-        if !is_as_stored(&rt, name)? {
+        if !is_as_stored(&rt, name, Shown::Sent, "out")? {
             return Err(anyhow!("{name}: not as stored"));
         }
         println!(rt; "{name}: as stored")?;
+    }
+    for name in WITH_FLOWS {
+        if !is_as_stored(&rt, name, Shown::SentAndFlows, "flows")? {
+            return Err(anyhow!("{name} with flows: not as stored"));
+        }
+        println!(rt; "{name} with flows: as stored")?;
     }
     Ok(())
 }

@@ -8,13 +8,14 @@ use Rattle.std.specs.Str.{bytes_eq}
 use Rattle.std.specs.Prelude.{slice_index, codes}
 use Rattle.mg_engine.specs.declared.config.Config.{Config}
 use Rattle.mg_core.specs.World.{World}
-use Rattle.mg_ports.specs.declared.call.Call.{Call}
 use Rattle.mg_lines.specs.declared.write_failed.WriteFailed.{WriteFailed}
 use Rattle.mg_serve.specs.declared.command.Command.{Command}
 use Rattle.mg_serve.specs.declared.command.Command.TheVariants.{Poll, Tick, Stats, Quit, Unknown}
 use Rattle.mg_lines.specs.Lines.{without_return, lines_after}
 use Rattle.mg_serve.specs.Lines.{line_command, is_quit, prints, before_quit}
+use Rattle.mg_serve.specs.declared.form.Form.{Form}
 use Rattle.mg_serve.specs.Session.{Does, Session}
+use Rattle.mg_serve.specs.Trace.{Did}
 use Rattle.mg_serve.specs.aids.Driving.{BytesTaken}
 use Rattle.mg_serve.proofs.Taking.{each_both, each_one}
 
@@ -88,7 +89,7 @@ pub first_line : (q : Bool) (line : List ℕ) (lines : List (List ℕ)) → is_q
 unfolding before_quit
 first_line q line lines is = rw is refl
 
-pub quit_idle : (config : Config) (command : Command) (w next : World) (p : List Call) → is_quit command ≡ true →
+pub quit_idle : (config : Config) (command : Command) (w next : World) (p : List Did) → is_quit command ≡ true →
     Does config command w p next → (p ≡ []) × (next ≡ w)
 quit_idle config Poll w next p is h = absurd cc
 quit_idle config Tick w next p is h = absurd cc
@@ -97,9 +98,9 @@ quit_idle config Quit w next p is h = h
 quit_idle config Unknown w next p is h = absurd cc
 
 -- a byte that ends no line
-pub plain_byte : (config : Config) (left : List ℕ) (b : ℕ) (w : World) → b ≢ 10 →
-    BytesTaken config left (b ∷ []) (take 8 (take 8 left ++ b ∷ [])) (Ok false) w [] w
-plain_byte config left b w ne = (
+pub plain_byte : (form : Form) (config : Config) (left : List ℕ) (b : ℕ) (w : World) → b ≢ 10 →
+    BytesTaken form config left (b ∷ []) (take 8 (take 8 left ++ b ∷ [])) (Ok false) w [] w
+plain_byte form config left b w ne = (
   [],
   left ++ b ∷ [],
   cut_push left b,
@@ -114,21 +115,21 @@ feed_split : (q ended : Bool) (left more : List ℕ) → is_quit (line_command (
 feed_split q ended left more is = ap before_quit (line_feed ended left more) ∙
     first_line q (without_return left) (lines_after ended [] more) is
 
-pub line_done : (config : Config) (line : List ℕ) (w next : World) (p : List Call) →
+pub line_done : (config : Config) (line : List ℕ) (w next : World) (p : List Did) →
     Does config (line_command line) w p next → Session config (line ∷ []) w p next
 line_done config line w next p h = each_one (λ (l : List ℕ). Does config (line_command l)) line w next p h
 
-pub feed_byte : (config : Config) (q : Bool) (left : List ℕ) (w next : World) (p : List Call) →
+pub feed_byte : (form : Form) (config : Config) (q : Bool) (left : List ℕ) (w next : World) (p : List Did) →
     is_quit (line_command (without_return left)) ≡ q → Does config (line_command (without_return left)) w p next →
-    BytesTaken config left (10 ∷ []) [] (Ok q) w p next
-feed_byte config false left w next p is h = (
+    BytesTaken form config left (10 ∷ []) [] (Ok q) w p next
+feed_byte form config false left w next p is h = (
   without_return left ∷ [],
   [],
   refl,
   λ ended more. feed_split false ended left more is,
   line_done config (without_return left) w next p h,
 )
-feed_byte config true left w next p is h = (
+feed_byte form config true left w next p is h = (
   [],
   λ ended more. feed_split true ended left more is,
   quit_idle config (line_command (without_return left)) w next p is h,
@@ -143,37 +144,40 @@ pub last_line : (b : ℕ) (bs : List ℕ) → lines_after true (b ∷ bs) [] ≡
 unfolding lines_after
 last_line b bs = rw (ne_eqb (length (b ∷ bs)) 0 (λ e. absurd (omega (arith, e)))) refl
 
-quit_prints_nothing : (command : Command) → is_quit command ≡ true → prints command ≡ true → ⊥
-quit_prints_nothing Poll quit printed = absurd (true≢false (sym quit))
-quit_prints_nothing Tick quit printed = absurd (true≢false (sym quit))
-quit_prints_nothing Stats quit printed = absurd (true≢false (sym quit))
-quit_prints_nothing Quit quit printed = absurd (true≢false (sym printed))
-quit_prints_nothing Unknown quit printed = absurd (true≢false (sym quit))
+quit_prints_nothing : (form : Form) (command : Command) → is_quit command ≡ true → prints form command ≡ true → ⊥
+quit_prints_nothing form Poll quit printed = absurd (true≢false (sym quit))
+quit_prints_nothing form Tick quit printed = absurd (true≢false (sym quit))
+quit_prints_nothing form Stats quit printed = absurd (true≢false (sym quit))
+quit_prints_nothing form Quit quit printed = absurd (true≢false (sym printed))
+quit_prints_nothing form Unknown quit printed = absurd (true≢false (sym quit))
 
-pub feed_fault_by : (config : Config) (q : Bool) (left kept : List ℕ) (failed : WriteFailed) (w next : World)
-    (p : List Call) → is_quit (line_command (without_return left)) ≡ q →
-    prints (line_command (without_return left)) ≡ true → Does config (line_command (without_return left)) w p next →
-    BytesTaken config left (10 ∷ []) kept (Err failed) w p next
-feed_fault_by config false left kept failed w next p is printed h = (
+pub feed_fault_by : (form : Form) (config : Config) (q : Bool) (left kept : List ℕ) (failed : WriteFailed) (w next :
+    World)
+    (p : List Did) → is_quit (line_command (without_return left)) ≡ q →
+    prints form (line_command (without_return left)) ≡ true → Does config (line_command (without_return left)) w p next
+    →
+    BytesTaken form config left (10 ∷ []) kept (Err failed) w p next
+feed_fault_by form config false left kept failed w next p is printed h = (
   without_return left ∷ [],
   λ ended more. (before_quit (lines_after ended [] more), feed_split false ended left more is),
   record { front = []; line = without_return left; is = refl; printed = printed },
   line_done config (without_return left) w next p h,
 )
-feed_fault_by config true left kept failed w next p is printed h =
-    absurd (quit_prints_nothing (line_command (without_return left)) is printed)
+feed_fault_by form config true left kept failed w next p is printed h =
+    absurd (quit_prints_nothing form (line_command (without_return left)) is printed)
 
 -- a line that is answered by one, and has no line feed
-pub last_stands : (kept left : List ℕ) → kept ≡ take 8 left → 0 < length kept → prints (line_command kept) ≡ true
-    → (before_quit (lines_after true left []) ≡ left ∷ []) × (prints (line_command left) ≡ true)
-last_stands kept [] is some printed = absurd (omega (arith, some, ap length is))
-last_stands kept (x ∷ xs) is some printed =
+pub last_stands : (form : Form) (kept left : List ℕ) → kept ≡ take 8 left → 0 < length kept → prints form (line_command
+    kept) ≡ true
+    → (before_quit (lines_after true left []) ≡ left ∷ []) × (prints form (line_command left) ≡ true)
+last_stands form kept [] is some printed = absurd (omega (arith, some, ap length is))
+last_stands form kept (x ∷ xs) is some printed =
     let line = x ∷ xs in
     let same : line_command kept ≡ line_command line = ap line_command is ∙ cut_command line in
-    let answered : prints (line_command line) ≡ true = ap prints (sym same) ∙ printed in
+    let answered : prints form (line_command line) ≡ true = ap (prints form) (sym same) ∙ printed in
     let on : is_quit (line_command line) ≡ false =
     false_from_ne_true (is_quit (line_command line))
-    (λ quit. quit_prints_nothing (line_command line) quit answered) in (
+    (λ quit. quit_prints_nothing form (line_command line) quit answered) in (
       ap before_quit (last_line x xs) ∙ first_line false line [] on ∙
           ap (λ (l : List (List ℕ)). line ∷ l) no_more,
       answered,
@@ -181,17 +185,17 @@ last_stands kept (x ∷ xs) is some printed =
 
 -- ## Bytes, and then more
 
-pub session_both : (config : Config) (xs ys : List (List ℕ)) (w mid next : World) (p q : List Call) →
+pub session_both : (config : Config) (xs ys : List (List ℕ)) (w mid next : World) (p q : List Did) →
     Session config xs w p mid → Session config ys mid q next → Session config (xs ++ ys) w (p ++ q) next
 session_both config xs ys w mid next p q h k =
     each_both (λ (l : List ℕ). Does config (line_command l)) xs ys w mid next p q h k
 
-pub bytes_then : (config : Config) (begun a left b kept : List ℕ) (lines : List (List ℕ))
-    (r : Result Bool WriteFailed) (w mid next : World) (p q : List Call) →
+pub bytes_then : (form : Form) (config : Config) (begun a left b kept : List ℕ) (lines : List (List ℕ))
+    (r : Result Bool WriteFailed) (w mid next : World) (p q : List Did) →
     ((ended : Bool) (more : List ℕ) → before_quit (lines_after ended begun (a ++ more)) ≡ lines ++
     before_quit (lines_after ended left more)) → Session config lines w p mid →
-    BytesTaken config left b kept r mid q next → BytesTaken config begun (a ++ b) kept r w (p ++ q) next
-bytes_then config begun a left b kept lines (Ok false) w mid next p q split ran h = (
+    BytesTaken form config left b kept r mid q next → BytesTaken form config begun (a ++ b) kept r w (p ++ q) next
+bytes_then form config begun a left b kept lines (Ok false) w mid next p q split ran h = (
   lines ++ h.0,
   h.1,
   h.2,
@@ -200,13 +204,13 @@ bytes_then config begun a left b kept lines (Ok false) w mid next p q split ran 
       sym (append_assoc lines h.0 (before_quit (lines_after ended h.1 more))),
   session_both config lines h.0 w mid next p q ran h.4,
 )
-bytes_then config begun a left b kept lines (Ok true) w mid next p q split ran h = (
+bytes_then form config begun a left b kept lines (Ok true) w mid next p q split ran h = (
   lines ++ h.0,
   λ ended more. ap (λ (l : List ℕ). before_quit (lines_after ended begun l)) (append_assoc a b more) ∙
       split ended (b ++ more) ∙ ap (λ (l : List (List ℕ)). lines ++ l) (h.1 ended more),
   session_both config lines h.0 w mid next p q ran h.2,
 )
-bytes_then config begun a left b kept lines (Err failed) w mid next p q split ran h = (
+bytes_then form config begun a left b kept lines (Err failed) w mid next p q split ran h = (
   lines ++ h.0,
   λ ended more. (
     (h.1 ended more).0,
@@ -223,24 +227,25 @@ bytes_then config begun a left b kept lines (Err failed) w mid next p q split ra
   session_both config lines h.0 w mid next p q ran h.3,
 )
 
-pub no_bytes : (config : Config) (begun kept : List ℕ) (w : World) → kept ≡ take 8 begun →
-    BytesTaken config begun [] kept (Ok false) w [] w
-no_bytes config begun kept w is = ([], begun, is, λ ended more. refl, (refl, refl))
+pub no_bytes : (form : Form) (config : Config) (begun kept : List ℕ) (w : World) → kept ≡ take 8 begun →
+    BytesTaken form config begun [] kept (Ok false) w [] w
+no_bytes form config begun kept w is = ([], begun, is, λ ended more. refl, (refl, refl))
 
 -- where no line is to follow, or a print failed, more bytes change nothing
-pub whatever_follows : (config : Config) (begun a b kept : List ℕ) (w next : World) (p : List Call) →
-    BytesTaken config begun a kept (Ok true) w p next → BytesTaken config begun (a ++ b) kept (Ok true) w p next
-whatever_follows config begun a b kept w next p h = (
+pub whatever_follows : (form : Form) (config : Config) (begun a b kept : List ℕ) (w next : World) (p : List Did) →
+    BytesTaken form config begun a kept (Ok true) w p next → BytesTaken form config begun (a ++ b) kept (Ok true) w p
+    next
+whatever_follows form config begun a b kept w next p h = (
   h.0,
   λ ended more. ap (λ (l : List ℕ). before_quit (lines_after ended begun l)) (append_assoc a b more) ∙
       h.1 ended (b ++ more),
   h.2,
 )
 
-pub faulty_follows : (config : Config) (begun a b kept : List ℕ) (failed : WriteFailed) (w next : World)
-    (p : List Call) → BytesTaken config begun a kept (Err failed) w p next →
-    BytesTaken config begun (a ++ b) kept (Err failed) w p next
-faulty_follows config begun a b kept failed w next p h = (
+pub faulty_follows : (form : Form) (config : Config) (begun a b kept : List ℕ) (failed : WriteFailed) (w next : World)
+    (p : List Did) → BytesTaken form config begun a kept (Err failed) w p next →
+    BytesTaken form config begun (a ++ b) kept (Err failed) w p next
+faulty_follows form config begun a b kept failed w next p h = (
   h.0,
   λ ended more. (
     (h.1 ended (b ++ more)).0,

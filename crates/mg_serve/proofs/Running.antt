@@ -1,8 +1,9 @@
 -- How far a session has come, from a core to a core.
 use Rattle.std.proofs.Common.{◌≡◌, ◌≢◌, ℕ, ◌+◌, ◌<◌, inl, inr, Bool, true, false, cond, List, [], ◌∷◌, ◌++◌, length, get_or, take, drop, Option, Some, None, Result, Ok, Err, refl, sym, ap, subst, ◌∙◌, append_assoc, length-take, arith}
+use Rattle.std.proofs.KnownBytes.{Appends-nil}
 use Rattle.std.proofs.lemmas.List.{append-nil, take-append-drop, take_more}
 use Rattle.std.proofs.lemmas.Bool.{ne_eqb}
-use Rattle.std.specs.Io.KnownBytes.{Keeps, Consumes, IsAtEnd}
+use Rattle.std.specs.Io.KnownBytes.{Appends, Keeps, Consumes, IsAtEnd}
 use Rattle.mg_engine.specs.declared.config.Config.{Config}
 use Rattle.mg_engine.specs.declared.fault.StartFault.{StartFault}
 use Rattle.mg_engine.specs.declared.fault.StartFault.TheVariants as starts
@@ -14,126 +15,142 @@ use Rattle.mg_core.specs.aids.Steps.{run_fault_at_start}
 use Rattle.mg_core.specs.World.{World, StandsFor, counts_of, start_of}
 use Rattle.mg_lines.specs.declared.write_failed.WriteFailed.{WriteFailed}
 use Rattle.mg_lines.specs.Lines.{without_return, lines_after}
+use Rattle.mg_lines.specs.Streams.{WritesFront}
 use Rattle.mg_ports.specs.declared.call.Call.{Call}
 use Rattle.mg_serve.specs.declared.command.Command.{Command}
+use Rattle.mg_serve.specs.declared.form.Form.{Form}
 use Rattle.mg_serve.specs.Lines.{LastPrints, line_command, is_quit, prints, before_quit}
 use Rattle.mg_serve.specs.Session.{Does, Session}
-use Rattle.mg_serve.specs.Serve.{Exits, RanLines, ServedSession}
-use Rattle.mg_serve.specs.aids.Driving.{BytesTaken, Finished}
-use Rattle.mg_serve.specs.aids.Takes.{Takes}
-use Rattle.mg_serve.proofs.Taking.{told_both, told_none, takes_none, takes_as, takes_then}
+use Rattle.mg_serve.specs.Serve.{Exits, IsOutput, Opens, RanLines, ServedSession, form_of, opening}
+use Rattle.mg_serve.specs.Trace.{Did, output_of}
+use Rattle.mg_serve.specs.aids.Driving.{BytesTaken, EndsBy, Finished}
+use Rattle.mg_serve.specs.aids.Printing.{PrinterView, Prints, Puts}
+use Rattle.mg_serve.specs.aids.Takes.{Outside, Takes, Tells}
+use Rattle.mg_serve.proofs.Printing.{prints_both}
+use Rattle.mg_serve.proofs.Steps.{finished_prints, prints_some, some_printed}
+use Rattle.mg_serve.proofs.Taking.{tells_both, told_none, takes_none, takes_as, takes_joined, takes_seen, takes_then}
 use Rattle.mg_serve.proofs.Reading.{cut_command, cut_return, plain_byte, feed_byte, feed_fault_by, first_line, last_line, last_stands, no_more, quit_idle, line_done, session_both, bytes_then, no_bytes, whatever_follows, faulty_follows}
 
 -- ## Bytes by their index
 
 more_bytes : (config : Config) (begun a b kept new : List ℕ) (r : Result Bool WriteFailed) (old mid core : CoreState)
-    (x y z : Option (List Call)) → Takes old mid x y (BytesTaken config begun a kept (Ok false)) →
-    ((left : List ℕ) → kept ≡ take 8 left → Takes mid core y z (BytesTaken config left b new r)) →
-    Takes old core x z (BytesTaken config begun (a ++ b) new r)
+    (x y z : Outside) → Takes old mid x y (BytesTaken x.printer.form config begun a kept (Ok false)) →
+    ((left : List ℕ) → kept ≡ take 8 left → Takes mid core y z (BytesTaken y.printer.form config left b new r)) →
+    Takes old core x z (BytesTaken x.printer.form config begun (a ++ b) new r)
 more_bytes config begun a b kept new r old mid core x y z first second w stands =
     let (p, m, told, h, held) = first w stands in
     let (q, next, more, k, last) = second h.1 h.2 m held in (
       p ++ q,
       next,
-      told_both x y z p q told more,
-      bytes_then config begun a h.1 b new h.0 r w m next p q h.3 h.4 k,
+      tells_both x y z p q told more,
+      bytes_then x.printer.form config begun a h.1 b new h.0 r w m next p q h.3 h.4
+          (subst (λ (f : Form). BytesTaken f config h.1 b new r m q next) told.prints.form k),
       last,
     )
 
-pub bytes_start : (config : Config) (begun kept : List ℕ) (core : CoreState) (x : Option (List Call)) →
-    kept ≡ take 8 begun → Takes core core x x (BytesTaken config begun [] kept (Ok false))
-bytes_start config begun kept core x is = takes_none core x (BytesTaken config begun [] kept (Ok false))
-    (λ w. no_bytes config begun kept w is)
+pub bytes_start : (config : Config) (begun kept : List ℕ) (core : CoreState) (x : Outside) →
+    kept ≡ take 8 begun → Takes core core x x (BytesTaken x.printer.form config begun [] kept (Ok false))
+bytes_start config begun kept core x is = takes_none core x (BytesTaken x.printer.form config begun [] kept (Ok false))
+    (λ w. no_bytes x.printer.form config begun kept w is)
 
-takes_plain : (config : Config) (kept : List ℕ) (b : ℕ) (core : CoreState) (y : Option (List Call)) → b ≢ 10 →
+takes_plain : (config : Config) (kept : List ℕ) (b : ℕ) (core : CoreState) (y : Outside) → b ≢ 10 →
     (left : List ℕ) → kept ≡ take 8 left → Takes core core y y
-    (BytesTaken config left (b ∷ []) (take 8 (kept ++ b ∷ [])) (Ok false))
+    (BytesTaken y.printer.form config left (b ∷ []) (take 8 (kept ++ b ∷ [])) (Ok false))
 takes_plain config kept b core y ne left is =
-    takes_none core y (BytesTaken config left (b ∷ []) (take 8 (kept ++ b ∷ [])) (Ok false))
-    (λ w. subst (λ (k : List ℕ). BytesTaken config left (b ∷ []) (take 8 (k ++ b ∷ [])) (Ok false) w [] w)
-    (sym is) (plain_byte config left b w ne))
+    takes_none core y (BytesTaken y.printer.form config left (b ∷ []) (take 8 (kept ++ b ∷ [])) (Ok false))
+    (λ w. subst (λ (k : List ℕ). BytesTaken y.printer.form config left (b ∷ []) (take 8 (k ++ b ∷ [])) (Ok false) w []
+    w)
+    (sym is) (plain_byte y.printer.form config left b w ne))
 
 same_command : (kept left : List ℕ) → kept ≡ take 8 left →
     line_command (without_return kept) ≡ line_command (without_return left)
 same_command kept left is = ap (λ (k : List ℕ). line_command (without_return k)) is ∙ cut_return left
 
-takes_feed : (config : Config) (kept : List ℕ) (q : Bool) (mid core : CoreState) (y z : Option (List Call)) →
+takes_feed : (config : Config) (kept : List ℕ) (q : Bool) (mid core : CoreState) (y z : Outside) →
     q ≡ is_quit (line_command (without_return kept)) →
     Takes mid core y z (Does config (line_command (without_return kept))) → (left : List ℕ) → kept ≡ take 8 left →
-    Takes mid core y z (BytesTaken config left (10 ∷ []) [] (Ok q))
+    Takes mid core y z (BytesTaken y.printer.form config left (10 ∷ []) [] (Ok q))
 takes_feed config kept q mid core y z quit h left is =
     let same = same_command kept left is in
     takes_as mid core y z (Does config (line_command (without_return kept)))
-    (BytesTaken config left (10 ∷ []) [] (Ok q)) h
-    (λ w next p k. feed_byte config q left w next p (sym (quit ∙ ap is_quit same))
+    (BytesTaken y.printer.form config left (10 ∷ []) [] (Ok q)) h
+    (λ w next p k. feed_byte y.printer.form config q left w next p (sym (quit ∙ ap is_quit same))
     (subst (λ (d : Command). Does config d w p next) same k))
 
 takes_fault : (config : Config) (kept new : List ℕ) (failed : WriteFailed) (mid core : CoreState)
-    (y z : Option (List Call)) → prints (line_command (without_return kept)) ≡ true →
+    (y z : Outside) → y.printer.has_failed ≡ false → z.printer.has_failed ≡ true →
     Takes mid core y z (Does config (line_command (without_return kept))) → (left : List ℕ) → kept ≡ take 8 left →
-    Takes mid core y z (BytesTaken config left (10 ∷ []) new (Err failed))
-takes_fault config kept new failed mid core y z printed h left is =
+    Takes mid core y z (BytesTaken y.printer.form config left (10 ∷ []) new (Err failed))
+takes_fault config kept new failed mid core y z before after h left is =
     let same = same_command kept left is in
-    takes_as mid core y z (Does config (line_command (without_return kept)))
-    (BytesTaken config left (10 ∷ []) new (Err failed)) h
-    (λ w next p k. feed_fault_by config (is_quit (line_command (without_return left))) left new failed w next p refl
-    (ap prints (sym same) ∙ printed) (subst (λ (d : Command). Does config d w p next) same k))
+    let form = y.printer.form in
+    takes_seen mid core y z (Does config (line_command (without_return kept)))
+    (BytesTaken form config left (10 ∷ []) new (Err failed)) h
+    (λ w next p told k.
+    let done = subst (λ (d : Command). Does config d w p next) same k in
+    feed_fault_by form config (is_quit (line_command (without_return left))) left new failed w next p refl
+    (prints_some form config (line_command (without_return left)) w next p done
+    (some_printed y z p before after told)) done)
 
 pub index_plain : (config : Config) (begun bytes kept new : List ℕ) (i : ℕ) (old mid : CoreState)
-    (x y : Option (List Call)) → i < length bytes → get_or bytes i 0 ≢ 10 →
+    (x y : Outside) → i < length bytes → get_or bytes i 0 ≢ 10 →
     new ≡ take 8 (kept ++ get_or bytes i 0 ∷ []) →
-    Takes old mid x y (BytesTaken config begun (take i bytes) kept (Ok false)) →
-    Takes old mid x y (BytesTaken config begun (take (i + 1) bytes) new (Ok false))
+    Takes old mid x y (BytesTaken x.printer.form config begun (take i bytes) kept (Ok false)) →
+    Takes old mid x y (BytesTaken x.printer.form config begun (take (i + 1) bytes) new (Ok false))
 index_plain config begun bytes kept new i old mid x y lt ne is h =
     let b = get_or bytes i 0 in
-    subst (λ (l : List ℕ). Takes old mid x y (BytesTaken config begun l new (Ok false))) (sym (take_more bytes i 0 lt))
-    (subst (λ (k : List ℕ). Takes old mid x y (BytesTaken config begun (take i bytes ++ b ∷ []) k (Ok false))) (sym is)
+    subst (λ (l : List ℕ). Takes old mid x y (BytesTaken x.printer.form config begun l new (Ok false))) (sym (take_more
+    bytes i 0 lt))
+    (subst (λ (k : List ℕ). Takes old mid x y (BytesTaken x.printer.form config begun (take i bytes ++ b ∷ []) k (Ok
+    false))) (sym is)
     (more_bytes config begun (take i bytes) (b ∷ []) kept (take 8 (kept ++ b ∷ [])) (Ok false) old mid mid x y y h
     (takes_plain config kept b mid y ne)))
 
 pub index_feed : (config : Config) (begun bytes kept new : List ℕ) (i : ℕ) (q : Bool) (old mid core : CoreState)
-    (x y z : Option (List Call)) → i < length bytes → get_or bytes i 0 ≡ 10 →
-    Takes old mid x y (BytesTaken config begun (take i bytes) kept (Ok false)) →
+    (x y z : Outside) → i < length bytes → get_or bytes i 0 ≡ 10 →
+    Takes old mid x y (BytesTaken x.printer.form config begun (take i bytes) kept (Ok false)) →
     q ≡ is_quit (line_command (without_return kept)) → new ≡ [] →
     Takes mid core y z (Does config (line_command (without_return kept))) →
-    Takes old core x z (BytesTaken config begun (take (i + 1) bytes) new (Ok q))
+    Takes old core x z (BytesTaken x.printer.form config begun (take (i + 1) bytes) new (Ok q))
 index_feed config begun bytes kept new i q old mid core x y z lt feed h quit is k =
-    subst (λ (l : List ℕ). Takes old core x z (BytesTaken config begun l new (Ok q)))
+    subst (λ (l : List ℕ). Takes old core x z (BytesTaken x.printer.form config begun l new (Ok q)))
     (sym (take_more bytes i 0 lt ∙ ap (λ (b : ℕ). take i bytes ++ b ∷ []) feed))
-    (subst (λ (l : List ℕ). Takes old core x z (BytesTaken config begun (take i bytes ++ 10 ∷ []) l (Ok q))) (sym is)
+    (subst (λ (l : List ℕ). Takes old core x z (BytesTaken x.printer.form config begun (take i bytes ++ 10 ∷ []) l (Ok
+    q))) (sym is)
     (more_bytes config begun (take i bytes) (10 ∷ []) kept [] (Ok q) old mid core x y z h
     (takes_feed config kept q mid core y z quit k)))
 
 pub index_quit : (config : Config) (begun bytes kept new : List ℕ) (i : ℕ) (old mid core : CoreState)
-    (x y z : Option (List Call)) → i < length bytes → get_or bytes i 0 ≡ 10 →
-    Takes old mid x y (BytesTaken config begun (take i bytes) kept (Ok false)) →
+    (x y z : Outside) → i < length bytes → get_or bytes i 0 ≡ 10 →
+    Takes old mid x y (BytesTaken x.printer.form config begun (take i bytes) kept (Ok false)) →
     true ≡ is_quit (line_command (without_return kept)) → new ≡ [] →
     Takes mid core y z (Does config (line_command (without_return kept))) →
-    Takes old core x z (BytesTaken config begun bytes new (Ok true))
+    Takes old core x z (BytesTaken x.printer.form config begun bytes new (Ok true))
 index_quit config begun bytes kept new i old mid core x y z lt feed h quit is k =
-    subst (λ (l : List ℕ). Takes old core x z (BytesTaken config begun l new (Ok true)))
+    subst (λ (l : List ℕ). Takes old core x z (BytesTaken x.printer.form config begun l new (Ok true)))
     (take-append-drop (i + 1) bytes)
-    (takes_as old core x z (BytesTaken config begun (take (i + 1) bytes) new (Ok true))
-    (BytesTaken config begun (take (i + 1) bytes ++ drop (i + 1) bytes) new (Ok true))
+    (takes_as old core x z (BytesTaken x.printer.form config begun (take (i + 1) bytes) new (Ok true))
+    (BytesTaken x.printer.form config begun (take (i + 1) bytes ++ drop (i + 1) bytes) new (Ok true))
     (index_feed config begun bytes kept new i true old mid core x y z lt feed h quit is k)
-    (λ w next p. whatever_follows config begun (take (i + 1) bytes) (drop (i + 1) bytes) new w next p))
+    (λ w next p. whatever_follows x.printer.form config begun (take (i + 1) bytes) (drop (i + 1) bytes) new w next p))
 
 pub index_fault : (config : Config) (begun bytes kept new : List ℕ) (i : ℕ) (failed : WriteFailed)
-    (old mid core : CoreState) (x y z : Option (List Call)) → i < length bytes → get_or bytes i 0 ≡ 10 →
-    Takes old mid x y (BytesTaken config begun (take i bytes) kept (Ok false)) →
-    prints (line_command (without_return kept)) ≡ true →
+    (old mid core : CoreState) (x y z : Outside) → i < length bytes → get_or bytes i 0 ≡ 10 →
+    Takes old mid x y (BytesTaken x.printer.form config begun (take i bytes) kept (Ok false)) →
+    y.printer.has_failed ≡ false → z.printer.has_failed ≡ true →
     Takes mid core y z (Does config (line_command (without_return kept))) →
-    Takes old core x z (BytesTaken config begun bytes new (Err failed))
-index_fault config begun bytes kept new i failed old mid core x y z lt feed h printed k =
-    subst (λ (l : List ℕ). Takes old core x z (BytesTaken config begun l new (Err failed)))
+    Takes old core x z (BytesTaken x.printer.form config begun bytes new (Err failed))
+index_fault config begun bytes kept new i failed old mid core x y z lt feed h before after k =
+    subst (λ (l : List ℕ). Takes old core x z (BytesTaken x.printer.form config begun l new (Err failed)))
     (take-append-drop (i + 1) bytes)
-    (takes_as old core x z (BytesTaken config begun (take (i + 1) bytes) new (Err failed))
-    (BytesTaken config begun (take (i + 1) bytes ++ drop (i + 1) bytes) new (Err failed))
-    (subst (λ (l : List ℕ). Takes old core x z (BytesTaken config begun l new (Err failed)))
+    (takes_as old core x z (BytesTaken x.printer.form config begun (take (i + 1) bytes) new (Err failed))
+    (BytesTaken x.printer.form config begun (take (i + 1) bytes ++ drop (i + 1) bytes) new (Err failed))
+    (subst (λ (l : List ℕ). Takes old core x z (BytesTaken x.printer.form config begun l new (Err failed)))
     (sym (take_more bytes i 0 lt ∙ ap (λ (b : ℕ). take i bytes ++ b ∷ []) feed))
     (more_bytes config begun (take i bytes) (10 ∷ []) kept new (Err failed) old mid core x y z h
-    (takes_fault config kept new failed mid core y z printed k)))
-    (λ w next p. faulty_follows config begun (take (i + 1) bytes) (drop (i + 1) bytes) new failed w next p))
+    (takes_fault config kept new failed mid core y z before after k)))
+    (λ w next p. faulty_follows x.printer.form config begun (take (i + 1) bytes) (drop (i + 1) bytes) new failed w next
+    p))
 
 -- ## What was read
 
@@ -154,31 +171,34 @@ consumes_none None = tt
 consumes_none (Some i) = refl
 
 -- a text was read, and its bytes were taken
-abbrev pub Read : Config → Option (List ℕ) → Option (List ℕ) → List ℕ → Result Bool WriteFailed → World → List Call →
+abbrev pub Read : Form → Config → Option (List ℕ) → Option (List ℕ) → List ℕ → Result Bool WriteFailed → World → List
+    Did →
     World → Type 0
-Read config i k kept r w calls next = (text : List ℕ) × Consumes i k text ×
-    BytesTaken config [] text kept r w calls next
+Read form config i k kept r w trace next = (text : List ℕ) × Consumes i k text ×
+    BytesTaken form config [] text kept r w trace next
 
-pub read_start : (config : Config) (i : Option (List ℕ)) (kept : List ℕ) (core : CoreState) (x : Option (List Call)) →
-    kept ≡ [] → Takes core core x x (Read config i i kept (Ok false))
-read_start config i kept core x is = takes_none core x (Read config i i kept (Ok false))
-    (λ w. ([], consumes_none i, no_bytes config [] kept w is))
+pub read_start : (config : Config) (i : Option (List ℕ)) (kept : List ℕ) (core : CoreState) (x : Outside) →
+    kept ≡ [] → Takes core core x x (Read x.printer.form config i i kept (Ok false))
+read_start config i kept core x is = takes_none core x (Read x.printer.form config i i kept (Ok false))
+    (λ w. ([], consumes_none i, no_bytes x.printer.form config [] kept w is))
 
 pub read_more : (config : Config) (i j k : Option (List ℕ)) (b kept new : List ℕ) (r : Result Bool WriteFailed)
-    (old mid core : CoreState) (x y z : Option (List Call)) → Takes old mid x y (Read config i j kept (Ok false)) →
-    Consumes j k b → ((left : List ℕ) → kept ≡ take 8 left → Takes mid core y z (BytesTaken config left b new r)) →
-    Takes old core x z (Read config i k new r)
+    (old mid core : CoreState) (x y z : Outside) → Takes old mid x y (Read x.printer.form config i j kept (Ok false)) →
+    Consumes j k b → ((left : List ℕ) → kept ≡ take 8 left → Takes mid core y z (BytesTaken y.printer.form config left
+    b new r)) →
+    Takes old core x z (Read x.printer.form config i k new r)
 read_more config i j k b kept new r old mid core x y z first eaten second w stands =
     let (p, m, told, h, held) = first w stands in
     let t = h.2 in
     let (q, next, more, l, last) = second t.1 t.2 m held in (
       p ++ q,
       next,
-      told_both x y z p q told more,
+      tells_both x y z p q told more,
       (
         h.0 ++ b,
         consumes_then i j k h.0 b h.1 eaten,
-        bytes_then config [] h.0 t.1 b new t.0 r w m next p q t.3 t.4 l,
+        bytes_then x.printer.form config [] h.0 t.1 b new t.0 r w m next p q t.3 t.4
+            (subst (λ (f : Form). BytesTaken f config t.1 b new r m q next) told.prints.form l),
       ),
       last,
     )
@@ -200,9 +220,9 @@ nothing_left left = ap before_quit (unfinished left) ∙ no_more
 abbrev done : Result (Unit {0}) RunFault
 done = Ok tt
 
-ends_by_quit : (config : Config) (i k : Option (List ℕ)) (kept : List ℕ) (w next : World) (p : List Call) →
-    Read config i k kept (Ok true) w p next → RanLines config i k done w p next
-ends_by_quit config i k kept w next p h =
+ends_by_quit : (form : Form) (config : Config) (i k : Option (List ℕ)) (kept : List ℕ) (w next : World) (p : List Did) →
+    Read form config i k kept (Ok true) w p next → RanLines form config i k done w p next
+ends_by_quit form config i k kept w next p h =
     let t = h.2 in
     record {
       text = h.0;
@@ -219,9 +239,11 @@ ends_by_quit config i k kept w next p h =
 abbrev failed_by : RunFault → Result (Unit {0}) RunFault
 failed_by fault = Err fault
 
-ends_by_write : (config : Config) (i k : Option (List ℕ)) (kept : List ℕ) (failed : WriteFailed) (w next : World)
-    (p : List Call) → Read config i k kept (Err failed) w p next → RanLines config i k (failed_by faults.Write) w p next
-ends_by_write config i k kept failed w next p h =
+ends_by_write : (form : Form) (config : Config) (i k : Option (List ℕ)) (kept : List ℕ) (failed : WriteFailed) (w next
+    : World)
+    (p : List Did) → Read form config i k kept (Err failed) w p next → RanLines form config i k (failed_by
+    faults.Write) w p next
+ends_by_write form config i k kept failed w next p h =
     let t = h.2 in
     record {
       text = h.0;
@@ -234,9 +256,11 @@ ends_by_write config i k kept failed w next p h =
       exits = inr t.2;
     }
 
-ends_by_read : (config : Config) (i j k : Option (List ℕ)) (kept : List ℕ) (w next : World) (p : List Call) →
-    Keeps j k → Read config i j kept (Ok false) w p next → RanLines config i k (failed_by faults.Read) w p next
-ends_by_read config i j k kept w next p same h =
+ends_by_read : (form : Form) (config : Config) (i j k : Option (List ℕ)) (kept : List ℕ) (w next : World) (p : List
+    Did) →
+    Keeps j k → Read form config i j kept (Ok false) w p next → RanLines form config i k (failed_by faults.Read) w p
+    next
+ends_by_read form config i j k kept w next p same h =
     let t = h.2 in
     record {
       text = h.0;
@@ -254,13 +278,13 @@ no_line : before_quit (lines_after true [] []) ≡ []
 unfolding lines_after before_quit
 no_line = refl
 
-last_by : (config : Config) (q : Bool) (line : List ℕ) (w next : World) (p : List Call) →
+last_by : (config : Config) (q : Bool) (line : List ℕ) (w next : World) (p : List Did) →
     is_quit (line_command line) ≡ q → Does config (line_command line) w p next →
     Session config (cond q [] (line ∷ [])) w p next
 last_by config false line w next p is h = line_done config line w next p h
 last_by config true line w next p is h = quit_idle config (line_command line) w next p is h
 
-last_done : (config : Config) (kept left : List ℕ) (w next : World) (p : List Call) → kept ≡ take 8 left →
+last_done : (config : Config) (kept left : List ℕ) (w next : World) (p : List Did) → kept ≡ take 8 left →
     Finished config kept w p next → Session config (before_quit (lines_after true left [])) w p next
 last_done config [] [] w next p is h = subst (λ (l : List (List ℕ)). Session config l w p next) (sym no_line) h
 last_done config [] (x ∷ xs) w next p is h = absurd (omega (arith, ap length is, length-take 8 (x ∷ xs)))
@@ -275,36 +299,21 @@ last_done config (b ∷ bs) (x ∷ xs) w next p is h =
     subst (λ (l : List (List ℕ)). Session config l w p next) (sym lines)
     (last_by config quit line w next p refl (subst (λ (d : Command). Does config d w p next) same h))
 
--- At the end of the input a run is done, or the answer to the last line failed to be printed, whose front is kept.
-abbrev pub EndsAtEnd : List ℕ → Result (Unit {0}) RunFault → Type 0
-EndsAtEnd kept (Ok value) = Unit {0}
-EndsAtEnd kept (Err faults.Write) = (0 < length kept) × (prints (line_command kept) ≡ true)
-EndsAtEnd kept (Err faults.Read) = ⊥
-EndsAtEnd kept (Err faults.NoMemory) = ⊥
-EndsAtEnd kept (Err faults.BadConfig) = ⊥
-EndsAtEnd kept (Err (faults.Script number)) = ⊥
-
-end_exits : (r : Result (Unit {0}) RunFault) (kept text : List ℕ) (lines : List (List ℕ)) (k : Option (List ℕ)) →
-    EndsAtEnd kept r → IsAtEnd k
-    → (0 < length kept → prints (line_command kept) ≡ true → LastPrints lines) → Exits r true text lines [] k
-end_exits (Ok value) kept text lines k fault at last = (refl, inl (refl, at))
-end_exits (Err faults.Write) kept text lines k fault at last = inr (last fault.0 fault.1)
-end_exits (Err faults.Read) kept text lines k fault at last = absurd fault
-end_exits (Err faults.NoMemory) kept text lines k fault at last = absurd fault
-end_exits (Err faults.BadConfig) kept text lines k fault at last = absurd fault
-end_exits (Err (faults.Script number)) kept text lines k fault at last = absurd fault
-
-last_prints : (kept left : List ℕ) (lines : List (List ℕ)) → kept ≡ take 8 left → 0 < length kept →
-    prints (line_command kept) ≡ true
-    → LastPrints (lines ++ before_quit (lines_after true left []))
-last_prints kept left lines is some printed =
-    let stands = last_stands kept left is some printed in
+last_prints : (form : Form) (kept left : List ℕ) (lines : List (List ℕ)) → kept ≡ take 8 left →
+    (0 < length kept) × (prints form (line_command kept) ≡ true) →
+    LastPrints form (lines ++ before_quit (lines_after true left []))
+last_prints form kept left lines is some =
+    let stands = last_stands form kept left is some.0 some.1 in
     record { front = lines; line = left; is = ap (λ (l : List (List ℕ)). lines ++ l) stands.0; printed = stands.1 }
 
-ends_at_end : (config : Config) (i j k : Option (List ℕ)) (kept : List ℕ) (r : Result (Unit {0}) RunFault)
-    (w mid next : World) (p q : List Call) → Keeps j k × IsAtEnd k → EndsAtEnd kept r →
-    Read config i j kept (Ok false) w p mid → Finished config kept mid q next → RanLines config i k r w (p ++ q) next
-ends_at_end config i j k kept r w mid next p q end fault h last =
+-- the input has ended
+ends_at_end : (form : Form) (config : Config) (i j k : Option (List ℕ)) (kept : List ℕ)
+    (r : Result (Unit {0}) RunFault) (w mid next : World) (p q : List Did) → Keeps j k →
+    ((text : List ℕ) (lines : List (List ℕ)) (left : List ℕ) → kept ≡ take 8 left →
+    Exits form r true text (lines ++ before_quit (lines_after true left [])) [] k) →
+    Read form config i j kept (Ok false) w p mid → Finished config kept mid q next →
+    RanLines form config i k r w (p ++ q) next
+ends_at_end form config i j k kept r w mid next p q same exits h last =
     let t = h.2 in
     let lines = t.0 ++ before_quit (lines_after true t.1 []) in
     record {
@@ -312,41 +321,62 @@ ends_at_end config i j k kept r w mid next p q end fault h last =
       ended = true;
       lines = lines;
       others = [];
-      consumed = consumes_keeps i j k h.0 h.1 end.0;
+      consumed = consumes_keeps i j k h.0 h.1 same;
       counted = at_nil true h.0 ∙ t.3 true [] ∙ sym (append-nil lines);
       session = session_both config t.0 (before_quit (lines_after true t.1 [])) w mid next p q t.4
           (last_done config kept t.1 mid next q t.2 last);
-      exits = end_exits r kept h.0 lines k fault end.1 (last_prints kept t.1 t.0 t.2);
+      exits = exits h.0 t.0 t.1 t.2;
     }
 
-pub takes_end : (config : Config) (i j k : Option (List ℕ)) (kept : List ℕ) (r : Result (Unit {0}) RunFault)
-    (old mid core : CoreState) (x y z : Option (List Call)) → Takes old mid x y (Read config i j kept (Ok false)) →
-    Keeps j k × IsAtEnd k → EndsAtEnd kept r → Takes mid core y z (Finished config kept) →
-    Takes old core x z (RanLines config i k r)
-takes_end config i j k kept r old mid core x y z first end fault last =
-    takes_then old mid core x y z (Read config i j kept (Ok false)) (Finished config kept) (RanLines config i k r)
-    first last
-    (λ w m next p q h l. ends_at_end config i j k kept r w m next p q end fault h l)
+pub takes_end : (config : Config) (i j k : Option (List ℕ)) (kept : List ℕ)
+    (old mid core : CoreState) (x y z : Outside) → Takes old mid x y (Read x.printer.form config i j kept (Ok false)) →
+    Keeps j k × IsAtEnd k → Takes mid core y z (Finished config kept) →
+    Takes old core x z (RanLines x.printer.form config i k done)
+takes_end config i j k kept old mid core x y z first end last =
+    let form = x.printer.form in
+    takes_then old mid core x y z (Read form config i j kept (Ok false)) (Finished config kept)
+    (RanLines form config i k done) first last
+    (λ w m next p q h l. ends_at_end form config i j k kept done w m next p q end.0
+    (λ text lines left is. (refl, inl (refl, end.1))) h l)
+
+-- and a print of the last line failed
+pub takes_end_fault : (config : Config) (i j k : Option (List ℕ)) (kept : List ℕ)
+    (old mid core : CoreState) (x y z : Outside) → Takes old mid x y (Read x.printer.form config i j kept (Ok false)) →
+    Keeps j k × IsAtEnd k → y.printer.has_failed ≡ false → z.printer.has_failed ≡ true →
+    Takes mid core y z (Finished config kept) →
+    Takes old core x z (RanLines x.printer.form config i k (failed_by faults.Write))
+takes_end_fault config i j k kept old mid core x y z first end before after last =
+    let form = x.printer.form in
+    takes_joined old mid core x y z (Read form config i j kept (Ok false)) (Finished config kept)
+    (RanLines form config i k (failed_by faults.Write)) first last
+    (λ w m next p q told more h l.
+    let some = subst (λ (f : Form). output_of f q ≢ []) told.prints.form (some_printed y z q before after more) in
+    ends_at_end form config i j k kept (failed_by faults.Write) w m next p q end.0
+    (λ text lines left is. inr (last_prints form kept left lines is (finished_prints form config kept m next q l some)))
+    h l)
 
 pub takes_quit : (config : Config) (i k : Option (List ℕ)) (kept : List ℕ) (old core : CoreState)
-    (x z : Option (List Call)) → Takes old core x z (Read config i k kept (Ok true)) →
-    Takes old core x z (RanLines config i k done)
+    (x z : Outside) → Takes old core x z (Read x.printer.form config i k kept (Ok true)) →
+    Takes old core x z (RanLines x.printer.form config i k done)
 takes_quit config i k kept old core x z h =
-    takes_as old core x z (Read config i k kept (Ok true)) (RanLines config i k done) h (ends_by_quit config i k kept)
+    takes_as old core x z (Read x.printer.form config i k kept (Ok true)) (RanLines x.printer.form config i k done) h
+    (ends_by_quit x.printer.form config i k kept)
 
 pub takes_broken : (config : Config) (i k : Option (List ℕ)) (kept : List ℕ) (failed : WriteFailed)
-    (old core : CoreState) (x z : Option (List Call)) → Takes old core x z (Read config i k kept (Err failed)) →
-    Takes old core x z (RanLines config i k (failed_by faults.Write))
+    (old core : CoreState) (x z : Outside) → Takes old core x z (Read x.printer.form config i k kept (Err failed)) →
+    Takes old core x z (RanLines x.printer.form config i k (failed_by faults.Write))
 takes_broken config i k kept failed old core x z h =
-    takes_as old core x z (Read config i k kept (Err failed)) (RanLines config i k (failed_by faults.Write)) h
-    (ends_by_write config i k kept failed)
+    takes_as old core x z (Read x.printer.form config i k kept (Err failed)) (RanLines x.printer.form config i k
+    (failed_by faults.Write)) h
+    (ends_by_write x.printer.form config i k kept failed)
 
 pub takes_unread : (config : Config) (i j k : Option (List ℕ)) (kept : List ℕ) (old mid : CoreState)
-    (x y : Option (List Call)) → Keeps j k → Takes old mid x y (Read config i j kept (Ok false)) →
-    Takes old mid x y (RanLines config i k (failed_by faults.Read))
+    (x y : Outside) → Keeps j k → Takes old mid x y (Read x.printer.form config i j kept (Ok false)) →
+    Takes old mid x y (RanLines x.printer.form config i k (failed_by faults.Read))
 takes_unread config i j k kept old mid x y same h =
-    takes_as old mid x y (Read config i j kept (Ok false)) (RanLines config i k (failed_by faults.Read)) h
-    (λ w next p. ends_by_read config i j k kept w next p same)
+    takes_as old mid x y (Read x.printer.form config i j kept (Ok false)) (RanLines x.printer.form config i k
+    (failed_by faults.Read)) h
+    (λ w next p. ends_by_read x.printer.form config i j k kept w next p same)
 
 keeps_same : (i : Option (List ℕ)) → Keeps i i
 keeps_same None = tt
@@ -354,8 +384,8 @@ keeps_same (Some i) = refl
 
 -- too many reads
 pub takes_enough : (config : Config) (i j : Option (List ℕ)) (kept : List ℕ) (old mid : CoreState)
-    (x y : Option (List Call)) → Takes old mid x y (Read config i j kept (Ok false)) →
-    Takes old mid x y (RanLines config i j (failed_by faults.Read))
+    (x y : Outside) → Takes old mid x y (Read x.printer.form config i j kept (Ok false)) →
+    Takes old mid x y (RanLines x.printer.form config i j (failed_by faults.Read))
 takes_enough config i j kept old mid x y h = takes_unread config i j j kept old mid x y (keeps_same j) h
 
 -- ## The whole run
@@ -364,39 +394,109 @@ abbrev ended_by : RunFault → Result Counts RunFault
 ended_by fault = Err fault
 
 -- nothing was read and no line was done
-pub serves_nothing : (config : Config) (i : Option (List ℕ)) (x : Option (List Call)) (fault : RunFault) →
-    Exits (ended_by fault) false [] [] [] i → ServedSession config i i x x (ended_by fault)
-serves_nothing config i x fault exits =
+idle_lines : (form : Form) (config : Config) (i : Option (List ℕ)) (fault : RunFault) →
+    Exits form (ended_by fault) false [] [] [] i → RanLines form config i i (ended_by fault) (start_of config) []
+    (start_of config)
+idle_lines form config i fault exits = record {
+  text = [];
+  ended = false;
+  lines = [];
+  others = [];
+  consumed = consumes_none i;
+  counted = nothing_left [];
+  session = (refl, refl);
+  exits = exits;
+}
+
+-- nothing was done
+serves_nothing : (config : Config) (title i : Option (List ℕ)) (x : Option (List Call)) (held : Option (List ℕ))
+    (fault : RunFault) → Opens title (ended_by fault) [] →
+    IsOutput (ended_by fault) [] held held → Exits (form_of title) (ended_by fault) false [] [] [] i →
+    ServedSession config title i i x x held held (ended_by fault)
+serves_nothing config title i x held fault opens printed exits = record {
+  first = [];
+  trace = [];
+  last = start_of config;
+  opens = opens;
+  tells = told_none x;
+  printed = printed;
+  ran = idle_lines (form_of title) config i fault exits;
+  counts = tt;
+}
+
+pub no_memory : (config : Config) (title i : Option (List ℕ)) (x : Option (List Call)) (held : Option (List ℕ)) →
+    ServedSession config title i i x x held held (ended_by faults.NoMemory)
+no_memory config title i x held = serves_nothing config title i x held faults.NoMemory refl (Appends-nil held) refl
+
+pub not_started : (config : Config) (title i : Option (List ℕ)) (x : Option (List Call)) (held : Option (List ℕ))
+    (start : StartFault) (fault : RunFault) → fault ≡ run_fault_at_start start →
+    ServedSession config title i i x x held held (ended_by fault)
+not_started config title i x held starts.BadConfig fault is =
+    subst (λ (f : RunFault). ServedSession config title i i x x held held (ended_by f)) (sym is)
+    (serves_nothing config title i x held faults.BadConfig refl (Appends-nil held) refl)
+not_started config title i x held starts.NoMemory fault is =
+    subst (λ (f : RunFault). ServedSession config title i i x x held held (ended_by f)) (sym is)
+    (no_memory config title i x held)
+
+-- what was printed, by whether a print failed
+all_put : (a b : Bool) (text : List ℕ) (x y : Option (List ℕ)) → a ≡ false → b ≡ false → Puts a b text x y →
+    Appends x y text
+all_put false false text x y before after h = h
+all_put false true text x y before after h = absurd cc
+all_put true b text x y before after h = absurd cc
+
+front_put : (a b : Bool) (text : List ℕ) (x y : Option (List ℕ)) → a ≡ false → b ≡ true → Puts a b text x y →
+    WritesFront text x y
+front_put false true text x y before after h = h.1
+front_put false false text x y before after h = absurd cc
+front_put true b text x y before after h = absurd cc
+
+-- a printer of a form, before it prints
+abbrev pub new_printer : Form → PrinterView
+new_printer form = record { form = form; has_failed = false }
+
+-- the start was printed
+abbrev pub Opened : Option (List ℕ) → PrinterView → PrinterView → Option (List ℕ) → Option (List ℕ) → Type 0
+Opened title a b held now = (a ≡ new_printer (form_of title)) × Prints a b held now (opening title)
+
+pub not_opened : (config : Config) (title i : Option (List ℕ)) (x : Option (List Call)) (a b : PrinterView)
+    (held now : Option (List ℕ)) → Opened title a b held now → b.has_failed ≡ true →
+    ServedSession config title i i x x held now (ended_by faults.Write)
+not_opened config title i x a b held now opened failed =
+    let h = opened.1 in
+    let view = opened.0 in
+    let put = subst (λ (f : Form). Puts a.has_failed b.has_failed (output_of f (opening title)) held now)
+    (ap (λ (v : PrinterView). v.form) view) h.puts in
     record {
-      calls = [];
+      first = opening title;
+      trace = [];
       last = start_of config;
+      opens = refl;
       tells = told_none x;
-      ran =
-          record {
-            text = [];
-            ended = false;
-            lines = [];
-            others = [];
-            consumed = consumes_none i;
-            counted = nothing_left [];
-            session = (refl, refl);
-            exits = exits;
-          };
+      printed = front_put a.has_failed b.has_failed (output_of (form_of title) (opening title ++ [])) held now
+          (ap (λ (v : PrinterView). v.has_failed) view) failed
+          (subst (λ (l : List Did). Puts a.has_failed b.has_failed (output_of (form_of title) l) held now)
+          (sym (append-nil (opening title))) put);
+      ran = idle_lines (form_of title) config i faults.Write (inl refl);
       counts = tt;
     }
 
-pub not_started : (config : Config) (i : Option (List ℕ)) (x : Option (List Call)) (start : StartFault)
-    (fault : RunFault) → fault ≡ run_fault_at_start start → ServedSession config i i x x (ended_by fault)
-not_started config i x starts.BadConfig fault is =
-    subst (λ (f : RunFault). ServedSession config i i x x (ended_by f)) (sym is)
-    (serves_nothing config i x faults.BadConfig refl)
-not_started config i x starts.NoMemory fault is =
-    subst (λ (f : RunFault). ServedSession config i i x x (ended_by f)) (sym is)
-    (serves_nothing config i x faults.NoMemory refl)
+-- what was printed in all
+all_printed : (title : Option (List ℕ)) (a : PrinterView) (held : Option (List ℕ)) (x z : Outside) (p : List Did) →
+    Opened title a x.printer held x.written → Tells x z p →
+    Puts false z.printer.has_failed (output_of (form_of title) (opening title ++ p)) held z.written
+all_printed title a held x z p opened told =
+    let both = prints_both a x.printer z.printer held x.written z.written (opening title) p opened.1 told.prints in
+    subst (λ (v : PrinterView). Puts v.has_failed z.printer.has_failed (output_of v.form (opening title ++ p)) held
+    z.written) opened.0 both.puts
 
-ran_ok : (counts : Counts) (config : Config) (i k : Option (List ℕ)) (w next : World) (p : List Call) →
-    RanLines config i k done w p next → RanLines {T = Counts} config i k (Ok counts) w p next
-ran_ok counts config i k w next p h = record {
+opened_form : (title : Option (List ℕ)) (a b : PrinterView) (held now : Option (List ℕ)) → Opened title a b held now →
+    b.form ≡ form_of title
+opened_form title a b held now opened = opened.1.form ∙ ap (λ (v : PrinterView). v.form) opened.0
+
+ran_ok : (counts : Counts) (form : Form) (config : Config) (i k : Option (List ℕ)) (w next : World) (p : List Did) →
+    RanLines form config i k done w p next → RanLines {T = Counts} form config i k (Ok counts) w p next
+ran_ok counts form config i k w next p h = record {
   text = h.text;
   ended = h.ended;
   lines = h.lines;
@@ -407,77 +507,80 @@ ran_ok counts config i k w next p h = record {
   exits = h.exits;
 }
 
-ran_err : (fault : RunFault) (config : Config) (i k : Option (List ℕ)) (w next : World) (p : List Call) →
-    RanLines config i k (failed_by fault) w p next → RanLines config i k (ended_by fault) w p next
-ran_err faults.Read config i k w next p h =
-    record {
-      text = h.text;
-      ended = h.ended;
-      lines = h.lines;
-      others = h.others;
-      consumed = h.consumed;
-      counted = h.counted;
-      session = h.session;
-      exits = h.exits;
-    }
-ran_err faults.Write config i k w next p h =
-    record {
-      text = h.text;
-      ended = h.ended;
-      lines = h.lines;
-      others = h.others;
-      consumed = h.consumed;
-      counted = h.counted;
-      session = h.session;
-      exits = h.exits;
-    }
-ran_err faults.NoMemory config i k w next p h =
-    record {
-      text = h.text;
-      ended = h.ended;
-      lines = h.lines;
-      others = h.others;
-      consumed = h.consumed;
-      counted = h.counted;
-      session = h.session;
-      exits = h.exits;
-    }
-ran_err faults.BadConfig config i k w next p h =
-    record {
-      text = h.text;
-      ended = h.ended;
-      lines = h.lines;
-      others = h.others;
-      consumed = h.consumed;
-      counted = h.counted;
-      session = h.session;
-      exits = h.exits;
-    }
-ran_err (faults.Script number) config i k w next p h = absurd h.exits
+ran_err : (form : Form) (fault : RunFault) (config : Config) (i k : Option (List ℕ)) (w next : World) (p : List Did) →
+    ((text : List ℕ) (ended : Bool) (lines others : List (List ℕ)) →
+    Exits form (failed_by fault) ended text lines others k → Exits form (ended_by fault) ended text lines others k) →
+    RanLines form config i k (failed_by fault) w p next → RanLines form config i k (ended_by fault) w p next
+ran_err form fault config i k w next p same h = record {
+  text = h.text;
+  ended = h.ended;
+  lines = h.lines;
+  others = h.others;
+  consumed = h.consumed;
+  counted = h.counted;
+  session = h.session;
+  exits = same h.text h.ended h.lines h.others h.exits;
+}
 
-pub served_ok : (counts : Counts) (config : Config) (i k : Option (List ℕ)) (old core : CoreState)
-    (x z : Option (List Call)) → StandsFor old (start_of config) → Takes old core x z (RanLines config i k done) →
+pub served_ok : (counts : Counts) (config : Config) (title i k : Option (List ℕ)) (old core : CoreState)
+    (a : PrinterView) (held : Option (List ℕ)) (x z : Outside) → StandsFor old (start_of config) →
+    Opened title a x.printer held x.written → EndsBy done z.printer.has_failed →
+    Takes old core x z (RanLines x.printer.form config i k done) →
     ((w : World) → StandsFor core w → record counts { lines = 0; sent = 0; failed = 0 } ≡ counts_of w.tally) →
-    ServedSession config i k x z (Ok counts)
-served_ok counts config i k old core x z stands h counted =
-    let (p, next, told, ran, held) = h (start_of config) stands in
+    ServedSession config title i k x.calls z.calls held z.written (Ok counts)
+served_ok counts config title i k old core a held x z stands opened ends h counted =
+    let (p, next, told, ran, after) = h (start_of config) stands in
+    let form = opened_form title a x.printer held x.written opened in
     record {
-      calls = p;
+      first = opening title;
+      trace = p;
       last = next;
-      tells = told;
-      ran = ran_ok counts config i k (start_of config) next p ran;
-      counts = counted next held;
+      opens = refl;
+      tells = told.told;
+      printed = all_put false z.printer.has_failed (output_of (form_of title) (opening title ++ p)) held z.written refl
+          ends (all_printed title a held x z p opened told);
+      ran = ran_ok counts (form_of title) config i k (start_of config) next p
+          (subst (λ (f : Form). RanLines f config i k done (start_of config) p next) form ran);
+      counts = counted next after;
     }
 
-pub served_err : (fault : RunFault) (config : Config) (i k : Option (List ℕ)) (old core : CoreState)
-    (x z : Option (List Call)) → StandsFor old (start_of config) →
-    Takes old core x z (RanLines config i k (failed_by fault)) → ServedSession config i k x z (ended_by fault)
-served_err fault config i k old core x z stands h =
-    let (p, next, told, ran, held) = h (start_of config) stands in
+-- a fault of a run whose lines were done, as far as they were
+served_fault : (fault : RunFault) (config : Config) (title i k : Option (List ℕ)) (old core : CoreState)
+    (a : PrinterView) (held : Option (List ℕ)) (x z : Outside) → StandsFor old (start_of config) →
+    Opened title a x.printer held x.written → Opens title (ended_by fault) (opening title) →
+    ((text : List ℕ) → Puts false z.printer.has_failed text held z.written → IsOutput (ended_by fault) text held
+    z.written)
+    → ((text : List ℕ) (ended : Bool) (lines others : List (List ℕ)) →
+    Exits (form_of title) (failed_by fault) ended text lines others k →
+    Exits (form_of title) (ended_by fault) ended text lines others k) →
+    Takes old core x z (RanLines x.printer.form config i k (failed_by fault)) →
+    ServedSession config title i k x.calls z.calls held z.written (ended_by fault)
+served_fault fault config title i k old core a held x z stands opened opens output exits h =
+    let (p, next, told, ran, after) = h (start_of config) stands in
+    let form = opened_form title a x.printer held x.written opened in
     record {
-      calls = p;
+      first = opening title;
+      trace = p;
       last = next;
-      tells = told;
-      ran = ran_err fault config i k (start_of config) next p ran;
+      opens = opens;
+      tells = told.told;
+      printed = output (output_of (form_of title) (opening title ++ p)) (all_printed title a held x z p opened told);
+      ran = ran_err (form_of title) fault config i k (start_of config) next p exits
+          (subst (λ (f : Form). RanLines f config i k (failed_by fault) (start_of config) p next) form ran);
       counts = tt;
     }
+
+pub served_err : (fault : RunFault) (config : Config) (title i k : Option (List ℕ)) (old core : CoreState)
+    (a : PrinterView) (held : Option (List ℕ)) (x z : Outside) → StandsFor old (start_of config) →
+    Opened title a x.printer held x.written → EndsBy (failed_by fault) z.printer.has_failed →
+    Takes old core x z (RanLines x.printer.form config i k (failed_by fault)) →
+    ServedSession config title i k x.calls z.calls held z.written (ended_by fault)
+served_err faults.Read config title i k old core a held x z stands opened ends h =
+    served_fault faults.Read config title i k old core a held x z stands opened refl
+    (λ text. all_put false z.printer.has_failed text held z.written refl ends) (λ text ended lines others e. e) h
+served_err faults.Write config title i k old core a held x z stands opened ends h =
+    served_fault faults.Write config title i k old core a held x z stands opened refl
+    (λ text. front_put false z.printer.has_failed text held z.written refl ends) (λ text ended lines others e. e) h
+served_err faults.NoMemory config title i k old core a held x z stands opened ends h = absurd ends
+served_err faults.BadConfig config title i k old core a held x z stands opened ends h = absurd ends
+served_err (faults.Script number) config title i k old core a held x z stands opened ends h = absurd ends

@@ -1,5 +1,5 @@
 -- A session is a run of the gateway.
-use Rattle.std.proofs.Common.{◌≡◌, ℕ, ◌+◌, inl, inr, List, [], ◌∷◌, ◌++◌, length, map, refl, sym, ap, subst, ◌∙◌, append_assoc}
+use Rattle.std.proofs.Common.{◌≡◌, ℕ, ◌+◌, inl, inr, List, [], ◌∷◌, ◌++◌, length, map, refl, sym, ap, subst, ◌∙◌, append_assoc, codes}
 use Rattle.std.proofs.lemmas.List.{append-nil, map-append}
 use Rattle.std.proofs.lemmas.List.Elements.{filter-append}
 use Rattle.std.specs.List.{filter, range_with_len}
@@ -8,15 +8,17 @@ use Rattle.mg_engine.specs.declared.peer.Peer.{Peer}
 use Rattle.mg_core.specs.declared.event.Event.{Event}
 use Rattle.mg_core.specs.declared.event.Event.TheVariants as events
 use Rattle.mg_core.specs.World.{World}
-use Rattle.mg_core.specs.Step.{Sent, Reply, Packet, Run, Step}
+use Rattle.mg_core.specs.Step.{Sent, Reply, Packet, Run}
 use Rattle.mg_ports.specs.declared.call.Call.{Call}
-use Rattle.mg_ports.specs.declared.call.Call.TheVariants.{Receive, Send}
+use Rattle.mg_ports.specs.declared.call.Call.TheVariants.{Receive}
 use Rattle.mg_ports.specs.declared.receipt.Receipt.TheVariants.{Came, Nothing, Failed}
 use Rattle.mg_serve.specs.declared.command.Command.{Command}
 use Rattle.mg_serve.specs.declared.command.Command.TheVariants.{Poll, Tick, Stats, Quit, Unknown}
-use Rattle.mg_serve.specs.Laws.{AreEventsOf, AreEventsOfLine, SendsAreARun, is_send}
+use Rattle.mg_serve.specs.Laws.{SendsAreARun, is_send}
 use Rattle.mg_serve.specs.Lines.{line_command}
-use Rattle.mg_serve.specs.Session.{Each, Comes, Does, EndsTurn, Happens, IsNoEvent, Session, SlotTurn, event_at, send_of}
+use Rattle.mg_serve.specs.Session.{Each, Comes, Does, EndsTurn, Happens, Session, SlotTurn, event_at, send_of, sends_of}
+use Rattle.mg_serve.specs.Trace.{Did, Called, Happened, Printed, Noted, calls_of, events_of}
+use Rattle.mg_serve.proofs.Printing.{calls_both}
 
 run_both : (w mid next : World) (es fs : List Event) (s t : List Sent) → Run w es s mid → Run mid fs t next →
     Run w (es ++ fs) (s ++ t) next
@@ -31,164 +33,118 @@ run_both w mid next (e ∷ es) fs s t h k = (
   ap (λ (l : List Sent). l ++ t) h.5 ∙ append_assoc h.0 h.1 t,
 )
 
--- ## Events of calls
+pub events_both : (p q : List Did) → events_of (p ++ q) ≡ events_of p ++ events_of q
+events_both [] q = refl
+events_both (Called call ∷ p) q = events_both p q
+events_both (Happened event ∷ p) q = ap (λ (l : List Event). event ∷ l) (events_both p q)
+events_both (Printed text ∷ p) q = events_both p q
+events_both (Noted text ∷ p) q = events_both p q
 
-events_both : (config : Config) (p q : List Call) (es fs : List Event) → AreEventsOf config p es →
-    AreEventsOf config q fs → AreEventsOf config (p ++ q) (es ++ fs)
-events_both config [] q es fs h k = subst (λ (l : List Event). AreEventsOf config q (l ++ fs)) (sym h) k
-events_both config (Receive slot (Came source bytes) ∷ p) q es fs (inl h) k =
-    inl (h.0 ++ fs, ap (λ (l : List Event). l ++ fs) h.1, events_both config p q h.0 fs h.2 k)
-events_both config (Receive slot (Came source bytes) ∷ p) q es fs (inr h) k =
-    inr (h.0, events_both config p q es fs h.1 k)
-events_both config (Receive slot Nothing ∷ p) q es fs h k = events_both config p q es fs h k
-events_both config (Receive slot Failed ∷ p) q es fs h k = events_both config p q es fs h k
-events_both config (Send slot to bytes ∷ p) q es fs h k = events_both config p q es fs h k
+-- ## Parts of a session
 
-sends_have_none : (config : Config) (sent : List Sent) → AreEventsOf config (map (send_of config) sent) []
-sends_have_none config [] = refl
-sends_have_none config (Reply to text ∷ sent) = sends_have_none config sent
-sends_have_none config (Packet packet ∷ sent) = sends_have_none config sent
-
--- ## Runs of events that are those of some calls
-
-record Ran (E : List Call → List Event → Type 0) (config : Config) (w : World) (calls : List Call)
-    (next : World) : Type 0 where
-  events : List Event
-  sent : List Sent
-  are : E calls events
-  run : Run w events sent next
-  sends : filter is_send calls ≡ map (send_of config) sent
-
-abbrev RanPoll : Config → World → List Call → World → Type 0
-RanPoll config w calls next = Ran (AreEventsOf config) config w calls next
-
-sends_both : (config : Config) (p q : List Call) (s t : List Sent) → filter is_send p ≡ map (send_of config) s →
-    filter is_send q ≡ map (send_of config) t
-    → filter is_send (p ++ q) ≡ map (send_of config) (s ++ t)
-sends_both config p q s t h k =
-    filter-append is_send p q ∙ ap (λ (l : List Call). l ++ filter is_send q) h ∙
-    ap (λ (l : List Call). map (send_of config) s ++ l) k ∙ sym (map-append (send_of config) s t)
-
-ran_both : (config : Config) (w mid next : World) (p q : List Call) → RanPoll config w p mid →
-    RanPoll config mid q next → RanPoll config w (p ++ q) next
+ran_both : (config : Config) (w mid next : World) (p q : List Did) → SendsAreARun config w p mid →
+    SendsAreARun config mid q next → SendsAreARun config w (p ++ q) next
 ran_both config w mid next p q h k = record {
-  events = h.events ++ k.events;
   sent = h.sent ++ k.sent;
-  are = events_both config p q h.events k.events h.are k.are;
-  run = run_both w mid next h.events k.events h.sent k.sent h.run k.run;
-  sends = sends_both config p q h.sent k.sent h.sends k.sends;
+  run = subst (λ (l : List Event). Run w l (h.sent ++ k.sent) next) (sym (events_both p q))
+      (run_both w mid next (events_of p) (events_of q) h.sent k.sent h.run k.run);
+  sends = ap (filter is_send) (calls_both p q) ∙ filter-append is_send (calls_of p) (calls_of q) ∙
+      ap (λ (l : List Call). l ++ filter is_send (calls_of q)) h.sends ∙
+      ap (λ (l : List Call). map (send_of config) h.sent ++ l) k.sends ∙
+      sym (map-append (send_of config) h.sent k.sent);
 }
 
-no_run : (config : Config) (w : World) (p : List Call) → AreEventsOf config p [] → filter is_send p ≡ [] →
-    RanPoll config w p w
-no_run config w p are none = record { events = []; sent = []; are = are; run = (refl, refl); sends = none }
+no_run : (config : Config) (w next : World) (p : List Did) → events_of p ≡ [] → filter is_send (calls_of p) ≡ [] →
+    next ≡ w → SendsAreARun config w p next
+no_run config w next p none sends same = record {
+  sent = [];
+  run = subst (λ (l : List Event). Run w l [] next) (sym none) (refl, same);
+  sends = sends;
+}
 
-each_ran : {A : Type 0} (config : Config) (R : A → World → List Call → World → Type 0) →
-    ((x : A) (w next : World) (p : List Call) → R x w p next → RanPoll config w p next) →
-    (xs : List A) (w next : World) (p : List Call) → Each R xs w p next → RanPoll config w p next
-each_ran config R step [] w next p h = subst (λ (l : List Call). RanPoll config w l next) (sym h.0)
-    (subst (λ (v : World). RanPoll config w [] v) (sym h.1) (no_run config w [] refl refl))
-each_ran config R step (x ∷ xs) w next p h =
-    subst (λ (l : List Call). RanPoll config w l next) (sym h.3)
+ran_as : (config : Config) (w next : World) (p q : List Did) → p ≡ q → SendsAreARun config w q next →
+    SendsAreARun config w p next
+ran_as config w next p q is h = subst (λ (l : List Did). SendsAreARun config w l next) (sym is) h
+
+each_ran : {A : Type 0} (config : Config) (R : A → World → List Did → World → Type 0) →
+    ((x : A) (w next : World) (p : List Did) → R x w p next → SendsAreARun config w p next) →
+    (xs : List A) (w next : World) (p : List Did) → Each R xs w p next → SendsAreARun config w p next
+each_ran config R step [] w next p h = ran_as config w next p [] h.0 (no_run config w next [] refl refl h.1)
+each_ran config R step (x ∷ xs) w next p h = ran_as config w next p (h.0 ++ h.1) h.3
     (ran_both config w h.2 next h.0 h.1 (step x w h.2 h.0 h.4) (each_ran config R step xs h.2 next h.1 h.5))
 
-all_sends : (config : Config) (sent : List Sent) →
-    filter is_send (map (send_of config) sent) ≡ map (send_of config) sent
-all_sends config [] = refl
-all_sends config (Reply to text ∷ sent) = ap (λ (l : List Call). send_of config (Reply to text) ∷ l)
-    (all_sends config sent)
-all_sends config (Packet packet ∷ sent) = ap (λ (l : List Call). send_of config (Packet packet) ∷ l)
-    (all_sends config sent)
+-- ## Events
 
-one_event : (w next : World) (event : Event) (sent : List Sent) → Step w event sent next → Run w (event ∷ []) sent next
-one_event w next event sent step = (sent, [], next, step, (refl, refl), sym (append-nil sent))
+no_events : (config : Config) (sent : List Sent) → events_of (sends_of config sent) ≡ []
+no_events config [] = refl
+no_events config (datagram ∷ sent) = no_events config sent
+
+all_sends : (config : Config) (sent : List Sent) →
+    filter is_send (calls_of (sends_of config sent)) ≡ map (send_of config) sent
+all_sends config [] = refl
+all_sends config (Reply to text ∷ sent) =
+    ap (λ (l : List Call). send_of config (Reply to text) ∷ l) (all_sends config sent)
+all_sends config (Packet packet ∷ sent) =
+    ap (λ (l : List Call). send_of config (Packet packet) ∷ l) (all_sends config sent)
+
+event_ran : (config : Config) (event : Event) (w next : World) (p : List Did) → Happens config event w p next →
+    SendsAreARun config w p next
+event_ran config event w next p (sent, step, is) = ran_as config w next p (Happened event ∷ sends_of config sent) is
+    (record {
+      sent = sent;
+      run = subst (λ (l : List Event). Run w (event ∷ l) sent next) (sym (no_events config sent))
+          (sent, [], next, step, (refl, refl), sym (append-nil sent));
+      sends = all_sends config sent;
+    })
 
 -- ## A poll
 
-came_ran : (config : Config) (slot : ℕ) (source : Peer) (bytes : List ℕ) (w next : World) (p : List Call) →
-    Happens config (event_at config slot source bytes) w p next
-    → RanPoll config w (Receive slot (Came source bytes) ∷ p) next
-came_ran config slot source bytes w next p h = record {
-  events = event_at config slot source bytes ∷ [];
-  sent = h.0;
-  are = inl ([], refl, subst (λ (l : List Call). AreEventsOf config l []) (sym h.2) (sends_have_none config h.0));
-  run = one_event w next (event_at config slot source bytes) h.0 h.1;
-  sends = ap (filter is_send) h.2 ∙ all_sends config h.0;
-}
+comes_ran : (config : Config) (slot : ℕ) (datagram : Peer × List ℕ) (w next : World) (p : List Did) →
+    Comes config slot datagram w p next → SendsAreARun config w p next
+comes_ran config slot datagram w next p (others, fits, is, inl h) =
+    let receive = Called (Receive slot (Came datagram.0 datagram.1)) in
+    ran_as config w next p (receive ∷ others) is
+    (ran_both config w w next (receive ∷ []) others (no_run config w w (receive ∷ []) refl refl refl)
+    (event_ran config (event_at config slot datagram.0 datagram.1) w next others h))
+comes_ran config slot datagram w next p (others, fits, is, inr h) =
+    let receive = Called (Receive slot (Came datagram.0 datagram.1)) in
+    let noted = Noted (codes "no memory for a control datagram") in
+    ran_as config w next p (receive ∷ noted ∷ [])
+    (is ∙ ap (λ (l : List Did). receive ∷ l) h.1)
+    (no_run config w next (receive ∷ noted ∷ []) refl refl h.2)
 
-unread_ran : (config : Config) (slot : ℕ) (source : Peer) (bytes : List ℕ) (w next : World) (p : List Call) →
-    IsNoEvent slot w p next
-    → RanPoll config w (Receive slot (Came source bytes) ∷ p) next
-unread_ran config slot source bytes w next p h =
-    subst (λ (l : List Call). RanPoll config w (Receive slot (Came source bytes) ∷ l) next) (sym h.1)
-    (subst (λ (v : World). RanPoll config w (Receive slot (Came source bytes) ∷ []) v) (sym h.2)
-    (no_run config w (Receive slot (Came source bytes) ∷ []) (inr (h.0, refl)) refl))
-
-comes_ran : (config : Config) (slot : ℕ) (datagram : Peer × List ℕ) (w next : World) (p : List Call) →
-    Comes config slot datagram w p next → RanPoll config w p next
-comes_ran config slot datagram w next p (others, is, inl h) =
-    subst (λ (l : List Call). RanPoll config w l next) (sym is)
-    (came_ran config slot datagram.0 datagram.1 w next others h)
-comes_ran config slot datagram w next p (others, is, inr h) =
-    subst (λ (l : List Call). RanPoll config w l next) (sym is)
-    (unread_ran config slot datagram.0 datagram.1 w next others h)
-
-ends_ran : (config : Config) (slot n : ℕ) (w : World) (p : List Call) → EndsTurn slot n p → RanPoll config w p w
-ends_ran config slot n w p (inl h) = subst (λ (l : List Call). RanPoll config w l w) (sym h.1)
-    (no_run config w [] refl refl)
+ends_ran : (config : Config) (slot n : ℕ) (w : World) (p : List Did) → EndsTurn slot n p → SendsAreARun config w p w
+ends_ran config slot n w p (inl h) = ran_as config w w p [] h.1 (no_run config w w [] refl refl refl)
 ends_ran config slot n w p (inr (few, inl is)) =
-    subst (λ (l : List Call). RanPoll config w l w) (sym is) (no_run config w (Receive slot Nothing ∷ []) refl refl)
+    let receive = Called (Receive slot Nothing) in
+    ran_as config w w p (receive ∷ []) is (no_run config w w (receive ∷ []) refl refl refl)
 ends_ran config slot n w p (inr (few, inr is)) =
-    subst (λ (l : List Call). RanPoll config w l w) (sym is) (no_run config w (Receive slot Failed ∷ []) refl refl)
+    let receive = Called (Receive slot Failed) in
+    ran_as config w w p (receive ∷ []) is (no_run config w w (receive ∷ []) refl refl refl)
 
-turn_ran : (config : Config) (slot : ℕ) (w next : World) (p : List Call) → SlotTurn config slot w p next →
-    RanPoll config w p next
-turn_ran config slot w next p h =
-    subst (λ (l : List Call). RanPoll config w l next) (sym h.calls_are)
+turn_ran : (config : Config) (slot : ℕ) (w next : World) (p : List Did) → SlotTurn config slot w p next →
+    SendsAreARun config w p next
+turn_ran config slot w next p h = ran_as config w next p (h.received ++ h.last) h.parts
     (ran_both config w next next h.received h.last
     (each_ran config (Comes config slot) (comes_ran config slot) h.datagrams w next h.received h.come)
     (ends_ran config slot (length h.datagrams) next h.last h.ends))
 
 -- ## Lines
 
-abbrev RanLine : Config → Command → World → List Call → World → Type 0
-RanLine config command w calls next = Ran (AreEventsOfLine config command) config w calls next
-
-idle_ran : (config : Config) (command : Command) (w next : World) (p : List Call) →
-    AreEventsOfLine config command [] [] → p ≡ [] → next ≡ w → RanLine config command w p next
-idle_ran config command w next p are none same =
-    subst (λ (l : List Call). RanLine config command w l next) (sym none)
-    (subst (λ (v : World). RanLine config command w [] v) (sym same)
-    (record { events = []; sent = []; are = are; run = (refl, refl); sends = refl }))
-
-does_ran : (config : Config) (command : Command) (w next : World) (p : List Call) → Does config command w p next →
-    RanLine config command w p next
+does_ran : (config : Config) (command : Command) (w next : World) (p : List Did) → Does config command w p next →
+    SendsAreARun config w p next
 does_ran config Poll w next p h =
-    let ran = each_ran config (SlotTurn config) (turn_ran config) (range_with_len 0 (config.slots + 1)) w next p h in
-    record { events = ran.events; sent = ran.sent; are = ran.are; run = ran.run; sends = ran.sends }
-does_ran config Tick w next p h =
-    record {
-      events = events.Tick ∷ [];
-      sent = h.0;
-      are = refl;
-      run = one_event w next events.Tick h.0 h.1;
-      sends = ap (filter is_send) h.2 ∙ all_sends config h.0;
-    }
-does_ran config Stats w next p h = idle_ran config Stats w next p refl h.0 h.1
-does_ran config Quit w next p h = idle_ran config Quit w next p refl h.0 h.1
-does_ran config Unknown w next p h = idle_ran config Unknown w next p refl h.0 h.1
+    each_ran config (SlotTurn config) (turn_ran config) (range_with_len 0 (config.slots + 1)) w next p h
+does_ran config Tick w next p h = event_ran config events.Tick w next p h
+does_ran config Stats w next p (text, is, same) =
+    ran_as config w next p (Printed text ∷ []) is (no_run config w next (Printed text ∷ []) refl refl same)
+does_ran config Quit w next p h = ran_as config w next p [] h.0 (no_run config w next [] refl refl h.1)
+does_ran config Unknown w next p h =
+    let printed = Printed (codes "unknown command") in
+    ran_as config w next p (printed ∷ []) h.0 (no_run config w next (printed ∷ []) refl refl h.1)
 
-pub session_run : (config : Config) (lines : List (List ℕ)) (w next : World) (p : List Call) →
-    Session config lines w p next → SendsAreARun config lines w p next
-session_run config [] w next p h =
-    record { events = []; sent = []; are = (h.0, refl); run = (refl, h.1); sends = ap (filter is_send) h.0 }
-session_run config (line ∷ lines) w next p h =
-    let now = does_ran config (line_command line) w h.2 h.0 h.4 in
-    let later = session_run config lines h.2 next h.1 h.5 in
-    record {
-      events = now.events ++ later.events;
-      sent = now.sent ++ later.sent;
-      are = (h.0, h.1, now.events, later.events, h.3, refl, now.are, later.are);
-      run = run_both w h.2 next now.events later.events now.sent later.sent now.run later.run;
-      sends = ap (filter is_send) h.3 ∙ sends_both config h.0 h.1 now.sent later.sent now.sends later.sends;
-    }
+pub session_run : (config : Config) (lines : List (List ℕ)) (w next : World) (p : List Did) →
+    Session config lines w p next → SendsAreARun config w p next
+session_run config lines w next p h =
+    each_ran config (λ (line : List ℕ). Does config (line_command line))
+    (λ line. does_ran config (line_command line)) lines w next p h

@@ -3,6 +3,8 @@ use Rattle.std.specs.Prelude.{◌≡◌, ℕ, Bool, true, false, List, [], ◌�
 use Rattle.std.specs.Str.{bytes_eq}
 use Rattle.mg_serve.specs.declared.command.Command.{Command}
 use Rattle.mg_serve.specs.declared.command.Command.TheVariants.{Poll, Tick, Stats, Quit, Unknown}
+use Rattle.mg_serve.specs.declared.form.Form.{Form}
+use Rattle.mg_serve.specs.declared.form.Form.TheVariants.{Plain, Recording}
 
 -- what a line asks for, by its text
 abbrev pub line_command : List ℕ → Command
@@ -12,22 +14,28 @@ line_command line =
     else (if bytes_eq line (codes "stats") then Stats
     else (if bytes_eq line (codes "quit") then Quit else Unknown)))
 
+abbrev pub is_recording : Form → Bool
+is_recording Plain = false
+is_recording Recording = true
+
 abbrev pub is_quit : Command → Bool
 is_quit Quit = true
 is_quit _ = false
 
--- a line is answered by a line
-abbrev pub prints : Command → Bool
-prints Stats = true
-prints Unknown = true
-prints _ = false
+-- Something is printed for a line: it is answered by one, or its events are recorded.
+abbrev pub prints : Form → Command → Bool
+prints form Poll = is_recording form
+prints form Tick = is_recording form
+prints form Stats = true
+prints form Quit = false
+prints form Unknown = true
 
--- the last of these lines is answered by one
-pub record LastPrints (lines : List (List ℕ)) : Type 0 where
+-- something is printed for the last of these lines
+pub record LastPrints (form : Form) (lines : List (List ℕ)) : Type 0 where
   pub front : List (List ℕ)
   pub line : List ℕ
   pub is : lines ≡ front ++ line ∷ []
-  pub printed : prints (line_command line) ≡ true
+  pub printed : prints form (line_command line) ≡ true
 
 -- the lines before the first `quit`
 unfoldable pub before_quit : List (List ℕ) → List (List ℕ)

@@ -1,11 +1,12 @@
--- A session: lines, and the calls of ports that they stand for.
+-- A session: lines, and what is done for them.
 use Rattle.std.specs.Prelude.{◌≡◌, ◌⊎◌, ℕ, zero, suc, ◌+◌, ◌-◌, ◌*◌, ◌/◌, ◌<◌, List, [], ◌∷◌, ◌++◌}
-use Rattle.std.specs.Prelude.{length, map}
+use Rattle.std.specs.Prelude.{length, map, codes}
 use Rattle.std.specs.List.{range_with_len}
 use Rattle.mg_engine.specs.declared.config.Config.{Config}
 use Rattle.mg_engine.specs.declared.peer.Peer.{Peer}
 use Rattle.mg_core.specs.declared.event.Event.{Event}
 use Rattle.mg_core.specs.declared.event.Event.TheVariants as events
+use Rattle.mg_core.specs.Recording.{IsDatagram}
 use Rattle.mg_core.specs.World.{World}
 use Rattle.mg_core.specs.Step.{Sent, Reply, Packet, Step}
 use Rattle.mg_ports.specs.declared.call.Call.{Call}
@@ -14,13 +15,14 @@ use Rattle.mg_ports.specs.declared.receipt.Receipt.TheVariants.{Came, Nothing, F
 use Rattle.mg_serve.specs.declared.command.Command.{Command}
 use Rattle.mg_serve.specs.declared.command.Command.TheVariants.{Poll, Tick, Stats, Quit, Unknown}
 use Rattle.mg_serve.specs.Lines.{line_command}
+use Rattle.mg_serve.specs.Trace.{Did, Called, Happened, Printed, Noted}
 
--- For each of these in turn, its calls, from the world that the one before it left.
-abbrev pub Each : {A : Type 0} → (A → World → List Call → World → Type 0) → List A → World
-    → List Call → World → Type 0
-Each R [] w calls next = (calls ≡ []) × (next ≡ w)
-Each R (x ∷ xs) w calls next =
-    (first : List Call) × (others : List Call) × (mid : World) × (calls ≡ first ++ others)
+-- For each of these in turn, what is done, from the world that the one before it left.
+abbrev pub Each : {A : Type 0} → (A → World → List Did → World → Type 0) → List A → World
+    → List Did → World → Type 0
+Each R [] w trace next = (trace ≡ []) × (next ≡ w)
+Each R (x ∷ xs) w trace next =
+    (first : List Did) × (others : List Did) × (mid : World) × (trace ≡ first ++ others)
     × R x w first mid × Each R xs mid others next
 
 -- ## One event
@@ -31,60 +33,68 @@ send_of config (Reply to text) = Send 0 to text
 send_of config (Packet packet) =
     Send ((packet.from - config.base_port) / 2 + 1) packet.to packet.bytes
 
--- an event, and a send for each datagram of it, in order
-abbrev pub Happens : Config → Event → World → List Call → World → Type 0
-Happens config event w calls next =
-    (sent : List Sent) × Step w event sent next × (calls ≡ map (send_of config) sent)
+abbrev pub sends_of : Config → List Sent → List Did
+sends_of config sent = map (λ datagram. Called (send_of config datagram)) sent
+
+-- an event, and then a send for each datagram of it, in order
+abbrev pub Happens : Config → Event → World → List Did → World → Type 0
+Happens config event w trace next =
+    (sent : List Sent) × Step w event sent next
+    × (trace ≡ Happened event ∷ sends_of config sent)
 
 -- the event of a datagram that came at a slot
 abbrev pub event_at : Config → ℕ → Peer → List ℕ → Event
 event_at config zero source bytes = events.Control source bytes
 event_at config (suc s) source bytes = events.Media (config.base_port + 2 * s) source bytes
 
--- a control datagram for whose reading there was no memory is no event
-abbrev pub IsNoEvent : ℕ → World → List Call → World → Type 0
-IsNoEvent slot w calls next = (slot ≡ 0) × (calls ≡ []) × (next ≡ w)
+-- A control datagram for whose reading there was no memory is no event, and that is noted.
+abbrev pub IsNoEvent : ℕ → World → List Did → World → Type 0
+IsNoEvent slot w trace next =
+    (slot ≡ 0) × (trace ≡ Noted (codes "no memory for a control datagram") ∷ []) × (next ≡ w)
 
 -- The receive that gave a datagram, and the datagram's event.
-abbrev pub Comes : Config → ℕ → Peer × List ℕ → World → List Call → World → Type 0
-Comes config slot datagram w calls next =
-    (others : List Call) × (calls ≡ Receive slot (Came datagram.0 datagram.1) ∷ others)
+abbrev pub Comes : Config → ℕ → Peer × List ℕ → World → List Did → World → Type 0
+Comes config slot datagram w trace next =
+    (others : List Did) × IsDatagram datagram.0 datagram.1
+    × (trace ≡ Called (Receive slot (Came datagram.0 datagram.1)) ∷ others)
     × (Happens config (event_at config slot datagram.0 datagram.1) w others next
     ⊎ IsNoEvent slot w others next)
 
 -- ## A poll
 
 -- a receive that gave no datagram
-abbrev pub GivesNone : ℕ → List Call → Type 0
-GivesNone slot calls = (calls ≡ Receive slot Nothing ∷ []) ⊎ (calls ≡ Receive slot Failed ∷ [])
+abbrev pub GivesNone : ℕ → List Did → Type 0
+GivesNone slot trace =
+    (trace ≡ Called (Receive slot Nothing) ∷ []) ⊎ (trace ≡ Called (Receive slot Failed) ∷ [])
 
 -- What ends a slot's turn: 64 datagrams came, or a receive gave none or failed.
-abbrev pub EndsTurn : ℕ → ℕ → List Call → Type 0
+abbrev pub EndsTurn : ℕ → ℕ → List Did → Type 0
 EndsTurn slot came last = ((came ≡ 64) × (last ≡ [])) ⊎ ((came < 64) × GivesNone slot last)
 
 -- a slot's turn: datagrams one after another, and what ends it
-pub record SlotTurn (config : Config) (slot : ℕ) (w : World) (calls : List Call) (next : World)
+pub record SlotTurn (config : Config) (slot : ℕ) (w : World) (trace : List Did) (next : World)
     : Type 0 where
   pub datagrams : List (Peer × List ℕ)
-  pub received : List Call
-  pub last : List Call
-  pub calls_are : calls ≡ received ++ last
+  pub received : List Did
+  pub last : List Did
+  pub parts : trace ≡ received ++ last
   pub come : Each (Comes config slot) datagrams w received next
   pub ends : EndsTurn slot (length datagrams) last
 
 -- ## Lines
 
 -- `poll` is a turn of the control port and then of each media port in rising order, `tick` is one
--- tick. Other lines have no call.
-abbrev pub Does : Config → Command → World → List Call → World → Type 0
-Does config Poll w calls next =
-    Each (SlotTurn config) (range_with_len 0 (config.slots + 1)) w calls next
-Does config Tick w calls next = Happens config events.Tick w calls next
-Does config Stats w calls next = (calls ≡ []) × (next ≡ w)
-Does config Quit w calls next = (calls ≡ []) × (next ≡ w)
-Does config Unknown w calls next = (calls ≡ []) × (next ≡ w)
+-- tick. `stats` prints a text, of which nothing is said here.
+abbrev pub Does : Config → Command → World → List Did → World → Type 0
+Does config Poll w trace next =
+    Each (SlotTurn config) (range_with_len 0 (config.slots + 1)) w trace next
+Does config Tick w trace next = Happens config events.Tick w trace next
+Does config Stats w trace next = (text : List ℕ) × (trace ≡ Printed text ∷ []) × (next ≡ w)
+Does config Quit w trace next = (trace ≡ []) × (next ≡ w)
+Does config Unknown w trace next =
+    (trace ≡ Printed (codes "unknown command") ∷ []) × (next ≡ w)
 
--- lines one after another, and their calls
-abbrev pub Session : Config → List (List ℕ) → World → List Call → World → Type 0
-Session config lines w calls next =
-    Each (λ (line : List ℕ). Does config (line_command line)) lines w calls next
+-- lines one after another, and what is done for them
+abbrev pub Session : Config → List (List ℕ) → World → List Did → World → Type 0
+Session config lines w trace next =
+    Each (λ (line : List ℕ). Does config (line_command line)) lines w trace next

@@ -3,21 +3,23 @@
 //! clock.
 //!
 //! ```rust
-//! let counts = serve(alloc, Config::default(), &mut ports, &mut input, &mut output)?;
+//! let counts = serve(alloc, Config::default(), None, &mut ports, &mut input, &mut output, 0, &mut reports)?;
 //! ```
 //!
-//! [`serve`] is proved for any [`Ports`](mg_ports::Ports): at every exit the lines that were read whole and the calls
-//! of the ports are a session (`specs/Session.antt`). So it drops no datagram that it received, takes the ports in
-//! their order, and sends each answer and each packet once; [`laws`] says that what it sends is what a run of the
-//! gateway's events sends.
+//! [`serve`] is proved for any [`Ports`](mg_ports::Ports): at every exit the lines that were read whole and what was
+//! done for them are a session (`specs/Session.antt`). So it drops no datagram that it received, takes the ports in their
+//! order, and sends each answer and each packet once; [`laws`] says that what it sends is what a run of the gateway's
+//! events sends, and that a recording of it is a script of these events.
 #![tactic(auto)]
 
 mod command;
+mod form;
 pub mod laws;
 mod line;
 mod line_driver;
 mod output;
 mod port_counts;
+mod printer;
 mod reports;
 mod server;
 mod serving;
@@ -25,5 +27,8 @@ mod serving;
 // A law can name a line's command in a contract only if the type is exported.
 #[doc(hidden)]
 pub use crate::command::Command;
+// The same holds of what a session prints.
+#[doc(hidden)]
+pub use crate::form::Form;
 pub use crate::serving::serve;
 pub use mg_core::{Config, Counts, RunFault};

@@ -1,14 +1,17 @@
-ghost use Rattle.std.specs.Prelude.{◌≡◌, ◌≢◌, ◌↔◌, ℕ, ◌<◌, List, [], true, length, take, Err, IfErr, IfOk, OnOk};
+ghost use Rattle.std.specs.Prelude.{◌≡◌, ◌≢◌, ◌↔◌, ◌≤◌, ℕ, List, [], true, false, length, take, Err, IfErr, IfOk, OnErr, OnOk};
+ghost use Rattle.std.specs.Option.{option_map};
 ghost use Rattle.mg_engine.specs.Config.{IsValidConfig};
 ghost use Rattle.mg_core.specs.World.{StandsFor, start_of};
 ghost use Rattle.mg_lines.specs.Lines.{without_return};
-ghost use Rattle.mg_serve.specs.Lines.{line_command, is_quit, prints};
+ghost use Rattle.mg_serve.specs.Lines.{line_command, is_quit};
 ghost use Rattle.mg_serve.specs.Session.{Does};
-ghost use Rattle.mg_serve.specs.Serve.{RanLines};
-ghost use Rattle.mg_serve.specs.aids.Driving.{BytesTaken, Finished};
-ghost use Rattle.mg_serve.specs.aids.Takes.{Takes};
+ghost use Rattle.mg_serve.specs.Serve.{RanLines, opening};
+ghost use Rattle.mg_serve.specs.aids.Driving.{BytesTaken, EndsBy, Finished};
+ghost use Rattle.mg_serve.specs.aids.Printing.{Prints};
+ghost use Rattle.mg_serve.specs.aids.Takes.{Takes, outside};
 
 use crate::command::Command;
+use crate::form::Form;
 use crate::line::Line;
 use crate::server::Server;
 use mg_core::{Config, RunFault, StartFault};
@@ -29,18 +32,42 @@ impl<'a, E: Write> LineDriver<'a, E> {
     pub fn new(
         alloc: Global,
         config: Config,
+        form: Form,
         seconds: u16,
         reports: &'a mut E,
     ) -> Result<Self, StartFault>
         ensures bad { (result ≡ Err StartFault.BadConfig) ↔ ¬ IsValidConfig config }
         ensures sound { OnOk result (IsValidConfig config) }
         ensures start { IfOk result (λ driver. StandsFor driver.server.core.state (start_of config)) }
+        ensures printer { IfOk result (λ driver.
+            driver.server.printer ≡ record { form = form; has_failed = false }) }
         ensures begun { IfOk result (λ driver. driver.begun ≡ []) }
     {
         Ok(LineDriver {
-            server: Server::new(alloc, config, seconds, reports)?,
+            server: Server::new(alloc, config, form, seconds, reports)?,
             begun: Line::new(),
         })
+    }
+
+    /// Prints the title of a recording, if it is to be one, and `ready`.
+    pub fn open<W: Write>(
+        &mut self,
+        title: Option<&[u8]>,
+        writer: &mut W,
+    ) -> Result<(), WriteFailed>
+        requires whole { self.old.server.printer.has_failed ≡ false }
+        ensures core { self.new.server.core ≡ self.old.server.core }
+        ensures begun { self.new.begun ≡ self.old.begun }
+        ensures whole { OnOk result (self.new.server.printer.has_failed ≡ false) }
+        ensures failed { OnErr result (self.new.server.printer.has_failed ≡ true) }
+        ensures printed { Prints self.old.server.printer self.new.server.printer (W.contents writer.old)
+            (W.contents writer.new) (opening (option_map (λ text. text.now) title.entry)) }
+    {
+        self.server.printer.open(title, writer);
+        if self.server.printer.has_failed() {
+            return Err(WriteFailed);
+        }
+        Ok(())
     }
 
     /// Takes the line that was begun, which ends here, and answers whether it is the last.
@@ -53,11 +80,15 @@ impl<'a, E: Write> LineDriver<'a, E> {
         writer: &mut W,
     ) -> Result<bool, WriteFailed>
         requires sound { IsValidConfig config }
+        requires room { length buffer.old ≤ 65535 }
+        requires whole { self.old.server.printer.has_failed ≡ false }
         ensures begun { OnOk result (self.new.begun ≡ []) }
         ensures quit { IfOk result (λ quit. quit ≡ is_quit (line_command (without_return self.old.begun))) }
-        ensures printed { IfErr result (λ failed. prints (line_command (without_return self.old.begun)) ≡ true) }
-        ensures value { Takes self.old.server.core.state self.new.server.core.state (P.calls ports.old)
-            (P.calls ports.new)
+        ensures whole { OnOk result (self.new.server.printer.has_failed ≡ false) }
+        ensures failed { IfErr result (λ failed. self.new.server.printer.has_failed ≡ true) }
+        ensures value { Takes self.old.server.core.state self.new.server.core.state
+            (outside (P.calls ports.old) (W.contents writer.old) self.old.server.printer)
+            (outside (P.calls ports.new) (W.contents writer.new) self.new.server.printer)
             (Does config (line_command (without_return self.old.begun))) }
     {
         let command = Command::of(without_return(self.begun.as_slice()));
@@ -79,9 +110,15 @@ impl<'a, E: Write> LineDriver<'a, E> {
         writer: &mut W,
     ) -> Result<bool, WriteFailed>
         requires sound { IsValidConfig config }
+        requires room { length buffer.old ≤ 65535 }
+        requires whole { self.old.server.printer.has_failed ≡ false }
+        ensures whole { OnOk result (self.new.server.printer.has_failed ≡ false) }
+        ensures failed { IfErr result (λ failed. self.new.server.printer.has_failed ≡ true) }
         ensures value { (begun : List ℕ) → self.old.begun ≡ take 8 begun
-            → Takes self.old.server.core.state self.new.server.core.state (P.calls ports.old) (P.calls ports.new)
-            (BytesTaken config begun bytes.now self.new.begun result) }
+            → Takes self.old.server.core.state self.new.server.core.state
+            (outside (P.calls ports.old) (W.contents writer.old) self.old.server.printer)
+            (outside (P.calls ports.new) (W.contents writer.new) self.new.server.printer)
+            (BytesTaken self.old.server.printer.form config begun bytes.now self.new.begun result) }
     {
         for b in bytes {
             if *b != b'\n' {
@@ -105,11 +142,14 @@ impl<'a, E: Write> LineDriver<'a, E> {
         writer: &mut W,
     ) -> Result<(), WriteFailed>
         requires sound { IsValidConfig config }
-        ensures value { Takes self.old.server.core.state self.new.server.core.state (P.calls ports.old)
-            (P.calls ports.new)
+        requires room { length buffer.old ≤ 65535 }
+        requires whole { self.old.server.printer.has_failed ≡ false }
+        ensures value { Takes self.old.server.core.state self.new.server.core.state
+            (outside (P.calls ports.old) (W.contents writer.old) self.old.server.printer)
+            (outside (P.calls ports.new) (W.contents writer.new) self.new.server.printer)
             (Finished config self.old.begun) }
-        ensures some { IfErr result (λ failed. 0 < length self.old.begun) }
-        ensures printed { IfErr result (λ failed. prints (line_command self.old.begun) ≡ true) }
+        ensures whole { OnOk result (self.new.server.printer.has_failed ≡ false) }
+        ensures failed { IfErr result (λ failed. self.new.server.printer.has_failed ≡ true) }
     {
         let line = self.begun.as_slice();
         if line.is_empty() {
@@ -132,11 +172,15 @@ impl<'a, E: Write> LineDriver<'a, E> {
         writer: &mut W,
     ) -> Result<(), RunFault>
         requires sound { IsValidConfig config }
+        requires room { length buffer.old ≤ 65535 }
+        requires whole { self.old.server.printer.has_failed ≡ false }
         requires begun { self.old.begun ≡ [] }
+        ensures ends { EndsBy result self.new.server.printer.has_failed }
         ensures started { result ≢ Err RunFault.BadConfig }
-        ensures value { Takes self.old.server.core.state self.new.server.core.state (P.calls ports.old)
-            (P.calls ports.new)
-            (RanLines config (R.remaining reader.old) (R.remaining reader.new) result) }
+        ensures value { Takes self.old.server.core.state self.new.server.core.state
+            (outside (P.calls ports.old) (W.contents writer.old) self.old.server.printer)
+            (outside (P.calls ports.new) (W.contents writer.new) self.new.server.printer)
+            (RanLines self.old.server.printer.form config (R.remaining reader.old) (R.remaining reader.new) result) }
     {
         let mut bytes = [0; READ_SIZE];
         for _ in 0..u32::MAX {

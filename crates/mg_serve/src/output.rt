@@ -1,18 +1,14 @@
+use arrayvec::ArrayVec;
 use mg_core::Counts;
-use mg_lines::WriteFailed;
 use std::io::Write;
 
-/// Prints a line.
-pub fn print_line<W: Write>(text: &str, writer: &mut W) -> Result<(), WriteFailed> {
-    match writeln!(writer, "{text}") {
-        Ok(()) => Ok(()),
-        Err(_) => Err(WriteFailed),
-    }
-}
+/// A line, as it is made up before it is printed.
+pub type Text = ArrayVec<u8, 512>;
 
-/// Prints what was counted: the datagrams of the control port, those of the media ports, the ticks, the sends, the
-/// failures, the RTP datagrams that were dropped, by their cause, and the frames that stood in for missing ones.
-pub fn print_counts<W: Write>(counts: &Counts, writer: &mut W) -> Result<(), WriteFailed> {
+/// What was counted, as a line without its end: the datagrams of the control port, those of the media ports, the ticks,
+/// the sends, the failures, the RTP datagrams that were dropped, by their cause, and the frames that stood in for
+/// missing ones.
+pub fn counts_text(counts: &Counts) -> Text {
     let Counts {
         control,
         media,
@@ -24,11 +20,10 @@ pub fn print_counts<W: Write>(counts: &Counts, writer: &mut W) -> Result<(), Wri
         ..
     } = counts;
     let [a, b, c, d, e, f] = dropped;
-    match writeln!(
-        writer,
+    let mut text = Text::new();
+    let _ = write!(
+        text,
         "control={control} media={media} ticks={ticks} sent={sent} failed={failed} dropped={a},{b},{c},{d},{e},{f} concealed={concealed}"
-    ) {
-        Ok(()) => Ok(()),
-        Err(_) => Err(WriteFailed),
-    }
+    );
+    text
 }

@@ -1,5 +1,5 @@
+use crate::output::Text;
 use crate::port_counts::PortCounts;
-use arrayvec::ArrayVec;
 use mg_core::{Config, Core, Counts, Record, TERMINATIONS, Taken};
 use mg_words::mode_talks;
 use std::alloc::{AllocError, Global};
@@ -7,9 +7,6 @@ use std::io::Write;
 
 /// Ticks in a second.
 const TICKS: u64 = 50;
-
-/// A line of a report, as it is made up before it is written at once.
-type Text = ArrayVec<u8, 512>;
 
 /// What is printed for an operator every so many seconds: the totals since the start, and a line for each media port
 /// that had trouble since the last report. A print that fails is passed over.

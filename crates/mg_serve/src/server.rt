@@ -1,4 +1,4 @@
-ghost use Rattle.std.specs.Prelude.{◌≡◌, ◌≤◌, ◌+◌, ◌*◌, ◌-◌, ◌⊎◌, ◌↔◌, [], ◌∷◌, map, true, Err, IfErr, IfOk, OnOk};
+ghost use Rattle.std.specs.Prelude.{◌≡◌, ◌≤◌, ◌+◌, ◌*◌, ◌-◌, ◌⊎◌, ◌↔◌, [], ◌∷◌, map, length, true, false, Err, IfErr, IfOk, OnOk};
 ghost use Rattle.mg_engine.specs.Config.{IsValidConfig};
 ghost use Rattle.mg_core.specs.declared.event.Event.TheVariants as events;
 ghost use Rattle.mg_core.specs.Step.{Packet, Step};
@@ -6,13 +6,19 @@ ghost use Rattle.mg_core.specs.World.{World, StandsFor, counts_of, start_of};
 ghost use Rattle.mg_words.specs.Leads.{Leads};
 ghost use Rattle.mg_ports.specs.declared.call.Call.TheVariants.{Send};
 ghost use Rattle.mg_ports.specs.Calls.{Told};
-ghost use Rattle.mg_serve.specs.Lines.{is_quit, prints};
+ghost use Rattle.mg_serve.specs.Lines.{is_quit};
+ghost use Rattle.mg_core.specs.Peer.{peer};
+ghost use Rattle.mg_core.specs.Recording.{IsDatagram};
 ghost use Rattle.mg_serve.specs.Session.{Does, Happens, IsNoEvent, SlotTurn, event_at, send_of};
+ghost use Rattle.mg_serve.specs.Trace.{Called, Happened};
 ghost use Rattle.mg_serve.specs.aids.Driving.{Received};
-ghost use Rattle.mg_serve.specs.aids.Takes.{Takes};
+ghost use Rattle.mg_serve.specs.aids.Printing.{Prints};
+ghost use Rattle.mg_serve.specs.aids.Takes.{Takes, outside};
 
 use crate::command::Command;
-use crate::output::{print_counts, print_line};
+use crate::form::Form;
+use crate::output::counts_text;
+use crate::printer::Printer;
 use crate::reports::Reports;
 use mg_core::{Answer, Config, Core, Counts, Datagram, Peer, StartFault};
 use mg_lines::WriteFailed;
@@ -27,6 +33,7 @@ const TURN: usize = 64;
 #[derive(Drop)]
 pub struct Server<'a, E: Write> {
     pub core: Core,
+    pub printer: Printer,
     reports: Reports<'a, E>,
     /// Lines that were done.
     pub lines: u64,
@@ -68,6 +75,13 @@ fn send_packets<P: Ports>(ports: &mut P, config: Config, packets: &[Datagram], s
     }
 }
 
+/// What is known of a datagram by the types of its parts.
+fn parts_fit(address: &[u8], port: u16, bytes: &[u8])
+    requires four { length address.now ≡ 4 }
+    requires short { length bytes.now ≤ 65535 }
+    ensures fit { IsDatagram (peer address.now port) bytes.now }
+{}
+
 /// The media port of a slot of the ports, the first of which is 1.
 fn media_port(config: Config, slot: u16) -> u16
     requires sound { IsValidConfig config }
@@ -83,15 +97,18 @@ impl<'a, E: Write> Server<'a, E> {
     pub fn new(
         alloc: Global,
         config: Config,
+        form: Form,
         seconds: u16,
         reports: &'a mut E,
     ) -> Result<Self, StartFault>
         ensures bad { (result ≡ Err StartFault.BadConfig) ↔ ¬ IsValidConfig config }
         ensures sound { OnOk result (IsValidConfig config) }
         ensures start { IfOk result (λ server. StandsFor server.core.state (start_of config)) }
+        ensures printer { IfOk result (λ server. server.printer ≡ record { form = form; has_failed = false }) }
     {
         Ok(Server {
             core: Core::new(alloc, config)?,
+            printer: Printer::new(alloc, form)?,
             reports: Reports::new(alloc, seconds, reports)?,
             lines: 0,
             sent: 0,
@@ -100,103 +117,148 @@ impl<'a, E: Write> Server<'a, E> {
     }
 
     /// Takes a control datagram, and sends its answer.
-    fn take_control<P: Ports>(
+    fn take_control<P: Ports, W: Write>(
         &mut self,
         alloc: Global,
         config: Config,
         ports: &mut P,
         source: Peer,
         bytes: &[u8],
+        writer: &mut W,
     )
-        ensures value { Takes self.old.core.state self.new.core.state (P.calls ports.old) (P.calls ports.new)
-            (λ w calls next.
-            Happens config (events.Control source bytes.now) w calls next ⊎ IsNoEvent 0 w calls next) }
+        requires short { length bytes.now ≤ 65535 }
+        ensures value { Takes self.old.core.state self.new.core.state
+            (outside (P.calls ports.old) (W.contents writer.old) self.old.printer)
+            (outside (P.calls ports.new) (W.contents writer.new) self.new.printer)
+            (λ w trace next.
+            Happens config (events.Control source bytes.now) w trace next ⊎ IsNoEvent 0 w trace next) }
     {
-        match self.core.control(alloc, source, bytes) {
-            Ok(Answer::Send) => send(ports, 0, source, self.core.answer(), &mut self.sent),
-            Ok(Answer::Silent) => {}
-            Err(_) => self.unread = self.unread.saturating_add(1),
+        let Ok(answer) = self.core.control(alloc, source, bytes) else {
+            self.printer
+                .note(b"no memory for a control datagram", writer);
+            self.unread = self.unread.saturating_add(1);
+            return;
+        };
+        self.printer.control(source, bytes, writer);
+        match answer {
+            Answer::Send => send(ports, 0, source, self.core.answer(), &mut self.sent),
+            Answer::Silent => {}
         }
     }
 
     /// Takes an RTP datagram that came to a media port's slot.
-    fn take_media(&mut self, config: Config, slot: u16, source: Peer, bytes: &[u8])
+    fn take_media<W: Write>(
+        &mut self,
+        config: Config,
+        slot: u16,
+        source: Peer,
+        bytes: &[u8],
+        writer: &mut W,
+    )
         requires sound { IsValidConfig config }
         requires first { 1 ≤ slot }
         requires last { slot ≤ config.slots }
+        requires short { length bytes.now ≤ 65535 }
         ensures value { Leads StandsFor self.old.core.state self.new.core.state (λ w next.
             Step w (event_at config slot source bytes.now) [] next) }
+        ensures printed { Prints self.old.printer self.new.printer (W.contents writer.old) (W.contents writer.new)
+            (Happened (event_at config slot source bytes.now) ∷ []) }
     {
         let port = media_port(config, slot);
         let taken = self.core.media(port, source, bytes);
+        self.printer.media(port, source, bytes, writer);
         self.reports.count(slot, taken, self.core.counts().ticks);
     }
 
     /// Receives a datagram at a slot and takes it, and answers whether one came.
-    fn receive<P: Ports>(
+    fn receive<P: Ports, W: Write>(
         &mut self,
         alloc: Global,
         config: Config,
         ports: &mut P,
         slot: u16,
         buffer: &mut [u8],
+        writer: &mut W,
     ) -> bool
         requires sound { IsValidConfig config }
         requires last { slot ≤ config.slots }
-        ensures value { Takes self.old.core.state self.new.core.state (P.calls ports.old) (P.calls ports.new)
+        requires room { length buffer.old ≤ 65535 }
+        ensures value { Takes self.old.core.state self.new.core.state
+            (outside (P.calls ports.old) (W.contents writer.old) self.old.printer)
+            (outside (P.calls ports.new) (W.contents writer.new) self.new.printer)
             (Received config slot result) }
     {
         match ports.receive(usize::from(slot), buffer) {
             Ok(Some((n, source))) => {
+                let bytes = &buffer[..n];
+                parts_fit(source.address.as_slice(), source.port, bytes);
                 if slot == 0 {
-                    self.take_control(alloc, config, ports, source, &buffer[..n]);
+                    self.take_control(alloc, config, ports, source, bytes, writer);
                 } else {
-                    self.take_media(config, slot, source, &buffer[..n]);
+                    self.take_media(config, slot, source, bytes, writer);
                 }
                 true
             }
-            Ok(None) | Err(_) => false,
+            Ok(None) => false,
+            Err(_) => false,
         }
     }
 
     /// Takes what waits at a slot: at most 64 datagrams, and no more where a receive failed.
-    fn turn<P: Ports>(
+    fn turn<P: Ports, W: Write>(
         &mut self,
         alloc: Global,
         config: Config,
         ports: &mut P,
         slot: u16,
         buffer: &mut [u8],
+        writer: &mut W,
     )
         requires sound { IsValidConfig config }
         requires last { slot ≤ config.slots }
-        ensures value { Takes self.old.core.state self.new.core.state (P.calls ports.old) (P.calls ports.new)
+        requires room { length buffer.old ≤ 65535 }
+        ensures value { Takes self.old.core.state self.new.core.state
+            (outside (P.calls ports.old) (W.contents writer.old) self.old.printer)
+            (outside (P.calls ports.new) (W.contents writer.new) self.new.printer)
             (SlotTurn config slot) }
     {
         for _ in 0..TURN {
-            if !self.receive(alloc, config, ports, slot, buffer) {
+            if !self.receive(alloc, config, ports, slot, buffer, writer) {
                 return;
             }
         }
     }
 
     /// Takes what waits at the control port, and then at each media port in rising order.
-    fn poll<P: Ports>(&mut self, alloc: Global, config: Config, ports: &mut P, buffer: &mut [u8])
+    fn poll<P: Ports, W: Write>(
+        &mut self,
+        alloc: Global,
+        config: Config,
+        ports: &mut P,
+        buffer: &mut [u8],
+        writer: &mut W,
+    )
         requires sound { IsValidConfig config }
-        ensures value { Takes self.old.core.state self.new.core.state (P.calls ports.old) (P.calls ports.new)
+        requires room { length buffer.old ≤ 65535 }
+        ensures value { Takes self.old.core.state self.new.core.state
+            (outside (P.calls ports.old) (W.contents writer.old) self.old.printer)
+            (outside (P.calls ports.new) (W.contents writer.new) self.new.printer)
             (Does config Command.Poll) }
     {
         for slot in 0..=config.slots {
-            self.turn(alloc, config, ports, slot, buffer);
+            self.turn(alloc, config, ports, slot, buffer, writer);
         }
     }
 
     /// Passes on by 20 ms, sends the packets, and reports if that is due.
-    fn tick<P: Ports>(&mut self, config: Config, ports: &mut P)
-        ensures value { Takes self.old.core.state self.new.core.state (P.calls ports.old) (P.calls ports.new)
+    fn tick<P: Ports, W: Write>(&mut self, config: Config, ports: &mut P, writer: &mut W)
+        ensures value { Takes self.old.core.state self.new.core.state
+            (outside (P.calls ports.old) (W.contents writer.old) self.old.printer)
+            (outside (P.calls ports.new) (W.contents writer.new) self.new.printer)
             (Does config Command.Tick) }
     {
         self.core.tick();
+        self.printer.tick(writer);
         send_packets(ports, config, self.core.outbox(), &mut self.sent);
         self.report_if_due(config, ports);
     }
@@ -204,6 +266,7 @@ impl<'a, E: Write> Server<'a, E> {
     /// Reports to the operator, if that is due.
     fn report_if_due<P: Ports>(&mut self, config: Config, ports: &P)
         ensures core { self.new.core ≡ self.old.core }
+        ensures printer { self.new.printer ≡ self.old.printer }
     {
         let counts = self.counts(ports);
         if self.reports.is_due(counts.ticks) {
@@ -225,7 +288,36 @@ impl<'a, E: Write> Server<'a, E> {
         }
     }
 
-    /// Does what a line asks for, and answers whether that is to quit.
+    /// Does what a line asks for.
+    fn obey<P: Ports, W: Write>(
+        &mut self,
+        alloc: Global,
+        config: Config,
+        ports: &mut P,
+        buffer: &mut [u8],
+        command: Command,
+        writer: &mut W,
+    )
+        requires sound { IsValidConfig config }
+        requires room { length buffer.old ≤ 65535 }
+        ensures value { Takes self.old.core.state self.new.core.state
+            (outside (P.calls ports.old) (W.contents writer.old) self.old.printer)
+            (outside (P.calls ports.new) (W.contents writer.new) self.new.printer)
+            (Does config command) }
+    {
+        match command {
+            Command::Poll => self.poll(alloc, config, ports, buffer, writer),
+            Command::Tick => self.tick(config, ports, writer),
+            Command::Stats => {
+                let text = counts_text(&self.counts(ports));
+                self.printer.print(text.as_slice(), writer);
+            }
+            Command::Quit => {}
+            Command::Unknown => self.printer.print(b"unknown command", writer),
+        }
+    }
+
+    /// Does what a line asks for, and answers whether that is to quit. It is done whole also where a print failed.
     pub fn take_command<P: Ports, W: Write>(
         &mut self,
         alloc: Global,
@@ -236,19 +328,20 @@ impl<'a, E: Write> Server<'a, E> {
         writer: &mut W,
     ) -> Result<bool, WriteFailed>
         requires sound { IsValidConfig config }
+        requires room { length buffer.old ≤ 65535 }
         ensures quit { IfOk result (λ quit. quit ≡ is_quit command) }
-        ensures printed { IfErr result (λ failed. prints command ≡ true) }
-        ensures value { Takes self.old.core.state self.new.core.state (P.calls ports.old) (P.calls ports.new)
+        ensures whole { OnOk result (self.new.printer.has_failed ≡ false) }
+        ensures failed { IfErr result (λ failed. self.new.printer.has_failed ≡ true) }
+        ensures value { Takes self.old.core.state self.new.core.state
+            (outside (P.calls ports.old) (W.contents writer.old) self.old.printer)
+            (outside (P.calls ports.new) (W.contents writer.new) self.new.printer)
             (Does config command) }
     {
         self.lines = self.lines.saturating_add(1);
-        match command {
-            Command::Poll => self.poll(alloc, config, ports, buffer),
-            Command::Tick => self.tick(config, ports),
-            Command::Stats => print_counts(&self.counts(ports), writer)?,
-            Command::Quit => return Ok(true),
-            Command::Unknown => print_line("unknown command", writer)?,
+        self.obey(alloc, config, ports, buffer, command, writer);
+        if self.printer.has_failed() {
+            return Err(WriteFailed);
         }
-        Ok(false)
+        Ok(command == Command::Quit)
     }
 }

@@ -1,9 +1,10 @@
 ghost use Rattle.std.specs.Prelude.{◌≡◌, ◌↔◌, length, Err, IfOk, OnOk};
+ghost use Rattle.std.specs.Option.{option_map};
 ghost use Rattle.mg_engine.specs.Config.{IsValidConfig};
-ghost use Rattle.mg_serve.specs.Serve.{ServedSession};
+ghost use Rattle.mg_serve.specs.Serve.{ServedSession, form_of};
 
+use crate::form::Form;
 use crate::line_driver::LineDriver;
-use crate::output::print_line;
 use mg_core::{Config, Counts, RunFault};
 use mg_ports::Ports;
 use std::alloc::{AllocError, Global};
@@ -22,6 +23,11 @@ const DATAGRAM_LIMIT: usize = 65535;
 ///   they are.
 /// - Any other line prints `unknown command`.
 ///
+/// With a title, what it prints is a recording: a script with a line for each event, `control`, `rtp` or `tick`, in
+/// order, whose first line is a comment of the title, and in which all else that is printed is a comment. `run` of
+/// `mg_core` over it does the session again. A control datagram for which there was no memory is a comment too. Where a
+/// print fails, the line of the input is done whole, and nothing more is printed.
+///
 /// Every so many seconds of ticks, if any, it reports to an operator: the totals since the start, and each media port
 /// that had trouble since the last report. A report that can't be printed is passed over.
 ///
@@ -31,26 +37,38 @@ const DATAGRAM_LIMIT: usize = 65535;
 pub fn serve<P: Ports, R: Read, W: Write, E: Write>(
     alloc: Global,
     config: Config,
+    title: Option<&[u8]>,
     ports: &mut P,
     reader: &mut R,
     writer: &mut W,
     seconds: u16,
     reports: &mut E,
 ) -> Result<Counts, RunFault>
-    ensures session { ServedSession config (R.remaining reader.old) (R.remaining reader.new) (P.calls ports.old)
-        (P.calls ports.new) result }
+    ensures session { ServedSession config (option_map (λ text. text.now) title.entry) (R.remaining reader.old)
+        (R.remaining reader.new) (P.calls ports.old) (P.calls ports.new) (W.contents writer.old)
+        (W.contents writer.new) result }
     ensures bad { (result ≡ Err RunFault.BadConfig) ↔ ¬ IsValidConfig config }
     ensures sound { OnOk result (IsValidConfig config) }
 {
-    let mut driver = LineDriver::new(alloc, config, seconds, reports)?;
+    let mut driver = LineDriver::new(alloc, config, form_of(title), seconds, reports)?;
     let Ok(mut buffer) = datagram_buffer(alloc) else {
         return Err(RunFault::NoMemory);
     };
-    if print_line("ready", writer).is_err() {
+    let Ok(()) = driver.open(title, writer) else {
         return Err(RunFault::Write);
-    }
+    };
     driver.take_all(alloc, config, ports, buffer.as_mut_slice(), reader, writer)?;
     Ok(driver.server.counts(ports))
+}
+
+/// What is printed: a recording, if it has a title.
+fn form_of(title: Option<&[u8]>) -> Form
+    ensures value { result ≡ form_of (option_map (λ text. text.now) title.entry) }
+{
+    match title {
+        None => Form::Plain,
+        Some(_) => Form::Recording,
+    }
 }
 
 /// Room for the longest datagram.

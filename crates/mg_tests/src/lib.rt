@@ -8,7 +8,13 @@
 #[cfg(test)]
 mod engine;
 #[cfg(test)]
+mod flows;
+#[cfg(test)]
 mod machine;
+#[cfg(test)]
+mod recorded;
+#[cfg(test)]
+mod recording;
 #[cfg(test)]
 mod reply;
 #[cfg(test)]

@@ -16,11 +16,11 @@ const ADD: &[u8] = b"MEGACO/1 [127.0.0.1]:2945 Transaction=1{Context=${Add=${Med
     LocalControl{Mode=SendReceive},Local{v=0\nc=IN IP4 $\nm=audio $ RTP/AVP 0\n},\
     Remote{v=0\nc=IN IP4 127.0.0.1\nm=audio 40000 RTP/AVP 0\n}}}}}";
 
-const HEARTBEAT: &[u8] =
+pub const HEARTBEAT: &[u8] =
     b"MEGACO/1 [127.0.0.1]:2945 Transaction=2{Context=-{AuditValue=ROOT{Audit{}}}}";
 
 /// A gateway with two media ports.
-fn config() -> Config {
+pub fn config() -> Config {
     Config {
         slots: 2,
         ..Config::default()
@@ -28,7 +28,7 @@ fn config() -> Config {
 }
 
 /// Ports at which these datagrams wait, and at which the calls of these numbers fail.
-fn ports(
+pub fn ports(
     alloc: Global,
     waiting: &[(usize, &[u8])],
     failing: &[u64],
@@ -57,7 +57,7 @@ fn letter(call: &Call) -> char {
 }
 
 /// Each call with its slot.
-fn told(alloc: Global, ports: &FakePorts) -> Result<String, AllocError> {
+pub fn told(alloc: Global, ports: &FakePorts) -> Result<String, AllocError> {
     let mut text = String::new(alloc);
     for call in ports.calls().unwrap_or(&[]) {
         let (Call::Receive(slot, _) | Call::Send(slot, _, _)) = call;
@@ -90,6 +90,7 @@ fn session(
     let result = serve(
         alloc,
         config(),
+        None,
         &mut ports,
         &mut input,
         &mut printed,
@@ -128,6 +129,7 @@ fn loses_the_packet_whose_send_fails(rt: HostRuntime) -> Result<(), Fail> {
     let result = serve(
         alloc,
         config(),
+        None,
         &mut ports,
         &mut input,
         &mut printed,
@@ -290,6 +292,7 @@ fn reported(alloc: Global, seconds: u16, ticks: u64) -> Result<Vec<u8>, AllocErr
     let _ = serve(
         alloc,
         config(),
+        None,
         &mut ports,
         &mut input,
         &mut printed,
@@ -335,6 +338,7 @@ fn refuses_a_bad_configuration(rt: HostRuntime) -> Result<(), Fail> {
     let result = serve(
         alloc,
         config,
+        None,
         &mut ports,
         &mut input,
         &mut printed,
@@ -366,8 +370,8 @@ impl Read for FailingReader {
 
 /// A writer that takes so many calls, and then fails.
 #[derive(Drop)]
-struct FailingWriter {
-    calls: u64,
+pub struct FailingWriter {
+    pub calls: u64,
 }
 
 impl Write for FailingWriter {
@@ -394,6 +398,7 @@ fn ends_where_a_read_fails(rt: HostRuntime) -> Result<(), Fail> {
     let result = serve(
         alloc,
         config(),
+        None,
         &mut ports,
         &mut input,
         &mut printed,
@@ -414,6 +419,7 @@ fn told_with_writer(alloc: Global, calls: u64, lines: &[u8]) -> Result<String, A
     let result = serve(
         alloc,
         config(),
+        None,
         &mut ports,
         &mut input,
         &mut output,
@@ -430,7 +436,7 @@ fn told_with_writer(alloc: Global, calls: u64, lines: &[u8]) -> Result<String, A
 fn ends_where_a_print_fails(rt: HostRuntime) -> Result<(), Fail> {
     let alloc = rt.alloc();
     let lines: &[u8] = b"poll\npol\npoll\n";
-    assert_eq!(rt; told_with_writer(alloc, 2, lines)?.as_str(), "n0c1n1n2");
+    assert_eq!(rt; told_with_writer(alloc, 1, lines)?.as_str(), "n0c1n1n2");
     assert_eq!(rt; told_with_writer(alloc, 0, lines)?.as_str(), "");
     Ok(())
 }

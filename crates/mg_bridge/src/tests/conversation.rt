@@ -88,6 +88,7 @@ fn serve_lines<P: Ports>(
     let result = serve(
         alloc,
         config,
+        None,
         ports,
         &mut input,
         &mut printed,

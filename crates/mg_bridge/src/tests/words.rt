@@ -1,4 +1,9 @@
 use super::run_program;
+use crate::invocation::Invocation;
+use crate::options::asked_run;
+use crate::title::title_of;
+use mg_core::Config;
+use std::alloc::{AllocError, Global};
 use std::test::Fail;
 
 #[test]
@@ -45,4 +50,47 @@ fn prints_help(rt: HostRuntime) {
         assert!(rt; !done.output.is_empty());
         assert!(rt; done.errors.is_empty());
     }
+}
+
+/// The words of the command that the title of a recording names.
+fn title_words(alloc: Global, config: &Config) -> Result<Vec<String>, AllocError> {
+    let title = title_of(config);
+    let mut words = Vec::new(alloc);
+    for word in title.as_slice().split(|b| *b == b' ').skip(1) {
+        let mut text = String::new(alloc);
+        for b in word {
+            text.push(char::from(*b))?;
+        }
+        words.push(text)?;
+    }
+    Ok(words)
+}
+
+/// Whether the title of a recording asks for a replay with this configuration.
+fn is_titled(alloc: Global, config: Config) -> Result<bool, Fail> {
+    let words = title_words(alloc, &config)?;
+    match asked_run(alloc, words.as_slice()) {
+        Ok(Invocation::Replay(asked, _)) => Ok(asked == config),
+        Ok(_) | Err(_) => Ok(false),
+    }
+}
+
+#[test]
+fn titles_name_all_options(rt: HostRuntime) -> Result<(), Fail> {
+    let alloc = rt.alloc();
+    assert!(rt; is_titled(alloc, Config::default())?);
+    let longest = Config {
+        address: [203, 0, 113, 255],
+        control_address: [198, 51, 100, 254],
+        control_port: 65535,
+        base_port: 65534,
+        slots: 65535,
+        first_termination: u32::MAX,
+        first_context: u32::MAX - 1,
+        ssrc: u32::MAX - 2,
+        sequence: 65533,
+        timestamp: u32::MAX - 3,
+    };
+    assert!(rt; is_titled(alloc, longest)?);
+    Ok(())
 }

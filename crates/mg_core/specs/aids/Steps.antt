@@ -18,6 +18,8 @@ use Rattle.mg_core.specs.declared.fault.RunFault.{RunFault}
 use Rattle.mg_core.specs.declared.fault.RunFault.TheVariants as runs
 use Rattle.mg_core.specs.declared.fault.ScriptFault.{ScriptFault}
 use Rattle.mg_core.specs.declared.fault.ScriptFault.TheVariants as scripts
+use Rattle.mg_core.specs.declared.shown.Shown.{Shown}
+use Rattle.mg_core.specs.declared.shown.Shown.TheVariants as shows
 use Rattle.mg_core.specs.declared.state.CoreState.{CoreState}
 use Rattle.mg_words.specs.Leads.{Leads}
 use Rattle.mg_reply.specs.declared.item.Item.TheVariants as told
@@ -27,6 +29,7 @@ use Rattle.mg_reply.specs.Written.{reply_text}
 use Rattle.mg_core.specs.World.{World, StandsFor, capped, start_of}
 use Rattle.mg_lines.specs.Lines.{lines_after, lines_of}
 use Rattle.mg_lines.specs.Streams.{WritesFront}
+use Rattle.mg_core.specs.Flows.{Listener, listeners_of, changes_by}
 use Rattle.mg_core.specs.Script.{event_of}
 use Rattle.mg_core.specs.Step.{Sent, Step}
 use Rattle.mg_core.specs.Run.{Ran, RanInPart, HasRead, HasBadAfter, RanToBadLine, RanAllRead}
@@ -56,94 +59,129 @@ unfoldable pub after_sent : ℕ → List Sent → ℕ
 after_sent n [] = n
 after_sent n (s ∷ sent) = after_sent (capped (n + 1)) sent
 
--- an event was run, the lines for what it sends were written, and what was sent was counted
-pub record EventDone (event : Event) (w next : World) (n m : ℕ)
+-- what is written of an event that leads to the next world
+abbrev pub event_text : Shown → World → List Sent → World → List ℕ
+event_text shows.Sent w sent next = lines_for sent
+event_text shows.SentAndFlows w sent next = lines_for sent ++ changes_by w next
+
+-- an event was run, its text was written, and what was sent was counted
+pub record EventDone (shown : Shown) (event : Event) (w next : World) (n m : ℕ)
     (old new : Option (List ℕ)) : Type 0 where
   pub sent : List Sent
   pub step : Step w event sent next
-  pub written : Appends old new (lines_for sent)
+  pub written : Appends old new (event_text shown w sent next)
   pub counted : m ≡ after_sent n sent
 
--- an event was run, and the front of those lines was written
-pub record EventCut (event : Event) (w next : World) (old new : Option (List ℕ)) : Type 0 where
+-- an event was run, and the front of its text was written
+pub record EventCut (shown : Shown) (event : Event) (w next : World) (old new : Option (List ℕ))
+    : Type 0 where
   pub sent : List Sent
   pub step : Step w event sent next
-  pub written : WritesFront (lines_for sent) old new
+  pub written : WritesFront (event_text shown w sent next) old new
 
-abbrev pub EventRan : Event → World → World → ℕ → ℕ → Option (List ℕ) → Option (List ℕ)
+abbrev pub EventRan : Shown → Event → World → World → ℕ → ℕ → Option (List ℕ)
+    → Option (List ℕ) → Result (Unit {0}) EventFault → Type 0
+EventRan shown event w next n m old new (Ok done) = EventDone shown event w next n m old new
+EventRan shown event w next n m old new (Err events.Write) = EventCut shown event w next old new
+EventRan shown event w next n m old new (Err events.NoMemory) = Keeps old new × (next ≡ w)
+
+-- what an event changed that led to the next world was written, where changes are shown, or the
+-- front of it was
+abbrev pub ChangesWritten : Shown → World → World → Option (List ℕ) → Option (List ℕ)
     → Result (Unit {0}) EventFault → Type 0
-EventRan event w next n m old new (Ok done) = EventDone event w next n m old new
-EventRan event w next n m old new (Err events.Write) = EventCut event w next old new
-EventRan event w next n m old new (Err events.NoMemory) = Keeps old new × (next ≡ w)
+ChangesWritten shows.Sent w next old new result = (result ≡ Ok tt) × Keeps old new
+ChangesWritten shows.SentAndFlows w next old new (Ok done) = Appends old new (changes_by w next)
+ChangesWritten shows.SentAndFlows w next old new (Err events.Write) =
+    WritesFront (changes_by w next) old new
+ChangesWritten shows.SentAndFlows w next old new (Err events.NoMemory) = ⊥
+
+-- the terminations that are kept, where changes are shown, are those of the world
+abbrev pub AreKept : Shown → Option (List Listener) → World → Type 0
+AreKept shows.Sent kept w = kept ≡ None
+AreKept shows.SentAndFlows kept w = kept ≡ Some (listeners_of w.gateway)
+
+-- a state stands for the world, whose terminations are kept
+pub record Follows (shown : Shown) (state : CoreState) (kept : Option (List Listener)) (w : World)
+    : Type 0 where
+  pub stands : StandsFor state w
+  pub same : AreKept shown kept w
+
+-- from each world that was followed it led to one, and where all was done that one is followed
+abbrev pub LeadsOn : {E : Type 0} → (World → Type 0) → (World → Type 0) → Result (Unit {0}) E
+    → (World → World → Type 0) → Type 0
+LeadsOn Old New result Comes =
+    (w : World) → Old w → (next : World) × Comes w next × OnOk result (New next)
 
 -- lines were run, and what they sent was counted
-pub record RanCounted (w : World) (lines : List (List ℕ)) (last : World) (n m : ℕ)
-    (old new : Option (List ℕ)) : Type 0 where
-  pub ran : Ran w lines last old new
+pub record RanCounted (shown : Shown) (w : World) (lines : List (List ℕ)) (last : World)
+    (n m : ℕ) (old new : Option (List ℕ)) : Type 0 where
+  pub ran : Ran shown w lines last old new
   pub counted : m ≡ after_sent n ran.sent
 
 -- a line was run, or why it was not
-abbrev pub LineRan : ℕ → List ℕ → World → World → ℕ → ℕ → Option (List ℕ) → Option (List ℕ)
-    → Result (Unit {0}) LineFault → Type 0
-LineRan number line w next n m old new (Ok done) = RanCounted w (line ∷ []) next n m old new
-LineRan number line w next n m old new (Err (stops.Bad bad)) =
+abbrev pub LineRan : Shown → ℕ → List ℕ → World → World → ℕ → ℕ → Option (List ℕ)
+    → Option (List ℕ) → Result (Unit {0}) LineFault → Type 0
+LineRan shown number line w next n m old new (Ok done) =
+    RanCounted shown w (line ∷ []) next n m old new
+LineRan shown number line w next n m old new (Err (stops.Bad bad)) =
     (bad ≡ number) × (event_of line ≡ None) × Keeps old new × (next ≡ w)
-LineRan number line w next n m old new (Err stops.Write) = RanInPart w (line ∷ []) next old new
-LineRan number line w next n m old new (Err stops.NoMemory) = Keeps old new × (next ≡ w)
+LineRan shown number line w next n m old new (Err stops.Write) =
+    RanInPart shown w (line ∷ []) next old new
+LineRan shown number line w next n m old new (Err stops.NoMemory) = Keeps old new × (next ≡ w)
 
 -- The lines that end in some bytes were run, and the line after them is begun, whatever stands
 -- after the bytes; or why they were not.
-abbrev pub BytesRan : ℕ → ℕ → List ℕ → List ℕ → List ℕ → World → World → ℕ → ℕ
+abbrev pub BytesRan : Shown → ℕ → ℕ → List ℕ → List ℕ → List ℕ → World → World → ℕ → ℕ
     → Option (List ℕ) → Option (List ℕ) → Result (Unit {0}) LineFault → Type 0
-BytesRan count counted begun bytes left w next n m old new (Ok done) =
+BytesRan shown count counted begun bytes left w next n m old new (Ok done) =
     (lines : List (List ℕ))
     × ((ended : Bool) (more : List ℕ) → lines_after ended begun (bytes ++ more) ≡ lines
     ++ lines_after ended left more)
-    × (counted ≡ count + length lines) × RanCounted w lines next n m old new
-BytesRan count counted begun bytes left w next n m old new (Err (stops.Bad number)) =
+    × (counted ≡ count + length lines) × RanCounted shown w lines next n m old new
+BytesRan shown count counted begun bytes left w next n m old new (Err (stops.Bad number)) =
     (lines : List (List ℕ))
     × ((more : List ℕ) → HasBadAfter lines (lines_after true begun (bytes ++ more)))
-    × (number ≡ count + length lines + 1) × Ran w lines next old new
-BytesRan count counted begun bytes left w next n m old new (Err stops.Write) =
+    × (number ≡ count + length lines + 1) × Ran shown w lines next old new
+BytesRan shown count counted begun bytes left w next n m old new (Err stops.Write) =
     (lines : List (List ℕ)) × (line : List ℕ) × (others : List (List ℕ))
     × (lines_after false begun bytes ≡ lines ++ line ∷ others)
-    × (mid : World) × (held : Option (List ℕ)) × Ran w lines mid old held
-    × RanInPart mid (line ∷ []) next held new
-BytesRan count counted begun bytes left w next n m old new (Err stops.NoMemory) =
+    × (mid : World) × (held : Option (List ℕ)) × Ran shown w lines mid old held
+    × RanInPart shown mid (line ∷ []) next held new
+BytesRan shown count counted begun bytes left w next n m old new (Err stops.NoMemory) =
     (lines : List (List ℕ)) × (line : List ℕ) × (others : List (List ℕ))
-    × (lines_after false begun bytes ≡ lines ++ line ∷ others) × Ran w lines next old new
+    × (lines_after false begun bytes ≡ lines ++ line ∷ others) × Ran shown w lines next old new
 
 -- the line that was begun is the last, if there is one, and is counted
-abbrev pub Finishes : ℕ → ℕ → List ℕ → World → World → ℕ → ℕ → Option (List ℕ)
+abbrev pub Finishes : Shown → ℕ → ℕ → List ℕ → World → World → ℕ → ℕ → Option (List ℕ)
     → Option (List ℕ) → Result (Unit {0}) LineFault → Type 0
-Finishes count counted [] w next n m old new result =
+Finishes shown count counted [] w next n m old new result =
     (result ≡ Ok tt) × Keeps old new × (next ≡ w) × (counted ≡ count) × (m ≡ n)
-Finishes count counted (b ∷ bs) w next n m old new result =
-    LineRan (count + 1) (b ∷ bs) w next n m old new result × OnOk result (counted ≡ count + 1)
+Finishes shown count counted (b ∷ bs) w next n m old new result =
+    LineRan shown (count + 1) (b ∷ bs) w next n m old new result × OnOk result (counted ≡ count + 1)
 
 -- the whole of a script was run, the state stands for the world that it came to, and the lines
 -- and what was sent were counted
-pub record AllRanCounted (config : Config) (script : List ℕ) (state : CoreState) (count n : ℕ)
-    (old new : Option (List ℕ)) : Type 0 where
+pub record AllRanCounted (config : Config) (shown : Shown) (script : List ℕ) (state : CoreState)
+    (count n : ℕ) (old new : Option (List ℕ)) : Type 0 where
   pub last : World
-  pub ran : RanCounted (start_of config) (lines_of true script) last 0 n old new
+  pub ran : RanCounted shown (start_of config) (lines_of true script) last 0 n old new
   pub stands : StandsFor state last
   pub lines : count ≡ length (lines_of true script)
 
 -- so it was of all of an input, or how far it was run
-abbrev pub AllRan : Config → (input rest : Option (List ℕ)) → CoreState → ℕ → ℕ
+abbrev pub AllRan : Config → Shown → (input rest : Option (List ℕ)) → CoreState → ℕ → ℕ
     → (old new : Option (List ℕ)) → Result (Unit {0}) ScriptFault → Type 0
-AllRan config input rest state count n old new (Ok done) =
+AllRan config shown input rest state count n old new (Ok done) =
     (script : List ℕ) × HasRead input rest script true
-    × AllRanCounted config script state count n old new
-AllRan config input rest state count n old new (Err (scripts.Bad number)) =
-    RanToBadLine config input rest number old new
-AllRan config input rest state count n old new (Err scripts.Read) =
-    RanAllRead config input rest old new
-AllRan config input rest state count n old new (Err scripts.Write) =
-    RanToCutLine config input rest old new
-AllRan config input rest state count n old new (Err scripts.NoMemory) =
-    RanToUnrunLine config input rest old new
+    × AllRanCounted config shown script state count n old new
+AllRan config shown input rest state count n old new (Err (scripts.Bad number)) =
+    RanToBadLine config shown input rest number old new
+AllRan config shown input rest state count n old new (Err scripts.Read) =
+    RanAllRead config shown input rest old new
+AllRan config shown input rest state count n old new (Err scripts.Write) =
+    RanToCutLine config shown input rest old new
+AllRan config shown input rest state count n old new (Err scripts.NoMemory) =
+    RanToUnrunLine config shown input rest old new
 
 -- ## Faults as others
 

@@ -1,14 +1,32 @@
 -- Steps of the code, by what they make of each world.
-use Rattle.std.specs.Prelude.{List, Option}
+use Rattle.std.specs.Prelude.{ℕ, List, Option}
 use Rattle.mg_core.specs.declared.state.CoreState.{CoreState}
 use Rattle.mg_core.specs.World.{World, StandsFor}
 use Rattle.mg_ports.specs.declared.call.Call.{Call}
 use Rattle.mg_ports.specs.Calls.{Told}
+use Rattle.mg_serve.specs.Trace.{Did, calls_of}
+use Rattle.mg_serve.specs.aids.Printing.{PrinterView, Prints}
 
--- From each world that the core stood for a step leads, with the calls that the ports told, to a
--- world that the core stands for afterwards.
-abbrev pub Takes : CoreState → CoreState → Option (List Call) → Option (List Call)
-    → (World → List Call → World → Type 0) → Type 0
-Takes old new before told R =
-    (w : World) → StandsFor old w → (calls : List Call) × (next : World) × Told before told calls
-    × R w calls next × StandsFor new next
+-- what is seen of a server from outside: the calls that its ports told, what its writer holds, and
+-- its printer
+pub record Outside : Type 0 where
+  pub calls : Option (List Call)
+  pub written : Option (List ℕ)
+  pub printer : PrinterView
+
+abbrev pub outside : Option (List Call) → Option (List ℕ) → PrinterView → Outside
+outside calls written printer =
+    record { calls = calls; written = written; printer = printer }
+
+-- from outside, these things were done
+pub record Tells (old new : Outside) (trace : List Did) : Type 0 where
+  pub told : Told old.calls new.calls (calls_of trace)
+  pub prints : Prints old.printer new.printer old.written new.written trace
+
+-- From each world that the core stood for a step leads, by what was done, to a world that the core
+-- stands for afterwards.
+abbrev pub Takes : CoreState → CoreState → Outside → Outside
+    → (World → List Did → World → Type 0) → Type 0
+Takes old new before after R =
+    (w : World) → StandsFor old w → (trace : List Did) × (next : World) × Tells before after trace
+    × R w trace next × StandsFor new next

@@ -1,4 +1,4 @@
-use Rattle.std.proofs.Common.{◌∙◌, map, sym, ap, true≢false}
+use Rattle.std.proofs.Common.{◌∙◌, map, sym, true≢false}
 use Rattle.clap.specs.Words.{found_of, kind_of, rows_of}
 use Rattle.mg_bridge.specs.Options.{IsRefused, asked}
 use Rattle.mg_bridge.proofs.InvocationLaws.{asks_none, asks_run, at_address, meets_subcommand, memory_passed_on, passed_on, refuses_address, refuses_control, refuses_controllers, run_is}
@@ -62,9 +62,10 @@ returns-in-Ok-controllers_of-clause-run g c =
     c.in_ok-matches.ensures.kinds c.in_ok-matches.ensures.ok.2
     c.in-Some.ensures.name c.in-Some.ensures.rows in
     asks ∙ (at_address name rows c.default.result _ c.default.ensures c.in-Ok.ensures.value
-    ∙ run_is name rows c.in-Ok.address c.in-Ok-address_of.control _ _ _ _ _ c.in-Ok-address_of.ensures.value
+    ∙ run_is name rows c.in-Ok.address c.in-Ok-address_of.control _ _ _ _ _ _ _ c.in-Ok-address_of.ensures.value
     c.config_at.ensures.value c.in-Ok-controllers_of.ensures.value
-    c.late_of.ensures.value c.report_of.ensures.value c.run_of.ensures.value)
+    c.late_of.ensures.value c.report_of.ensures.value c.is_set.ensures.value c.shown_of.ensures.value
+    c.run_of.ensures.value)
 
 pub returns-in_err-error-in-Err-controllers_of-clause-refused :
     goal.returns-in_err-error-in-Err-controllers_of-clause-refused

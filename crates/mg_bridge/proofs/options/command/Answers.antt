@@ -1,11 +1,11 @@
 use Rattle.std.proofs.Common.{◌≡◌, ◌∙◌, true, ap, refl, codes}
 use Rattle.clap.specs.Words.{Shape, app_of, new_app}
 use Rattle.clap.specs.Simple.{app_of_fields, on_top}
-use Rattle.mg_bridge.specs.Options.{command_line, live_line, options, sockets_line, subcommand_line}
+use Rattle.mg_bridge.specs.Options.{command_line, live_line, options, replay_line, sockets_line}
 use Rattle.mg_bridge.proofs.CommandLaws.{adds_subcommand}
 use Rattle.mg_bridge.proofs.options.command.Goals as goal
 
-replay_is_plain : (subcommand_line (codes "replay")).top.is_plain ≡ true
+replay_is_plain : replay_line.top.is_plain ≡ true
 unfolding options
 replay_is_plain = refl
 

@@ -7,5 +7,6 @@ pub returns-clause-app : goal.returns-clause-app
 returns-clause-app c =
     let controller = adds_rule _ _ _ _ _ c.in_ok-arg.ensures c.in_ok-subcommand.ensures.app
     c.controller_option.ensures.rule refl in
-    adds_rule _ _ _ _ _ c.in_ok-command.ensures controller (ap rule_of c.help.ensures ∙ c.short_number.ensures.rule)
-    refl
+    let report = adds_rule _ _ _ _ _ c.in_ok-arg-2.ensures controller
+    (ap rule_of c.help.ensures ∙ c.short_number.ensures.rule) refl in
+    adds_rule _ _ _ _ _ c.in_ok-command.ensures report (ap rule_of c.help-2.ensures ∙ c.flag.ensures.rule) refl

@@ -47,9 +47,8 @@ returns-clause-quiet g c zero =
       | in-Ok-Serve w ↦ inr (w.errors-is ∙ w.serve-status.ensures.quiet (sym w.status-is ∙ done))
       | in-Ok-Live w ↦ inl (
         w.in-Ok-Live.config,
-        w.in-Ok-Live.controllers,
+        w.in-Ok-Live.service,
         w.in-Ok-Live.late,
-        w.in-Ok-Live.seconds,
         w.in-Ok-Live.ensures.run ∙ ap Ok w.in-Ok-Live.field-0-is,
       )
       | in-Err+in-Some-1 w ↦ inr (w.errors-is ∙ w.tell-status.ensures.quiet (sym w.status-is ∙ done))

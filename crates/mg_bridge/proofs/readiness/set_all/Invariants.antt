@@ -1,4 +1,3 @@
-use Rattle.std.specs.Prelude.{length}
 use Rattle.mg_bridge.specs.Readiness.{AreReadyBelow, AreStillReady}
 use Rattle.mg_bridge.proofs.readiness.set_all.Given as goal
 

@@ -1,4 +1,4 @@
-use Rattle.std.proofs.Common.{◌≡◌, ◌∙◌, List, [], length, ap, refl, subst, sym}
+use Rattle.std.proofs.Common.{◌≡◌, ◌∙◌, List, [], length, ap, subst, sym}
 use Rattle.std.proofs.lemmas.List.{length-set, nil_from_length}
 use Rattle.mio.specs.Events.{items}
 use Rattle.mio.specs.declared.event.event.Event.{Event}

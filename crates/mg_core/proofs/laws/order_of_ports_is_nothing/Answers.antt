@@ -14,6 +14,7 @@ returns c =
     record {
       events = law;
       histories = λ config a b s t v w one other is same came too. law config a b s t v w is same came.0 too.0;
-      scripts = λ config one other counts more old new was now is a b same. law config a.ran.events b.ran.events
+      scripts = λ config first second one other counts more old new was now is a b same. law config a.ran.events
+          b.ran.events
           a.ran.sent b.ran.sent a.last b.last is same a.ran.run b.ran.run;
     }

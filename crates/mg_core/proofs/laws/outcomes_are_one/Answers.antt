@@ -5,7 +5,10 @@ use Rattle.mg_engine.specs.Gateway as engine
 use Rattle.mg_text.specs.MessageReading.{MessageReading, IsReading}
 use Rattle.mg_core.specs.declared.event.Event.{Event}
 use Rattle.mg_core.specs.declared.event.Event.TheVariants.{Control, Media, Tick}
+use Rattle.mg_core.specs.declared.shown.Shown.TheVariants as shows
 use Rattle.mg_core.specs.Answer.{answered}
+use Rattle.mg_core.specs.Flows.{changes_by}
+use Rattle.mg_core.specs.Run.{Tells, TextsAreOne, lines_for}
 use Rattle.mg_core.specs.Step.{Sent, Step, Run, answer_to}
 use Rattle.mg_core.specs.World.{World, with_control, with_taken}
 use Rattle.mg_core.proofs.laws.outcomes_are_one.Goals as goal
@@ -45,8 +48,27 @@ same_run reads arrives w (e ∷ es) a b x y (first, others, next, step, run, is)
     runs in
     (is ∙ ap (λ (l : List Sent). l ++ others) same.0 ∙ ap (λ (l : List Sent). second ++ l) later.0 ∙ sym its, later.1)
 
+same_tells : OneReading → OneArrival → (w : World) (events : List Event) (a b : List ℕ) (x y : World) →
+    Tells w events a x → Tells w events b y → a ≡ b
+same_tells reads arrives w [] a b x y h k = h.0 ∙ sym k.0
+same_tells reads arrives w (e ∷ es) a b x y (first, others, next, step, told, is)
+    (second, rest, also, too, tells, its) =
+    let same = same_outcome reads arrives w e first second next also step too in
+    let later = same_tells reads arrives also es others rest x y (subst (λ (v : World). Tells v es others x) same.1 told)
+    tells in
+    is ∙ ap (λ (l : List Sent). lines_for l ++ (changes_by w next ++ others)) same.0
+    ∙ ap (λ (v : World). lines_for second ++ (changes_by w v ++ others)) same.1
+    ∙ ap (λ (l : List ℕ). lines_for second ++ (changes_by w also ++ l)) later ∙ sym its
+
+same_text : OneReading → OneArrival → TextsAreOne
+same_text reads arrives shows.Sent w x y events s t a b run runs h k =
+    h ∙ ap lines_for (same_run reads arrives w events s t x y run runs).0 ∙ sym k
+same_text reads arrives shows.SentAndFlows w x y events s t a b run runs h k =
+    same_tells reads arrives w events a b x y h k
+
 pub returns : goal.returns
 returns c = record {
   event = same_outcome c.one_reading.ensures.at_most_one c.one_arrival.ensures.at_most_one;
   events = same_run c.one_reading.ensures.at_most_one c.one_arrival.ensures.at_most_one;
+  texts = same_text c.one_reading.ensures.at_most_one c.one_arrival.ensures.at_most_one;
 }

@@ -27,7 +27,8 @@ returns c =
       histories = λ some port config xs s t v w here there none came too.
           (lists some port (start_of config) (start_of config) v w xs s t (itself some (start_of config)) none came.0
           too.0).0;
-      scripts = λ some port config xs one_script other counts more old new was now a b none first second.
+      scripts = λ some port config xs form other_form one_script other counts more old new was now a b none first
+          second.
           (lists some port (start_of config) (start_of config) a.last b.last xs a.ran.sent b.ran.sent
           (itself some (start_of config)) none
           (subst (λ (events : List Event). Run (start_of config) events a.ran.sent a.last) first a.ran.run)

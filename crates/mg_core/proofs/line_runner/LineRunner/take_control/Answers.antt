@@ -19,6 +19,7 @@ returns-in_err-write_whole-in-Send g c =
           (g.W.Write.contents c.args.writer.now) (g.W.Write.contents c.write_whole.new.writer)
           (Err c.in_err-write_whole-in-Send.field-0.0)
           (rw c.in-Send.is at c.in-Ok.ensures.answered) line c.in_err-write_whole-in-Send.ensures.value tt;
+      watched = refl;
     })
 
 pub returns-in-Silent : goal.returns-in-Silent
@@ -26,6 +27,7 @@ returns-in-Silent g c = record {
   value = silent_steps (Control c.args.source c.args.bytes.now)
       c.args.self.now.core.state c.control.new.self.state c.args.self.now.sent c.args.self.now.sent
       (g.W.Write.contents c.args.writer.now) refl (rw c.in-Silent.is at c.in-Ok.ensures.answered);
+  watched = refl;
 }
 
 pub returns-in_ok-write_whole-in-Send : goal.returns-in_ok-write_whole-in-Send
@@ -39,4 +41,5 @@ returns-in_ok-write_whole-in-Send g c =
           (g.W.Write.contents c.args.writer.now) (g.W.Write.contents c.write_whole.new.writer) (Ok tt)
           (rw c.in-Send.is at c.in-Ok.ensures.answered) line c.in_ok-write_whole-in-Send.ensures.value
           c.saturating_add-self.ensures;
+      watched = refl;
     }

@@ -1,7 +1,9 @@
 use Rattle.std.proofs.Common.{◌≡◌, Some, None, Ok, Err, ap, ◌∙◌}
 use Rattle.std.proofs.lemmas.Result.{err_from_is_err_and}
+use Rattle.mg_core.specs.declared.fault.LineFault.{LineFault}
 use Rattle.mg_core.specs.Script.{event_of}
 use Rattle.mg_core.proofs.LineLaws.{an_event_or_none, line_steps, comment_ran, same_steps}
+use Rattle.mg_core.proofs.RunLaws.{Followed}
 use Rattle.mg_core.proofs.line_runner.LineRunner.take_line.Goals as goal
 
 pub returns-in_err-take_event-in-Ok-Some : goal.returns-in_err-take_event-in-Ok-Some
@@ -10,18 +12,19 @@ returns-in_err-take_event-in-Ok-Some g c =
     let is : event_of c.args.line.now ≡ Some (Some c.in-Ok-Some.event) = c.in-Ok-Some.ensures ∙
     ap an_event_or_none c.in-Ok-Some.field-0-is in
     rw (p.1, p.2) (record {
-      value = line_steps c.args.number c.args.line.now c.in-Ok-Some.event c.args.self.now.core.state
-          c.take_event.new.self.core.state c.args.self.now.sent c.take_event.new.self.sent
+      value = λ shown. line_steps shown c.args.number c.args.line.now c.in-Ok-Some.event
+          (Followed shown c.args.self.now) (Followed shown c.take_event.new.self) c.args.self.now.sent
+          c.take_event.new.self.sent
           (g.W.Write.contents c.args.writer.now) (g.W.Write.contents c.take_event.new.writer)
-          (Err c.in_err-take_event-in-Ok-Some.field-0.0) is c.in_err-take_event-in-Ok-Some.ensures.value;
+          (Err c.in_err-take_event-in-Ok-Some.field-0.0) is (c.in_err-take_event-in-Ok-Some.ensures.value shown);
     })
 
 pub returns-in-Ok-None : goal.returns-in-Ok-None
 returns-in-Ok-None g c =
     let is : event_of c.args.line.now ≡ Some None = c.in-Ok-None.ensures ∙
     ap an_event_or_none c.in-Ok-None.field-0-is in record {
-      value = same_steps c.args.self.now.core.state _
-          (λ w. comment_ran c.args.number c.args.line.now w c.args.self.now.sent
+      value = λ shown. same_steps {E = LineFault} (Followed shown c.args.self.now) (Ok tt) _
+          (λ w. comment_ran shown c.args.number c.args.line.now w c.args.self.now.sent
           (g.W.Write.contents c.args.writer.now) is);
     }
 
@@ -29,8 +32,9 @@ pub returns-in_ok-take_event-in-Ok-Some : goal.returns-in_ok-take_event-in-Ok-So
 returns-in_ok-take_event-in-Ok-Some g c =
     let is : event_of c.args.line.now ≡ Some (Some c.in-Ok-Some.event) = c.in-Ok-Some.ensures ∙
     ap an_event_or_none c.in-Ok-Some.field-0-is in record {
-      value = line_steps c.args.number c.args.line.now c.in-Ok-Some.event c.args.self.now.core.state
-          c.take_event.new.self.core.state c.args.self.now.sent c.take_event.new.self.sent
+      value = λ shown. line_steps shown c.args.number c.args.line.now c.in-Ok-Some.event
+          (Followed shown c.args.self.now) (Followed shown c.take_event.new.self) c.args.self.now.sent
+          c.take_event.new.self.sent
           (g.W.Write.contents c.args.writer.now) (g.W.Write.contents c.take_event.new.writer) (Ok tt) is
-          c.in_ok-take_event-in-Ok-Some.ensures.value;
+          (c.in_ok-take_event-in-Ok-Some.ensures.value shown);
     }

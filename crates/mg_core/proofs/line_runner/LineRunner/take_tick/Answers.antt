@@ -1,4 +1,4 @@
-use Rattle.std.proofs.Common.{rules, ◌≡◌, ◌+◌, ◌≤◌, ◌-◌, ◌^◌, ◌∙◌, ℕ, List, length, map, Ok, ap, sym, arith}
+use Rattle.std.proofs.Common.{rules, ◌≡◌, ◌+◌, ◌≤◌, ◌-◌, ◌^◌, ◌∙◌, ℕ, List, length, map, Ok, refl, ap, sym, arith}
 use Rattle.std.proofs.lemmas.List.{length-map}
 use Rattle.mg_engine.specs.declared.datagram.Datagram.{Datagram}
 use Rattle.mg_core.specs.Run.{lines_for}
@@ -24,4 +24,5 @@ returns g c =
           c.in_ok-write_whole.ensures.value
           (c.saturating_add-self.ensures ∙ ap (λ (k : ℕ). capped (n + k)) as_many ∙
           sym (sent_at_once n (map Packet outbox) within));
+      watched = refl;
     }

@@ -1,76 +1,105 @@
 use Rattle.std.proofs.Common.{Ok, Err, true, false, take}
-use Rattle.mg_core.specs.declared.fault.RunFault.TheVariants as faults
-use Rattle.mg_serve.proofs.Running.{read_start, read_more, takes_end, takes_quit, takes_broken, takes_unread, takes_enough}
+use Rattle.mg_serve.specs.aids.Takes.{outside}
+use Rattle.mg_serve.proofs.Running.{read_start, read_more, takes_end, takes_end_fault, takes_quit, takes_broken, takes_unread, takes_enough}
 use Rattle.mg_serve.proofs.line_driver.LineDriver.take_all.Goals as goal
 
 pub loop-init : goal.loop-init
-loop-init g c =
-    read_start c.args.config (g.R.Read.remaining c.args.reader.now) c.args.self.now.begun
-    c.args.self.now.server.core.state (g.P.Ports.calls c.args.ports.now) c.requires.begun
+loop-init g c = (
+  c.requires.whole,
+  read_start c.args.config (g.R.Read.remaining c.args.reader.now) c.args.self.now.begun
+      c.args.self.now.server.core.state (outside (g.P.Ports.calls c.args.ports.now) (g.W.Write.contents
+      c.args.writer.now) c.args.self.now.server.printer) c.requires.begun,
+)
 
 pub returns-in_default-clause-value : goal.returns-in_default-clause-value
 returns-in_default-clause-value g c =
     takes_unread c.args.config (g.R.Read.remaining c.args.reader.now) (g.R.Read.remaining c.loop.reader)
     (g.R.Read.remaining c.read_some.new.reader) c.loop.self.begun c.args.self.now.server.core.state
-    c.loop.self.server.core.state (g.P.Ports.calls c.args.ports.now) (g.P.Ports.calls c.loop.ports)
-    c.in_default.ensures.value c.loop.invariant
+    c.loop.self.server.core.state (outside (g.P.Ports.calls c.args.ports.now) (g.W.Write.contents c.args.writer.now)
+    c.args.self.now.server.printer) (outside (g.P.Ports.calls c.loop.ports) (g.W.Write.contents c.loop.writer)
+    c.loop.self.server.printer)
+    c.in_default.ensures.value c.loop.invariant.1
 
 pub returns-in-Ok-finish-clause-value : goal.returns-in-Ok-finish-clause-value
 returns-in-Ok-finish-clause-value g c =
     takes_end c.args.config (g.R.Read.remaining c.args.reader.now) (g.R.Read.remaining c.loop.reader)
-    (g.R.Read.remaining c.read_some.new.reader) c.loop.self.begun (Ok tt) c.args.self.now.server.core.state
-    c.loop.self.server.core.state c.finish.new.self.server.core.state (g.P.Ports.calls c.args.ports.now)
-    (g.P.Ports.calls c.loop.ports) (g.P.Ports.calls c.finish.new.ports)
-    c.loop.invariant (rw c.in_default-read.is at c.in-Ok.ensures.value) tt c.finish.ensures.value
+    (g.R.Read.remaining c.read_some.new.reader) c.loop.self.begun c.args.self.now.server.core.state
+    c.loop.self.server.core.state c.finish.new.self.server.core.state
+    (outside (g.P.Ports.calls c.args.ports.now) (g.W.Write.contents c.args.writer.now) c.args.self.now.server.printer)
+    (outside (g.P.Ports.calls c.loop.ports) (g.W.Write.contents c.loop.writer) c.loop.self.server.printer)
+    (outside (g.P.Ports.calls c.finish.new.ports) (g.W.Write.contents c.finish.new.writer)
+    c.finish.new.self.server.printer)
+    c.loop.invariant.1 (rw c.in_default-read.is at c.in-Ok.ensures.value) c.finish.ensures.value
 
 pub returns-in-Err-clause-value : goal.returns-in-Err-clause-value
 returns-in-Err-clause-value g c =
-    takes_end c.args.config (g.R.Read.remaining c.args.reader.now) (g.R.Read.remaining c.loop.reader)
-    (g.R.Read.remaining c.read_some.new.reader) c.loop.self.begun (Err faults.Write)
+    takes_end_fault c.args.config (g.R.Read.remaining c.args.reader.now) (g.R.Read.remaining c.loop.reader)
+    (g.R.Read.remaining c.read_some.new.reader) c.loop.self.begun
     c.args.self.now.server.core.state c.loop.self.server.core.state c.finish.new.self.server.core.state
-    (g.P.Ports.calls c.args.ports.now) (g.P.Ports.calls c.loop.ports) (g.P.Ports.calls c.finish.new.ports)
-    c.loop.invariant (rw c.in_default-read.is at c.in-Ok.ensures.value)
-    (c.in-Err.ensures.some, c.in-Err.ensures.printed) c.finish.ensures.value
+    (outside (g.P.Ports.calls c.args.ports.now) (g.W.Write.contents c.args.writer.now) c.args.self.now.server.printer)
+    (outside (g.P.Ports.calls c.loop.ports) (g.W.Write.contents c.loop.writer) c.loop.self.server.printer)
+    (outside (g.P.Ports.calls c.finish.new.ports) (g.W.Write.contents c.finish.new.writer)
+    c.finish.new.self.server.printer)
+    c.loop.invariant.1 (rw c.in_default-read.is at c.in-Ok.ensures.value) c.loop.invariant.0
+    c.in-Err.ensures.failed c.finish.ensures.value
 
 pub returns-in-Ok-true-clause-value : goal.returns-in-Ok-true-clause-value
 returns-in-Ok-true-clause-value g c =
     let read = rw c.in-Some.is at c.in-Ok.ensures.value in
     takes_quit c.args.config (g.R.Read.remaining c.args.reader.now) (g.R.Read.remaining c.read_some.new.reader)
     c.take_bytes.new.self.begun c.args.self.now.server.core.state c.take_bytes.new.self.server.core.state
-    (g.P.Ports.calls c.args.ports.now) (g.P.Ports.calls c.take_bytes.new.ports)
+    (outside (g.P.Ports.calls c.args.ports.now) (g.W.Write.contents c.args.writer.now) c.args.self.now.server.printer)
+    (outside (g.P.Ports.calls c.take_bytes.new.ports) (g.W.Write.contents c.take_bytes.new.writer)
+    c.take_bytes.new.self.server.printer)
     (read_more c.args.config (g.R.Read.remaining c.args.reader.now) (g.R.Read.remaining c.loop.reader)
     (g.R.Read.remaining c.read_some.new.reader) (take c.in-Some.n c.read_some.new.buffer) c.loop.self.begun
     c.take_bytes.new.self.begun (Ok true) c.args.self.now.server.core.state c.loop.self.server.core.state
-    c.take_bytes.new.self.server.core.state (g.P.Ports.calls c.args.ports.now) (g.P.Ports.calls c.loop.ports)
-    (g.P.Ports.calls c.take_bytes.new.ports)
-    c.loop.invariant read.1 (rw c.in-Ok-true.field-0-test at (rw c.in-Ok-true.is at c.take_bytes.ensures.value)))
+    c.take_bytes.new.self.server.core.state (outside (g.P.Ports.calls c.args.ports.now) (g.W.Write.contents
+    c.args.writer.now) c.args.self.now.server.printer) (outside (g.P.Ports.calls c.loop.ports) (g.W.Write.contents
+    c.loop.writer) c.loop.self.server.printer)
+    (outside (g.P.Ports.calls c.take_bytes.new.ports) (g.W.Write.contents c.take_bytes.new.writer)
+    c.take_bytes.new.self.server.printer)
+    c.loop.invariant.1 read.1 (rw c.in-Ok-true.field-0-test at (rw c.in-Ok-true.is at c.take_bytes.ensures.value)))
 
 pub returns-in-Err-take_bytes-clause-value : goal.returns-in-Err-take_bytes-clause-value
 returns-in-Err-take_bytes-clause-value g c =
     let read = rw c.in-Some.is at c.in-Ok.ensures.value in
     takes_broken c.args.config (g.R.Read.remaining c.args.reader.now) (g.R.Read.remaining c.read_some.new.reader)
     c.take_bytes.new.self.begun c.in-Err-take_bytes.field-0 c.args.self.now.server.core.state
-    c.take_bytes.new.self.server.core.state (g.P.Ports.calls c.args.ports.now)
-    (g.P.Ports.calls c.take_bytes.new.ports)
+    c.take_bytes.new.self.server.core.state (outside (g.P.Ports.calls c.args.ports.now) (g.W.Write.contents
+    c.args.writer.now) c.args.self.now.server.printer)
+    (outside (g.P.Ports.calls c.take_bytes.new.ports) (g.W.Write.contents c.take_bytes.new.writer)
+    c.take_bytes.new.self.server.printer)
     (read_more c.args.config (g.R.Read.remaining c.args.reader.now) (g.R.Read.remaining c.loop.reader)
     (g.R.Read.remaining c.read_some.new.reader) (take c.in-Some.n c.read_some.new.buffer) c.loop.self.begun
     c.take_bytes.new.self.begun (Err c.in-Err-take_bytes.field-0) c.args.self.now.server.core.state
-    c.loop.self.server.core.state c.take_bytes.new.self.server.core.state (g.P.Ports.calls c.args.ports.now)
-    (g.P.Ports.calls c.loop.ports) (g.P.Ports.calls c.take_bytes.new.ports)
-    c.loop.invariant read.1 (rw c.in-Err-take_bytes.is at c.take_bytes.ensures.value))
+    c.loop.self.server.core.state c.take_bytes.new.self.server.core.state (outside (g.P.Ports.calls c.args.ports.now)
+    (g.W.Write.contents c.args.writer.now) c.args.self.now.server.printer)
+    (outside (g.P.Ports.calls c.loop.ports) (g.W.Write.contents c.loop.writer) c.loop.self.server.printer) (outside
+    (g.P.Ports.calls c.take_bytes.new.ports) (g.W.Write.contents c.take_bytes.new.writer)
+    c.take_bytes.new.self.server.printer)
+    c.loop.invariant.1 read.1 (rw c.in-Err-take_bytes.is at c.take_bytes.ensures.value))
 
 pub loop-preserved : goal.loop-preserved
 loop-preserved g c =
-    let read = rw c.in-Some.is at c.in-Ok.ensures.value in
-    read_more c.args.config (g.R.Read.remaining c.args.reader.now) (g.R.Read.remaining c.loop.reader)
-    (g.R.Read.remaining c.read_some.new.reader) (take c.in-Some.n c.read_some.new.buffer) c.loop.self.begun
-    c.take_bytes.new.self.begun (Ok false) c.args.self.now.server.core.state c.loop.self.server.core.state
-    c.take_bytes.new.self.server.core.state (g.P.Ports.calls c.args.ports.now) (g.P.Ports.calls c.loop.ports)
-    (g.P.Ports.calls c.take_bytes.new.ports)
-    c.loop.invariant read.1 (rw c.in-Ok-false.field-0-test at (rw c.in-Ok-false.is at c.take_bytes.ensures.value))
+    let read = rw c.in-Some.is at c.in-Ok.ensures.value in (
+      c.in-Ok-false.ensures.whole,
+      read_more c.args.config (g.R.Read.remaining c.args.reader.now) (g.R.Read.remaining c.loop.reader)
+          (g.R.Read.remaining c.read_some.new.reader) (take c.in-Some.n c.read_some.new.buffer) c.loop.self.begun
+          c.take_bytes.new.self.begun (Ok false) c.args.self.now.server.core.state c.loop.self.server.core.state
+          c.take_bytes.new.self.server.core.state (outside (g.P.Ports.calls c.args.ports.now) (g.W.Write.contents
+          c.args.writer.now) c.args.self.now.server.printer) (outside (g.P.Ports.calls c.loop.ports)
+          (g.W.Write.contents c.loop.writer) c.loop.self.server.printer)
+          (outside (g.P.Ports.calls c.take_bytes.new.ports) (g.W.Write.contents c.take_bytes.new.writer)
+          c.take_bytes.new.self.server.printer)
+          c.loop.invariant.1 read.1 (rw c.in-Ok-false.field-0-test at (rw c.in-Ok-false.is at
+          c.take_bytes.ensures.value)),
+    )
 
 pub returns-clause-value : goal.returns-clause-value
 returns-clause-value g c =
     takes_enough c.args.config (g.R.Read.remaining c.args.reader.now) (g.R.Read.remaining c.loop.reader)
     c.loop.self.begun c.args.self.now.server.core.state c.loop.self.server.core.state
-    (g.P.Ports.calls c.args.ports.now) (g.P.Ports.calls c.loop.ports) c.loop.invariant
+    (outside (g.P.Ports.calls c.args.ports.now) (g.W.Write.contents c.args.writer.now) c.args.self.now.server.printer)
+    (outside (g.P.Ports.calls c.loop.ports) (g.W.Write.contents c.loop.writer) c.loop.self.server.printer)
+    c.loop.invariant.1

@@ -1,55 +1,86 @@
 use Rattle.std.proofs.Common.{sym, ◌∙◌, false}
 use Rattle.std.proofs.lemmas.List.{take_all}
 use Rattle.std.proofs.lemmas.Result.{err_from_is_err_and}
+use Rattle.mg_serve.specs.aids.Takes.{outside}
 use Rattle.mg_serve.proofs.Running.{bytes_start, index_plain, index_feed, index_quit, index_fault}
 use Rattle.mg_serve.proofs.line_driver.LineDriver.take_bytes.Goals as goal
 
 pub loop-b-init : goal.loop-b-init
-loop-b-init g c = λ begun is. bytes_start c.args.config begun c.args.self.now.begun c.args.self.now.server.core.state
-    (g.P.Ports.calls c.args.ports.now) is
+loop-b-init g c = (
+  c.requires.whole,
+  λ begun is. bytes_start c.args.config begun c.args.self.now.begun c.args.self.now.server.core.state
+      (outside (g.P.Ports.calls c.args.ports.now) (g.W.Write.contents c.args.writer.now)
+      c.args.self.now.server.printer) is,
+)
 
 pub loop-b-preserved-then-b-ne10 : goal.loop-b-preserved-then-b-ne10
-loop-b-preserved-then-b-ne10 g c = λ begun is.
-    index_plain c.args.config begun c.args.bytes.now c.loop-b.self.begun c.push.new.self c.loop-b.b-index
-    c.args.self.now.server.core.state c.loop-b.self.server.core.state (g.P.Ports.calls c.args.ports.now)
-    (g.P.Ports.calls c.loop-b.ports)
-    c.loop-b-test.true c.if-b-ne10.true c.push.ensures.value (c.loop-b.invariant begun is)
+loop-b-preserved-then-b-ne10 g c = (
+  c.loop-b.invariant.0,
+  λ begun is.
+      index_plain c.args.config begun c.args.bytes.now c.loop-b.self.begun c.push.new.self c.loop-b.b-index
+      c.args.self.now.server.core.state c.loop-b.self.server.core.state (outside (g.P.Ports.calls c.args.ports.now)
+      (g.W.Write.contents c.args.writer.now) c.args.self.now.server.printer)
+      (outside (g.P.Ports.calls c.loop-b.ports) (g.W.Write.contents c.loop-b.writer) c.loop-b.self.server.printer)
+      c.loop-b-test.true c.if-b-ne10.true c.push.ensures.value (c.loop-b.invariant.1 begun is),
+)
 
 pub loop-b-preserved : goal.loop-b-preserved
-loop-b-preserved g c = λ begun is.
-    index_feed c.args.config begun c.args.bytes.now c.loop-b.self.begun c.end_line.new.self.begun c.loop-b.b-index
-    false c.args.self.now.server.core.state c.loop-b.self.server.core.state c.end_line.new.self.server.core.state
-    (g.P.Ports.calls c.args.ports.now) (g.P.Ports.calls c.loop-b.ports) (g.P.Ports.calls c.end_line.new.ports)
-    c.loop-b-test.true c.if-b-ne10.false (c.loop-b.invariant begun is)
-    (sym c.if-branch.false ∙ c.in_ok-end_line.ensures.quit) c.in_ok-end_line.ensures.begun c.end_line.ensures.value
+loop-b-preserved g c = (
+  c.in_ok-end_line.ensures.whole,
+  λ begun is.
+      index_feed c.args.config begun c.args.bytes.now c.loop-b.self.begun c.end_line.new.self.begun c.loop-b.b-index
+      false c.args.self.now.server.core.state c.loop-b.self.server.core.state c.end_line.new.self.server.core.state
+      (outside (g.P.Ports.calls c.args.ports.now) (g.W.Write.contents c.args.writer.now)
+      c.args.self.now.server.printer) (outside (g.P.Ports.calls c.loop-b.ports) (g.W.Write.contents c.loop-b.writer)
+      c.loop-b.self.server.printer) (outside (g.P.Ports.calls c.end_line.new.ports) (g.W.Write.contents
+      c.end_line.new.writer) c.end_line.new.self.server.printer)
+      c.loop-b-test.true c.if-b-ne10.false (c.loop-b.invariant.1 begun is)
+      (sym c.if-branch.false ∙ c.in_ok-end_line.ensures.quit) c.in_ok-end_line.ensures.begun c.end_line.ensures.value,
+)
 
 pub returns-then-branch : goal.returns-then-branch
 returns-then-branch g c = record {
+  whole = c.in_ok-end_line.ensures.whole;
+  failed = tt;
   value =
       λ begun is.
       index_quit c.args.config begun c.args.bytes.now c.loop-b.self.begun c.end_line.new.self.begun c.loop-b.b-index
       c.args.self.now.server.core.state c.loop-b.self.server.core.state c.end_line.new.self.server.core.state
-      (g.P.Ports.calls c.args.ports.now) (g.P.Ports.calls c.loop-b.ports) (g.P.Ports.calls c.end_line.new.ports)
-      c.loop-b-test.true c.if-b-ne10.false (c.loop-b.invariant begun is)
+      (outside (g.P.Ports.calls c.args.ports.now) (g.W.Write.contents c.args.writer.now)
+      c.args.self.now.server.printer) (outside (g.P.Ports.calls c.loop-b.ports) (g.W.Write.contents c.loop-b.writer)
+      c.loop-b.self.server.printer) (outside (g.P.Ports.calls c.end_line.new.ports) (g.W.Write.contents
+      c.end_line.new.writer) c.end_line.new.self.server.printer)
+      c.loop-b-test.true c.if-b-ne10.false (c.loop-b.invariant.1 begun is)
       (sym c.if-branch.true ∙ c.in_ok-end_line.ensures.quit) c.in_ok-end_line.ensures.begun
       c.end_line.ensures.value;
 }
 
 pub returns-in_err-end_line : goal.returns-in_err-end_line
 returns-in_err-end_line g c = record {
+  whole =
+      rw (err_from_is_err_and c.from_residual.result c.from_residual.ensures.1).1 tt;
+  failed =
+      rw (err_from_is_err_and c.from_residual.result c.from_residual.ensures.1).1 c.in_err-end_line.ensures.failed;
   value =
       λ begun is.
       let p = err_from_is_err_and c.from_residual.result c.from_residual.ensures.1 in
       rw p.1 (index_fault c.args.config begun c.args.bytes.now c.loop-b.self.begun c.end_line.new.self.begun
       c.loop-b.b-index _ c.args.self.now.server.core.state c.loop-b.self.server.core.state
-      c.end_line.new.self.server.core.state (g.P.Ports.calls c.args.ports.now) (g.P.Ports.calls c.loop-b.ports)
-      (g.P.Ports.calls c.end_line.new.ports)
-      c.loop-b-test.true c.if-b-ne10.false (c.loop-b.invariant begun is) c.in_err-end_line.ensures.printed
+      c.end_line.new.self.server.core.state (outside (g.P.Ports.calls c.args.ports.now) (g.W.Write.contents
+      c.args.writer.now) c.args.self.now.server.printer) (outside (g.P.Ports.calls c.loop-b.ports) (g.W.Write.contents
+      c.loop-b.writer) c.loop-b.self.server.printer)
+      (outside (g.P.Ports.calls c.end_line.new.ports) (g.W.Write.contents c.end_line.new.writer)
+      c.end_line.new.self.server.printer)
+      c.loop-b-test.true c.if-b-ne10.false (c.loop-b.invariant.1 begun is) c.loop-b.invariant.0
+      c.in_err-end_line.ensures.failed
       c.end_line.ensures.value);
 }
 
 pub returns : goal.returns
 returns g c = record {
+  whole = c.loop-b.invariant.0;
+  failed = tt;
   value =
-      λ begun is. rw (take_all c.loop-b.b-index c.args.bytes.now c.loop-b-test.false) at (c.loop-b.invariant begun is);
+      λ begun is. rw (take_all c.loop-b.b-index c.args.bytes.now c.loop-b-test.false) at (c.loop-b.invariant.1 begun
+      is);
 }

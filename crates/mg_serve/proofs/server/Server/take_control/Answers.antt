@@ -1,28 +1,43 @@
-use Rattle.std.proofs.Common.{[], ap}
-use Rattle.mg_core.specs.CoreView.{CoreView}
-use Rattle.mg_serve.proofs.Taking.{told_none}
-use Rattle.mg_serve.proofs.Steps.{control_answered, control_unread}
+use Rattle.std.proofs.Common.{[], ◌∷◌, refl}
+use Rattle.mg_core.specs.declared.event.Event.TheVariants as events
+use Rattle.mg_ports.specs.declared.call.Call.TheVariants.{Send}
+use Rattle.mg_serve.specs.Trace.{Happened}
+use Rattle.mg_serve.specs.aids.Takes.{outside}
+use Rattle.mg_serve.proofs.Taking.{tells_called, tells_none, tells_print}
+use Rattle.mg_serve.proofs.Steps.{control_answered}
 use Rattle.mg_serve.proofs.server.Server.take_control.Goals as goal
 
-pub returns-in-Ok-Send : goal.returns-in-Ok-Send
-returns-in-Ok-Send g c = record {
-  value =
-      control_answered c.args.config c.args.source c.args.bytes.now _ c.args.self.now.core.state
-      c.control.new.self.state (g.P.Ports.calls c.args.ports.now) (g.P.Ports.calls c.send.new.ports)
-      (rw c.in-Ok-Send.field-0-is at c.in-Ok-Send.ensures.answered) (rw c.answer.ensures.value at c.send.ensures.told);
-}
+pub returns-in-Send : goal.returns-in-Send
+returns-in-Send g c =
+    let before = c.args.self.now.printer in
+    let after = c.control-2.new.self in
+    let calls = g.P.Ports.calls c.args.ports.now in
+    let old = g.W.Write.contents c.args.writer.now in
+    let written = g.W.Write.contents c.control-2.new.writer in
+    record {
+      value = control_answered c.args.config c.args.source c.args.bytes.now _ c.args.self.now.core.state
+          c.control.new.self.state (outside calls old before) (outside calls written after)
+          (outside (g.P.Ports.calls c.send.new.ports) written after)
+          (rw c.in-Send.is at c.in-Ok.ensures.answered)
+          (tells_print calls old written before after (Happened (events.Control c.args.source c.args.bytes.now)) refl
+          c.control-2.ensures.value)
+          (tells_called written after calls (g.P.Ports.calls c.send.new.ports)
+          (Send 0 c.args.source c.control.new.self.answer ∷ [])
+          (rw c.answer.ensures.value at c.send.ensures.told));
+    }
 
-pub returns-in-Ok-Silent : goal.returns-in-Ok-Silent
-returns-in-Ok-Silent g c = record {
-  value =
-      control_answered c.args.config c.args.source c.args.bytes.now [] c.args.self.now.core.state
-      c.control.new.self.state (g.P.Ports.calls c.args.ports.now) (g.P.Ports.calls c.args.ports.now)
-      (rw c.in-Ok-Silent.field-0-is at c.in-Ok-Silent.ensures.answered) (told_none (g.P.Ports.calls c.args.ports.now));
-}
-
-pub returns-in-Err : goal.returns-in-Err
-returns-in-Err g c = record {
-  value =
-      control_unread c.args.config c.args.source c.args.bytes.now c.args.self.now.core.state c.control.new.self.state
-      (g.P.Ports.calls c.args.ports.now) (ap (λ (v : CoreView). v.state) c.in-Err.ensures.no_memory);
-}
+pub returns-in-Silent : goal.returns-in-Silent
+returns-in-Silent g c =
+    let before = c.args.self.now.printer in
+    let after = c.control-2.new.self in
+    let calls = g.P.Ports.calls c.args.ports.now in
+    let old = g.W.Write.contents c.args.writer.now in
+    let written = g.W.Write.contents c.control-2.new.writer in
+    record {
+      value = control_answered c.args.config c.args.source c.args.bytes.now [] c.args.self.now.core.state
+          c.control.new.self.state (outside calls old before) (outside calls written after)
+          (outside calls written after) (rw c.in-Silent.is at c.in-Ok.ensures.answered)
+          (tells_print calls old written before after (Happened (events.Control c.args.source c.args.bytes.now)) refl
+          c.control-2.ensures.value)
+          (tells_none (outside calls written after));
+    }

@@ -1,0 +1,34 @@
+use Rattle.std.proofs.Common.{◌<◌, ◌≤◌, ◌∙◌, ℕ, Bool, length, map, filter, sym, subst, arith}
+use Rattle.std.proofs.lemmas.Option.{get_or_from_slice_get}
+use Rattle.mg_rooms.specs.Registry.{Registry}
+use Rattle.mg_rooms.specs.Sound.{IsSound}
+use Rattle.mg_engine.specs.Flow.{flow}
+use Rattle.mg_core.proofs.ListenerLaws.{is_taken, not_taken, talkers_few}
+use Rattle.mg_core.proofs.listener.talkers_of.Goals as goal
+
+pub loop-place-preserved-then-not-flow : goal.loop-place-preserved-then-not-flow
+loop-place-preserved-then-not-flow c w stands =
+    let rs = c.args.core.now.state.engine.rooms.terminations in
+    let i = c.loop-place.place in
+    let r = c.termination-talker.result in
+    let there : i < length rs = omega (arith, c.loop-place-test.true, c.terminations-place-end.ensures.value) in
+    not_taken (λ n. flow w.gateway n c.args.listener) rs i r c.loop-place.talkers.items there
+    (get_or_from_slice_get rs i r r c.termination-talker.ensures.value)
+    (sym (c.flow.ensures.value w stands) ∙ c.if-not-flow.true) (c.loop-place.invariant w stands)
+
+pub loop-place-preserved : goal.loop-place-preserved
+loop-place-preserved c w stands =
+    let rooms = c.args.core.now.state.engine.rooms in
+    let rs = rooms.terminations in
+    let i = c.loop-place.place in
+    let r = c.termination-talker.result in
+    let p : ℕ → Bool = λ n. flow w.gateway n c.args.listener in
+    let there : i < length rs = omega (arith, c.loop-place-test.true, c.terminations-place-end.ensures.value) in
+    let same = stands.gateway.rooms in
+    let few : length (filter p (map (λ r. r.number) rs)) ≤ 64 =
+    subst (λ (x : Registry). length (filter p (map (λ r. r.number) x.terminations)) ≤ 64) same
+    (talkers_few w.gateway c.args.listener (subst IsSound (sym same) c.terminations-place-end.ensures.sound)) in
+    is_taken p rs i r c.loop-place.talkers.items c.try_push.new.self.items c.try_push.result there
+    (get_or_from_slice_get rs i r r c.termination-talker.ensures.value)
+    (sym (c.flow.ensures.value w stands) ∙ c.if-not-flow.false) few (c.loop-place.invariant w stands)
+    c.try_push.ensures.ok c.try_push.ensures.full

@@ -1,0 +1,11 @@
+use Rattle.std.proofs.Common.{◌≡◌, length, map, take}
+use Rattle.mg_core.specs.Flows.{listener_of}
+use Rattle.mg_core.specs.World.{World, StandsFor}
+use Rattle.mg_core.proofs.listeners.fill_places.Given as goal
+
+abbrev pub invariant-loop-place : goal.invariant-loop-place
+invariant-loop-place l = record {
+  places : length l.places ≡ 256;
+  front : (w : World) → StandsFor l.core.state w → take l.place l.places ≡
+      map (listener_of w.gateway) (take l.place l.core.state.engine.rooms.terminations);
+}

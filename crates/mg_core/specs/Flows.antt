@@ -1,0 +1,131 @@
+-- What an event changed of the terminations and of who hears whom, as comment lines of a script's
+-- output. The lines are this gateway's own.
+use Rattle.std.specs.Prelude.{◌≡◌, ℕ, ◌==◌, Bool, true, false, List, [], ◌++◌, length, filter}
+use Rattle.std.specs.Prelude.{find, flat_map, map, Option, Some, None, is_some, codes, decimal}
+use Rattle.std.specs.Prelude.{if◌then◌else◌}
+use Rattle.std.specs.Str.{bytes_eq}
+use Rattle.mg_words.specs.declared.mode.Mode.{Mode}
+use Rattle.mg_words.specs.declared.mode.Mode.TheVariants.{Inactive, SendOnly, ReceiveOnly}
+use Rattle.mg_words.specs.declared.mode.Mode.TheVariants.{SendReceive, Loopback}
+use Rattle.mg_words.specs.Mode.{mode_text}
+use Rattle.mg_rooms.specs.declared.record.Record.{Record}
+use Rattle.mg_rooms.specs.Consistent.{IsConsistent}
+use Rattle.mg_rooms.specs.Limits.{slot_port}
+use Rattle.mg_engine.specs.Flow.{flow}
+use Rattle.mg_engine.specs.Gateway.{Gateway, numbers_of}
+use Rattle.mg_core.specs.World.{World, capped}
+
+-- ## Listeners
+
+-- a termination with its context, its UDP port and its mode, and the numbers of all whose speech
+-- goes to it, in rising order
+pub record Listener : Type 0 where
+  pub number : ℕ
+  pub context : ℕ
+  pub port : ℕ
+  pub mode : Mode
+  pub talkers : List ℕ
+
+abbrev pub listener_of : Gateway → Record → Listener
+listener_of w r = record {
+  number = r.number;
+  context = r.context;
+  port = slot_port w.rooms.limits r.slot;
+  mode = r.mode;
+  talkers = filter (λ n. flow w n r.number) (numbers_of w);
+}
+
+-- all terminations, by rising numbers
+abbrev pub listeners_of : Gateway → List Listener
+listeners_of w = map (listener_of w) w.rooms.terminations
+
+abbrev pub listener_at : List Listener → ℕ → Option Listener
+listener_at xs n = find (λ x. x.number == n) xs
+
+abbrev pub is_same_mode : Mode → Mode → Bool
+is_same_mode Inactive Inactive = true
+is_same_mode SendOnly SendOnly = true
+is_same_mode ReceiveOnly ReceiveOnly = true
+is_same_mode SendReceive SendReceive = true
+is_same_mode Loopback Loopback = true
+is_same_mode a b = false
+
+-- ## Lines
+
+-- each line tells something of a termination after so many ticks
+abbrev pub line_head : ℕ → ℕ → List ℕ
+line_head ticks n = codes "# " ++ (decimal ticks ++ (codes " ticks: RTP/" ++ decimal n))
+
+abbrev pub telling : ℕ → Listener → List ℕ → List ℕ
+telling ticks x what = line_head ticks x.number ++ (what ++ codes "\n")
+
+abbrev pub ended : ℕ → Listener → List ℕ
+ended ticks x = telling ticks x (codes " ended")
+
+abbrev pub made : ℕ → Listener → List ℕ
+made ticks x =
+    telling ticks x
+    (codes " made in context " ++ (decimal x.context ++ (codes " at port " ++ decimal x.port)))
+
+abbrev pub moved : ℕ → Listener → List ℕ
+moved ticks x = telling ticks x (codes " moved to context " ++ decimal x.context)
+
+abbrev pub in_mode : ℕ → Listener → List ℕ
+in_mode ticks x = telling ticks x (codes " mode " ++ mode_text x.mode)
+
+abbrev pub name_of : ℕ → List ℕ
+name_of n = codes " RTP/" ++ decimal n
+
+abbrev pub names_of : List ℕ → List ℕ
+names_of ns = if length ns == 0 then codes " nobody" else flat_map name_of ns
+
+abbrev pub hearing : ℕ → Listener → List ℕ
+hearing ticks x = telling ticks x (codes " hears" ++ names_of x.talkers)
+
+-- ## Changes
+
+-- one that was there is there no more
+abbrev pub told_of_old : ℕ → List Listener → Listener → List ℕ
+told_of_old ticks after x = if is_some (listener_at after x.number) then [] else ended ticks x
+
+-- Of one that wasn't there all is told. Of one that was, what is another now: its context, its
+-- mode, and whose speech goes to it.
+abbrev pub told_of_new : ℕ → Option Listener → Listener → List ℕ
+told_of_new ticks None x =
+    made ticks x ++ (in_mode ticks x ++
+    (if length x.talkers == 0 then [] else hearing ticks x))
+told_of_new ticks (Some old) x =
+    (if old.context == x.context then [] else moved ticks x) ++
+    ((if is_same_mode old.mode x.mode then [] else in_mode ticks x) ++
+    (if bytes_eq old.talkers x.talkers then [] else hearing ticks x))
+
+-- all that changed, from who was there before to who is there after
+abbrev pub changes : ℕ → List Listener → List Listener → List ℕ
+changes ticks before after =
+    flat_map (told_of_old ticks after) before
+    ++ flat_map (λ x. told_of_new ticks (listener_at before x.number) x) after
+
+-- what an event changed that led from one world to the next
+abbrev pub changes_by : World → World → List ℕ
+changes_by w next =
+    changes (capped next.tally.ticks) (listeners_of w.gateway) (listeners_of next.gateway)
+
+-- ## All that changed, and nothing else
+
+-- a termination but for its port, which it keeps as long as it is there
+abbrev pub but_port : Listener → Listener
+but_port x = record x { port = 0 }
+
+-- Where nothing is told the same terminations are there, in the same contexts and modes, and the
+-- same speech goes to each.
+abbrev pub NoneIsUntold : Type 0
+NoneIsUntold =
+    (ticks : ℕ) (v w : Gateway) → IsConsistent v.rooms → IsConsistent w.rooms
+    → changes ticks (listeners_of v) (listeners_of w) ≡ []
+    → map but_port (listeners_of v) ≡ map but_port (listeners_of w)
+
+-- Where all is the same, nothing is told.
+abbrev pub NoneIsToldInVain : Type 0
+NoneIsToldInVain =
+    (ticks : ℕ) (v w : Gateway) → IsConsistent v.rooms → listeners_of v ≡ listeners_of w
+    → changes ticks (listeners_of v) (listeners_of w) ≡ []

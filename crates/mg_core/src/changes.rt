@@ -1,0 +1,264 @@
+//! The comment lines that tell what changed of terminations, and of who hears whom.
+
+ghost use Rattle.std.specs.Prelude.{◌≡◌, ◌≤◌, ◌+◌, ◌*◌, ◌++◌, length, codes, decimal, flat_map, MatchOption, None, Some};
+ghost use Rattle.mg_reply.specs.Bytes.{appended};
+ghost use Rattle.mg_core.specs.Flows.{changes, ended, hearing, in_mode, is_same_mode, line_head, listener_at, made, moved, name_of, names_of, told_of_new, told_of_old};
+
+use crate::listener::KeptListener;
+use itoa::Buffer;
+use mg_text::Bytes;
+use mg_words::Mode;
+
+/// Writes a number in plain decimal.
+#[tactic(auto, using(crate::proofs::ChangeLaws::lengths))]
+fn push_number(n: u64, out: &mut Bytes)
+    requires room { 20 ≤ out.old.room }
+    ensures value { out.new ≡ appended out.old (decimal n) }
+    ensures short { length (decimal n) ≤ 20 }
+{
+    let mut buffer = Buffer::new();
+    out.push(buffer.format(n).as_bytes());
+}
+
+/// Writes what each line begins with: the number of ticks so far, and of whom it tells.
+#[tactic(auto, using(crate::proofs::ChangeLaws::steps))]
+fn push_head(ticks: u64, number: u32, out: &mut Bytes)
+    requires room { 54 ≤ out.old.room }
+    ensures value { out.new ≡ appended out.old (line_head ticks number) }
+    ensures short { length (line_head ticks number) ≤ 54 }
+{
+    out.push(b"# ");
+    push_number(ticks, out);
+    out.push(b" ticks: RTP/");
+    push_number(u64::from(number), out);
+}
+
+/// Writes that a termination ended.
+#[tactic(auto, using(crate::proofs::ChangeLaws::steps))]
+fn push_ended(ticks: u64, old: &KeptListener, out: &mut Bytes)
+    requires room { 61 ≤ out.old.room }
+    ensures value { out.new ≡ appended out.old (ended ticks old.now) }
+    ensures short { length (ended ticks old.now) ≤ 61 }
+{
+    push_head(ticks, old.number, out);
+    out.push(b" ended\n");
+}
+
+/// Writes where a termination was made.
+#[tactic(auto, using(crate::proofs::ChangeLaws::steps))]
+fn push_place(context: u32, port: u16, out: &mut Bytes)
+    requires room { 66 ≤ out.old.room }
+    ensures value { out.new ≡ appended out.old
+        (codes " made in context " ++ (decimal context ++ (codes " at port " ++ decimal port))) }
+    ensures short { length (codes " made in context " ++ (decimal context ++ (codes " at port " ++ decimal port)))
+        ≤ 66 }
+{
+    out.push(b" made in context ");
+    push_number(u64::from(context), out);
+    out.push(b" at port ");
+    push_number(u64::from(port), out);
+}
+
+/// Writes that a termination was made.
+#[tactic(auto, using(crate::proofs::ChangeLaws::steps))]
+fn push_made(ticks: u64, new: &KeptListener, out: &mut Bytes)
+    requires room { 121 ≤ out.old.room }
+    ensures value { out.new ≡ appended out.old (made ticks new.now) }
+    ensures short { length (made ticks new.now) ≤ 121 }
+{
+    push_head(ticks, new.number, out);
+    push_place(new.context, new.port, out);
+    out.push(b"\n");
+}
+
+/// Writes where a termination moved to.
+#[tactic(auto, using(crate::proofs::ChangeLaws::steps))]
+fn push_context(context: u32, out: &mut Bytes)
+    requires room { 38 ≤ out.old.room }
+    ensures value { out.new ≡ appended out.old (codes " moved to context " ++ decimal context) }
+    ensures short { length (codes " moved to context " ++ decimal context) ≤ 38 }
+{
+    out.push(b" moved to context ");
+    push_number(u64::from(context), out);
+}
+
+/// Writes that a termination moved to another context.
+#[tactic(auto, using(crate::proofs::ChangeLaws::steps))]
+fn push_moved(ticks: u64, new: &KeptListener, out: &mut Bytes)
+    requires room { 93 ≤ out.old.room }
+    ensures value { out.new ≡ appended out.old (moved ticks new.now) }
+    ensures short { length (moved ticks new.now) ≤ 93 }
+{
+    push_head(ticks, new.number, out);
+    push_context(new.context, out);
+    out.push(b"\n");
+}
+
+/// Writes the mode of a termination.
+#[tactic(auto, using(crate::proofs::ChangeLaws::steps))]
+fn push_mode(ticks: u64, new: &KeptListener, out: &mut Bytes)
+    requires room { 72 ≤ out.old.room }
+    ensures value { out.new ≡ appended out.old (in_mode ticks new.now) }
+    ensures short { length (in_mode ticks new.now) ≤ 72 }
+{
+    push_head(ticks, new.number, out);
+    out.push(b" mode ");
+    out.push(new.mode.as_str().as_bytes());
+    out.push(b"\n");
+}
+
+/// Writes the name of a termination after a space.
+#[tactic(auto, using(crate::proofs::ChangeLaws::steps))]
+fn push_name(number: u32, out: &mut Bytes)
+    requires room { 25 ≤ out.old.room }
+    ensures value { out.new ≡ appended out.old (name_of number) }
+    ensures short { length (name_of number) ≤ 25 }
+{
+    out.push(b" RTP/");
+    push_number(u64::from(number), out);
+}
+
+/// Writes the names of terminations, or that there is none.
+#[tactic(auto, using(crate::proofs::ChangeLaws::steps))]
+fn push_names(numbers: &[u32], out: &mut Bytes)
+    requires few { length numbers.now ≤ 64 }
+    requires room { 1600 ≤ out.old.room }
+    ensures value { out.new ≡ appended out.old (names_of numbers.now) }
+    ensures short { length (names_of numbers.now) ≤ 1600 }
+{
+    if numbers.is_empty() {
+        out.push(b" nobody");
+        return;
+    }
+    for number in numbers {
+        push_name(*number, out);
+    }
+}
+
+/// Writes whom a termination hears.
+#[tactic(auto, using(crate::proofs::ChangeLaws::steps))]
+fn push_talkers(ticks: u64, new: &KeptListener, out: &mut Bytes)
+    requires room { 1661 ≤ out.old.room }
+    ensures value { out.new ≡ appended out.old (hearing ticks new.now) }
+    ensures short { length (hearing ticks new.now) ≤ 1661 }
+{
+    push_head(ticks, new.number, out);
+    out.push(b" hears");
+    push_names(new.talkers.as_slice(), out);
+    out.push(b"\n");
+}
+
+/// Writes all of a termination that wasn't there before.
+#[tactic(auto, using(crate::proofs::ChangeLaws::steps))]
+fn push_new(ticks: u64, new: &KeptListener, out: &mut Bytes)
+    requires room { 1854 ≤ out.old.room }
+    ensures value { out.new ≡ appended out.old (told_of_new ticks None new.now) }
+    ensures short { length (told_of_new ticks None new.now) ≤ 1854 }
+{
+    push_made(ticks, new, out);
+    push_mode(ticks, new, out);
+    if !new.talkers.is_empty() {
+        push_talkers(ticks, new, out);
+    }
+}
+
+/// Whether two modes are one.
+fn is_same_mode(a: Mode, b: Mode) -> bool
+    ensures value { result ≡ is_same_mode a b }
+{
+    a == b
+}
+
+/// Writes what is another of a termination that was there before.
+#[tactic(auto, using(crate::proofs::ChangeLaws::steps))]
+fn push_changed(ticks: u64, old: &KeptListener, new: &KeptListener, out: &mut Bytes)
+    requires room { 1854 ≤ out.old.room }
+    ensures value { out.new ≡ appended out.old (told_of_new ticks (Some old.now) new.now) }
+    ensures short { length (told_of_new ticks (Some old.now) new.now) ≤ 1854 }
+{
+    if old.context != new.context {
+        push_moved(ticks, new, out);
+    }
+    if !is_same_mode(old.mode, new.mode) {
+        push_mode(ticks, new, out);
+    }
+    if old.talkers.as_slice() != new.talkers.as_slice() {
+        push_talkers(ticks, new, out);
+    }
+}
+
+/// The listener with this number.
+fn listener_at(listeners: &[KeptListener], number: u32) -> Option<&KeptListener>
+    ensures value { MatchOption result (listener_at listeners.now number ≡ None)
+        (λ x. listener_at listeners.now number ≡ Some x.now) }
+{
+    for x in listeners {
+        if x.number == number {
+            return Some(x);
+        }
+    }
+    None
+}
+
+/// Writes that a termination ended, unless it is there after the change.
+#[tactic(auto, using(crate::proofs::ChangeLaws::steps))]
+fn push_old(ticks: u64, after: &[KeptListener], old: &KeptListener, out: &mut Bytes)
+    requires room { 61 ≤ out.old.room }
+    ensures value { out.new ≡ appended out.old (told_of_old ticks after.now old.now) }
+    ensures short { length (told_of_old ticks after.now old.now) ≤ 61 }
+{
+    match listener_at(after, old.number) {
+        Some(_) => {}
+        None => push_ended(ticks, old, out),
+    }
+}
+
+/// Writes what is new of a termination.
+#[tactic(auto, using(crate::proofs::ChangeLaws::steps))]
+fn push_listener(ticks: u64, before: &[KeptListener], new: &KeptListener, out: &mut Bytes)
+    requires room { 1854 ≤ out.old.room }
+    ensures value { out.new ≡ appended out.old (told_of_new ticks (listener_at before.now new.now.number) new.now) }
+    ensures short { length (told_of_new ticks (listener_at before.now new.now.number) new.now) ≤ 1854 }
+{
+    match listener_at(before, new.number) {
+        Some(old) => push_changed(ticks, old, new, out),
+        None => push_new(ticks, new, out),
+    }
+}
+
+/// Writes which terminations ended.
+#[tactic(auto, using(crate::proofs::ChangeLaws::steps))]
+fn push_all_old(ticks: u64, before: &[KeptListener], after: &[KeptListener], out: &mut Bytes)
+    requires room { 61 * length before.now ≤ out.old.room }
+    ensures value { out.new ≡ appended out.old (flat_map (told_of_old ticks after.now) before.now) }
+    ensures short { length (flat_map (told_of_old ticks after.now) before.now) ≤ 61 * length before.now }
+{
+    for old in before {
+        push_old(ticks, after, old, out);
+    }
+}
+
+/// Writes what is new of all terminations.
+#[tactic(auto, using(crate::proofs::ChangeLaws::steps))]
+fn push_all_new(ticks: u64, before: &[KeptListener], after: &[KeptListener], out: &mut Bytes)
+    requires room { 1854 * length after.now ≤ out.old.room }
+    ensures value { out.new ≡ appended out.old
+        (flat_map (λ x. told_of_new ticks (listener_at before.now x.number) x) after.now) }
+    ensures short { length (flat_map (λ x. told_of_new ticks (listener_at before.now x.number) x) after.now)
+        ≤ 1854 * length after.now }
+{
+    for new in after {
+        push_listener(ticks, before, new, out);
+    }
+}
+
+/// Writes all that changed, from the terminations before to those after.
+#[tactic(auto, using(crate::proofs::ChangeLaws::steps))]
+pub fn push_changes(ticks: u64, before: &[KeptListener], after: &[KeptListener], out: &mut Bytes)
+    requires room { 61 * length before.now + 1854 * length after.now ≤ out.old.room }
+    ensures value { out.new ≡ appended out.old (changes ticks before.now after.now) }
+    ensures short { length (changes ticks before.now after.now) ≤ 61 * length before.now + 1854 * length after.now }
+{
+    push_all_old(ticks, before, after, out);
+    push_all_new(ticks, before, after, out);
+}

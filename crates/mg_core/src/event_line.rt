@@ -1,0 +1,92 @@
+ghost use Rattle.std.specs.Prelude.{◌≡◌, ◌≤◌, ◌+◌, ◌*◌, length, IfOk, []};
+ghost use Rattle.hex.specs.Hex.{encode_lower};
+ghost use Rattle.mg_reply.specs.Bytes.{appended};
+ghost use Rattle.mg_core.specs.declared.event.Event.TheVariants as events;
+ghost use Rattle.mg_core.specs.Recording.{datagram_text, event_line};
+
+use crate::output::push_peer;
+use crate::script::DATAGRAM_LIMIT;
+use mg_engine::Peer;
+use mg_text::{Bytes, write_port};
+use std::alloc::{AllocError, Global};
+use std::marker::Model;
+
+/// The bytes of the longest line: a key word, a port, a peer, and the digits of a datagram.
+const LINE_ROOM: usize = 33 + 2 * DATAGRAM_LIMIT;
+
+/// The line of a script for an event, as it is made up before it is written at once. Contracts see its text.
+#[derive(Drop)]
+pub struct EventLine {
+    line: Bytes,
+    digits: Vec<u8>,
+}
+
+impl Model for EventLine {
+    ghost use Rattle.std.specs.Prelude.{◌≡◌, ◌+◌, List, ℕ, length};
+
+    ghost Value = { List ℕ };
+
+    ghost view = { λ l. l.line.text };
+
+    ghost invariant = { λ l. (l.line.room + length l.line.text ≡ 131103) × (length l.digits.items ≡ 131070) };
+}
+
+/// Writes a peer and the bytes of a datagram, and ends the line. The digits are made up in a place of their own.
+#[tactic(auto, using(crate::proofs::OutputLaws::steps))]
+fn push_datagram(source: Peer, bytes: &[u8], digits: &mut [u8], out: &mut Bytes)
+    requires digits { 2 * length bytes.now ≤ length digits.old }
+    requires room { 23 + 2 * length bytes.now ≤ out.old.room }
+    ensures value { out.new ≡ appended out.old (datagram_text source bytes.now) }
+    ensures short { length (datagram_text source bytes.now) ≤ 23 + 2 * length bytes.now }
+    ensures digits { length digits.new ≡ length digits.old }
+{
+    push_peer(source, out);
+    out.push(b" ");
+    let spelled = &mut digits[..2 * bytes.len()];
+    hex::encode_to_slice(bytes, spelled).unwrap();
+    out.push(spelled);
+    out.push(b"\n");
+}
+
+impl EventLine {
+    /// An empty line. This takes all the memory.
+    pub fn new(alloc: Global) -> Result<Self, AllocError>
+        ensures value { IfOk result (λ line. line ≡ []) }
+    {
+        Ok(EventLine {
+            line: Bytes::new(alloc, LINE_ROOM)?,
+            digits: vec![in alloc; 0; 2 * DATAGRAM_LIMIT]?,
+        })
+    }
+
+    /// Makes up the line for a control datagram.
+    #[tactic(auto, using(crate::proofs::OutputLaws::steps))]
+    pub fn control(&mut self, source: Peer, bytes: &[u8])
+        requires short { length bytes.now ≤ 65535 }
+        ensures value { self.new ≡ event_line (events.Control source bytes.now) }
+    {
+        self.line.clear();
+        self.line.push(b"control ");
+        push_datagram(source, bytes, &mut self.digits, &mut self.line);
+    }
+
+    /// Makes up the line for an RTP datagram that came to a media port.
+    #[tactic(auto, using(crate::proofs::OutputLaws::steps))]
+    pub fn media(&mut self, port: u16, source: Peer, bytes: &[u8])
+        requires short { length bytes.now ≤ 65535 }
+        ensures value { self.new ≡ event_line (events.Media port source bytes.now) }
+    {
+        self.line.clear();
+        self.line.push(b"rtp ");
+        write_port(port, &mut self.line);
+        self.line.push(b" ");
+        push_datagram(source, bytes, &mut self.digits, &mut self.line);
+    }
+
+    /// The line, with its line feed.
+    pub fn as_slice(&self) -> &[u8]
+        ensures value { result.now ≡ self.now }
+    {
+        self.line.as_slice()
+    }
+}

@@ -1,0 +1,81 @@
+ghost use Rattle.std.specs.Prelude.{◌≡◌, ◌<◌, [], filter};
+ghost use Rattle.mg_engine.specs.Flow.{flow};
+ghost use Rattle.mg_engine.specs.Gateway.{numbers_of};
+ghost use Rattle.mg_core.specs.Flows.{listener_of};
+ghost use Rattle.mg_core.specs.World.{World, StandsFor};
+
+use crate::machine::Core;
+use arrayvec::ArrayVec;
+use mg_engine::Record;
+use mg_rooms::MEMBERS;
+use mg_words::Mode;
+use std::marker::Model;
+
+/// A termination as it was at some time, with those whose speech went to it.
+#[derive(Drop)]
+pub struct KeptListener {
+    pub number: u32,
+    pub context: u32,
+    /// The UDP port that it receives at.
+    pub port: u16,
+    pub mode: Mode,
+    /// By rising numbers.
+    pub talkers: ArrayVec<u32, MEMBERS>,
+}
+
+impl Model for KeptListener {
+    ghost use Rattle.mg_core.specs.Flows.{Listener};
+
+    ghost Value = { Listener };
+
+    ghost view = { λ x. record {
+      number = x.number;
+      context = x.context;
+      port = x.port;
+      mode = x.mode;
+      talkers = x.talkers.items;
+    } };
+}
+
+impl KeptListener {
+    /// A listener that nobody is.
+    pub fn new() -> Self
+        ensures value { result ≡ record { number = 0; context = 0; port = 0; mode = Mode.Inactive; talkers = [] } }
+    {
+        KeptListener {
+            number: 0,
+            context: 0,
+            port: 0,
+            mode: Mode::Inactive,
+            talkers: ArrayVec::new(),
+        }
+    }
+
+    /// Puts a termination of a core here, as it is.
+    pub fn set(&mut self, core: &Core, termination: &Record)
+        requires slot { termination.now.slot < core.now.state.engine.rooms.limits.slots }
+        ensures value { (w : World) → StandsFor core.now.state w → self.new ≡ listener_of w.gateway termination.now }
+    {
+        self.number = termination.number;
+        self.context = termination.context;
+        self.port = core.port(termination.slot);
+        self.mode = termination.mode;
+        self.talkers = talkers_of(core, termination.number);
+    }
+}
+
+/// Those whose speech goes to a listener. They are members of its context, so there is a place for each.
+fn talkers_of(core: &Core, listener: u32) -> ArrayVec<u32, MEMBERS>
+    ensures value { (w : World) → StandsFor core.now.state w →
+        result.items ≡ filter (λ n. flow w.gateway n listener) (numbers_of w.gateway) }
+{
+    let mut talkers = ArrayVec::new();
+    for place in 0..core.terminations() {
+        let talker = core.termination(place);
+        if !core.flow(talker.number, listener) {
+            continue;
+        }
+        let _ = talkers.try_push(talker.number);
+    }
+    talkers
+}

@@ -1,0 +1,69 @@
+ghost use Rattle.std.specs.Prelude.{◌≡◌, ◌≤◌, [], length, take, IfOk};
+ghost use Rattle.mg_core.specs.Flows.{listeners_of};
+ghost use Rattle.mg_core.specs.World.{World, StandsFor};
+
+use crate::listener::KeptListener;
+use crate::machine::Core;
+use mg_rooms::TERMINATIONS;
+use std::alloc::{AllocError, Global};
+use std::marker::Model;
+
+/// The terminations of a gateway as they were at some time, by rising numbers.
+#[derive(Drop)]
+pub struct KeptListeners {
+    /// As many places as there may be terminations, of which the first are held.
+    places: Vec<KeptListener>,
+    len: usize,
+}
+
+impl Model for KeptListeners {
+    ghost use Rattle.std.specs.Prelude.{◌≡◌, ◌≤◌, List, length, take};
+    ghost use Rattle.mg_core.specs.Flows.{Listener};
+
+    ghost Value = { List Listener };
+
+    ghost view = { λ x. take x.len x.places.items };
+
+    ghost invariant = { λ x. (length x.places.items ≡ 256) × (x.len ≤ 256) };
+}
+
+impl KeptListeners {
+    /// Those of a gateway without terminations. This takes the memory for all that there can be.
+    pub fn new(alloc: Global) -> Result<Self, AllocError>
+        ensures value { IfOk result (λ x. x ≡ []) }
+    {
+        let mut places = Vec::with_capacity(alloc, TERMINATIONS)?;
+        for _ in 0..TERMINATIONS {
+            places.push(KeptListener::new())?;
+        }
+        Ok(KeptListeners { places, len: 0 })
+    }
+
+    /// Takes the terminations of a core, as they are, in the place of those that were here.
+    pub fn fill(&mut self, core: &Core)
+        ensures value { (w : World) → StandsFor core.now.state w → self.new ≡ listeners_of w.gateway }
+    {
+        self.len = fill_places(&mut self.places, core);
+    }
+
+    pub fn as_slice(&self) -> &[KeptListener]
+        ensures value { result.now ≡ self.now }
+        ensures few { length result.now ≤ TERMINATIONS }
+    {
+        &self.places[..self.len]
+    }
+}
+
+/// Fills the first places with the terminations of a core, and answers how many they are.
+fn fill_places(places: &mut [KeptListener], core: &Core) -> usize
+    requires places { length places.old ≡ TERMINATIONS }
+    ensures front { (w : World) → StandsFor core.now.state w → take result places.new ≡ listeners_of w.gateway }
+    ensures within { result ≤ TERMINATIONS }
+{
+    let count = core.terminations();
+    for place in 0..count {
+        let termination = core.termination(place);
+        places[place].set(core, &termination);
+    }
+    count
+}

@@ -1,0 +1,74 @@
+ghost use Rattle.std.specs.Prelude.{◌≡◌, [], IfOk};
+ghost use Rattle.mg_lines.specs.Streams.{Writes};
+ghost use Rattle.mg_core.specs.Flows.{changes, listeners_of};
+ghost use Rattle.mg_core.specs.World.{World, StandsFor, capped};
+
+use crate::changes::push_changes;
+use crate::listeners::KeptListeners;
+use crate::machine::Core;
+use mg_lines::{WriteFailed, write_whole};
+use mg_text::Bytes;
+use std::alloc::{AllocError, Global};
+use std::io::Write;
+use std::marker::Model;
+use std::mem;
+
+/// The bytes of the longest text of changes: 256 terminations end, and 256 are new, each in three lines.
+const CHANGES_LIMIT: usize = 490240;
+
+/// The terminations of a gateway as its last changes left them. Contracts see the list of them.
+#[derive(Drop)]
+pub struct Watched {
+    listeners: KeptListeners,
+    /// Those after a change, while it is written.
+    next: KeptListeners,
+    text: Bytes,
+}
+
+impl Model for Watched {
+    ghost use Rattle.std.specs.Prelude.{◌≡◌, ◌+◌, List, length};
+    ghost use Rattle.mg_core.specs.Flows.{Listener};
+
+    ghost Value = { List Listener };
+
+    ghost view = { λ x. x.listeners };
+
+    ghost invariant = { λ x. x.text.room + length x.text.text ≡ 490240 };
+}
+
+impl Watched {
+    /// Those of a gateway without terminations. This takes all the memory.
+    pub fn new(alloc: Global) -> Result<Self, AllocError>
+        ensures value { IfOk result (λ x. x ≡ []) }
+    {
+        Ok(Watched {
+            listeners: KeptListeners::new(alloc)?,
+            next: KeptListeners::new(alloc)?,
+            text: Bytes::new(alloc, CHANGES_LIMIT)?,
+        })
+    }
+
+    /// Writes what changed of a core since, and takes its terminations as they are.
+    #[tactic(auto, using(crate::proofs::AnswerLaws::totals))]
+    pub fn write_changes<W: Write>(
+        &mut self,
+        core: &Core,
+        writer: &mut W,
+    ) -> Result<(), WriteFailed>
+        ensures listeners { (w : World) → StandsFor core.now.state w → self.new ≡ listeners_of w.gateway }
+        ensures written { (w : World) → StandsFor core.now.state w →
+            Writes (changes (capped w.tally.ticks) self.old (listeners_of w.gateway)) (W.contents writer.old)
+            (W.contents writer.new) result }
+    {
+        self.next.fill(core);
+        self.text.clear();
+        push_changes(
+            core.counts().ticks,
+            self.listeners.as_slice(),
+            self.next.as_slice(),
+            &mut self.text,
+        );
+        mem::swap(&mut self.listeners, &mut self.next);
+        write_whole(self.text.as_slice(), writer)
+    }
+}

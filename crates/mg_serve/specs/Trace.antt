@@ -1,0 +1,50 @@
+-- What a gateway does, in order, and what is printed of it.
+use Rattle.std.specs.Prelude.{ℕ, ◌==◌, not, List, [], ◌∷◌, ◌++◌, codes, flat_map, take}
+use Rattle.std.specs.List.{filter}
+use Rattle.mg_core.specs.declared.event.Event.{Event}
+use Rattle.mg_core.specs.Recording.{Entry, entry_line, event_line}
+use Rattle.mg_core.specs.Recording as entry
+use Rattle.mg_ports.specs.declared.call.Call.{Call}
+use Rattle.mg_serve.specs.declared.form.Form.{Form}
+use Rattle.mg_serve.specs.declared.form.Form.TheVariants.{Plain, Recording}
+
+-- It calls its ports, an event happens, it prints a text for whoever drives it, or it notes one
+-- that a recording alone has.
+pub data Did : Type 0 where
+  Called : (call : Call) → Did
+  Happened : (event : Event) → Did
+  Printed : (text : List ℕ) → Did
+  Noted : (text : List ℕ) → Did
+
+abbrev pub calls_of : List Did → List Call
+calls_of [] = []
+calls_of (Called call ∷ trace) = call ∷ calls_of trace
+calls_of (Happened event ∷ trace) = calls_of trace
+calls_of (Printed text ∷ trace) = calls_of trace
+calls_of (Noted text ∷ trace) = calls_of trace
+
+abbrev pub events_of : List Did → List Event
+events_of [] = []
+events_of (Called call ∷ trace) = events_of trace
+events_of (Happened event ∷ trace) = event ∷ events_of trace
+events_of (Printed text ∷ trace) = events_of trace
+events_of (Noted text ∷ trace) = events_of trace
+
+-- a text as one line: without line feeds, and the first 1,000 bytes at most
+abbrev pub one_line : List ℕ → List ℕ
+one_line text = take 1000 (filter (λ b. not (b == 10)) text)
+
+-- What is printed: for whoever drives the gateway, the texts for him; and of a recording, a line of
+-- a script for each event, and comments.
+abbrev pub text_of : Form → Did → List ℕ
+text_of Plain (Called call) = []
+text_of Plain (Happened event) = []
+text_of Plain (Printed text) = one_line text ++ codes "\n"
+text_of Plain (Noted text) = []
+text_of Recording (Called call) = []
+text_of Recording (Happened event) = event_line event
+text_of Recording (Printed text) = entry_line (entry.Noted (one_line text))
+text_of Recording (Noted text) = entry_line (entry.Noted (one_line text))
+
+abbrev pub output_of : Form → List Did → List ℕ
+output_of form trace = flat_map (text_of form) trace

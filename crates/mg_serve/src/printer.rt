@@ -1,0 +1,180 @@
+ghost use Rattle.std.specs.Prelude.{◌≡◌, ◌≤◌, ◌++◌, ◌∷◌, [], false, length, codes, IfOk};
+ghost use Rattle.mg_core.specs.declared.event.Event.TheVariants as events;
+ghost use Rattle.mg_reply.specs.Bytes.{appended};
+ghost use Rattle.std.specs.Option.{option_map};
+ghost use Rattle.mg_serve.specs.Serve.{opening};
+ghost use Rattle.mg_serve.specs.Trace.{Happened, Noted, Printed, one_line};
+ghost use Rattle.mg_serve.specs.aids.Printing.{Prints, Puts};
+
+use crate::form::Form;
+use mg_core::{EventLine, Peer};
+use mg_lines::write_whole;
+use mg_reply::Bytes;
+use std::alloc::{AllocError, Global};
+use std::io::Write;
+use std::marker::Model;
+
+/// The bytes of the longest line of a text: what makes it a comment, the text, and a line feed.
+const TEXT_ROOM: usize = 1003;
+
+/// Prints what a gateway does, each line by one write. After a print that failed it prints nothing more.
+#[derive(Drop)]
+pub struct Printer {
+    form: Form,
+    has_failed: bool,
+    event: EventLine,
+    text: Bytes,
+}
+
+impl Model for Printer {
+    ghost use Rattle.std.specs.Prelude.{◌≡◌, ◌+◌, length};
+    ghost use Rattle.mg_serve.specs.aids.Printing.{PrinterView};
+
+    ghost Value = { PrinterView };
+
+    ghost view = { λ p. record { form = p.form; has_failed = p.has_failed } };
+
+    ghost invariant = { λ p. p.text.room + length p.text.text ≡ 1003 };
+}
+
+/// Writes a text, unless a write has failed before.
+fn put<W: Write>(has_failed: &mut bool, text: &[u8], writer: &mut W)
+    requires some { ¬ (text.now ≡ []) }
+    ensures value { Puts has_failed.old has_failed.new text.now (W.contents writer.old) (W.contents writer.new) }
+{
+    if !*has_failed {
+        *has_failed = write_whole(text, writer).is_err();
+    }
+}
+
+/// Writes a text as one line, without its end: what is in it of line feeds is left out, and its first 1,000 bytes stay.
+#[tactic(auto, using(crate::proofs::OneLine::short))]
+fn push_line(text: &[u8], out: &mut Bytes)
+    requires room { 1000 ≤ out.old.room }
+    ensures value { out.new ≡ appended out.old (one_line text.now) }
+    ensures short { length (one_line text.now) ≤ 1000 }
+{
+    let mut left: usize = 1000;
+    for b in text {
+        if *b == b'\n' {
+            continue;
+        }
+        if left == 0 {
+            continue;
+        }
+        out.push(&[*b]);
+        left -= 1;
+    }
+}
+
+impl Printer {
+    /// A printer of a form. This takes all the memory.
+    pub fn new(alloc: Global, form: Form) -> Result<Self, AllocError>
+        ensures value { IfOk result (λ printer. printer ≡ record { form = form; has_failed = false }) }
+    {
+        Ok(Printer {
+            form,
+            has_failed: false,
+            event: EventLine::new(alloc)?,
+            text: Bytes::new(alloc, TEXT_ROOM)?,
+        })
+    }
+
+    /// Whether a print has failed.
+    pub fn has_failed(&self) -> bool
+        ensures value { result ≡ self.now.has_failed }
+    {
+        self.has_failed
+    }
+
+    /// Prints that a control datagram came.
+    pub fn control<W: Write>(&mut self, source: Peer, bytes: &[u8], writer: &mut W)
+        requires short { length bytes.now ≤ 65535 }
+        ensures value { Prints self.old self.new (W.contents writer.old) (W.contents writer.new)
+            (Happened (events.Control source bytes.now) ∷ []) }
+    {
+        match self.form {
+            Form::Plain => {}
+            Form::Recording => {
+                self.event.control(source, bytes);
+                put(&mut self.has_failed, self.event.as_slice(), writer);
+            }
+        }
+    }
+
+    /// Prints that an RTP datagram came to a media port.
+    pub fn media<W: Write>(&mut self, port: u16, source: Peer, bytes: &[u8], writer: &mut W)
+        requires short { length bytes.now ≤ 65535 }
+        ensures value { Prints self.old self.new (W.contents writer.old) (W.contents writer.new)
+            (Happened (events.Media port source bytes.now) ∷ []) }
+    {
+        match self.form {
+            Form::Plain => {}
+            Form::Recording => {
+                self.event.media(port, source, bytes);
+                put(&mut self.has_failed, self.event.as_slice(), writer);
+            }
+        }
+    }
+
+    /// Prints that a tick passed.
+    pub fn tick<W: Write>(&mut self, writer: &mut W)
+        ensures value { Prints self.old self.new (W.contents writer.old) (W.contents writer.new)
+            (Happened events.Tick ∷ []) }
+    {
+        match self.form {
+            Form::Plain => {}
+            Form::Recording => put(&mut self.has_failed, b"tick\n", writer),
+        }
+    }
+
+    /// Prints a line: what it begins with, and a text.
+    fn put_line<W: Write>(&mut self, front: &[u8], text: &[u8], writer: &mut W)
+        requires front { length front.now ≤ 2 }
+        ensures form { self.new.form ≡ self.old.form }
+        ensures value { Puts self.old.has_failed self.new.has_failed
+            (front.now ++ (one_line text.now ++ codes "\n")) (W.contents writer.old) (W.contents writer.new) }
+    {
+        self.text.clear();
+        self.text.push(front);
+        push_line(text, &mut self.text);
+        self.text.push(b"\n");
+        put(&mut self.has_failed, self.text.as_slice(), writer);
+    }
+
+    /// Prints a text for whoever drives the gateway, as one line.
+    pub fn print<W: Write>(&mut self, text: &[u8], writer: &mut W)
+        ensures value { Prints self.old self.new (W.contents writer.old) (W.contents writer.new)
+            (Printed text.now ∷ []) }
+    {
+        match self.form {
+            Form::Plain => self.put_line(b"", text, writer),
+            Form::Recording => self.put_line(b"# ", text, writer),
+        }
+    }
+
+    /// Notes a text, which a recording alone has, as one line.
+    pub fn note<W: Write>(&mut self, text: &[u8], writer: &mut W)
+        ensures value { Prints self.old self.new (W.contents writer.old) (W.contents writer.new)
+            (Noted text.now ∷ []) }
+    {
+        match self.form {
+            Form::Plain => {}
+            Form::Recording => self.put_line(b"# ", text, writer),
+        }
+    }
+
+    /// Prints the title of a recording, if there is one, and `ready`.
+    pub fn open<W: Write>(&mut self, title: Option<&[u8]>, writer: &mut W)
+        ensures value { Prints self.old self.new (W.contents writer.old) (W.contents writer.new)
+            (opening (option_map (λ text. text.now) title.entry)) }
+    {
+        match title {
+            None => self.print(b"ready", writer),
+            Some(text) => {
+                self.note(text, writer);
+                self.print(b"ready", writer);
+            }
+        }
+    }
+}

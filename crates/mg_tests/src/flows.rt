@@ -1,0 +1,63 @@
+//! What a run tells of changes.
+
+use mg_core::{Config, RunFault, Shown, run};
+use std::alloc::Global;
+use std::io::Cursor;
+
+/// Three callers in a conference; the first and the third are isolated; the third moves to a context of its own; the
+/// second is subtracted.
+const SCRIPT: &[u8] = b"tick\n\
+    say 127.0.0.1:2945 !/1 [127.0.0.1]:2945 T=1{C=${A=${M{O{MO=SR}}},A=${M{O{MO=SR}}},A=${M{O{MO=SR}}}}}\n\
+    tick\n\
+    rtp 30000 127.0.0.1:5004 80\n\
+    say 127.0.0.1:2945 !/1 [127.0.0.1]:2945 T=2{C=1{TP{RTP/1,RTP/3,IS}}}\n\
+    say 127.0.0.1:2945 !/1 [127.0.0.1]:2945 T=3{C=1{MF=RTP/2{M{O{MO=SO}}}}}\n\
+    say 127.0.0.1:2945 !/1 [127.0.0.1]:2945 T=4{C=${MV=RTP/3}}\n\
+    say 127.0.0.1:2945 !/1 [127.0.0.1]:2945 T=5{C=1{S=RTP/2{AT{}}}}\n";
+
+/// Worked out from the script by hand. The third hears the first no longer, nor the first the third; nobody hears the
+/// second once it only listens; and who moves away is heard by nobody.
+const WRITTEN: &[u8] =
+    b"say 127.0.0.1:2945 MEGACO/1 [127.0.0.1]:2944\\nReply=1{Context=1{Add=RTP/1,Add=RTP/2,Add=RTP/3}}\n\
+    # 1 ticks: RTP/1 made in context 1 at port 30000\n\
+    # 1 ticks: RTP/1 mode SendReceive\n\
+    # 1 ticks: RTP/1 hears RTP/2 RTP/3\n\
+    # 1 ticks: RTP/2 made in context 1 at port 30002\n\
+    # 1 ticks: RTP/2 mode SendReceive\n\
+    # 1 ticks: RTP/2 hears RTP/1 RTP/3\n\
+    # 1 ticks: RTP/3 made in context 1 at port 30004\n\
+    # 1 ticks: RTP/3 mode SendReceive\n\
+    # 1 ticks: RTP/3 hears RTP/1 RTP/2\n\
+    say 127.0.0.1:2945 MEGACO/1 [127.0.0.1]:2944\\nReply=2{Context=1}\n\
+    # 2 ticks: RTP/1 hears RTP/2\n\
+    # 2 ticks: RTP/3 hears RTP/2\n\
+    say 127.0.0.1:2945 MEGACO/1 [127.0.0.1]:2944\\nReply=3{Context=1{Modify=RTP/2}}\n\
+    # 2 ticks: RTP/1 hears nobody\n\
+    # 2 ticks: RTP/2 mode SendOnly\n\
+    # 2 ticks: RTP/3 hears nobody\n\
+    say 127.0.0.1:2945 MEGACO/1 [127.0.0.1]:2944\\nReply=4{Context=2{Move=RTP/3}}\n\
+    # 2 ticks: RTP/2 hears RTP/1\n\
+    # 2 ticks: RTP/3 moved to context 2\n\
+    say 127.0.0.1:2945 MEGACO/1 [127.0.0.1]:2944\\nReply=5{Context=1{Subtract=RTP/2}}\n\
+    # 2 ticks: RTP/2 ended\n";
+
+fn played(alloc: Global, shown: Shown) -> (Vec<u8>, Option<RunFault>) {
+    let mut reader = Cursor::new(SCRIPT);
+    let mut written = Vec::new(alloc);
+    let outcome = run(alloc, Config::default(), shown, &mut reader, &mut written);
+    (written, outcome.err())
+}
+
+#[test]
+fn tells_what_changed(rt: HostRuntime) {
+    let (written, fault) = played(rt.alloc(), Shown::SentAndFlows);
+    assert_eq!(rt; fault, None);
+    assert!(rt; written.as_slice() == WRITTEN);
+}
+
+#[test]
+fn tells_no_change_where_none_is_asked(rt: HostRuntime) {
+    let (written, fault) = played(rt.alloc(), Shown::Sent);
+    assert_eq!(rt; fault, None);
+    assert!(rt; !written.contains(&b'#'));
+}

@@ -1,0 +1,165 @@
+//! The lines of a recording: their text, and what a run makes of them.
+
+ghost use Rattle.std.specs.Prelude.{◌≤◌, length};
+
+use mg_core::{Config, Counts, EventLine, Peer, Shown, run};
+use std::alloc::Global;
+use std::io::Cursor;
+use std::test::Fail;
+
+const CONTROLLER: Peer = Peer {
+    address: [127, 0, 0, 1],
+    port: 2945,
+};
+
+const CALLER: Peer = Peer {
+    address: [10, 0, 200, 9],
+    port: 40000,
+};
+
+/// The greatest address and port.
+const LAST: Peer = Peer {
+    address: [255; 4],
+    port: 65535,
+};
+
+/// The first bytes of a datagram, as many as one can have.
+fn sized(bytes: &[u8]) -> &[u8]
+    ensures short { length result.now ≤ 65535 }
+{
+    &bytes[..bytes.len().min(65535)]
+}
+
+/// The line of a control datagram.
+fn control(alloc: Global, source: Peer, bytes: &[u8]) -> Result<Vec<u8>, Fail> {
+    let mut line = EventLine::new(alloc)?;
+    line.control(source, sized(bytes));
+    Ok(Vec::from_slice(alloc, line.as_slice())?)
+}
+
+/// The line of an RTP datagram, made up after another one.
+fn media(alloc: Global, port: u16, source: Peer, bytes: &[u8]) -> Result<Vec<u8>, Fail> {
+    let mut line = EventLine::new(alloc)?;
+    line.control(source, b"another");
+    line.media(port, source, sized(bytes));
+    Ok(Vec::from_slice(alloc, line.as_slice())?)
+}
+
+#[test]
+fn writes_control_datagrams(rt: HostRuntime) -> Result<(), Fail> {
+    let line = control(rt.alloc(), CONTROLLER, b"")?;
+    assert_eq!(rt; line.as_slice(), b"control 127.0.0.1:2945 \n".as_slice());
+    let line = control(rt.alloc(), LAST, b"!")?;
+    assert_eq!(rt;
+        line.as_slice(),
+        b"control 255.255.255.255:65535 21\n".as_slice()
+    );
+    Ok(())
+}
+
+#[test]
+fn writes_rtp_datagrams(rt: HostRuntime) -> Result<(), Fail> {
+    let line = media(rt.alloc(), 0, CALLER, b"")?;
+    assert_eq!(rt; line.as_slice(), b"rtp 0 10.0.200.9:40000 \n".as_slice());
+    let line = media(rt.alloc(), 30000, CALLER, b"\x80\x00\xff\x0a")?;
+    assert_eq!(rt;
+        line.as_slice(),
+        b"rtp 30000 10.0.200.9:40000 8000ff0a\n".as_slice()
+    );
+    Ok(())
+}
+
+/// A text, the digits of so many exclamation marks, and a line feed.
+fn line_of(alloc: Global, front: &[u8], marks: usize) -> Result<Vec<u8>, Fail> {
+    let mut line = Vec::from_slice(alloc, front)?;
+    for _ in 0..marks {
+        line.extend_from_slice(b"21")?;
+    }
+    line.push(b'\n')?;
+    Ok(line)
+}
+
+/// So many exclamation marks.
+fn marks(alloc: Global, count: usize) -> Result<Vec<u8>, Fail> {
+    Ok(vec![in alloc; b'!'; count]?)
+}
+
+#[test]
+fn writes_the_longest(rt: HostRuntime) -> Result<(), Fail> {
+    let alloc = rt.alloc();
+    let bytes = marks(alloc, 65535)?;
+    let line = media(alloc, 65535, LAST, bytes.as_slice())?;
+    let wanted = line_of(alloc, b"rtp 65535 255.255.255.255:65535 ", 65535)?;
+    assert!(rt; line.as_slice() == wanted.as_slice());
+    Ok(())
+}
+
+/// What a run of a script wrote and counted.
+fn played(alloc: Global, script: &[u8]) -> Result<(Vec<u8>, Counts), Fail> {
+    let mut reader = Cursor::new(script);
+    let mut written = Vec::new(alloc);
+    let outcome = run(
+        alloc,
+        Config::default(),
+        Shown::Sent,
+        &mut reader,
+        &mut written,
+    );
+    match outcome {
+        Ok(counts) => Ok((written, counts)),
+        Err(_) => Err("no script".into()),
+    }
+}
+
+/// Whether the line of a control datagram is run as the line that says its text.
+fn is_as_said(alloc: Global, text: &[u8]) -> Result<bool, Fail> {
+    let line = control(alloc, CONTROLLER, text)?;
+    let mut said = Vec::from_slice(alloc, b"say 127.0.0.1:2945 ")?;
+    said.extend_from_slice(text)?;
+    let (written, counts) = played(alloc, line.as_slice())?;
+    let (wanted, wanted_counts) = played(alloc, said.as_slice())?;
+    let is_same = counts == wanted_counts && written.as_slice() == wanted.as_slice();
+    Ok(is_same && counts.control == 1)
+}
+
+const HEARTBEAT: &[u8] = b"!/1 [127.0.0.1]:2945 T=1{C=-{AV=ROOT{AT{}}}}";
+
+#[test]
+fn runs_control_datagrams(rt: HostRuntime) -> Result<(), Fail> {
+    let longest = marks(rt.alloc(), 65507)?;
+    assert!(rt; is_as_said(rt.alloc(), b"")?);
+    assert!(rt; is_as_said(rt.alloc(), b"!")?);
+    assert!(rt; is_as_said(rt.alloc(), HEARTBEAT)?);
+    assert!(rt; is_as_said(rt.alloc(), longest.as_slice())?);
+    Ok(())
+}
+
+/// Makes a termination at port 30000, which takes mu-law from anybody.
+const ADD: &[u8] = b"!/1 [127.0.0.1]:2945 T=1{C=${\
+    A=${M{O{MO=SR},L{v=0\nc=IN IP4 $\nm=audio $ RTP/AVP 0\n}}}}}";
+
+/// The line of a frame of silence.
+fn frame(alloc: Global) -> Result<Vec<u8>, Fail> {
+    let mut packet = Vec::from_slice(alloc, b"\x80\0\0\x01\0\0\0\0\0\0\0\x63")?;
+    packet.resize(172, 0xFF)?;
+    media(alloc, 30000, CALLER, packet.as_slice())
+}
+
+/// A recording of a termination that is made, and of a frame that it takes.
+fn recording(alloc: Global) -> Result<Vec<u8>, Fail> {
+    let mut script = control(alloc, CONTROLLER, ADD)?;
+    let frame = frame(alloc)?;
+    script.extend_from_slice(frame.as_slice())?;
+    script.extend_from_slice(b"# end\r\n")?;
+    Ok(script)
+}
+
+#[test]
+fn runs_rtp_datagrams(rt: HostRuntime) -> Result<(), Fail> {
+    let script = recording(rt.alloc())?;
+    let (_, counts) = played(rt.alloc(), script.as_slice())?;
+    assert_eq!(rt; counts.lines, 3);
+    assert_eq!(rt; counts.control, 1);
+    assert_eq!(rt; counts.placed, [1, 0, 0, 0, 0]);
+    Ok(())
+}

@@ -2,19 +2,8 @@
    usage: bare CALLERS SLOTS
    It is driven by the same lines, takes what comes, and sends a packet of 172 bytes to each caller at each tick. */
 #define _GNU_SOURCE
-#include <arpa/inet.h>
+#include "loopback.h"
 #include <stdint.h>
-#include <stdio.h>
-#include <stdlib.h>
-#include <string.h>
-#include <sys/socket.h>
-
-static struct sockaddr_in local(int port)
-{
-    struct sockaddr_in a = {.sin_family = AF_INET, .sin_port = htons(port)};
-    a.sin_addr.s_addr = htonl(INADDR_LOOPBACK);
-    return a;
-}
 
 int main(int argc, char **argv)
 {
@@ -24,14 +13,8 @@ int main(int argc, char **argv)
     if (argc != 3)
         return 2;
     int callers = atoi(argv[1]), slots = atoi(argv[2]);
-    for (int i = 0; i <= slots; i++) {
-        struct sockaddr_in a = local(i ? 30000 + 2 * (i - 1) : 2944);
-        s[i] = socket(AF_INET, SOCK_DGRAM | SOCK_NONBLOCK, 0);
-        if (s[i] < 0 || bind(s[i], (struct sockaddr *)&a, sizeof a) < 0) {
-            perror("bind");
-            return 1;
-        }
-    }
+    for (int i = 0; i <= slots; i++)
+        s[i] = bound(i ? 30000 + 2 * (i - 1) : 2944, SOCK_NONBLOCK, 0);
     puts("ready");
     fflush(stdout);
     while (fgets(line, sizeof line, stdin)) {
@@ -49,10 +32,8 @@ int main(int argc, char **argv)
                         sendto(s[0], "Reply", 5, 0, (struct sockaddr *)&from, size);
                 }
         if (!strcmp(line, "tick\n"))
-            for (int i = 0; i < callers; i++) {
-                struct sockaddr_in to = local(40000 + 2 * i);
-                sendto(s[i + 1], packet, sizeof packet, 0, (struct sockaddr *)&to, sizeof to);
-            }
+            for (int i = 0; i < callers; i++)
+                send_to(s[i + 1], 40000 + 2 * i, packet, sizeof packet);
     }
     return 0;
 }

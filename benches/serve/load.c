@@ -2,49 +2,18 @@
    usage: load CALLERS A_CONFERENCE SECONDS
    The gateway is on 127.0.0.1, its control port 2944, its media ports from 30000 on. */
 #define _GNU_SOURCE
-#include <arpa/inet.h>
+#include "loopback.h"
 #include <stdint.h>
-#include <stdio.h>
-#include <stdlib.h>
-#include <string.h>
-#include <sys/socket.h>
-#include <time.h>
 #include <unistd.h>
 
 enum { MOST = 256, A_REQUEST = 16, PACKET = 172, ANSWER = 65536 };
 
-static struct sockaddr_in local(int port)
-{
-    struct sockaddr_in a = {.sin_family = AF_INET, .sin_port = htons(port)};
-    a.sin_addr.s_addr = htonl(INADDR_LOOPBACK);
-    return a;
-}
-
-static int bound(int port, int flags)
-{
-    struct sockaddr_in a = local(port);
-    int s = socket(AF_INET, SOCK_DGRAM | flags, 0);
-    if (s < 0 || bind(s, (struct sockaddr *)&a, sizeof a) < 0) {
-        perror("bind");
-        exit(1);
-    }
-    return s;
-}
-
-static double now(void)
-{
-    struct timespec t;
-    clock_gettime(CLOCK_MONOTONIC, &t);
-    return t.tv_sec + t.tv_nsec * 1e-9;
-}
-
 /* Sends a message to the gateway, and waits for its answer. */
 static void ask(int s, const char *text, char *answer)
 {
-    struct sockaddr_in to = local(2944);
     struct timeval limit = {.tv_sec = 2};
     setsockopt(s, SOL_SOCKET, SO_RCVTIMEO, &limit, sizeof limit);
-    sendto(s, text, strlen(text), 0, (struct sockaddr *)&to, sizeof to);
+    send_to(s, 2944, text, strlen(text));
     ssize_t n = recv(s, answer, ANSWER - 1, 0);
     if (n < 0) {
         fprintf(stderr, "no answer\n");
@@ -57,15 +26,6 @@ static void ask(int s, const char *text, char *answer)
     }
 }
 
-/* The sum of a statistic over all terminations of an audit. */
-static long sum_of(const char *answer, const char *name)
-{
-    long sum = 0;
-    for (const char *at = answer; (at = strstr(at, name)); at++)
-        sum += atol(at + strlen(name));
-    return sum;
-}
-
 int main(int argc, char **argv)
 {
     static char text[16384], answer[ANSWER];
@@ -73,12 +33,9 @@ int main(int argc, char **argv)
     if (argc != 4)
         return 2;
     int callers = atoi(argv[1]), members = atoi(argv[2]), seconds = atoi(argv[3]);
-    int control = bound(2945, 0);
-    for (int i = 0; i < callers; i++) {
-        socket_of[i] = bound(40000 + 2 * i, SOCK_NONBLOCK);
-        int room = 1 << 20;
-        setsockopt(socket_of[i], SOL_SOCKET, SO_RCVBUF, &room, sizeof room);
-    }
+    int control = bound(2945, 0, 0);
+    for (int i = 0; i < callers; i++)
+        socket_of[i] = bound(40000 + 2 * i, SOCK_NONBLOCK, 1 << 20);
     for (int i = 0, n = 0; i < callers; i++) {
         int at = i % members, is_first = at % A_REQUEST == 0;
         if (is_first) {
@@ -106,12 +63,11 @@ int main(int argc, char **argv)
         clock_nanosleep(CLOCK_MONOTONIC, TIMER_ABSTIME, &t, NULL);
         if (k < 50L * seconds)
             for (int i = 0; i < callers; i++) {
-                struct sockaddr_in to = local(30000 + 2 * i);
                 uint32_t stamp = htonl((uint32_t)(k * 160)), source = htonl(1000 + i);
                 packet[2] = k >> 8, packet[3] = k;
                 memcpy(packet + 4, &stamp, 4);
                 memcpy(packet + 8, &source, 4);
-                sent += sendto(socket_of[i], packet, PACKET, 0, (struct sockaddr *)&to, sizeof to) == PACKET;
+                sent += send_to(socket_of[i], 30000 + 2 * i, packet, PACKET) == PACKET;
             }
         for (double end = point + 0.0195; now() < end;) {
             long before = received;

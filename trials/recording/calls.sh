@@ -1,0 +1,58 @@
+#!/bin/bash
+# Calls a gateway that records, under a controller who changes conferences all the time; replays the recording, and
+# looks whether for each port of the gateway and of a caller the recording has the datagrams that were sent, and the
+# replay those that came, in their order.
+# usage: calls.sh [--wrong[=KIND]] [SECONDS] [CALLERS]
+# With --wrong a line of a kind, rtp, tick or control, is taken out of the midst of the recording before it is replayed,
+# and the difference has to be found.
+# It needs gcc, and for ten minutes of 128 callers 1.5 GB. Ends with 0 where all of it held.
+set -euo pipefail
+wrong='' wanted=0
+case ${1:-} in
+--wrong) wrong=rtp ;;
+--wrong=*) wrong=${1#*=} ;;
+esac
+if [ -n "$wrong" ]; then
+    wanted=2
+    shift
+fi
+seconds=${1:-60} callers=${2:-128}
+here=$(CDPATH= cd -- "$(dirname -- "$0")" && pwd)
+. "$here/common.sh"
+
+start --record
+"$work/calls" "$callers" "$seconds" "$work/sent" "$work/came"
+stop
+
+read -ra words <<< "$(head -n 1 "$work/out")"
+[ "${words[*]:0:3}" = '# mg_bridge replay' ] || { echo "no command to replay it: ${words[*]}"; exit 1; }
+
+# Prints the whole lines of the recording, but for the one of a kind in its midst, if a kind is named.
+recording() {
+    if [ -n "${1:-}" ]; then
+        recording | awk -v kind="$1" -v half=$(($(grep -c "^$1" "$work/out") / 2)) '$1 != kind || n++ != half'
+    else
+        head -n "$(wc -l < "$work/out")" "$work/out"
+    fi
+}
+# Tells whether two lists of datagrams are equal, or how they differ.
+compare() {
+    if diff "$work/$1" "$work/$2" > "$work/differences"; then
+        echo equal
+    else
+        echo "$(grep -c '^[<>]' "$work/differences") lines differ"
+        head -n 5 "$work/differences"
+        return 1
+    fi
+}
+recording | "$work/lines" > "$work/recorded"
+begun=$SECONDS
+recording "$wrong" | "$bridge" "${words[@]:2}" | "$work/lines" > "$work/replayed"
+took=$((SECONDS - begun)) status=0
+printf '%d events, ' "$(grep -vc '^#' "$work/out")"
+printf '%d of them datagrams, recorded beside sent: ' "$(grep -c '^rtp\|^control' "$work/out")"
+compare sent recorded || status=1
+awk '{ n[$1 == 15944] += $3 } END { printf "%d answers and %d packets, ", n[1], n[0] }' "$work/came"
+printf 'came beside replayed (in %d s): ' $took
+compare came replayed || status=$((status + 2))
+[ $status = $wanted ]

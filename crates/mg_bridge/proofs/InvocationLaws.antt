@@ -1,29 +1,31 @@
 -- What follows of the words for which the command line finds no fault, or one.
-use Rattle.std.proofs.Common.{◌≡◌, ◌⊎◌, ◌&&◌, ◌∙◌, ℕ, Bool, true, false, not, List, [], ◌∷◌, Option, Some, None, is_some, inl, inr, refl, sym, ap, ap₂, subst, true≢false, Result, Ok, Err, codes}
+use Rattle.std.proofs.Common.{◌≡◌, ◌∙◌, ◌&&◌, ℕ, Bool, true, false, not, List, [], ◌∷◌, Option, Some, None, is_some, inl, inr, refl, sym, ap, ap₂, true≢false, Result, Ok, Err, codes}
 use Rattle.std.specs.Prelude.{Box, IfErr, IsErrAnd, option_map}
-use Rattle.std.proofs.lemmas.Bool.{and_parts}
 use Rattle.std.specs.List.{list_any}
+use Rattle.std.specs.Option.{option_map_or}
+use Rattle.std.specs.Box.{box_value}
 use Rattle.clap.specs.Facts.{explicit_source}
 use Rattle.clap.specs.Walk.{Held, Names, Row, Text, finished, nothing_held, settled_rows, stop_after, walk, walk_from}
-use Rattle.clap.specs.Simple.{App, HasMatchesOf, Shape, argument_words, built, is_simple, names_of, subcommand_of, subcommand_rows, subcommand_rows_of}
-use Rattle.clap.specs.Kinds.{Kinds, IsAmong, check_kinds, or_else}
-use Rattle.clap.specs.Faults.{defaults_fault, entered_fault, fault_of, is_free_app, is_simple_and_free, level_fault, settle_fault, walk_fault}
+use Rattle.clap.specs.Simple.{App, HasMatchesOf, Shape, argument_words, built, names_of, subcommand_of, subcommand_rows, subcommand_rows_of}
+use Rattle.clap.specs.Kinds.{Kinds, check_kinds, or_else}
+use Rattle.clap.specs.Faults.{defaults_fault, entered_fault, fault_of, is_simple_and_free, level_fault, settle_fault, walk_fault}
 use Rattle.clap.specs.Matches.{has_subcommand, subcommand_name_of}
 use Rattle.clap.specs.Values.{kind_of}
 use Rattle.clap.specs.declared.error.Error.{Error}
 use Rattle.clap.specs.declared.error.kind.ErrorKind.{ErrorKind}
+use Rattle.clap.specs.declared.error.kind.ErrorKind.TheVariants.{OutOfMemory, ValueValidation}
 use Rattle.clap.specs.declared.parser.matches.ArgMatches.{ArgMatches}
 use Rattle.clap.specs.declared.parser.matches.ArgMatches.TheViews.{out-ArgMatches, out-SubCommand}
-use Rattle.clap.specs.declared.error.kind.ErrorKind.TheVariants.{OutOfMemory, ValueValidation}
 use Rattle.clap.specs.declared.parser.matches.SubCommand.{SubCommand}
-use Rattle.std.specs.Box.{box_value}
-use Rattle.mg_core.specs.declared.shown.Shown.{Shown}
+use Rattle.mg_words.specs.ResultSteps.{◌>>=◌}
+use Rattle.mg_options.specs.Asked.{IsRefused, asked_by}
+use Rattle.mg_options.proofs.AskedLaws.{no_fault, subcommand_is}
 use Rattle.mg_engine.specs.declared.config.Config.{Config}
 use Rattle.mg_engine.specs.Config.{standard}
 use Rattle.mg_bridge.specs.declared.invocation.Invocation.{Invocation}
 use Rattle.mg_bridge.specs.declared.address.AddressFault.{AddressFault}
 use Rattle.mg_bridge.specs.declared.controller_fault.ControllerFault.{ControllerFault}
-use Rattle.mg_bridge.specs.Options.{IsRefused, address_in, asked, asked_by, command_line, config_at, controllers_in, is_set, late_in, options, report_in, run_at, run_named, run_of, run_under, shown_in}
+use Rattle.mg_bridge.specs.Options.{address_in, asked, command_line, config_at, controllers_in, options, run_in, run_of, valid}
 
 abbrev has_kinds : Kinds → Bool
 has_kinds [] = false
@@ -58,7 +60,7 @@ wants_subcommand : (built command_line).top.subcommand_required ≡ true
 unfolding command_line
 wants_subcommand = refl
 
-is_simple_line : is_simple_and_free command_line ≡ true
+pub is_simple_line : is_simple_and_free command_line ≡ true
 unfolding command_line options
 is_simple_line = refl
 
@@ -69,23 +71,11 @@ has_met words none = level_met (built command_line).top (names_of (built command
     (entered_fault (built command_line) (stop_after (built command_line).top.rules (names_of (built command_line))
     (argument_words command_line words))) wants_subcommand none
 
--- memory may run out whatever the words ask for
-pub memory_refuses : (asked : Result Invocation Kinds) → IsRefused asked OutOfMemory
-memory_refuses (Ok run) = refl
-memory_refuses (Err kinds) = inl refl
-
 run_by : (kinds : Kinds) (found : Option (Text × List Row)) (run : Text × List Row) → kinds ≡ [] → found ≡ Some run
-    → asked_by kinds found ≡ run_at run.0 run.1 (address_in (codes "address") standard.address run.1)
-run_by kinds found run none is = ap₂ asked_by none is
-
-refused_by : (kinds : Kinds) (found : Option (Text × List Row)) (kind : ErrorKind) →
-    (kind ≡ OutOfMemory) ⊎ IsAmong kind kinds
-    → IsRefused (asked_by kinds found) kind
-refused_by [] (Some found) kind (inl memory) =
-    subst (IsRefused (asked_by [] (Some found))) (sym memory) (memory_refuses (asked_by [] (Some found)))
-refused_by [] (Some found) kind (inr among) = absurd among
-refused_by [] None kind why = why
-refused_by (first ∷ kinds) found kind why = why
+    → asked_by kinds (option_map_or (λ (f : Text × List Row). run_in f.0 f.1) found (Err [])) ≡ run_in run.0 run.1
+run_by kinds found run none is =
+    ap₂ (λ (ks : Kinds) (o : Option (Text × List Row)). asked_by ks (option_map_or
+    (λ (f : Text × List Row). run_in f.0 f.1) o (Err []))) none is
 
 is_some-map : {A B : Type 0} (f : A → B) (o : Option A) → is_some (option_map f o) ≡ is_some o
 is_some-map f None = refl
@@ -99,101 +89,117 @@ both_found (Some b) name rows named found = cc
 
 -- what a parse by the program's command line says of what its words ask for
 module _ (line : App) (words : List Text) (is : line ≡ command_line) where
-  simple : is_simple_and_free line ≡ true
-  simple = ap is_simple_and_free is ∙ is_simple_line
-
-  no_fault : (is_simple_and_free line ≡ true → fault_of line words ≡ []) → fault_of command_line words ≡ []
-  no_fault passes = ap (λ (l : App). fault_of l words) (sym is) ∙ passes simple
-
-  subcommand_is : (m : ArgMatches) → HasMatchesOf line words m → subcommand_rows_of m ≡ subcommand_of command_line words
-  subcommand_is m matches = (matches (and_parts (is_simple line) (is_free_app (built line)) simple).0).1 ∙
-      ap (λ (l : App). subcommand_of l words) is
-
   -- matches have a subcommand
   pub meets_subcommand : (m : ArgMatches) → (is_simple_and_free line ≡ true → fault_of line words ≡ []) →
       HasMatchesOf line words m
       → has_subcommand m ≡ true
   meets_subcommand m passes matches =
       sym (is_some-map _ (out-ArgMatches m).subcommand) ∙
-      (ap is_some (subcommand_is m matches) ∙ has_met words (no_fault passes))
+      (ap is_some (subcommand_is line command_line words is is_simple_line m matches) ∙
+      has_met words (no_fault line command_line words is is_simple_line passes))
 
-  -- matches ask for a run by the name and the options of the subcommand
+  -- matches ask for what the name and the options of the subcommand say
   pub asks_run : (m : ArgMatches) (name : Text) (rows : List Row) →
       (is_simple_and_free line ≡ true → fault_of line words ≡ [])
       → HasMatchesOf line words m → Some name ≡ subcommand_name_of m →
       Some rows ≡ option_map (λ f. f.1) (subcommand_rows_of m)
-      → asked words ≡ run_at name rows (address_in (codes "address") standard.address rows)
+      → asked words ≡ run_in name rows
   unfolding asked
   asks_run m name rows passes matches named found =
-      run_by _ _ (name, rows) (no_fault passes)
-      (sym (subcommand_is m matches) ∙ both_found (out-ArgMatches m).subcommand name rows named found)
+      run_by _ _ (name, rows) (no_fault line command_line words is is_simple_line passes)
+      (sym (subcommand_is line command_line words is is_simple_line m matches) ∙
+      both_found (out-ArgMatches m).subcommand name rows named found)
 
-  -- an error says why they ask for none
-  pub asks_none : (kind : ErrorKind) → (is_simple_and_free line ≡ true →
-      (kind ≡ OutOfMemory) ⊎ IsAmong kind (fault_of line words)) → IsRefused (asked words) kind
-  unfolding asked
-  asks_none kind fails = refused_by _ _ kind
-      (subst (λ (l : App). (kind ≡ OutOfMemory) ⊎ IsAmong kind (fault_of l words)) is (fails simple))
+-- the standard address is that of the standard configuration
+pub named_or_standard : (rows : List Row) (config : Config) (found : Result (List ℕ) AddressFault) → config ≡ standard
+    → found ≡ address_in (codes "address") config.address rows
+    → found ≡ address_in (codes "address") standard.address rows
+named_or_standard rows config found is named =
+    named ∙ ap (λ (c : Config). address_in (codes "address") c.address rows) is
 
--- the address that the options name is that of the run
-pub at_address : (name : Text) (rows : List Row) (config : Config) (found : Result (List ℕ) AddressFault) →
-    config ≡ standard
-    → found ≡ address_in (codes "address") config.address rows →
-    run_at name rows (address_in (codes "address") standard.address rows) ≡ run_at name rows found
-at_address name rows config found is named =
-    sym (ap (run_at name rows) (named ∙ ap (λ (c : Config). address_in (codes "address") c.address rows) is))
+-- a step by a value that is valid, or by none
+goes_on : {A B E : Type 0} (value : A) (read : Result A E) (next : A → Result B Kinds) → Ok value ≡ read →
+    (valid read >>= next) ≡ next value
+goes_on {A = A} {E = E} value read next is = ap (λ (r : Result A E). valid r >>= next) (sym is)
+
+stops : {A B E : Type 0} (fault : E) (read : Result A E) (next : A → Result B Kinds) → Err fault ≡ read →
+    (valid read >>= next) ≡ Err (ValueValidation ∷ [])
+stops {A = A} {E = E} fault read next is = ap (λ (r : Result A E). valid r >>= next) (sym is)
+
+abbrev with_controllers : Text → List Row → List ℕ → List ℕ → List (List ℕ) → Result Invocation Kinds
+with_controllers name rows address control controllers =
+    Ok (run_of name (config_at address control rows) controllers rows)
+
+abbrev with_control : Text → List Row → List ℕ → List ℕ → Result Invocation Kinds
+with_control name rows address control =
+    valid (controllers_in rows) >>= with_controllers name rows address control
+
+abbrev with_address : Text → List Row → List ℕ → Result Invocation Kinds
+with_address name rows address =
+    valid (address_in (codes "control-address") address rows) >>= with_control name rows address
+
+at_address : (name : Text) (rows : List Row) (address : List ℕ) → Ok address ≡ address_in (codes "address")
+    standard.address rows → run_in name rows ≡ with_address name rows address
+at_address name rows address named =
+    goes_on address (address_in (codes "address") standard.address rows) (with_address name rows) named
+
+at_control : (name : Text) (rows : List Row) (address control : List ℕ) → Ok address ≡ address_in (codes "address")
+    standard.address rows → Ok control ≡ address_in (codes "control-address") address rows
+    → run_in name rows ≡ with_control name rows address control
+at_control name rows address control named commanded =
+    at_address name rows address named ∙
+    goes_on control (address_in (codes "control-address") address rows) (with_control name rows address) commanded
 
 -- the run of a subcommand at an address
-pub run_is : (name : Text) (rows : List Row) (address control : List ℕ) (config : Config)
-    (controllers : List (List ℕ)) (late report : ℕ) (records : Bool) (shown : Shown) (run : Invocation)
-    → Ok control ≡ address_in (codes "control-address") address rows → config ≡ config_at address control rows →
-    Ok controllers ≡ controllers_in rows → late ≡ late_in rows
-    → report ≡ report_in rows → records ≡ is_set (codes "record") rows → shown ≡ shown_in rows →
-    run ≡ run_of name config (record { controllers = controllers; report = report; records = records }) late shown →
-    run_at name rows (Ok address) ≡ Ok run
-run_is name rows address control config controllers late report records shown run named configured listed allowed often
-    kept told is =
-    ap (run_named name rows address) (sym named) ∙
-    (ap (run_under name rows (config_at address control rows)) (sym listed) ∙
-    rw (is, configured, allowed, often, kept, told) refl)
-
--- an error says why there is none under texts that name no controllers
-pub refuses_controllers : (asked : Result Invocation Kinds) (name : Text) (rows : List Row) (address control : List ℕ)
-    (fault : ControllerFault) (kind : ErrorKind)
-    → asked ≡ run_at name rows (Ok address) → Ok control ≡ address_in (codes "control-address") address rows →
-    Err fault ≡ controllers_in rows → kind ≡ ValueValidation
-    → IsRefused asked kind
-refuses_controllers asked name rows address control fault kind asks named listed is =
-    rw (
-      asks ∙ (ap (run_named name rows address) (sym named) ∙
-          ap (run_under name rows (config_at address control rows)) (sym listed)),
-      is,
-    ) (inr (inl refl))
+pub run_is : (name : Text) (rows : List Row) (address control : List ℕ) (controllers : List (List ℕ)) (config : Config)
+    (run : Invocation) → Ok address ≡ address_in (codes "address") standard.address rows
+    → Ok control ≡ address_in (codes "control-address") address rows → Ok controllers ≡ controllers_in rows →
+    config ≡ config_at address control rows
+    → run ≡ run_of name config controllers rows → run_in name rows ≡ Ok run
+run_is name rows address control controllers config run named commanded listed configured is =
+    at_control name rows address control named commanded ∙
+    (goes_on controllers (controllers_in rows) (with_controllers name rows address control) listed ∙
+    rw (is, configured) refl)
 
 -- an error says why there is none at a text that names no address
 pub refuses_address : (asked : Result Invocation Kinds) (name : Text) (rows : List Row) (fault : AddressFault)
     (kind : ErrorKind)
-    → asked ≡ run_at name rows (Err fault) → kind ≡ ValueValidation → IsRefused asked kind
-refuses_address asked name rows fault kind asks is = rw (asks, is) (inr (inl refl))
+    → asked ≡ run_in name rows → Err fault ≡ address_in (codes "address") standard.address rows →
+    kind ≡ ValueValidation → IsRefused asked kind
+refuses_address asked name rows fault kind asks named is =
+    rw (
+      asks ∙ stops fault (address_in (codes "address") standard.address rows) (with_address name rows) named,
+      is,
+    ) (inr (inl refl))
 
 -- or none at one that names no address for control messages
 pub refuses_control : (asked : Result Invocation Kinds) (name : Text) (rows : List Row) (address : List ℕ)
     (fault : AddressFault) (kind : ErrorKind)
-    → asked ≡ run_at name rows (Ok address) → Err fault ≡ address_in (codes "control-address") address rows →
-    kind ≡ ValueValidation → IsRefused asked kind
-refuses_control asked name rows address fault kind asks named is =
-    rw (asks ∙ ap (run_named name rows address) (sym named), is) (inr (inl refl))
+    → asked ≡ run_in name rows → Ok address ≡ address_in (codes "address") standard.address rows →
+    Err fault ≡ address_in (codes "control-address") address rows → kind ≡ ValueValidation → IsRefused asked kind
+refuses_control asked name rows address fault kind asks named commanded is =
+    rw (
+      asks ∙ (at_address name rows address named ∙
+          stops fault (address_in (codes "control-address") address rows) (with_control name rows address) commanded),
+      is,
+    ) (inr (inl refl))
 
--- an error that was passed on
-pub passed_on : {T : Type 0} (r : Result T Error) (error : Error) (Q : ErrorKind → Type 0) →
-    IsErrAnd r (λ e. e ≡ error) → Q (kind_of error)
-    → IfErr r (λ e. Q (kind_of e))
-passed_on (Ok value) error Q is why = tt
-passed_on (Err e) error Q is why = subst (λ (x : Error). Q (kind_of x)) (sym is) why
+-- or none under texts that name no controllers
+pub refuses_controllers : (asked : Result Invocation Kinds) (name : Text) (rows : List Row) (address control : List ℕ)
+    (fault : ControllerFault) (kind : ErrorKind)
+    → asked ≡ run_in name rows → Ok address ≡ address_in (codes "address") standard.address rows →
+    Ok control ≡ address_in (codes "control-address") address rows → Err fault ≡ controllers_in rows →
+    kind ≡ ValueValidation → IsRefused asked kind
+refuses_controllers asked name rows address control fault kind asks named commanded listed is =
+    rw (
+      asks ∙ (at_control name rows address control named commanded ∙
+          stops fault (controllers_in rows) (with_controllers name rows address control) listed),
+      is,
+    ) (inr (inl refl))
 
 -- want of memory that was passed on
 pub memory_passed_on : {T : Type 0} (r : Result T Error) (asked : Result Invocation Kinds) →
     IsErrAnd r (λ e. kind_of e ≡ OutOfMemory)
     → IfErr r (λ e. IsRefused asked (kind_of e))
 memory_passed_on (Ok value) asked why = tt
-memory_passed_on (Err e) asked why = subst (IsRefused asked) (sym why) (memory_refuses asked)
+memory_passed_on (Err e) asked why = inl why

@@ -1,6 +1,5 @@
 pub mod InvocationLaws
 pub mod AskedRows
-pub mod CommandLaws
 pub mod ControllerLaws
 pub mod EndLaws
 pub mod ReadinessLaws

@@ -7,7 +7,7 @@ use Rattle.mg_core.specs.declared.fault.RunFault.TheVariants as faults
 use Rattle.mg_core.specs.declared.shown.Shown.{Shown}
 use Rattle.mg_engine.specs.Config.{IsValidConfig}
 use Rattle.mg_core.specs.Run.{ScriptRan}
-use Rattle.mg_bridge.specs.declared.status.Status.{Status}
+use Rattle.mg_options.specs.declared.status.Status.{Status}
 use Rattle.mg_bridge.specs.Status.{status_of}
 
 -- a script was run as far as the status says

@@ -7,8 +7,8 @@ use Rattle.mg_core.specs.declared.counts.Counts.{Counts}
 use Rattle.mg_core.specs.declared.fault.RunFault.{RunFault}
 use Rattle.mg_core.specs.declared.fault.RunFault.TheVariants as faults
 use Rattle.mg_serve.specs.Serve.{ServedSession}
-use Rattle.mg_bridge.specs.declared.status.Status.{Status}
-use Rattle.mg_bridge.specs.declared.status.Status.TheVariants.{Usage, Failed, NoMemory, NoPort}
+use Rattle.mg_options.specs.declared.status.Status.{Status}
+use Rattle.mg_options.specs.declared.status.Status.TheVariants.{Usage, Failed, NoMemory, NoPort}
 use Rattle.mg_bridge.specs.Status.{status_of}
 
 -- one of the ports of a gateway: the control port or a media port

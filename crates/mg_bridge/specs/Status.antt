@@ -1,19 +1,11 @@
 -- Exit statuses.
-use Rattle.std.specs.Prelude.{ℕ, Result, Ok, Err}
+use Rattle.std.specs.Prelude.{Result, Ok, Err}
 use Rattle.mg_core.specs.declared.counts.Counts.{Counts}
 use Rattle.mg_core.specs.declared.fault.RunFault.{RunFault}
 use Rattle.mg_core.specs.declared.fault.RunFault.TheVariants as faults
-use Rattle.mg_bridge.specs.declared.status.Status.{Status}
-use Rattle.mg_bridge.specs.declared.status.Status.TheVariants.{Done, BadLine, Usage, Failed}
-use Rattle.mg_bridge.specs.declared.status.Status.TheVariants.{NoMemory, NoPort}
-
-unfoldable pub code_of : Status → ℕ
-code_of Done = 0
-code_of BadLine = 1
-code_of Usage = 2
-code_of Failed = 3
-code_of NoMemory = 4
-code_of NoPort = 5
+use Rattle.mg_options.specs.declared.status.Status.{Status}
+use Rattle.mg_options.specs.declared.status.Status.TheVariants.{Done, BadLine, Usage, Failed}
+use Rattle.mg_options.specs.declared.status.Status.TheVariants.{NoMemory}
 
 -- how the program ends after a run
 unfoldable pub status_of : Result Counts RunFault → Status

@@ -6,12 +6,13 @@ ghost use Rattle.mg_bridge.specs.Serve.{ServesByClock};
 use crate::serve::bind;
 use crate::service::Service;
 use crate::sockets::Sockets;
-use crate::status::Status;
+use crate::status::status_after;
 use crate::tick_deadline::TickDeadline;
 use crate::title::title_of;
 use crate::udp_ports::UdpPorts;
 use mg_clock::{ClockLines, SystemWatch, Watch};
 use mg_core::{Config, Counts, RunFault};
+use mg_options::Status;
 use mg_ports::GuardedPorts;
 use std::alloc::Global;
 use std::cell::Cell;
@@ -90,5 +91,5 @@ pub fn live<N: Net, C: Clock, W: Write, E: Write, T: Write>(
     let outcome = serve_by(
         alloc, config, service, late, sockets, watch, again, output, errors, reports,
     );
-    Status::after(&outcome, &config, errors)
+    status_after(&outcome, &config, errors)
 }

@@ -1,9 +1,11 @@
-ghost use Rattle.std.specs.Prelude.{◌≡◌, IfErr, IfOk, Ok, map};
+ghost use Rattle.std.specs.Prelude.{◌≡◌, IfErr, IfOk, Ok, codes, fold, if◌then◌else◌, map};
 ghost use Rattle.clap.specs.Words.{app_of, found_of, kind_of, rows_of, rule_of, with_rule};
-ghost use Rattle.mg_bridge.specs.Options.{IsRefused, address_in, asked, command_line, config_at, controller_rule};
-ghost use Rattle.mg_bridge.specs.Options.{controllers_in, flag_rule, is_set, late_in, live_line, replay_line, report_in};
-ghost use Rattle.mg_bridge.specs.Options.{options, run_of, shown_in, sockets_line, subcommand_line, text_rule};
-ghost use Rattle.mg_bridge.specs.Options.{with_rules};
+ghost use Rattle.mg_options.specs.Asked.{IsRefused};
+ghost use Rattle.mg_options.specs.Line.{text_rule};
+ghost use Rattle.mg_options.specs.Numbers.{number_or};
+ghost use Rattle.mg_bridge.specs.Options.{address_in, asked, command_line, config_at, controller_rule, controllers_in};
+ghost use Rattle.mg_bridge.specs.Options.{flag_rule, is_set, live_line, options, replay_line, run_of, service_of};
+ghost use Rattle.mg_bridge.specs.Options.{sockets_line, subcommand_line};
 
 use crate::address::{AddressFault, own_address};
 use crate::controller_fault::ControllerFault;
@@ -13,7 +15,7 @@ use crate::service::Service;
 use clap::error::ErrorKind;
 use clap::{Arg, ArgAction, ArgMatches, Command, Error};
 use mg_core::{Config, Shown};
-use mg_options::{long_number, long_value, short_number, short_value};
+use mg_options::{long_number, long_value, program_command, short_number, short_value};
 use std::alloc::Global;
 use std::convert::AsStr;
 
@@ -26,7 +28,7 @@ fn address_option<'a>(alloc: Global, name: &'a str) -> Arg<'a>
 
 /// Adds the options of a gateway, which are those of each subcommand.
 fn with_options<'a>(alloc: Global, command: Command<'a>) -> Result<Command<'a>, Error>
-    ensures app { IfOk result (λ with. app_of with ≡ with_rules (app_of command.entry) options) }
+    ensures app { IfOk result (λ with. app_of with ≡ fold with_rule (app_of command.entry) options) }
     ensures memory { IfErr result (λ error. kind_of error ≡ ErrorKind.OutOfMemory) }
 {
     let command = command
@@ -143,10 +145,8 @@ fn command<'a>(alloc: Global) -> Result<Command<'a>, Error>
         "serve",
         "Serves a gateway on UDP ports, driven by lines from standard input: poll, tick, stats, quit",
     )?;
-    let command = Command::new(alloc, "mg_bridge")
-        .about("A conference media gateway under a Megaco controller")
-        .version("0.1.0")
-        .no_binary_name(true)
+    let about = "A conference media gateway under a Megaco controller";
+    let command = program_command(alloc, "mg_bridge", about)
         .subcommand_required(true)
         .subcommand(replay)?
         .subcommand(serve)?
@@ -192,14 +192,14 @@ fn config_at(address: [u8; 4], control_address: [u8; 4], matches: &ArgMatches<'_
 
 /// How late a tick may be whose packets are sent, in ticks.
 fn late_of(matches: &ArgMatches<'_>) -> u16
-    ensures value { result ≡ late_in (rows_of (found_of matches.now)) }
+    ensures value { result ≡ number_or 65536 (codes "late") 5 (rows_of (found_of matches.now)) }
 {
     short_value(matches, "late").unwrap_or(5)
 }
 
 /// How often a report is due, in seconds.
 fn report_of(matches: &ArgMatches<'_>) -> u16
-    ensures value { result ≡ report_in (rows_of (found_of matches.now)) }
+    ensures value { result ≡ number_or 65536 (codes "report") 0 (rows_of (found_of matches.now)) }
 {
     short_value(matches, "report").unwrap_or(0)
 }
@@ -216,7 +216,8 @@ fn is_set(name: &str, matches: &ArgMatches<'_>) -> bool
 
 /// What is written of a script.
 fn shown_of(matches: &ArgMatches<'_>) -> Shown
-    ensures value { result ≡ shown_in (rows_of (found_of matches.now)) }
+    ensures value { result ≡ (if is_set (codes "flows") (rows_of (found_of matches.now))
+        then Shown.SentAndFlows else Shown.Sent) }
 {
     if is_set("flows", matches) {
         Shown::SentAndFlows
@@ -235,23 +236,39 @@ fn controllers_of(matches: &ArgMatches<'_>) -> Result<Controllers, ControllerFau
     }
 }
 
+/// What the options ask of a gateway on sockets, under these controllers.
+fn service_of(controllers: Controllers, matches: &ArgMatches<'_>) -> Service
+    ensures value { result ≡ service_of controllers (rows_of (found_of matches.now)) }
+{
+    Service {
+        controllers,
+        report: report_of(matches),
+        records: is_set("record", matches),
+    }
+}
+
 /// The run of a subcommand.
-fn run_of(name: &str, config: Config, service: Service, late: u16, shown: Shown) -> Invocation
-    ensures value { result ≡ run_of name.now config service late shown }
+fn run_of(
+    name: &str,
+    config: Config,
+    controllers: Controllers,
+    matches: &ArgMatches<'_>,
+) -> Invocation
+    ensures value { result ≡ run_of name.now config controllers (rows_of (found_of matches.now)) }
 {
     if name == "serve" {
-        Invocation::Serve(config, service)
+        Invocation::Serve(config, service_of(controllers, matches))
     } else if name == "live" {
-        Invocation::Live(config, service, late)
+        Invocation::Live(config, service_of(controllers, matches), late_of(matches))
     } else {
-        Invocation::Replay(config, shown)
+        Invocation::Replay(config, shown_of(matches))
     }
 }
 
 /// The run that the program's arguments ask for. The arguments stand without the program's name.
 ///
-/// Where they ask for no run the error says why, and is told to the caller: a fault of theirs, a call for help, or
-/// want of memory.
+/// Where they ask for no run the error says why, and is told to the caller: a fault of theirs, a call for help or the
+/// version, or want of memory.
 pub fn asked_run<'a, S: AsStr>(alloc: Global, words: &'a [S]) -> Result<Invocation, Error>
     ensures run { IfOk result (λ run. asked (map S.text words.now) ≡ Ok run) }
     ensures refused { IfErr result (λ error. IsRefused (asked (map S.text words.now)) (kind_of error)) }
@@ -275,13 +292,8 @@ pub fn asked_run<'a, S: AsStr>(alloc: Global, words: &'a [S]) -> Result<Invocati
         Ok(controllers) => Ok(run_of(
             name,
             config_at(address, control, options),
-            Service {
-                controllers,
-                report: report_of(options),
-                records: is_set("record", options),
-            },
-            late_of(options),
-            shown_of(options),
+            controllers,
+            options,
         )),
         Err(fault) => Err(command.error(ErrorKind::ValueValidation, fault.message())?),
     }

@@ -1,45 +1,19 @@
-ghost use Rattle.std.specs.Prelude.{◌≡◌, ◌⊎◌, ◌≤◌, map};
-ghost use Rattle.clap.specs.Words.{kind_of};
+ghost use Rattle.std.specs.Prelude.{◌≡◌, ◌≤◌, map};
+ghost use Rattle.mg_options.specs.Ends.{EndsWith};
 ghost use Rattle.mg_bridge.specs.Options.{asked};
-ghost use Rattle.mg_bridge.specs.Program.{EndsWith, IsLive, Tells};
+ghost use Rattle.mg_bridge.specs.Program.{Runs};
 
 use crate::invocation::Invocation;
 use crate::live::live;
 use crate::options::asked_run;
 use crate::replay::replay;
 use crate::serve::serve;
-use crate::status::Status;
-use clap::Error;
-use clap::error::ErrorKind;
+use mg_options::{Status, tell};
 use std::alloc::Global;
 use std::convert::AsStr;
 use std::io::{Read, Write};
 use std::net::Net;
 use std::time::Clock;
-
-/// Tells a text of the command line's, a usage fault or help, and answers how the program ends.
-fn tell<W: Write, E: Write>(error: &Error, output: &mut W, errors: &mut E) -> Status
-    ensures told { Tells (kind_of error.now) output.old output.new result }
-    ensures quiet { result ≡ Status.Done → errors.new ≡ errors.old }
-{
-    match error.kind() {
-        ErrorKind::OutOfMemory => {
-            let _ = writeln!(errors, "no memory");
-            Status::NoMemory
-        }
-        ErrorKind::DisplayHelp | ErrorKind::DisplayVersion => match write!(output, "{error}") {
-            Ok(()) => Status::Done,
-            Err(_) => {
-                let _ = writeln!(errors, "write failed");
-                Status::Failed
-            }
-        },
-        _ => {
-            let _ = write!(errors, "{error}");
-            Status::Usage
-        }
-    }
-}
 
 /// Runs the program on its arguments, which stand without its name, and answers its exit status: 0; 1 for a bad script
 /// line; 2 for arguments or a configuration that can't be used; 3 where a read or a write failed; 4 where memory ran
@@ -57,10 +31,10 @@ pub fn program<'a, N: Net, C: Clock, S: AsStr, R: Read, W: Write, E: Write, T: W
 ) -> u8
     ensures status { result ≤ 5 }
     // What the words ask for was done as far as the status says.
-    ensures ends { EndsWith R.remaining W.contents (asked (map S.text words.now)) input.old input.new output.old
+    ensures ends { EndsWith
+        (Runs R.remaining W.contents (errors.new ≡ errors.old) input.old input.new output.old output.new)
+        (asked (map S.text words.now)) Status.Failed (input.new ≡ input.old) (errors.new ≡ errors.old) output.old
         output.new result }
-    // A gateway that goes by the clock tells of its delays.
-    ensures quiet { result ≡ 0 → IsLive (asked (map S.text words.now)) ⊎ (errors.new ≡ errors.old) }
 {
     let status = match asked_run(alloc, words) {
         Ok(Invocation::Replay(config, shown)) => {
@@ -72,7 +46,7 @@ pub fn program<'a, N: Net, C: Clock, S: AsStr, R: Read, W: Write, E: Write, T: W
         Ok(Invocation::Live(config, service, late)) => live(
             net, clock, alloc, config, &service, late, output, errors, reports,
         ),
-        Err(error) => tell(&error, output, errors),
+        Err(error) => tell(&error, Status::Failed, output, errors),
     };
     status.code()
 }

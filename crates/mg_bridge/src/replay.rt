@@ -1,8 +1,9 @@
 ghost use Rattle.std.specs.Prelude.{◌≡◌};
 ghost use Rattle.mg_bridge.specs.Replay.{Replays};
 
-use crate::status::Status;
+use crate::status::status_after;
 use mg_core::{Config, Shown, run};
+use mg_options::Status;
 use std::alloc::Global;
 use std::io::{Read, Write};
 
@@ -21,5 +22,5 @@ pub fn replay<R: Read, W: Write, E: Write>(
     ensures quiet { result ≡ Status.Done → errors.new ≡ errors.old }
 {
     let outcome = run(alloc, config, shown, input, output);
-    Status::after(&outcome, &config, errors)
+    status_after(&outcome, &config, errors)
 }

@@ -7,10 +7,11 @@ use crate::no_deadline::NoDeadline;
 use crate::readiness::SOCKETS;
 use crate::service::Service;
 use crate::sockets::Sockets;
-use crate::status::Status;
+use crate::status::status_after;
 use crate::title::title_of;
 use crate::udp_ports::UdpPorts;
 use mg_core::{Config, RunFault};
+use mg_options::Status;
 use mg_ports::GuardedPorts;
 use mio::Events;
 use std::alloc::Global;
@@ -83,5 +84,5 @@ pub fn serve<N: Net, R: Read, W: Write, E: Write, T: Write>(
         service.report,
         reports,
     );
-    Status::after(&outcome, &config, errors)
+    status_after(&outcome, &config, errors)
 }

@@ -2,10 +2,11 @@
 use Rattle.std.proofs.Common.{◌≡◌, ℕ, ◌+◌, ◌<◌, inl, inr, List, ◌++◌, sym, ap, ap₂, subst, ◌∙◌, append_assoc}
 use Rattle.std.proofs.lemmas.List.{append-nil}
 use Rattle.mg_clock.specs.Text.{text, step_lines}
-use Rattle.mg_clock.specs.Reading.{Begins, HasGiven, Lines, Seen}
+use Rattle.mg_clock.specs.Reading.{ReadBegins, HasGiven, Lines, ClockSeen}
 use Rattle.mg_clock.proofs.TextLaws.{text_more}
 
-begun : (old mid : Lines) (before after : Seen) (given : List ℕ) → 0 < old.polls → Begins old mid before after →
+begun : (old mid : Lines) (before after : ClockSeen) (given : List ℕ) → 0 < old.polls →
+    ReadBegins old mid before after →
     HasGiven old given → HasGiven mid given
 begun old mid before after given some (inl left) so_far = subst (λ l. HasGiven l given) (sym left.1) so_far
 begun old mid before after given some (inr none) so_far =
@@ -14,8 +15,8 @@ begun old mid before after given some (inr none) so_far =
     (text_more old.polls old.steps some ∙ ap (λ (l : List ℕ). l ++ step_lines old.polls (old.steps + 1)) all)
 
 -- the bytes of a read follow those that were given before
-pub given_more : (old mid new : Lines) (before after : Seen) (given bytes : List ℕ) → 0 < old.polls →
-    Begins old mid before after
+pub given_more : (old mid new : Lines) (before after : ClockSeen) (given bytes : List ℕ) → 0 < old.polls →
+    ReadBegins old mid before after
     → new.polls ≡ mid.polls → new.steps ≡ mid.steps → mid.rest ≡ bytes ++ new.rest → HasGiven old given →
     HasGiven new (given ++ bytes)
 given_more old mid new before after given bytes some begins polls steps parts so_far =

@@ -15,8 +15,8 @@ abbrev pub steps_due : ℕ → ℕ → ℕ
 steps_due polls t = t * polls / period
 
 -- a tick is late by more ticks than are allowed
-abbrev pub is_late : ℕ → ℕ → ℕ → Bool
-is_late tick allowed t = nat_lt (tick + allowed) (ticks_due t)
+abbrev pub is_tick_late : ℕ → ℕ → ℕ → Bool
+is_tick_late tick allowed t = nat_lt (tick + allowed) (ticks_due t)
 
 -- The time d from t to the step after so many: at its end that step is due, and before it not.
 pub record IsTimeTo (polls before t d : ℕ) : Type 0 where

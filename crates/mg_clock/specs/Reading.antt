@@ -20,8 +20,8 @@ pub record Lines : Type 0 where
 abbrev pub lines_at : {K : Type 0} {W : Ghosts K} → ClockLines K W → Lines
 lines_at r = record { polls = r.polls; steps = r.steps; rest = r.rest.now }
 
-abbrev pub start : ℕ → Lines
-start polls = record { polls = polls; steps = 0; rest = [] }
+abbrev pub lines_at_start : ℕ → Lines
+lines_at_start polls = record { polls = polls; steps = 0; rest = [] }
 
 abbrev pub with_next_step : Lines → Lines
 with_next_step l =
@@ -32,16 +32,16 @@ abbrev pub HasGiven : Lines → List ℕ → Type 0
 HasGiven l given = text l.polls l.steps ≡ given ++ l.rest
 
 -- what is known of a clock's readings and waits
-pub record Seen : Type 0 where
+pub record ClockSeen : Type 0 where
   pub readings : Option (List ℕ)
   pub waits : Option (List ℕ)
 
-abbrev pub seen : Option (List ℕ) → Option (List ℕ) → Seen
-seen readings waits = record { readings = readings; waits = waits }
+abbrev pub clock_seen : Option (List ℕ) → Option (List ℕ) → ClockSeen
+clock_seen readings waits = record { readings = readings; waits = waits }
 
 -- The step after so many was waited for: the clock was read once, and waited until that step is
 -- due and no longer, which is no time where it was due already.
-pub record WaitsFor (polls before : ℕ) (old new : Seen) : Type 0 where
+pub record WaitsFor (polls before : ℕ) (old new : ClockSeen) : Type 0 where
   pub reading : ℕ
   pub wait : ℕ
   pub tells : Appends old.readings new.readings (reading ∷ [])
@@ -49,14 +49,14 @@ pub record WaitsFor (polls before : ℕ) (old new : Seen) : Type 0 where
   pub in_time : IsTimeTo polls before reading wait
 
 -- What a read begins with: where nothing is left, the next step is waited for and begun.
-abbrev pub Begins : Lines → Lines → Seen → Seen → Type 0
-Begins old mid before after =
+abbrev pub ReadBegins : Lines → Lines → ClockSeen → ClockSeen → Type 0
+ReadBegins old mid before after =
     ((0 < length old.rest) × (mid ≡ old) × (after ≡ before))
     ⊎ ((old.rest ≡ []) × (mid ≡ with_next_step old) × WaitsFor old.polls old.steps before after)
 
 -- So many bytes at the front of a buffer are the front of what was left: none only where the
 -- buffer has no room.
-pub record Gives (mid new : Lines) (buffer : List ℕ) (n : ℕ) : Type 0 where
+pub record ReadGives (mid new : Lines) (buffer : List ℕ) (n : ℕ) : Type 0 where
   pub within : n ≤ length buffer
   pub some : 0 < length buffer → 0 < n
   pub polls : new.polls ≡ mid.polls
@@ -64,7 +64,8 @@ pub record Gives (mid new : Lines) (buffer : List ℕ) (n : ℕ) : Type 0 where
   pub parts : mid.rest ≡ take n buffer ++ new.rest
 
 -- What a read does. Where the clock fails, nothing is given.
-abbrev pub GivesLines : Lines → Lines → Seen → Seen → List ℕ → Result ℕ ClockFailed → Type 0
+abbrev pub GivesLines : Lines → Lines → ClockSeen → ClockSeen → List ℕ → Result ℕ ClockFailed →
+    Type 0
 GivesLines old new before after buffer (Ok n) =
-    (mid : Lines) × Begins old mid before after × Gives mid new buffer n
+    (mid : Lines) × ReadBegins old mid before after × ReadGives mid new buffer n
 GivesLines old new before after buffer (Err failed) = new ≡ old

@@ -23,14 +23,14 @@ pub struct ClockLines<'a, K: Watch> {
 }
 
 impl<'a, K: Watch> ClockLines<'a, K> {
-    ghost use Rattle.mg_clock.specs.Reading.{Begins, GivesLines, HasGiven, WaitsFor, lines_at, seen, start, with_next_step};
+    ghost use Rattle.mg_clock.specs.Reading.{ReadBegins, GivesLines, HasGiven, WaitsFor, lines_at, clock_seen, lines_at_start, with_next_step};
 
     /// The lines from the start of a clock on, with so many polls in 20 ms, from 1 to 1000. `ticks` tells from now on
     /// how many ticks were begun.
     pub fn new(watch: K, ticks: &'a Cell<u64>, polls: u16) -> Self
         requires some { 0 < polls }
         requires few { polls ≤ 1000 }
-        ensures value { lines_at result ≡ start polls }
+        ensures value { lines_at result ≡ lines_at_start polls }
     {
         ticks.set(0);
         ClockLines {
@@ -46,8 +46,8 @@ impl<'a, K: Watch> ClockLines<'a, K> {
     fn wait_for_step(&mut self) -> Result<(), ClockFailed>
         ensures lines { lines_at self.new ≡ lines_at self.old }
         ensures waits { OnOk result (WaitsFor self.old.polls self.old.steps
-            (seen (K.readings self.old.watch) (K.waits self.old.watch))
-            (seen (K.readings self.new.watch) (K.waits self.new.watch))) }
+            (clock_seen (K.readings self.old.watch) (K.waits self.old.watch))
+            (clock_seen (K.readings self.new.watch) (K.waits self.new.watch))) }
         ensures fails { IfErr result (λ failed. K.Fails self.new.watch) }
     {
         let now = self.watch.now()?;
@@ -77,9 +77,9 @@ impl<'a, K: Watch> ClockLines<'a, K> {
 
     /// Begins a read: waits for the next step and begins its lines, where nothing is left.
     fn begin(&mut self) -> Result<(), ClockFailed>
-        ensures begins { OnOk result (Begins (lines_at self.old) (lines_at self.new)
-            (seen (K.readings self.old.watch) (K.waits self.old.watch))
-            (seen (K.readings self.new.watch) (K.waits self.new.watch))) }
+        ensures begins { OnOk result (ReadBegins (lines_at self.old) (lines_at self.new)
+            (clock_seen (K.readings self.old.watch) (K.waits self.old.watch))
+            (clock_seen (K.readings self.new.watch) (K.waits self.new.watch))) }
         ensures some { OnOk result (0 < length self.new.rest.now) }
         ensures stays { IfErr result (λ failed. lines_at self.new ≡ lines_at self.old) }
         ensures fails { IfErr result (λ failed. (K.Fails self.new.watch) ⊎ (self.old.steps ≡ 2 ^ 64 - 1)) }
@@ -110,8 +110,8 @@ impl<'a, K: Watch> ClockLines<'a, K> {
     /// how many bytes of them stand at the front of the buffer.
     pub fn fill(&mut self, buffer: &mut [u8]) -> Result<usize, ClockFailed>
         ensures gives { GivesLines (lines_at self.old) (lines_at self.new)
-            (seen (K.readings self.old.watch) (K.waits self.old.watch))
-            (seen (K.readings self.new.watch) (K.waits self.new.watch)) buffer.new result }
+            (clock_seen (K.readings self.old.watch) (K.waits self.old.watch))
+            (clock_seen (K.readings self.new.watch) (K.waits self.new.watch)) buffer.new result }
         // What was given so far, with these bytes, is still the text of the steps.
         ensures text { (given : List ℕ) → HasGiven (lines_at self.old) given
             → IfOk result (λ n. HasGiven (lines_at self.new) (given ++ take n buffer.new)) }

@@ -1,6 +1,6 @@
 ghost use Rattle.std.specs.Prelude.{◌≡◌, ◌<◌, ◌≤◌, min};
 ghost use Rattle.std.specs.Duration.{as_nanos};
-ghost use Rattle.mg_clock.specs.Due.{IsTimeTo, is_late, steps_due};
+ghost use Rattle.mg_clock.specs.Due.{IsTimeTo, is_tick_late, steps_due};
 
 use std::time::Duration;
 
@@ -33,7 +33,7 @@ pub fn time_to_step(polls: u64, before: u64, now: u64) -> Duration
 
 /// Whether a tick is late by more than so many ticks.
 pub fn is_late(tick: u64, allowed: u16, now: u64) -> bool
-    ensures value { result ≡ is_late tick allowed now }
+    ensures value { result ≡ is_tick_late tick allowed now }
 {
     u128::from(tick) + u128::from(allowed) < u128::from(now) / PERIOD
 }

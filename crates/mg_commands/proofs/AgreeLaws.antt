@@ -33,7 +33,7 @@ use Rattle.mg_commands.specs.declared.served.Served.{Served}
 use Rattle.mg_commands.specs.Agreement.{RequestsKeepAgreement, item_but_received, parts_but_received}
 use Rattle.mg_commands.specs.ContextProperties.{action_fault, audit_items, audit_pair, audit_pairs, context_outcome, is_context_audit, pair_item, triples_of}
 use Rattle.mg_commands.specs.Name.{name_of, written_as, written_name}
-use Rattle.mg_commands.specs.Outcome.{CommandOutcome, Trial, when, all_names, audit_outcome, audit_root, audit_termination, check_command, check_new_name, in_same_world, made_at, names_for, number_in, outcome, reply_media, reply_parts, served_at, trial_of}
+use Rattle.mg_commands.specs.Outcome.{CommandOutcome, Trial, all_names, audit_outcome, audit_root, audit_termination, check_command, check_new_name, in_same_world, made_at, names_for, number_in, outcome, reply_media, reply_parts, served_at, trial_of}
 use Rattle.mg_commands.specs.ReplyDescriptors.{descriptors_after, descriptors_before, descriptors_by_audit}
 use Rattle.mg_commands.specs.Transaction.{ActionState, TransactionState, action_start, action_unless, after_commands, after_outcome, after_properties, end_of_action, go_on, go_on_after_action, id_of, unless_optional, with_action, with_actions, with_command, with_commands, with_name, with_names, with_trial}
 
@@ -87,7 +87,7 @@ module _ (some : List ℕ) (edits : SameEditsKeepAgreement) (same_stats : SameSt
   media_same d n a b h = λ i. reply_media d (record a { rooms = h.rooms i }) n
 
   counted : (b : Bool) (o k : Option Stats) → option_map but_received o ≡ option_map but_received k →
-      option_map but_received (when b o) ≡ option_map but_received (when b k)
+      option_map but_received (if b then o else None) ≡ option_map but_received (if b then k else None)
   counted true o k h = h
   counted false o k h = refl
 

@@ -1,6 +1,7 @@
 -- A request whose commands are all refused.
 use Rattle.std.proofs.Common.{◌≡◌, ℕ, Bool, ◌&&◌, ◌||◌, not, true, false, List, [], ◌∷◌, ◌++◌, map, Option, Some, None, Result, Ok, Err, refl, sym, ap, subst, ◌∙◌, if◌then◌else◌}
 use Rattle.std.specs.List.{list_all, list_any}
+use Rattle.std.specs.Option.{unwrap_or}
 use Rattle.std.proofs.lemmas.List.Folds.{list_any-append}
 use Rattle.mg_words.specs.ResultSteps.{◌>>=◌}
 use Rattle.mg_words.specs.declared.command_word.CommandWord.{CommandWord}
@@ -15,12 +16,13 @@ use Rattle.mg_scan.specs.Span.{text_of}
 use Rattle.mg_text.specs.declared.command.Command.{Command}
 use Rattle.mg_text.specs.declared.context_property.ContextProperty.{ContextProperty}
 use Rattle.mg_text.specs.declared.context_property.ContextProperty.TheVariants as properties
-use Rattle.mg_text.specs.declared.context_property.Triple.{Triple}
+use Rattle.mg_text.specs.declared.context_property.NamedTriple.{NamedTriple}
 use Rattle.mg_text.specs.declared.request.Action.{Action}
 use Rattle.mg_commands.specs.declared.command_parameters.CommandParameters.{CommandParameters}
 use Rattle.mg_commands.specs.declared.name.Name.{Name}
 use Rattle.mg_commands.specs.declared.name.Name.TheVariants as names
-use Rattle.mg_commands.specs.ContextProperties.{action_fault, audit_items, context_outcome, is_topology, triple_of, triples_in, triples_of, triples_or_none}
+use Rattle.mg_commands.specs.ContextProperties.{action_fault, audit_items, context_outcome, is_topology}
+use Rattle.mg_commands.specs.ContextProperties.{topology_triple_of, triples_in, triples_of}
 use Rattle.mg_commands.specs.Name.{name_of, written_as, written_name}
 use Rattle.mg_commands.specs.Outcome.{CommandOutcome, Trial, check_command, members_in, names_for, outcome, takes_all, trial_of, unless_empty}
 use Rattle.mg_commands.specs.Search.{first_of}
@@ -230,7 +232,8 @@ no_topology : (source : List ℕ) (made : Option ℕ) (ps : List ContextProperty
 no_topology source made [] w target h = same (w, []) refl
 no_topology source made (x ∷ ps) w target h =
     let none : triples_of source made (x ∷ ps) ≡ [] =
-    ap (λ (o : Option (List Triple)). map (triple_of source made) (triples_or_none o)) (nothing_first (x ∷ ps) h) in
+    ap (λ (o : Option (List NamedTriple)). map (topology_triple_of source made) (unwrap_or o []))
+    (nothing_first (x ∷ ps) h) in
     audited w (apply_triples w target (triples_of source made (x ∷ ps))) (λ p. audit_items (x ∷ ps) p.0 p.1)
     (subst (λ xs. Same w (apply_triples w target xs)) (sym none) (none_applied w target))
 

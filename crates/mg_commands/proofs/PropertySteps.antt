@@ -1,6 +1,8 @@
 -- The topology among properties, and that it is small where no property is at fault.
 use Rattle.std.proofs.Common.{◌≡◌, ℕ, ◌+◌, ◌<◌, ◌≤◌, nat_lt, Bool, true, false, List, [], ◌∷◌, ◌++◌, length, get_or, drop, Option, Some, None, refl, sym, ap, ◌∙◌, arith, if◌then◌else◌}
+use Rattle.std.specs.Bool.{then_some}
 use Rattle.std.specs.List.{list_any}
+use Rattle.std.specs.Option.{unwrap_or}
 use Rattle.std.proofs.lemmas.Bool.{ltb-false}
 use Rattle.std.proofs.lemmas.List.{drop_more, drop_all}
 use Rattle.mg_words.specs.declared.error_number.ErrorNumber.{ErrorNumber}
@@ -8,8 +10,8 @@ use Rattle.mg_words.specs.declared.error_number.ErrorNumber.TheVariants as error
 use Rattle.mg_engine.specs.Triples.{triple_limit}
 use Rattle.mg_text.specs.declared.context_property.ContextProperty.{ContextProperty}
 use Rattle.mg_text.specs.declared.context_property.ContextProperty.TheVariants as properties
-use Rattle.mg_text.specs.declared.context_property.Triple.{Triple}
-use Rattle.mg_commands.specs.ContextProperties.{is_topology, refused_if, context_property_fault, triples_in, triples_or_none}
+use Rattle.mg_text.specs.declared.context_property.NamedTriple.{NamedTriple}
+use Rattle.mg_commands.specs.ContextProperties.{is_topology, context_property_fault, triples_in}
 use Rattle.std.specs.Option.{option_or}
 use Rattle.mg_commands.specs.Search.{first_of, first_after}
 
@@ -46,18 +48,18 @@ if_none : (b : Bool) (e : ErrorNumber) (o : Option ErrorNumber) → (if b then S
 if_none true e o h = absurd (cc h)
 if_none false e o h = h
 
-not_refused : (b : Bool) (e : ErrorNumber) → refused_if b e ≡ None → b ≡ false
+not_refused : (b : Bool) (e : ErrorNumber) → then_some b e ≡ None → b ≡ false
 not_refused true e h = absurd (cc h)
 not_refused false e h = refl
 
-few_here : (before : List ContextProperty) (xs : List Triple) →
+few_here : (before : List ContextProperty) (xs : List NamedTriple) →
     context_property_fault before (properties.Topology xs) ≡ None → length xs ≤ triple_limit
 few_here before xs h = ltb-false triple_limit (length xs)
     (not_refused (nat_lt triple_limit (length xs)) errors.NotServed
     (if_none (list_any is_topology before) errors.DescriptorTwice _ h))
 
 pub few_triples : (before ps : List ContextProperty) → first_after context_property_fault before ps ≡ None →
-    length (triples_or_none (first_of triples_in ps)) ≤ triple_limit
+    length (unwrap_or (first_of triples_in ps) []) ≤ triple_limit
 unfolding first_after first_of
 few_triples before [] h = omega arith
 few_triples before (properties.Topology xs ∷ ps) h =
@@ -70,7 +72,7 @@ few_triples before (properties.Emergency word ∷ ps) h = absurd (cc h)
 
 -- ## What is no topology
 
-pub no_triples : (p : ContextProperty) → ((xs : List Triple) → ¬ p ≡ properties.Topology xs) → triples_in p ≡ None
+pub no_triples : (p : ContextProperty) → ((xs : List NamedTriple) → ¬ p ≡ properties.Topology xs) → triples_in p ≡ None
 no_triples (properties.Topology xs) h = absurd (h xs refl)
 no_triples (properties.ContextAudit ws) h = refl
 no_triples (properties.Priority word) h = refl

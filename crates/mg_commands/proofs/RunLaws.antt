@@ -29,8 +29,9 @@ use Rattle.mg_commands.specs.ContextProperties.{action_fault, context_outcome}
 use Rattle.mg_commands.specs.Name.{name_of, written_as, written_name}
 use Rattle.mg_commands.specs.Outcome.{Trial, outcome, check_command, all_names, names_for}
 use Rattle.mg_commands.specs.Transaction.{ActionState, TransactionState, after_outcome, with_name, and_then, with_names, with_trial, with_command, unless_optional, go_on, with_commands, action_start, id_of, target_of, end_of_action, after_properties, after_commands, action_unless, with_action, with_actions, replied}
-use Rattle.mg_commands.specs.aids.Runs.{Base, IsPaid, ActionKept, action_kept, IsAction, with_all, TransactionKept, transaction_kept, IsTransaction, Tells}
-use Rattle.mg_commands.specs.Work.{is_edit, edits_in}
+use Rattle.mg_commands.specs.aids.Runs.{Base, IsPaid, ActionKept, action_kept, IsActionRun, with_all, TransactionKept}
+use Rattle.mg_commands.specs.aids.Runs.{transaction_kept, IsTransaction, TellsProperties}
+use Rattle.mg_commands.specs.Work.{is_edit, edits_told}
 use Rattle.mg_commands.proofs.PutLaws.{put_next, put_more}
 use Rattle.mg_commands.proofs.WorkLaws.{paid_one, paid_still, paid_nothing}
 
@@ -79,7 +80,7 @@ pub name_done : (source : List ℕ) (c : Command) (parameters : CommandParameter
     ((w : Gateway) → StandsFor old w → IsOutcome new (Ok s) (outcome c.word w progress.target name parameters)) →
     RisesAtMost (if is_edit c.word then 4 else 0) old.sums.work new.sums.work →
     made ≡ option_or progress.made s.made → told ≡ after_put before (item_done c s)
-    → (base : Base) → Leads (IsAction base) (action_kept old progress before)
+    → (base : Base) → Leads (IsActionRun base) (action_kept old progress before)
     (action_kept new (record { target = s.target; made = made }) told)
     (λ run next. with_name source c parameters name run ≡ (next, true))
 name_done source c parameters name old new progress before told s made came cost is put base run h =
@@ -104,8 +105,8 @@ name_done source c parameters name old new progress before told s made came cost
 -- an action after one more item that tells an error stands where it stood
 failed_stands : (c : Command) (term : List ℕ) (old new : EngineState) (progress : Progress) (before told : Answered)
     (e : ErrorNumber) → new ≡ old → told ≡ after_put before (item_failed c term e)
-    → (base : Base) (run : ActionState) → IsAction base (action_kept old progress before) run →
-    IsAction base (action_kept new progress told) (record run { items = run.items ++ item_failed c term e ∷ [] })
+    → (base : Base) (run : ActionState) → IsActionRun base (action_kept old progress before) run →
+    IsActionRun base (action_kept new progress told) (record run { items = run.items ++ item_failed c term e ∷ [] })
 failed_stands c term old new progress before told e same put base run h =
     record {
       gateway = rw same h.gateway;
@@ -120,7 +121,7 @@ pub name_failed : (source : List ℕ) (c : Command) (parameters : CommandParamet
     (old new : EngineState) (progress : Progress) (before told : Answered) (e : ErrorNumber) →
     ((w : Gateway) → StandsFor old w → IsOutcome new (Err e) (outcome c.word w progress.target name parameters)) →
     new ≡ old → told ≡ after_put before (item_failed c (name_told source c name) e)
-    → (base : Base) → Leads (IsAction base) (action_kept old progress before) (action_kept new progress told)
+    → (base : Base) → Leads (IsActionRun base) (action_kept old progress before) (action_kept new progress told)
     (λ run next. with_name source c parameters name run ≡ (next, false))
 name_failed source c parameters name old new progress before told e came same put base run h = (
   record run { items = run.items ++ item_failed c (name_told source c name) e ∷ [] },
@@ -159,13 +160,13 @@ was_done run false = refl
 -- which what it has now stands.
 module _ (source : List ℕ) (c : Command) (parameters : CommandParameters) (members : List ℕ) (base : Base)
     (entered kept : ActionKept) (i : ℕ) (were_done : Bool)
-    (inside : Leads (IsAction base) entered kept
+    (inside : Leads (IsActionRun base) entered kept
     (λ run now. with_names source c parameters (map names.Number members) run ≡
     and_then (with_names source c parameters (map names.Number (drop i members))) (now, were_done))) where
   pub members_go_on : (n d : ℕ) (new : ActionKept) (is_done are_done : Bool) → i < length members →
       n ≡ get_or members i d → are_done ≡ (were_done && is_done) →
-      Leads (IsAction base) kept new (λ run next. with_name source c parameters (names.Number n) run ≡
-      (next, is_done)) → Leads (IsAction base) entered new
+      Leads (IsActionRun base) kept new (λ run next. with_name source c parameters (names.Number n) run ≡
+      (next, is_done)) → Leads (IsActionRun base) entered new
       (λ run now. with_names source c parameters (map names.Number members) run ≡
       and_then (with_names source c parameters (map names.Number (drop (i + 1) members))) (now, are_done))
   members_go_on n d new is_done are_done lt is all step run h =
@@ -180,7 +181,7 @@ module _ (source : List ℕ) (c : Command) (parameters : CommandParameters) (mem
         left,
       )
 
-  pub members_finish : length members ≤ i → Leads (IsAction base) entered kept
+  pub members_finish : length members ≤ i → Leads (IsActionRun base) entered kept
       (λ run next. with_names source c parameters (map names.Number members) run ≡ (next, were_done))
   members_finish le run h =
       let (now, came, stands) = inside run h in (
@@ -208,7 +209,7 @@ pub all_refused : (source : List ℕ) (c : Command) (parameters : CommandParamet
     (progress : Progress) (before told : Answered) (e : ErrorNumber) →
     ((w : Gateway) → StandsFor kept w → all_names w progress.target c.word ≡ Err e) →
     told ≡ after_put before (item_failed c (written_name (text_of source c.term)) e)
-    → (base : Base) → Leads (IsAction base) (action_kept kept progress before) (action_kept kept progress told)
+    → (base : Base) → Leads (IsActionRun base) (action_kept kept progress before) (action_kept kept progress told)
     (λ run next. with_all source c parameters run ≡ (next, false))
 all_refused source c parameters kept progress before told e found put base run h =
     let term = written_name (text_of source c.term) in (
@@ -253,9 +254,9 @@ one_tried source c parameters names.Other run h = for_one source c parameters na
 pub command_for_one : (source : List ℕ) (c : Command) (parameters : CommandParameters) (name : Name)
     (kept new : ActionKept) (is_done : Bool) → check_command source c ≡ Ok parameters →
     name_of (text_of source c.term) ≡ name → (name ≡ names.All → ⊥)
-    → ((base : Base) → Leads (IsAction base) kept new
+    → ((base : Base) → Leads (IsActionRun base) kept new
     (λ run next. with_name source c parameters name run ≡ (next, is_done)))
-    → (base : Base) → Leads (IsAction base) kept new (λ run next. with_command source c run ≡ (next, is_done))
+    → (base : Base) → Leads (IsActionRun base) kept new (λ run next. with_command source c run ≡ (next, is_done))
 command_for_one source c parameters name kept new is_done checked is not_all ran base run h =
     let (next, did, stands) = ran base run h in (
       next,
@@ -267,7 +268,7 @@ command_for_one source c parameters name kept new is_done checked is not_all ran
 pub command_refused : (source : List ℕ) (c : Command) (kept : EngineState) (progress : Progress)
     (before told : Answered) (e : ErrorNumber) → check_command source c ≡ Err e →
     told ≡ after_put before (item_failed c (written_name (text_of source c.term)) e)
-    → (base : Base) → Leads (IsAction base) (action_kept kept progress before) (action_kept kept progress told)
+    → (base : Base) → Leads (IsActionRun base) (action_kept kept progress before) (action_kept kept progress told)
     (λ run next. with_command source c run ≡ (next, false))
 command_refused source c kept progress before told e checked put base run h =
     let term = written_name (text_of source c.term) in (
@@ -310,12 +311,12 @@ commands_end source cs i run le = rw (drop_all i cs le) refl
 -- The loop over commands, at the command i. What it was entered with stood for actions; each came to one of those for
 -- which what it has now stands.
 module _ (source : List ℕ) (cs : List Command) (base : Base) (entered kept : ActionKept) (i : ℕ)
-    (inside : Leads (IsAction base) entered kept
+    (inside : Leads (IsActionRun base) entered kept
     (λ run now. with_commands source cs run ≡ with_commands source (drop i cs) now)) where
   pub commands_go_on : (c d : Command) (new : ActionKept) (is_done : Bool) → i < length cs → c ≡ get_or cs i d →
-      (c.is_optional || is_done) ≡ true → Leads (IsAction base) kept new
+      (c.is_optional || is_done) ≡ true → Leads (IsActionRun base) kept new
       (λ run next. with_command source c run ≡ (next, is_done)) →
-      Leads (IsAction base) entered new (λ run now. with_commands source cs run ≡
+      Leads (IsActionRun base) entered new (λ run now. with_commands source cs run ≡
       with_commands source (drop (i + 1) cs) now)
   commands_go_on c d new is_done lt is goes_on step run h =
       let (now, came, stands) = inside run h in
@@ -328,9 +329,9 @@ module _ (source : List ℕ) (cs : List Command) (base : Base) (entered kept : A
       )
 
   pub commands_stop : (c d : Command) (new : ActionKept) (is_done : Bool) → i < length cs → c ≡ get_or cs i d →
-      (c.is_optional || is_done) ≡ false → Leads (IsAction base) kept new
+      (c.is_optional || is_done) ≡ false → Leads (IsActionRun base) kept new
       (λ run next. with_command source c run ≡ (next, is_done)) →
-      Leads (IsAction base) entered new (λ run next. with_commands source cs run ≡ (next, false))
+      Leads (IsActionRun base) entered new (λ run next. with_commands source cs run ≡ (next, false))
   commands_stop c d new is_done lt is goes_on step run h =
       let (now, came, stands) = inside run h in
       let (next, did, left) = step now stands in (
@@ -341,7 +342,7 @@ module _ (source : List ℕ) (cs : List Command) (base : Base) (entered kept : A
         left,
       )
 
-  pub commands_finish : length cs ≤ i → Leads (IsAction base) entered kept
+  pub commands_finish : length cs ≤ i → Leads (IsActionRun base) entered kept
       (λ run next. with_commands source cs run ≡ (next, true))
   commands_finish le run h =
       let (now, came, stands) = inside run h in
@@ -385,7 +386,7 @@ module _ (base : Base) (before told closed : Answered) (kept new : EngineState) 
   }
 
   properties_ended : (is_done : Bool) (r : Result (Gateway × List Item) ErrorNumber) →
-      Tells new before told is_done run.gateway r → (next : TransactionState) ×
+      TellsProperties new before told is_done run.gateway r → (next : TransactionState) ×
       (after_properties run r ≡ (next, is_done)) × IsTransaction base (transaction_kept new closed) next
   properties_ended is_done (Ok p) t = (
     end_of_action run p.0 p.1,
@@ -401,10 +402,10 @@ module _ (base : Base) (before told closed : Answered) (kept new : EngineState) 
 -- An action whose commands were tried.
 module _ (source : List ℕ) (a : Action) (old middle : EngineState) (before said : Answered) (progress : Progress)
     (were_done : Bool) (none : action_fault a ≡ None)
-    (ran : (base : Base) → Leads (IsAction base) (action_kept old (first_progress a) before)
+    (ran : (base : Base) → Leads (IsActionRun base) (action_kept old (first_progress a) before)
     (action_kept middle progress said) (λ run next. with_commands source a.commands run ≡ (next, were_done))) where
   as_started : (base : Base) (s : TransactionState) → IsTransaction base (transaction_kept old before) s →
-      IsAction base (action_kept old (first_progress a) before) (action_start a s)
+      IsActionRun base (action_kept old (first_progress a) before) (action_start a s)
   as_started base s h = record { gateway = h.gateway; target = refl; made = refl; reply = h.reply; work = h.work }
 
   goes_on : (s : TransactionState) (run : ActionState) →
@@ -432,7 +433,7 @@ module _ (source : List ℕ) (a : Action) (old middle : EngineState) (before sai
 
   -- all were done
   pub action_finished : (new : EngineState) (told closed : Answered) (is_done : Bool) → were_done ≡ true →
-      ((w : Gateway) → StandsFor middle w → Tells new said told is_done w
+      ((w : Gateway) → StandsFor middle w → TellsProperties new said told is_done w
       (context_outcome source progress.made a.properties w progress.target)) → new.sums.work ≡ middle.sums.work →
       closed ≡ after_put told (replies.Action (id_of progress.target))
       → (base : Base) → Leads (IsTransaction base) (transaction_kept old before) (transaction_kept new closed)
@@ -441,7 +442,8 @@ module _ (source : List ℕ) (a : Action) (old middle : EngineState) (before sai
       let (run, did, stands) = ran base (action_start a s) (as_started base s h) in
       let came = ap (λ (made : Option ℕ). context_outcome source made a.properties run.gateway run.target) stands.made
       ∙ ap (λ (t : Target). context_outcome source progress.made a.properties run.gateway t) stands.target in
-      let told_so = subst (λ (r : Result (Gateway × List Item) ErrorNumber). Tells new said told is_done run.gateway
+      let told_so = subst (λ (r : Result (Gateway × List Item) ErrorNumber). TellsProperties new said told is_done
+      run.gateway
       r) (sym came) (tells run.gateway stands.gateway) in
       let (next, is, left) = properties_ended base said told closed middle new run stands.reply stands.work same
       (rw stands.target last) is_done (context_outcome source run.made a.properties run.gateway run.target)
@@ -533,8 +535,8 @@ module _ (source : List ℕ) (request : Request) (old new : EngineState) (before
       )
 
   pub request_paid : (w : Gateway) → StandsFor old w →
-      RisesAtMost (4 * edits_in (replied source request w).items) old.sums.work new.sums.work
+      RisesAtMost (4 * edits_told (replied source request w).items) old.sums.work new.sums.work
   request_paid w h =
       let (next, did, stands) = came w h in
-      subst (λ (s : TransactionState). RisesAtMost (4 * edits_in s.items) old.sums.work new.sums.work) (sym did)
+      subst (λ (s : TransactionState). RisesAtMost (4 * edits_told s.items) old.sums.work new.sums.work) (sym did)
       stands.work

@@ -4,6 +4,8 @@
 use Rattle.std.specs.Prelude.{ℕ, nat_lt, Bool, true, false, not, List, [], ◌∷◌, ◌++◌, length}
 use Rattle.std.specs.Prelude.{map, Option, Some, None, Result, Ok, if◌then◌else◌}
 use Rattle.std.specs.List.{list_any}
+use Rattle.std.specs.Bool.{then_some}
+use Rattle.std.specs.Option.{unwrap_or}
 use Rattle.mg_scan.specs.Span.{text_of}
 use Rattle.mg_words.specs.ResultSteps.{◌>>=◌}
 use Rattle.mg_words.specs.Term.{rtp_name}
@@ -29,7 +31,7 @@ use Rattle.mg_text.specs.declared.context_property.ContextProperty.{ContextPrope
 use Rattle.mg_text.specs.declared.context_property.ContextProperty.TheVariants as properties
 use Rattle.mg_text.specs.declared.context_property.ContextWord.{ContextWord}
 use Rattle.mg_text.specs.declared.context_property.ContextWord.TheVariants as words
-use Rattle.mg_text.specs.declared.context_property.Triple.{Triple}
+use Rattle.mg_text.specs.declared.context_property.NamedTriple.{NamedTriple}
 use Rattle.mg_text.specs.declared.request.Action.{Action}
 use Rattle.mg_commands.specs.declared.name.Name.{Name}
 use Rattle.mg_commands.specs.declared.name.Name.TheVariants as names
@@ -51,20 +53,15 @@ abbrev pub is_topology_word : ContextWord → Bool
 is_topology_word words.Topology = true
 is_topology_word _ = false
 
--- refuses where the test holds
-abbrev pub refused_if : Bool → ErrorNumber → Option ErrorNumber
-refused_if true e = Some e
-refused_if false e = None
-
 -- the fault of a property after those before it: a second of its word, or what isn't served
 abbrev pub context_property_fault : List ContextProperty → ContextProperty
     → Option ErrorNumber
 context_property_fault before (properties.Topology xs) =
     if list_any is_topology before then Some DescriptorTwice
-    else refused_if (nat_lt triple_limit (length xs)) NotServed
+    else then_some (nat_lt triple_limit (length xs)) NotServed
 context_property_fault before (properties.ContextAudit ws) =
     if list_any is_context_audit before then Some DescriptorTwice
-    else refused_if (list_any (λ w. not (is_topology_word w)) ws) DescriptorNotServed
+    else then_some (list_any (λ w. not (is_topology_word w)) ws) DescriptorNotServed
 context_property_fault before (properties.Priority word) = Some DescriptorNotServed
 context_property_fault before (properties.Emergency word) = Some DescriptorNotServed
 
@@ -89,25 +86,22 @@ term_of made names.All = terms.Every
 term_of made (names.Number n) = terms.Number n
 term_of made names.Other = terms.Stranger
 
-abbrev pub triple_of : List ℕ → Option ℕ → Triple → TopologyTriple
-triple_of source made x =
+abbrev pub topology_triple_of : List ℕ → Option ℕ → NamedTriple → TopologyTriple
+topology_triple_of source made x =
     record {
       first = term_of made (name_of (text_of source x.first));
       second = term_of made (name_of (text_of source x.second));
       association = x.association;
     }
 
-abbrev pub triples_in : ContextProperty → Option (List Triple)
+abbrev pub triples_in : ContextProperty → Option (List NamedTriple)
 triples_in (properties.Topology xs) = Some xs
 triples_in _ = None
 
-abbrev pub triples_or_none : Option (List Triple) → List Triple
-triples_or_none (Some xs) = xs
-triples_or_none None = []
-
 -- the triples of the topology, if there is one
 abbrev pub triples_of : List ℕ → Option ℕ → List ContextProperty → List TopologyTriple
-triples_of source made ps = map (triple_of source made) (triples_or_none (first_of triples_in ps))
+triples_of source made ps =
+    map (topology_triple_of source made) (unwrap_or (first_of triples_in ps) [])
 
 -- how two members hear each other: whether a is heard by b, and whether b is heard by a
 abbrev pub pair_item : Bool → Bool → ℕ → ℕ → Item

@@ -4,9 +4,8 @@
 -- contexts.
 use Rattle.std.specs.Prelude.{ℕ, ◌&&◌, not, Bool, true, false, List, [], ◌∷◌, map, Option, Some}
 use Rattle.std.specs.Prelude.{None, is_some, Result, Ok, Err, codes, if◌then◌else◌}
-use Rattle.std.specs.Option.{option_map}
+use Rattle.std.specs.Option.{option_and_then, option_map}
 use Rattle.mg_scan.specs.Span.{text_of}
-use Rattle.mg_sdp.specs.declared.chosen.Chosen.{Chosen}
 use Rattle.mg_words.specs.Term.{rtp_name}
 use Rattle.mg_words.specs.ResultSteps.{◌>>=◌}
 use Rattle.mg_words.specs.declared.command_word.CommandWord.{CommandWord}
@@ -21,6 +20,7 @@ use Rattle.mg_rooms.specs.declared.target.Target.{Target}
 use Rattle.mg_rooms.specs.declared.target.Target.TheVariants as targets
 use Rattle.mg_rooms.specs.Outcome.{member}
 use Rattle.mg_rooms.specs.Registry.{members_at, record_at}
+use Rattle.mg_rooms.specs.Results.{passes}
 use Rattle.mg_engine.specs.Outcome as engine
 use Rattle.mg_engine.specs.Gateway.{Gateway, stats_of}
 use Rattle.mg_text.specs.declared.command.Command.{Command}
@@ -51,17 +51,11 @@ is_served_word words.Modify = true
 is_served_word words.Move = true
 is_served_word words.Subtract = true
 is_served_word words.AuditValue = true
-is_served_word words.AuditCapability = false
-is_served_word words.Notify = false
-is_served_word words.ServiceChange = false
+is_served_word _ = false
 
 -- one reply for all that match isn't served (RFC 3525, section 8.2.2, W-)
 abbrev pub is_served : Command → Bool
 is_served c = is_served_word c.word && not c.wants_wildcard
-
-abbrev pub if_served : Bool → Result (Unit {0}) ErrorNumber
-if_served true = Ok tt
-if_served false = Err errors.NotServed
 
 -- what descriptors ask for, if they are served
 abbrev pub check_descriptors : List ℕ → List Descriptor → Result CommandParameters ErrorNumber
@@ -73,7 +67,7 @@ check_descriptors source xs = do
 -- what a command asks for, if its text is served
 abbrev pub check_command : List ℕ → Command → Result CommandParameters ErrorNumber
 check_command source c = do
-  _ ← if_served (is_served c)
+  _ ← passes (is_served c) errors.NotServed
   check_descriptors source c.descriptors
 
 -- ## What a command is tried on
@@ -83,11 +77,7 @@ abbrev pub takes_all : CommandWord → Bool
 takes_all words.Modify = true
 takes_all words.Subtract = true
 takes_all words.AuditValue = true
-takes_all words.Add = false
-takes_all words.Move = false
-takes_all words.AuditCapability = false
-takes_all words.Notify = false
-takes_all words.ServiceChange = false
+takes_all _ = false
 
 -- the members of an action's context, in the order of their entry; one that isn't there has none
 abbrev pub members_in : Gateway → Target → List ℕ
@@ -109,32 +99,24 @@ all_names w target word =
 -- that are there when it begins (RFC 3525, section 6.2.2).
 abbrev pub names_for : Gateway → Target → CommandWord → Name → Result (List Name) ErrorNumber
 names_for w target word names.All = all_names w target word
-names_for w target word names.Root = Ok (names.Root ∷ [])
-names_for w target word names.Choose = Ok (names.Choose ∷ [])
-names_for w target word (names.Number n) = Ok (names.Number n ∷ [])
-names_for w target word names.Other = Ok (names.Other ∷ [])
+names_for w target word name = Ok (name ∷ [])
 
 -- ## Checks of the name
 
 -- an Add makes a termination, and names none
-abbrev pub if_new : Bool → Result (Unit {0}) ErrorNumber
-if_new true = Err errors.AlreadyInContext
-if_new false = Err errors.UnknownTermination
-
 abbrev pub check_new_name : Gateway → Name → Result (Unit {0}) ErrorNumber
 check_new_name w names.Choose = Ok tt
-check_new_name w names.Root = Err errors.IdentifierNotAllowed
-check_new_name w names.All = Err errors.IdentifierNotAllowed
-check_new_name w (names.Number n) = if_new (is_some (record_at w.rooms n))
+check_new_name w (names.Number n) =
+    Err (if is_some (record_at w.rooms n) then errors.AlreadyInContext
+    else errors.UnknownTermination)
 check_new_name w names.Other = Err errors.UnknownTermination
+check_new_name w _ = Err errors.IdentifierNotAllowed
 
 -- the number of the termination that a command names
 abbrev pub number_in : Name → Result ℕ ErrorNumber
-number_in names.Choose = Err errors.IdentifierNotAllowed
-number_in names.Root = Err errors.IdentifierNotAllowed
-number_in names.All = Err errors.IdentifierNotAllowed
 number_in (names.Number n) = Ok n
 number_in names.Other = Err errors.UnknownTermination
+number_in _ = Err errors.IdentifierNotAllowed
 
 -- ## What is told
 
@@ -144,32 +126,21 @@ media_of_record r = Whole (record { mode = r.mode; depth = r.depth }) r.local r.
 abbrev pub whole_media : Gateway → ℕ → Option Media
 whole_media w n = option_map media_of_record (record_at w.rooms n)
 
-abbrev pub as_local_media : Option Chosen → Option Media
-as_local_media None = None
-as_local_media (Some chosen) = Some (Local chosen)
-
-abbrev pub local_of_record : Option Record → Option Media
-local_of_record None = None
-local_of_record (Some r) = as_local_media r.local
-
 -- the Local of a termination, alone
 abbrev pub local_media : Gateway → ℕ → Option Media
-local_media w n = local_of_record (record_at w.rooms n)
-
-abbrev pub when : {A : Type 0} → Bool → Option A → Option A
-when true o = o
-when false o = None
+local_media w n = option_map Local (option_and_then (λ r. r.local) (record_at w.rooms n))
 
 -- the whole media, or else the Local alone
 abbrev pub reply_media : ReplyDescriptors → Gateway → ℕ → Option Media
 reply_media descriptors w n =
-    if descriptors.media then whole_media w n else when descriptors.local (local_media w n)
+    if descriptors.media then whole_media w n
+    else (if descriptors.local then local_media w n else None)
 
 abbrev pub reply_parts : ReplyDescriptors → Gateway → ℕ → Parts
 reply_parts descriptors w n =
     record {
       media = reply_media descriptors w n;
-      statistics = when descriptors.statistics (stats_of w n);
+      statistics = if descriptors.statistics then stats_of w n else None;
     }
 
 -- ## Commands
@@ -233,21 +204,15 @@ audit_root targets.Null =
       term = codes "ROOT";
       parts = record { media = None; statistics = None };
     })
-audit_root targets.New = Err errors.IdentifierNotAllowed
-audit_root (targets.Number c) = Err errors.IdentifierNotAllowed
+audit_root _ = Err errors.IdentifierNotAllowed
 
 abbrev pub audit_outcome : Gateway → Target → Name → CommandParameters → Result Served ErrorNumber
 audit_outcome w target names.Root parameters = audit_root target
-audit_outcome w target names.Choose parameters = audit_termination w target names.Choose parameters
-audit_outcome w target names.All parameters = audit_termination w target names.All parameters
-audit_outcome w target (names.Number n) parameters =
-    audit_termination w target (names.Number n) parameters
-audit_outcome w target names.Other parameters = audit_termination w target names.Other parameters
+audit_outcome w target name parameters = audit_termination w target name parameters
 
 -- the world is as it was
 abbrev pub in_same_world : Gateway → Result Served ErrorNumber → CommandOutcome
-in_same_world w (Ok s) = Ok (w, s)
-in_same_world w (Err e) = Err e
+in_same_world w r = r >>= (λ s. Ok (w, s))
 
 -- what a command comes to for one name, its text having been checked
 unfoldable pub outcome : CommandWord → Gateway → Target → Name → CommandParameters
@@ -258,9 +223,7 @@ outcome words.Move w target name parameters = move_outcome w target name paramet
 outcome words.Subtract w target name parameters = subtract_outcome w target name parameters
 outcome words.AuditValue w target name parameters =
     in_same_world w (audit_outcome w target name parameters)
-outcome words.AuditCapability w target name parameters = Err errors.NotServed
-outcome words.Notify w target name parameters = Err errors.NotServed
-outcome words.ServiceChange w target name parameters = Err errors.NotServed
+outcome _ w target name parameters = Err errors.NotServed
 
 -- what a command asks for, and on which names it is tried
 pub record Trial : Type 0 where

@@ -21,9 +21,7 @@ use Rattle.mg_commands.specs.Search.{first_of}
 -- the value of nt/jit in milliseconds: a word that is a number of one to five digits
 abbrev pub jitter_of : List ℕ → Option PropertyValue → Option ℕ
 jitter_of source (Some (values.Word word)) = uint16_of (text_of source word)
-jitter_of source (Some (values.Quoted word)) = None
-jitter_of source (Some values.Group) = None
-jitter_of source None = None
+jitter_of source _ = None
 
 -- a reservation, a property that isn't served, or one with another value than it may have
 abbrev pub control_fault : List ℕ → ControlPart → Option ErrorNumber

@@ -85,10 +85,7 @@ OthersAreTried =
 -- whether an item tells of a command that was done
 abbrev pub tells_done : Item → Bool
 tells_done (replies.Command word term (Done parts)) = true
-tells_done (replies.Command word term (Failed e)) = false
-tells_done (replies.Triple a b association) = false
-tells_done (replies.Fault e) = false
-tells_done (replies.Action id) = false
+tells_done _ = false
 
 -- an action asks for no topology, or has a command that isn't optional, without which its topology
 -- isn't tried

@@ -18,5 +18,5 @@ tells_edit (Command word term (Done parts)) = is_edit word
 tells_edit item = false
 
 -- how many items do
-abbrev pub edits_in : List Item → ℕ
-edits_in items = count_by tells_edit items
+abbrev pub edits_told : List Item → ℕ
+edits_told items = count_by tells_edit items

@@ -1,14 +1,14 @@
 //! Why an action is refused as a whole, before its commands.
 
-ghost use Rattle.std.specs.Prelude.{◌≡◌, ◌≤◌, [], None, not, length};
+ghost use Rattle.std.specs.Prelude.{◌≡◌, ◌≤◌, [], None, not, length, unwrap_or};
 ghost use Rattle.std.specs.List.{list_any};
 ghost use Rattle.mg_engine.specs.Triples.{triple_limit};
-ghost use Rattle.mg_commands.specs.ContextProperties.{is_topology, is_context_audit, is_topology_word, refused_if, context_property_fault, is_all, action_fault, triples_in, triples_or_none};
+ghost use Rattle.mg_commands.specs.ContextProperties.{is_topology, is_context_audit, is_topology_word, context_property_fault, is_all, action_fault, triples_in};
 ghost use Rattle.mg_commands.specs.Search.{first_of, first_after};
 ghost use Rattle.mg_commands.specs.aids.Properties.{topology_fault, audit_fault};
 
 use mg_engine::TRIPLES;
-use mg_text::{Action, ContextId, ContextProperty, ContextWord, ErrorNumber, Triple};
+use mg_text::{Action, ContextId, ContextProperty, ContextWord, ErrorNumber, NamedTriple};
 
 /// Whether a Topology stands among properties.
 fn has_topology(properties: &[ContextProperty]) -> bool
@@ -24,20 +24,14 @@ pub fn has_context_audit(properties: &[ContextProperty]) -> bool
     properties.iter().any(|property| matches!(property, ContextProperty::ContextAudit(_)))
 }
 
-fn refused_if(is_refused: bool, number: ErrorNumber) -> Option<ErrorNumber>
-    ensures value { result ≡ refused_if is_refused number }
-{
-    is_refused.then_some(number)
-}
-
 /// The fault of a Topology after other properties.
-fn topology_fault(before: &[ContextProperty], triples: &[Triple]) -> Option<ErrorNumber>
+fn topology_fault(before: &[ContextProperty], triples: &[NamedTriple]) -> Option<ErrorNumber>
     ensures value { result ≡ topology_fault before.now triples.now }
 {
     if has_topology(before) {
         return Some(ErrorNumber::DescriptorTwice);
     }
-    refused_if(triples.len() > TRIPLES, ErrorNumber::NotServed)
+    (triples.len() > TRIPLES).then_some(ErrorNumber::NotServed)
 }
 
 /// Whether an audit asks for more than the topology.
@@ -56,7 +50,7 @@ fn audit_fault(before: &[ContextProperty], words: &[ContextWord]) -> Option<Erro
     if has_context_audit(before) {
         return Some(ErrorNumber::DescriptorTwice);
     }
-    refused_if(asks_for_more(words), ErrorNumber::DescriptorNotServed)
+    asks_for_more(words).then_some(ErrorNumber::DescriptorNotServed)
 }
 
 /// The fault of a property after those before it: a second of its word, or what isn't served.
@@ -94,7 +88,7 @@ fn context_properties_fault(properties: &[ContextProperty]) -> Option<ErrorNumbe
 #[tactic(auto, using(crate::proofs::PropertySteps::few_triples))]
 pub fn action_fault(action: &Action) -> Option<ErrorNumber>
     ensures value { result ≡ action_fault action.now }
-    ensures few { result ≡ None → length (triples_or_none (first_of triples_in action.now.properties)) ≤ triple_limit }
+    ensures few { result ≡ None → length (unwrap_or (first_of triples_in action.now.properties) []) ≤ triple_limit }
 {
     if matches!(action.context, ContextId::All) {
         return Some(ErrorNumber::NotServed);

@@ -1,9 +1,11 @@
 //! What is looked at before a command is done. Nothing is changed here.
 
 ghost use Rattle.std.specs.Prelude.{◌≡◌};
+ghost use Rattle.mg_words.specs.declared.error_number.ErrorNumber.TheVariants.{NotServed};
+ghost use Rattle.mg_rooms.specs.Results.{passes};
 ghost use Rattle.mg_engine.specs.Gateway.{Gateway};
 ghost use Rattle.mg_engine.specs.Stands.{StandsFor};
-ghost use Rattle.mg_commands.specs.Outcome.{is_served_word, is_served, if_served, unless, check_descriptors, check_command, check_new_name, number_in};
+ghost use Rattle.mg_commands.specs.Outcome.{is_served_word, is_served, unless, check_descriptors, check_command, check_new_name, number_in};
 
 use crate::command_parameters::{CommandParameters, parameters_of};
 use crate::descriptor_fault::descriptors_fault;
@@ -33,7 +35,7 @@ fn is_served(command: &Command) -> bool
 }
 
 fn if_served(is_served: bool) -> Result<(), ErrorNumber>
-    ensures value { result ≡ if_served is_served }
+    ensures value { result ≡ passes is_served NotServed }
 {
     if is_served {
         Ok(())

@@ -1,14 +1,14 @@
 //! What comes of the properties of an action, after its commands.
 
-ghost use Rattle.std.specs.Prelude.{◌≡◌, ◌≤◌, OnErr, length, map};
+ghost use Rattle.std.specs.Prelude.{◌≡◌, ◌≤◌, [], OnErr, length, map, unwrap_or};
 ghost use Rattle.mg_reply.specs.Reply.{after_all};
 ghost use Rattle.mg_engine.specs.Gateway.{Gateway};
 ghost use Rattle.mg_engine.specs.Outcome.{apply_triples};
 ghost use Rattle.mg_engine.specs.Stands.{StandsFor, IsOutcome};
 ghost use Rattle.mg_engine.specs.Triples.{triple_limit};
-ghost use Rattle.mg_commands.specs.ContextProperties.{term_of, triple_of, triples_in, triples_or_none, triples_of, audit_items, context_outcome};
+ghost use Rattle.mg_commands.specs.ContextProperties.{term_of, topology_triple_of, triples_in, triples_of, audit_items, context_outcome};
 ghost use Rattle.mg_commands.specs.Search.{first_of};
-ghost use Rattle.mg_commands.specs.aids.Runs.{Tells};
+ghost use Rattle.mg_commands.specs.aids.Runs.{TellsProperties};
 
 use crate::action_fault::has_context_audit;
 use crate::context_audit::put_pairs;
@@ -16,7 +16,7 @@ use crate::name::{Name, name_of};
 use crate::named_member::named_members;
 use crate::progress::Progress;
 use mg_engine::{Engine, TopologyTriple, TopologyTriples, TripleTerm};
-use mg_text::{ContextProperty, ErrorNumber, Item, Reply, Triple};
+use mg_text::{ContextProperty, ErrorNumber, Item, NamedTriple, Reply};
 
 /// What a name in a triple stands for.
 fn term_of(made: Option<u32>, name: Name) -> TripleTerm
@@ -30,8 +30,8 @@ fn term_of(made: Option<u32>, name: Name) -> TripleTerm
     }
 }
 
-fn triple_of(source: &[u8], made: Option<u32>, triple: &Triple) -> TopologyTriple
-    ensures value { result ≡ triple_of source.now made triple.now }
+fn triple_of(source: &[u8], made: Option<u32>, triple: &NamedTriple) -> TopologyTriple
+    ensures value { result ≡ topology_triple_of source.now made triple.now }
 {
     TopologyTriple {
         first: term_of(made, name_of(triple.first.text(source))),
@@ -40,9 +40,9 @@ fn triple_of(source: &[u8], made: Option<u32>, triple: &Triple) -> TopologyTripl
     }
 }
 
-fn triples_of(source: &[u8], made: Option<u32>, triples: &[Triple]) -> TopologyTriples
+fn triples_of(source: &[u8], made: Option<u32>, triples: &[NamedTriple]) -> TopologyTriples
     requires few { length triples.now ≤ triple_limit }
-    ensures value { result.items ≡ map (triple_of source.now made) triples.now }
+    ensures value { result.items ≡ map (topology_triple_of source.now made) triples.now }
 {
     let mut topology = TopologyTriples::new();
     for triple in triples {
@@ -52,8 +52,8 @@ fn triples_of(source: &[u8], made: Option<u32>, triples: &[Triple]) -> TopologyT
 }
 
 /// The triples of the first Topology among properties, if there is one.
-fn topology_in(properties: &[ContextProperty]) -> &[Triple]
-    ensures value { result.now ≡ triples_or_none (first_of triples_in properties.now) }
+fn topology_in(properties: &[ContextProperty]) -> &[NamedTriple]
+    ensures value { result.now ≡ unwrap_or (first_of triples_in properties.now) [] }
 {
     for property in properties {
         if let ContextProperty::Topology(triples) = property {
@@ -70,7 +70,7 @@ fn apply_topology(
     properties: &[ContextProperty],
     progress: Progress,
 ) -> Result<u32, ErrorNumber>
-    requires few { length (triples_or_none (first_of triples_in properties.now)) ≤ triple_limit }
+    requires few { length (unwrap_or (first_of triples_in properties.now) []) ≤ triple_limit }
     ensures came { (w : Gateway) → StandsFor engine.old w →
         IsOutcome engine.new result (apply_triples w progress.target
         (triples_of source.now progress.made properties.now)) }
@@ -104,8 +104,8 @@ pub fn try_properties(
     progress: Progress,
     reply: &mut Reply,
 ) -> bool
-    requires few { length (triples_or_none (first_of triples_in properties.now)) ≤ triple_limit }
-    ensures came { (w : Gateway) → StandsFor engine.old w → Tells engine.new reply.old reply.new result w
+    requires few { length (unwrap_or (first_of triples_in properties.now) []) ≤ triple_limit }
+    ensures came { (w : Gateway) → StandsFor engine.old w → TellsProperties engine.new reply.old reply.new result w
         (context_outcome source.now progress.made properties.now w progress.target) }
     ensures work { engine.new.sums.work ≡ engine.old.sums.work }
 {

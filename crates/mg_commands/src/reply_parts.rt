@@ -1,7 +1,7 @@
-ghost use Rattle.std.specs.Prelude.{◌≡◌};
+ghost use Rattle.std.specs.Prelude.{◌≡◌, None, if◌then◌else◌};
 ghost use Rattle.mg_engine.specs.Gateway.{Gateway, stats_of};
 ghost use Rattle.mg_engine.specs.Stands.{StandsFor};
-ghost use Rattle.mg_commands.specs.Outcome.{media_of_record, whole_media, as_local_media, local_media, when, reply_media, reply_parts};
+ghost use Rattle.mg_commands.specs.Outcome.{media_of_record, whole_media, local_media, reply_media, reply_parts};
 
 use crate::reply_descriptors::ReplyDescriptors;
 use mg_engine::{Engine, Record, Stats};
@@ -57,7 +57,7 @@ fn reply_media(engine: &Engine, number: u32, descriptors: ReplyDescriptors) -> O
 
 /// The counters, if they are wanted.
 fn reply_statistics(engine: &Engine, number: u32, is_wanted: bool) -> Option<Stats>
-    ensures value { (w : Gateway) → StandsFor engine.now w → result ≡ when is_wanted (stats_of w number) }
+    ensures value { (w : Gateway) → StandsFor engine.now w → result ≡ (if is_wanted then stats_of w number else None) }
 {
     if is_wanted {
         engine.stats(number)

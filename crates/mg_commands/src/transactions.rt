@@ -10,8 +10,8 @@ ghost use Rattle.mg_scan.specs.Span.{text_of};
 ghost use Rattle.mg_text.specs.Proper.{command_is_proper, action_is_proper, request_is_proper};
 ghost use Rattle.mg_commands.specs.Name.{written_name};
 ghost use Rattle.mg_commands.specs.Transaction.{target_of, id_of, with_name, with_names, with_command, with_commands, with_action, with_actions, replied};
-ghost use Rattle.mg_commands.specs.Work.{edits_in};
-ghost use Rattle.mg_commands.specs.aids.Runs.{Base, IsAction, action_kept, with_all, IsTransaction, transaction_kept};
+ghost use Rattle.mg_commands.specs.Work.{edits_told};
+ghost use Rattle.mg_commands.specs.aids.Runs.{Base, IsActionRun, action_kept, with_all, IsTransaction, transaction_kept};
 
 use crate::action_fault::action_fault;
 use crate::checks::check_command;
@@ -36,7 +36,7 @@ fn try_name(
     reply: &mut Reply,
 ) -> (Progress, bool)
     requires proper { command_is_proper source.now command.now ≡ true }
-    ensures ran { (base : Base) → Leads (IsAction base) (action_kept engine.old progress reply.old)
+    ensures ran { (base : Base) → Leads (IsActionRun base) (action_kept engine.old progress reply.old)
         (action_kept engine.new result.0 reply.new)
         (λ run next. with_name source.now command.now parameters.now name run ≡ (next, result.1)) }
 {
@@ -70,7 +70,7 @@ fn try_members(
     reply: &mut Reply,
 ) -> (Progress, bool)
     requires proper { command_is_proper source.now command.now ≡ true }
-    ensures ran { (base : Base) → Leads (IsAction base) (action_kept engine.old progress reply.old)
+    ensures ran { (base : Base) → Leads (IsActionRun base) (action_kept engine.old progress reply.old)
         (action_kept engine.new result.0 reply.new)
         (λ run next. with_names source.now command.now parameters.now (map Name.Number members.now) run ≡
         (next, result.1)) }
@@ -106,7 +106,7 @@ fn try_all(
     reply: &mut Reply,
 ) -> (Progress, bool)
     requires proper { command_is_proper source.now command.now ≡ true }
-    ensures ran { (base : Base) → Leads (IsAction base) (action_kept engine.old progress reply.old)
+    ensures ran { (base : Base) → Leads (IsActionRun base) (action_kept engine.old progress reply.old)
         (action_kept engine.new result.0 reply.new)
         (λ run next. with_all source.now command.now parameters.now run ≡ (next, result.1)) }
 {
@@ -135,7 +135,7 @@ fn try_command(
     reply: &mut Reply,
 ) -> (Progress, bool)
     requires proper { command_is_proper source.now command.now ≡ true }
-    ensures ran { (base : Base) → Leads (IsAction base) (action_kept engine.old progress reply.old)
+    ensures ran { (base : Base) → Leads (IsActionRun base) (action_kept engine.old progress reply.old)
         (action_kept engine.new result.0 reply.new)
         (λ run next. with_command source.now command.now run ≡ (next, result.1)) }
 {
@@ -162,7 +162,7 @@ fn try_commands(
     reply: &mut Reply,
 ) -> (Progress, bool)
     requires proper { list_all (command_is_proper source.now) commands.now ≡ true }
-    ensures ran { (base : Base) → Leads (IsAction base) (action_kept engine.old progress reply.old)
+    ensures ran { (base : Base) → Leads (IsActionRun base) (action_kept engine.old progress reply.old)
         (action_kept engine.new result.0 reply.new)
         (λ run next. with_commands source.now commands.now run ≡ (next, result.1)) }
 {
@@ -261,7 +261,8 @@ pub fn transaction(engine: &mut Engine, source: &[u8], request: &Request, reply:
     // At most four rows for each edit that was done: none for a command that is refused or that audits, and none for
     // triples.
     ensures work { (w : Gateway) → StandsFor engine.old w →
-        RisesAtMost (4 * edits_in (replied source.now request.now w).items) engine.old.sums.work engine.new.sums.work }
+        RisesAtMost (4 * edits_told (replied source.now request.now w).items) engine.old.sums.work
+        engine.new.sums.work }
 {
     reply.start(request.number);
     try_actions(engine, source, request.actions.as_slice(), reply);

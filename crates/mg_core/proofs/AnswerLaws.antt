@@ -5,7 +5,7 @@ use Rattle.mg_text.specs.declared.message.Message.{Message}
 use Rattle.mg_text.specs.declared.fault.ReadFault.{ReadFault}
 use Rattle.mg_text.specs.declared.fault.ReadFault.TheVariants.{NoMemory, Syntax, Version, TooMany}
 use Rattle.mg_text.specs.Message.{IsTree, IsTooMany, HasOtherVersion}
-use Rattle.mg_text.specs.MessageReading.{MessageReading, IsReading, NoMessage}
+use Rattle.mg_text.specs.MessageReading.{MessageReading, IsMessageReading, NoMessage}
 use Rattle.mg_text.specs.MessageReading as readings
 use Rattle.mg_words.specs.declared.error_number.ErrorNumber.{ErrorNumber}
 use Rattle.mg_reply.specs.Bytes.{Written, appended}
@@ -45,7 +45,7 @@ neither place want apart (inr h) = apart (sym h)
 
 -- a refusal with this number answers the bytes, in any world
 abbrev pub Refuses : List ℕ → ErrorNumber → Type 0
-Refuses bytes e = (w : World) → (reading : MessageReading) × IsReading bytes reading ×
+Refuses bytes e = (w : World) → (reading : MessageReading) × IsMessageReading bytes reading ×
     (answered bytes reading w ≡ refused e w)
 
 -- what a refusal says of the bytes

@@ -14,7 +14,7 @@ use Rattle.mg_rooms.specs.Limits.{slot_port}
 use Rattle.mg_rooms.specs.Registry as rooms
 use Rattle.mg_sdp.specs.declared.chosen.Chosen.{Chosen}
 use Rattle.mg_engine.specs.declared.datagram.Datagram.{Datagram}
-use Rattle.mg_engine.specs.declared.peer.Peer.{Peer}
+use Rattle.mg_words.specs.declared.peer.Peer.{Peer}
 use Rattle.mg_engine.specs.Apart as engine
 use Rattle.mg_engine.specs.Apart.{HearsNone, IsPortAmong}
 use Rattle.mg_engine.specs.Gateway.{Gateway, TerminationMedia, media_of}
@@ -26,11 +26,13 @@ use Rattle.mg_text.specs.declared.body.MessageItem.TheVariants as items
 use Rattle.mg_text.specs.declared.body.Range.{Range}
 use Rattle.mg_text.specs.declared.request.Request.{Request}
 use Rattle.mg_text.specs.Message.{items_of}
-use Rattle.mg_text.specs.MessageReading.{MessageReading, IsReading, Read, TooMany, OtherVersion, NoMessage}
+use Rattle.mg_text.specs.MessageReading.{MessageReading, IsMessageReading, Read, TooMany, OtherVersion, NoMessage}
 use Rattle.mg_core.specs.declared.event.Event.{Event}
 use Rattle.mg_core.specs.declared.event.Event.TheVariants.{Control, Media, Tick}
 use Rattle.mg_core.specs.Answer.{answer_head, answered, has_requests, if_asked, item_replied, mark_after, replied_to, run_and_kept, sent_text, unless_kept, without_ranges}
-use Rattle.mg_core.specs.Apart.{AgreeOutside, Both, FirstAlone, SecondAlone, HearsNoneAt, HearsNoneIn, OneArrivalKeepsAgreement, SameEventKeepsAgreement, SamePackets, UnheardChangesNothing, is_packet_from, key_of, packets_from}
+use Rattle.mg_core.specs.Apart.{AgreeOutside, Both, FirstAlone, SecondAlone, HearsNoneAt, HearsNoneIn}
+use Rattle.mg_core.specs.Apart.{OneArrivalKeepsAgreement, SameEventKeepsAgreement, SamePacketsFromPort}
+use Rattle.mg_core.specs.Apart.{UnheardChangesNothing, is_packet_from, key_of, packets_from}
 use Rattle.mg_core.specs.Step.{Sent, Packet, Step, answer_to}
 use Rattle.mg_core.specs.World.{World, with_control}
 
@@ -186,7 +188,7 @@ module _ (requests : RequestsKeepAgreement) (some : List ℕ) where
 -- ## Events
 
 abbrev OneReading : Type 0
-OneReading = (bytes : List ℕ) (a b : MessageReading) → IsReading bytes a → IsReading bytes b → a ≡ b
+OneReading = (bytes : List ℕ) (a b : MessageReading) → IsMessageReading bytes a → IsMessageReading bytes b → a ≡ b
 
 module _ (requests : RequestsKeepAgreement) (reads : OneReading) (media : engine.SameArrivalKeepsAgreement)
     (one_arrival : engine.OneArrivalKeepsAgreement) (turned : engine.AgreementIsMutual)
@@ -294,7 +296,7 @@ module _ (same : engine.SamePackets) (some : List ℕ) (port : ℕ) where
   event_same a b x y Tick s t h none (sent, is) (also, its) = ap (packets_from port) sent ∙
       tick_same a.gateway b.gateway h.gateway none ∙ ap (packets_from port) (sym also)
 
-pub same_packets : engine.SamePackets → SamePackets
+pub same_packets : engine.SamePackets → SamePacketsFromPort
 same_packets same some port a b x y event s t h none step too =
     event_same same some port a b x y event s t h none step too
 
@@ -313,7 +315,8 @@ among_both some a b port h (r, at, is_one) =
     (r, ap (λ (z : rooms.Registry). at_port z port) (sym h.gateway.rooms) ∙ at, is_one)
 
 module _ (event : SameEventKeepsAgreement) (one : OneArrivalKeepsAgreement)
-    (turned : (some : List ℕ) (a b : World) → AgreeOutside some a b → AgreeOutside some b a) (packets : SamePackets)
+    (turned : (some : List ℕ) (a b : World) → AgreeOutside some a b →
+    AgreeOutside some b a) (packets : SamePacketsFromPort)
   where
     pub unheard : UnheardChangesNothing
     unheard some port a b x y [] s t h none (sent, is) (also, its) = (

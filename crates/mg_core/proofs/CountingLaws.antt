@@ -17,7 +17,7 @@ use Rattle.mg_engine.specs.Tick.{concealed_in_tick}
 use Rattle.mg_core.specs.declared.event.Event.{Event}
 use Rattle.mg_core.specs.declared.event.Event.TheVariants.{Control, Media, Tick}
 use Rattle.mg_core.specs.Answer.{answer_head, answered, has_requests, if_asked, item_replied, mark_after, replied_to, unless_kept}
-use Rattle.mg_core.specs.Counting.{EventsAreCounted, RunTaking, RunsTake, is_control, is_media, is_tick, is_started, is_placed, is_pushed, is_again, is_late, is_to_nobody, is_stray, is_without_local, is_no_packet, is_of_another_type, is_of_another_length}
+use Rattle.mg_core.specs.Counting.{EventsAreCounted, RunTaking, RunsTake, is_control, is_media, is_tick, is_placed_as as way, is_dropped_for as why}
 use Rattle.mg_core.specs.World.{World, Tally, cause_of, one_more_at, placed_counter, start_of, with_control, with_taken}
 
 -- ## A control datagram changes no other count
@@ -84,67 +84,67 @@ abbrev five : ℕ → ℕ → ℕ → ℕ → ℕ → List ℕ
 five a b c d e = a ∷ b ∷ c ∷ d ∷ e ∷ []
 
 placed_numbers : (ts : List Taken) (a b c d e : ℕ) →
-    placed_after (five a b c d e) ts ≡ five (a + count_by is_started ts) (b + count_by is_placed ts)
-    (c + count_by is_pushed ts) (d + count_by is_again ts) (e + count_by is_late ts)
+    placed_after (five a b c d e) ts ≡ five (a + count_by (way 0) ts) (b + count_by (way 1) ts)
+    (c + count_by (way 2) ts) (d + count_by (way 3) ts) (e + count_by (way 4) ts)
 unfolding placed_after
 placed_numbers [] a b c d e = λ i. five (zero_more a i) (zero_more b i) (zero_more c i) (zero_more d i) (zero_more e i)
 placed_numbers (Dropped cause ∷ ts) a b c d e = placed_numbers ts a b c d e ∙
-    (λ i. five (miss is_started (Dropped cause) ts a refl i) (miss is_placed (Dropped cause) ts b refl i)
-    (miss is_pushed (Dropped cause) ts c refl i) (miss is_again (Dropped cause) ts d refl i)
-    (miss is_late (Dropped cause) ts e refl i))
+    (λ i. five (miss (way 0) (Dropped cause) ts a refl i) (miss (way 1) (Dropped cause) ts b refl i)
+    (miss (way 2) (Dropped cause) ts c refl i) (miss (way 3) (Dropped cause) ts d refl i)
+    (miss (way 4) (Dropped cause) ts e refl i))
 placed_numbers (Placed answers.Started ∷ ts) a b c d e = let t : Taken = Placed answers.Started in
-    placed_numbers ts (a + 1) b c d e ∙ (λ i. five (hit is_started t ts a refl i) (miss is_placed t ts b refl i)
-    (miss is_pushed t ts c refl i) (miss is_again t ts d refl i) (miss is_late t ts e refl i))
+    placed_numbers ts (a + 1) b c d e ∙ (λ i. five (hit (way 0) t ts a refl i) (miss (way 1) t ts b refl i)
+    (miss (way 2) t ts c refl i) (miss (way 3) t ts d refl i) (miss (way 4) t ts e refl i))
 placed_numbers (Placed answers.Placed ∷ ts) a b c d e = let t : Taken = Placed answers.Placed in
-    placed_numbers ts a (b + 1) c d e ∙ (λ i. five (miss is_started t ts a refl i) (hit is_placed t ts b refl i)
-    (miss is_pushed t ts c refl i) (miss is_again t ts d refl i) (miss is_late t ts e refl i))
+    placed_numbers ts a (b + 1) c d e ∙ (λ i. five (miss (way 0) t ts a refl i) (hit (way 1) t ts b refl i)
+    (miss (way 2) t ts c refl i) (miss (way 3) t ts d refl i) (miss (way 4) t ts e refl i))
 placed_numbers (Placed answers.Pushed ∷ ts) a b c d e = let t : Taken = Placed answers.Pushed in
-    placed_numbers ts a b (c + 1) d e ∙ (λ i. five (miss is_started t ts a refl i) (miss is_placed t ts b refl i)
-    (hit is_pushed t ts c refl i) (miss is_again t ts d refl i) (miss is_late t ts e refl i))
+    placed_numbers ts a b (c + 1) d e ∙ (λ i. five (miss (way 0) t ts a refl i) (miss (way 1) t ts b refl i)
+    (hit (way 2) t ts c refl i) (miss (way 3) t ts d refl i) (miss (way 4) t ts e refl i))
 placed_numbers (Placed answers.Again ∷ ts) a b c d e = let t : Taken = Placed answers.Again in
-    placed_numbers ts a b c (d + 1) e ∙ (λ i. five (miss is_started t ts a refl i) (miss is_placed t ts b refl i)
-    (miss is_pushed t ts c refl i) (hit is_again t ts d refl i) (miss is_late t ts e refl i))
+    placed_numbers ts a b c (d + 1) e ∙ (λ i. five (miss (way 0) t ts a refl i) (miss (way 1) t ts b refl i)
+    (miss (way 2) t ts c refl i) (hit (way 3) t ts d refl i) (miss (way 4) t ts e refl i))
 placed_numbers (Placed answers.Late ∷ ts) a b c d e = let t : Taken = Placed answers.Late in
-    placed_numbers ts a b c d (e + 1) ∙ (λ i. five (miss is_started t ts a refl i) (miss is_placed t ts b refl i)
-    (miss is_pushed t ts c refl i) (miss is_again t ts d refl i) (hit is_late t ts e refl i))
+    placed_numbers ts a b c d (e + 1) ∙ (λ i. five (miss (way 0) t ts a refl i) (miss (way 1) t ts b refl i)
+    (miss (way 2) t ts c refl i) (miss (way 3) t ts d refl i) (hit (way 4) t ts e refl i))
 
 abbrev six : ℕ → ℕ → ℕ → ℕ → ℕ → ℕ → List ℕ
 six a b c d e f = a ∷ b ∷ c ∷ d ∷ e ∷ f ∷ []
 
 dropped_numbers : (ts : List Taken) (a b c d e f : ℕ) →
-    dropped_after (six a b c d e f) ts ≡ six (a + count_by is_to_nobody ts) (b + count_by is_stray ts)
-    (c + count_by is_without_local ts) (d + count_by is_no_packet ts) (e + count_by is_of_another_type ts)
-    (f + count_by is_of_another_length ts)
+    dropped_after (six a b c d e f) ts ≡ six (a + count_by (why 0) ts) (b + count_by (why 1) ts)
+    (c + count_by (why 2) ts) (d + count_by (why 3) ts) (e + count_by (why 4) ts)
+    (f + count_by (why 5) ts)
 unfolding dropped_after
 dropped_numbers [] a b c d e f = λ i. six (zero_more a i) (zero_more b i) (zero_more c i) (zero_more d i)
     (zero_more e i) (zero_more f i)
 dropped_numbers (Placed p ∷ ts) a b c d e f = let t : Taken = Placed p in dropped_numbers ts a b c d e f ∙
-    (λ i. six (miss is_to_nobody t ts a refl i) (miss is_stray t ts b refl i) (miss is_without_local t ts c refl i)
-    (miss is_no_packet t ts d refl i) (miss is_of_another_type t ts e refl i) (miss is_of_another_length t ts f refl i))
+    (λ i. six (miss (why 0) t ts a refl i) (miss (why 1) t ts b refl i) (miss (why 2) t ts c refl i)
+    (miss (why 3) t ts d refl i) (miss (why 4) t ts e refl i) (miss (why 5) t ts f refl i))
 dropped_numbers (Dropped causes.NoTermination ∷ ts) a b c d e f = let t : Taken = Dropped causes.NoTermination in
-    dropped_numbers ts (a + 1) b c d e f ∙ (λ i. six (hit is_to_nobody t ts a refl i) (miss is_stray t ts b refl i)
-    (miss is_without_local t ts c refl i) (miss is_no_packet t ts d refl i) (miss is_of_another_type t ts e refl i)
-    (miss is_of_another_length t ts f refl i))
+    dropped_numbers ts (a + 1) b c d e f ∙ (λ i. six (hit (why 0) t ts a refl i) (miss (why 1) t ts b refl i)
+    (miss (why 2) t ts c refl i) (miss (why 3) t ts d refl i) (miss (why 4) t ts e refl i)
+    (miss (why 5) t ts f refl i))
 dropped_numbers (Dropped causes.Stray ∷ ts) a b c d e f = let t : Taken = Dropped causes.Stray in
-    dropped_numbers ts a (b + 1) c d e f ∙ (λ i. six (miss is_to_nobody t ts a refl i) (hit is_stray t ts b refl i)
-    (miss is_without_local t ts c refl i) (miss is_no_packet t ts d refl i) (miss is_of_another_type t ts e refl i)
-    (miss is_of_another_length t ts f refl i))
+    dropped_numbers ts a (b + 1) c d e f ∙ (λ i. six (miss (why 0) t ts a refl i) (hit (why 1) t ts b refl i)
+    (miss (why 2) t ts c refl i) (miss (why 3) t ts d refl i) (miss (why 4) t ts e refl i)
+    (miss (why 5) t ts f refl i))
 dropped_numbers (Dropped causes.NoLocal ∷ ts) a b c d e f = let t : Taken = Dropped causes.NoLocal in
-    dropped_numbers ts a b (c + 1) d e f ∙ (λ i. six (miss is_to_nobody t ts a refl i) (miss is_stray t ts b refl i)
-    (hit is_without_local t ts c refl i) (miss is_no_packet t ts d refl i) (miss is_of_another_type t ts e refl i)
-    (miss is_of_another_length t ts f refl i))
+    dropped_numbers ts a b (c + 1) d e f ∙ (λ i. six (miss (why 0) t ts a refl i) (miss (why 1) t ts b refl i)
+    (hit (why 2) t ts c refl i) (miss (why 3) t ts d refl i) (miss (why 4) t ts e refl i)
+    (miss (why 5) t ts f refl i))
 dropped_numbers (Dropped (causes.Rtp fault) ∷ ts) a b c d e f = let t : Taken = Dropped (causes.Rtp fault) in
-    dropped_numbers ts a b c (d + 1) e f ∙ (λ i. six (miss is_to_nobody t ts a refl i) (miss is_stray t ts b refl i)
-    (miss is_without_local t ts c refl i) (hit is_no_packet t ts d refl i) (miss is_of_another_type t ts e refl i)
-    (miss is_of_another_length t ts f refl i))
+    dropped_numbers ts a b c (d + 1) e f ∙ (λ i. six (miss (why 0) t ts a refl i) (miss (why 1) t ts b refl i)
+    (miss (why 2) t ts c refl i) (hit (why 3) t ts d refl i) (miss (why 4) t ts e refl i)
+    (miss (why 5) t ts f refl i))
 dropped_numbers (Dropped causes.PayloadType ∷ ts) a b c d e f = let t : Taken = Dropped causes.PayloadType in
-    dropped_numbers ts a b c d (e + 1) f ∙ (λ i. six (miss is_to_nobody t ts a refl i) (miss is_stray t ts b refl i)
-    (miss is_without_local t ts c refl i) (miss is_no_packet t ts d refl i) (hit is_of_another_type t ts e refl i)
-    (miss is_of_another_length t ts f refl i))
+    dropped_numbers ts a b c d (e + 1) f ∙ (λ i. six (miss (why 0) t ts a refl i) (miss (why 1) t ts b refl i)
+    (miss (why 2) t ts c refl i) (miss (why 3) t ts d refl i) (hit (why 4) t ts e refl i)
+    (miss (why 5) t ts f refl i))
 dropped_numbers (Dropped causes.Length ∷ ts) a b c d e f = let t : Taken = Dropped causes.Length in
-    dropped_numbers ts a b c d e (f + 1) ∙ (λ i. six (miss is_to_nobody t ts a refl i) (miss is_stray t ts b refl i)
-    (miss is_without_local t ts c refl i) (miss is_no_packet t ts d refl i) (miss is_of_another_type t ts e refl i)
-    (hit is_of_another_length t ts f refl i))
+    dropped_numbers ts a b c d e (f + 1) ∙ (λ i. six (miss (why 0) t ts a refl i) (miss (why 1) t ts b refl i)
+    (miss (why 2) t ts c refl i) (miss (why 3) t ts d refl i) (miss (why 4) t ts e refl i)
+    (hit (why 5) t ts f refl i))
 
 -- ## Events
 
@@ -240,20 +240,20 @@ events_are_counted config events taken concealed last run =
     plus_none n = omega arith
 
     all_placed : placed_after (five 0 0 0 0 0) taken ≡
-        five (count_by is_started taken) (count_by is_placed taken) (count_by is_pushed taken)
-        (count_by is_again taken) (count_by is_late taken)
+        five (count_by (way 0) taken) (count_by (way 1) taken) (count_by (way 2) taken)
+        (count_by (way 3) taken) (count_by (way 4) taken)
     all_placed = placed_numbers taken 0 0 0 0 0 ∙
-        (λ i. five (plus_none (count_by is_started taken) i) (plus_none (count_by is_placed taken) i)
-        (plus_none (count_by is_pushed taken) i) (plus_none (count_by is_again taken) i)
-        (plus_none (count_by is_late taken) i))
+        (λ i. five (plus_none (count_by (way 0) taken) i) (plus_none (count_by (way 1) taken) i)
+        (plus_none (count_by (way 2) taken) i) (plus_none (count_by (way 3) taken) i)
+        (plus_none (count_by (way 4) taken) i))
 
     all_dropped : dropped_after (six 0 0 0 0 0 0) taken ≡
-        six (count_by is_to_nobody taken) (count_by is_stray taken) (count_by is_without_local taken)
-        (count_by is_no_packet taken) (count_by is_of_another_type taken) (count_by is_of_another_length taken)
+        six (count_by (why 0) taken) (count_by (why 1) taken) (count_by (why 2) taken)
+        (count_by (why 3) taken) (count_by (why 4) taken) (count_by (why 5) taken)
     all_dropped = dropped_numbers taken 0 0 0 0 0 0
-        ∙ (λ i. six (plus_none (count_by is_to_nobody taken) i) (plus_none (count_by is_stray taken) i)
-        (plus_none (count_by is_without_local taken) i) (plus_none (count_by is_no_packet taken) i)
-        (plus_none (count_by is_of_another_type taken) i) (plus_none (count_by is_of_another_length taken) i))
+        ∙ (λ i. six (plus_none (count_by (why 0) taken) i) (plus_none (count_by (why 1) taken) i)
+        (plus_none (count_by (why 2) taken) i) (plus_none (count_by (why 3) taken) i)
+        (plus_none (count_by (why 4) taken) i) (plus_none (count_by (why 5) taken) i))
 
 pub runs_take : RunsTake
 runs_take w last [] sent (none, is) = ([], 0, (refl, refl, is))

@@ -4,7 +4,7 @@ use Rattle.std.specs.List.{list_all}
 use Rattle.std.proofs.lemmas.Bool.{eqb-true, eq-eqb}
 use Rattle.std.proofs.lemmas.List.Elements.{filter-append}
 use Rattle.mg_commands.specs.Theorems.{RequestsAreConsistent}
-use Rattle.mg_engine.specs.declared.peer.Peer.{Peer}
+use Rattle.mg_words.specs.declared.peer.Peer.{Peer}
 use Rattle.mg_engine.specs.declared.taken.Taken.{Taken}
 use Rattle.mg_engine.specs.declared.taken.Taken.TheVariants.{Placed, Dropped}
 use Rattle.mg_engine.specs.Arrival.{Takes}

@@ -4,7 +4,7 @@ use Rattle.std.proofs.lemmas.List.{append-nil}
 use Rattle.std.specs.Prelude.{OnOk}
 use Rattle.std.specs.Io.KnownBytes.{Appends}
 use Rattle.mg_engine.specs.declared.datagram.Datagram.{Datagram}
-use Rattle.mg_engine.specs.declared.peer.Peer.{Peer}
+use Rattle.mg_words.specs.declared.peer.Peer.{Peer}
 use Rattle.mg_words.specs.Leads.{Leads}
 use Rattle.mg_core.specs.declared.event.Event.{Event}
 use Rattle.mg_core.specs.declared.event.Event.TheVariants.{Control, Tick}
@@ -16,15 +16,16 @@ use Rattle.mg_core.specs.declared.shown.Shown.{Shown}
 use Rattle.mg_core.specs.declared.shown.Shown.TheVariants as shows
 use Rattle.mg_core.specs.declared.state.CoreState.{CoreState}
 use Rattle.mg_core.specs.Flows.{Listener, changes_by, listeners_of}
-use Rattle.mg_core.specs.Run.{IsText, answer_line, lines_for}
+use Rattle.mg_core.specs.Run.{IsShownText, answer_line, lines_for}
 use Rattle.mg_core.specs.Script.{event_of, events_of, then_all}
 use Rattle.mg_core.specs.Step.{Sent, Reply, Packet, Step, answer_to}
 use Rattle.mg_lines.specs.Streams.{Writes, WritesFront}
-use Rattle.mg_core.specs.aids.Steps.{AreKept, ChangesWritten, EventRan, Follows, LeadsOn, LineRan, after_sent, event_text, line_fault_of}
+use Rattle.mg_core.specs.aids.Steps.{AreKeptListeners, ChangesWritten, EventRan, Follows, LeadsOn, LineRan, after_sent}
+use Rattle.mg_core.specs.aids.Steps.{event_text, line_fault_of}
 use Rattle.mg_rooms.specs.Sound.{IsSound}
 use Rattle.mg_core.proofs.QuietLaws.{KeepsQuiet}
 use Rattle.mg_lines.proofs.WriterLaws.{appends_then, appends_keeps}
-use Rattle.mg_core.specs.World.{World, StandsFor, capped, packets_of, ticked}
+use Rattle.mg_core.specs.World.{World, StandsFor, capped, packets_of, world_after_tick}
 
 pub same_appends : (a : Option (List ℕ)) → Appends a a []
 same_appends None = tt
@@ -92,12 +93,12 @@ answer_steps source bytes text line old new n m a b r h is put more w stands =
 -- a tick
 pub tick_steps : (old new : CoreState) (outbox : List Datagram) (text : List ℕ) (n m : ℕ) (a b : Option (List ℕ))
     (r : Result (Unit {0}) WriteFailed) → ((w : World) → StandsFor old w → outbox ≡ packets_of w) →
-    ((w : World) → StandsFor old w → StandsFor new (ticked w)) → text ≡ lines_for (map Packet outbox) →
+    ((w : World) → StandsFor old w → StandsFor new (world_after_tick w)) → text ≡ lines_for (map Packet outbox) →
     Writes text a b r → OnOk r (m ≡ after_sent n (map Packet outbox)) →
     Leads StandsFor old new (λ w next. EventRan shows.Sent Tick w next n m a b (event_result r))
 tick_steps old new outbox text n m a b r sent after is put more w stands = (
-  ticked w,
-  written_ran Tick (map Packet outbox) text w (ticked w) n m a b r
+  world_after_tick w,
+  written_ran Tick (map Packet outbox) text w (world_after_tick w) n m a b r
       (ap (map Packet) (sent w stands), refl) is put more,
   after w stands,
 )
@@ -129,7 +130,8 @@ quiet_ran shown event w next n m a b (Err events.Write) quiet sound h = record {
 quiet_ran shown event w next n m a b (Err events.NoMemory) quiet sound h = h
 
 still_kept : (shown : Shown) (kept : Option (List Listener)) (w next : World) →
-    listeners_of next.gateway ≡ listeners_of w.gateway → AreKept shown kept w → AreKept shown kept next
+    listeners_of next.gateway ≡ listeners_of w.gateway → AreKeptListeners shown kept w →
+    AreKeptListeners shown kept next
 still_kept shows.Sent kept w next same h = h
 still_kept shows.SentAndFlows kept w next same h =
     h ∙ ap (λ (xs : List Listener). some_of xs) (sym same)
@@ -139,7 +141,7 @@ still_kept shows.SentAndFlows kept w next same h =
 
 quiet_after : (shown : Shown) (event : Event) (new : CoreState) (kept : Option (List Listener)) (w next : World)
     (n m : ℕ) (a b : Option (List ℕ)) (r : Result (Unit {0}) EventFault) → KeepsQuiet event → IsSound w.gateway.rooms →
-    EventRan shows.Sent event w next n m a b r → AreKept shown kept w → StandsFor new next →
+    EventRan shows.Sent event w next n m a b r → AreKeptListeners shown kept w → StandsFor new next →
     OnOk r (Follows shown new kept next)
 quiet_after shown event new kept w next n m a b (Ok done) quiet sound h same stands = record {
   stands = stands;
@@ -157,7 +159,7 @@ quiet_steps event old new kept after n m a b r quiet sound same h shown w f =
       next,
       quiet_ran shown event w next n m a b r quiet here ran,
       quiet_after shown event new after w next n m a b r quiet here ran
-          (subst (λ (o : Option (List Listener)). AreKept shown o w) (sym same) f.same) stands,
+          (subst (λ (o : Option (List Listener)). AreKeptListeners shown o w) (sym same) f.same) stands,
     )
 
 -- an event for which not even the lines of its datagrams were written, or for which there was no memory
@@ -207,7 +209,7 @@ changed_ran shows.SentAndFlows event w next n m a b l (Err events.Write) h put =
 changed_ran shows.SentAndFlows event w next n m a b l (Err events.NoMemory) h put = absurd put
 
 follows_after : (shown : Shown) (new : CoreState) (kept : Option (List Listener)) (next : World)
-    (r : Result (Unit {0}) EventFault) → StandsFor new next → AreKept shown kept next →
+    (r : Result (Unit {0}) EventFault) → StandsFor new next → AreKeptListeners shown kept next →
     OnOk r (Follows shown new kept next)
 follows_after shown new kept next (Ok done) stands same = record { stands = stands; same = same }
 follows_after shown new kept next (Err e) stands same = tt
@@ -216,12 +218,13 @@ follows_after shown new kept next (Err e) stands same = tt
 pub changed_steps : (event : Event) (old mid new : CoreState) (kept before after : Option (List Listener))
     (n k m : ℕ) (a b l : Option (List ℕ)) (r : Result (Unit {0}) EventFault) → before ≡ kept → new ≡ mid → m ≡ k →
     Leads StandsFor old mid (λ w next. EventRan shows.Sent event w next n k a b (Ok tt)) →
-    ((shown : Shown) (w next : World) → AreKept shown before w → StandsFor mid next →
-    ChangesWritten shown w next b l r × AreKept shown after next) → (shown : Shown) →
+    ((shown : Shown) (w next : World) → AreKeptListeners shown before w → StandsFor mid next →
+    ChangesWritten shown w next b l r × AreKeptListeners shown after next) → (shown : Shown) →
     LeadsOn (Follows shown old kept) (Follows shown new after) r (λ w next. EventRan shown event w next n m a l r)
 changed_steps event old mid new kept before after n k m a b l r was is counts h put shown w f =
     let (next, ran, stands) = h w f.stands in
-    let told = put shown w next (subst (λ (o : Option (List Listener)). AreKept shown o w) (sym was) f.same) stands in (
+    let told = put shown w next (subst (λ (o : Option (List Listener)). AreKeptListeners shown o w) (sym was) f.same)
+    stands in (
       next,
       subst (λ (j : ℕ). EventRan shown event w next n j a l r) (sym counts)
           (changed_ran shown event w next n k a b l r ran told.0),
@@ -240,7 +243,7 @@ cut_steps event old new kept after n m a b e h shown w f =
 
 -- the text of one event
 one_text : (shown : Shown) (event : Event) (w next : World) (sent : List Sent) → Step w event sent next →
-    IsText shown w (event ∷ []) sent (event_text shown w sent next) next
+    IsShownText shown w (event ∷ []) sent (event_text shown w sent next) next
 one_text shows.Sent event w next sent step = refl
 one_text shows.SentAndFlows event w next sent step = (
   sent,
@@ -251,7 +254,7 @@ one_text shows.SentAndFlows event w next sent step = (
   ap (λ (l : List ℕ). lines_for sent ++ l) (sym (append-nil (changes_by w next))),
 )
 
-pub no_text : (shown : Shown) (w : World) → IsText shown w [] [] [] w
+pub no_text : (shown : Shown) (w : World) → IsShownText shown w [] [] [] w
 no_text shows.Sent w = refl
 no_text shows.SentAndFlows w = (refl, refl)
 

@@ -6,6 +6,7 @@ use Rattle.std.proofs.lemmas.List.Sums.{sum_by-cons}
 use Rattle.std.proofs.lemmas.List.Elements.{filter-append}
 use Rattle.std.specs.Prelude.{OnOk, OnErr, slice_set}
 use Rattle.std.specs.List.{filter, count_by}
+use Rattle.mg_words.specs.Limits.{member_limit}
 use Rattle.mg_rooms.specs.declared.context.Context.{Context}
 use Rattle.mg_rooms.specs.declared.record.Record.{Record}
 use Rattle.mg_rooms.specs.Registry.{record_at, context_at, members_of}
@@ -40,12 +41,13 @@ few_among p q (r ∷ rs) h = rw (sum_by-cons (λ (x : Record). cond (q x) 1 0) r
     (All-head (λ x. p x.number ≡ true → q x ≡ true) r rs h)
     (few_among p q rs (All-tail (λ x. p x.number ≡ true → q x ≡ true) r rs h)))
 
-members_few : (o : Option Context) → ((x : Context) → o ≡ Some x → length x.members ≤ 64) → length (members_of o) ≤ 64
+members_few : (o : Option Context) → ((x : Context) → o ≡ Some x → length x.members ≤ member_limit) →
+    length (members_of o) ≤ member_limit
 members_few None f = omega arith
 members_few (Some x) f = f x refl
 
 pub talkers_few : (w : Gateway) (listener : ℕ) → IsSound w.rooms →
-    length (filter (λ n. flow w n listener) (numbers_of w)) ≤ 64
+    length (filter (λ n. flow w n listener) (numbers_of w)) ≤ member_limit
 talkers_few w listener sound =
     let c = context_of w listener in
     omega (
@@ -93,19 +95,19 @@ not_taken p rs i r ns lt is away h =
 -- its speech goes to the listener, so there is a place for it
 pub is_taken : {E : Type 0} (p : ℕ → Bool) (rs : List Record) (i : ℕ) (r : Record) (ns new : List ℕ)
     (pushed : Result (Unit {0}) E) → i < length rs → get_or rs i r ≡ r → p r.number ≡ true →
-    length (filter p (map (λ x. x.number) rs)) ≤ 64 → ns ≡ filter p (map (λ x. x.number) (take i rs)) →
-    OnOk pushed (new ≡ ns ++ r.number ∷ []) → OnErr pushed (length ns ≡ 64) →
+    length (filter p (map (λ x. x.number) rs)) ≤ member_limit → ns ≡ filter p (map (λ x. x.number) (take i rs)) →
+    OnOk pushed (new ≡ ns ++ r.number ∷ []) → OnErr pushed (length ns ≡ member_limit) →
     new ≡ filter p (map (λ x. x.number) (take (i + 1) rs))
 is_taken {E = E} p rs i r ns new pushed lt is comes few h =
     let more : filter p (map (λ x. x.number) (take (i + 1) rs)) ≡ ns ++ r.number ∷ [] =
     one_more p rs i r lt is ∙ ap (λ b. filter p (map (λ x. x.number) (take i rs)) ++ cond b (r.number ∷ []) []) comes ∙
     ap (λ l. l ++ r.number ∷ []) (sym h) in
-    let there : length ns + 1 ≤ 64 =
+    let there : length ns + 1 ≤ member_limit =
     omega (arith, few, front_few p rs (i + 1), ap (λ (l : List ℕ). length l) more, length-append ns (r.number ∷ [])) in
     put pushed more there
   where
     put : (o : Result (Unit {0}) E) → filter p (map (λ x. x.number) (take (i + 1) rs)) ≡ ns ++ r.number ∷ [] →
-        length ns + 1 ≤ 64 → OnOk o (new ≡ ns ++ r.number ∷ []) → OnErr o (length ns ≡ 64) →
+        length ns + 1 ≤ member_limit → OnOk o (new ≡ ns ++ r.number ∷ []) → OnErr o (length ns ≡ member_limit) →
         new ≡ filter p (map (λ x. x.number) (take (i + 1) rs))
     put (Ok done) more there a b = a ∙ sym more
     put (Err e) more there a b = absurd (omega (arith, b, there))

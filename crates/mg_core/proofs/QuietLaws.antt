@@ -14,8 +14,8 @@ use Rattle.mg_rooms.specs.Sound.{IsSound}
 use Rattle.mg_rtp.specs.declared.header.Header.{Header}
 use Rattle.mg_rtp.specs.Reading.{Reading}
 use Rattle.mg_engine.specs.declared.taken.Taken.{Taken}
-use Rattle.mg_engine.specs.declared.peer.Peer.{Peer}
-use Rattle.mg_engine.specs.Arrival.{Arrived, arrived, at_port, placed_at, taken_at, taken_by}
+use Rattle.mg_words.specs.declared.peer.Peer.{Peer}
+use Rattle.mg_engine.specs.Arrival.{Arrived, arrived, at_port, frame_placed_at, taken_at, taken_by}
 use Rattle.mg_engine.specs.Gateway.{ContextEdit, Gateway, TerminationMedia, media_of}
 use Rattle.mg_engine.proofs.SendingLaws.{nobody}
 use Rattle.mg_core.specs.declared.event.Event.{Event}
@@ -109,7 +109,7 @@ same_listeners v w h =
     ap (λ (x : Registry). by x v.edits) h.rooms ∙ ap (λ (es : List ContextEdit). by w.rooms es) h.edits
 
 placed_keeps : (w : Gateway) (n : ℕ) (p : Header × List ℤ) (o : Option TerminationMedia) →
-    IsSame (placed_at w n p o).0 w
+    IsSame (frame_placed_at w n p o).0 w
 placed_keeps w n p None = record { rooms = refl; edits = refl }
 placed_keeps w n p (Some s) = record { rooms = refl; edits = refl }
 

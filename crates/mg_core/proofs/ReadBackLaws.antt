@@ -11,7 +11,7 @@ use Rattle.mg_words.specs.Address.{address_of, address_text}
 use Rattle.mg_words.specs.Cut.{cut}
 use Rattle.mg_sdp.proofs.DecimalLaws.{port_of-decimal, part_of-decimal, decimal_passes}
 use Rattle.mg_sdp.proofs.WrittenLaws.{byte_short, port_short}
-use Rattle.mg_engine.specs.declared.peer.Peer.{Peer}
+use Rattle.mg_words.specs.declared.peer.Peer.{Peer}
 use Rattle.mg_core.specs.declared.event.Event.{Event}
 use Rattle.mg_core.specs.declared.event.Event.TheVariants.{Control, Media, Tick}
 use Rattle.mg_core.specs.Peer.{peer_of, peer_text}

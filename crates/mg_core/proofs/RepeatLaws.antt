@@ -14,7 +14,7 @@ use Rattle.mg_text.specs.declared.body.Range.{Range}
 use Rattle.mg_text.specs.declared.message.Message.{Message}
 use Rattle.mg_text.specs.declared.request.Request.{Request}
 use Rattle.mg_text.specs.Message.{items_of}
-use Rattle.mg_text.specs.MessageReading.{IsReading, MessageReading, Read, TooMany, OtherVersion, NoMessage}
+use Rattle.mg_text.specs.MessageReading.{IsMessageReading, MessageReading, Read, TooMany, OtherVersion, NoMessage}
 use Rattle.mg_commands.specs.Transaction.{replied}
 use Rattle.mg_core.specs.declared.event.Event.{Event}
 use Rattle.mg_core.specs.declared.event.Event.TheVariants.{Control, Media, Tick}
@@ -138,7 +138,7 @@ module _ (few : FewNewerStay) (unnamed : UnnamedStay) (sender text : List ℕ) (
       came_to (with_control w) next bytes reading answer came (λ (v : World). Stays (n + k) v.replies)
       (answer_world (λ (v : World). Stays (n + k) v.replies) bytes reading (with_control w) (kept, omega arith)
       (λ m is.
-      let (out, few_more) = spares m (subst (λ (r : MessageReading). IsReading bytes r) is reads) in
+      let (out, few_more) = spares m (subst (λ (r : MessageReading). IsMessageReading bytes r) is reads) in
       let (still, fewer) = items_spare n bytes (text_of bytes m.sender) [] (items_of m.body) (with_control w) out
       (omega arith) (kept, newer) in
       (still, omega arith)))
@@ -241,7 +241,7 @@ module _ (gone : GoneStayGone) (sender : List ℕ) (number : ℕ) where
       came_to (with_control w) next bytes reading answer came (λ (v : World). IsGone v.replies)
       (answer_world (λ (v : World). IsGone v.replies) bytes reading (with_control w) h
       (λ m is. items_leave bytes (text_of bytes m.sender) [] (items_of m.body) (with_control w)
-      (out m (subst (λ (r : MessageReading). IsReading bytes r) is reads)) h))
+      (out m (subst (λ (r : MessageReading). IsMessageReading bytes r) is reads)) h))
   event_leaves w next (Media port source bytes) sent out (taken, (g, takes, is), told) h =
       subst (λ (v : World). IsGone v.replies) (sym is) h
   event_leaves w next Tick sent out (told, is) h = subst (λ (v : World). IsGone v.replies) (sym is) h

@@ -19,7 +19,7 @@ use Rattle.mg_reply.specs.Written.{reply_text}
 use Rattle.mg_engine.specs.Stands as engine_stands
 use Rattle.mg_core.specs.declared.state.CoreState.{CoreState}
 use Rattle.mg_core.specs.World.{World, StandsFor}
-use Rattle.mg_core.specs.aids.Steps.{Puts, put_text}
+use Rattle.mg_core.specs.aids.Steps.{TextGrows, put_text}
 use Rattle.mg_reply.specs.Reply.{Answered, new_reply, is_action, is_refusal, last_is_action, with_item, after_put, after_all}
 use Rattle.mg_reply.specs.Reply.{marked as marked_long}
 use Rattle.mg_text.specs.declared.body.Range.{Range}
@@ -111,7 +111,7 @@ pub request_run : TextAlone → AllThere → (source sender : List ℕ) (request
     (λ w next. ((replied source request w).gateway ≡ next) ×
     (reply ≡ after_all (new_reply request.number) (replied source request w).items))
     → new.kept ≡ with_reply (record { sender = sender; number = request.number; text = put_text reply }) old.kept
-    → text ≡ before ++ put_text reply → Puts old new before text
+    → text ≡ before ++ put_text reply → TextGrows old new before text
     (λ w. run_and_kept sender request.number w (replied source request w.gateway))
 request_run alone there source sender request old new reply before text wide whole same ran keeps is w h =
     let (next, came, stands) = ran w.gateway h.gateway in
@@ -143,7 +143,7 @@ kept_in state w sender n o h is = ap (λ (l : List KeptReply). kept_text l sende
 -- a request that came again, for which the kept text was written
 pub request_again : (source sender : List ℕ) (request : Request) (state : CoreState) (before told text : List ℕ) →
     kept_text state.kept sender request.number ≡ Some told
-    → text ≡ before ++ told → Puts state state before text (request_replied source sender request)
+    → text ≡ before ++ told → TextGrows state state before text (request_replied source sender request)
 request_again source sender request state before told text kept is w h = (
   w,
   (
@@ -158,8 +158,8 @@ request_again source sender request state before told text kept is w h = (
 -- one for which none is kept
 pub request_new : (source sender : List ℕ) (request : Request) (old new : CoreState) (before text : List ℕ) →
     kept_text old.kept sender request.number ≡ None
-    → Puts old new before text (λ w. run_and_kept sender request.number w (replied source request w.gateway)) →
-    Puts old new before text (request_replied source sender request)
+    → TextGrows old new before text (λ w. run_and_kept sender request.number w (replied source request w.gateway)) →
+    TextGrows old new before text (request_replied source sender request)
 request_new source sender request old new before text none ran w h =
     let (next, wrote, stands) = ran w h in
     let (out, came, is) = wrote in (
@@ -175,8 +175,8 @@ request_new source sender request old new before text none ran w h =
 
 -- with its mark in front
 pub request_put : (source sender mark : List ℕ) (request : Request) (old new : CoreState) (before text : List ℕ)
-    → Puts old new (before ++ mark) text (request_replied source sender request) →
-    Puts old new before text (item_replied source sender mark (items.Request request))
+    → TextGrows old new (before ++ mark) text (request_replied source sender request) →
+    TextGrows old new before text (item_replied source sender mark (items.Request request))
 request_put source sender mark request old new before text ran w h =
     let (next, wrote, stands) = ran w h in
     let (out, came, is) = wrote in
@@ -185,7 +185,7 @@ request_put source sender mark request old new before text ran w h =
 -- replies that were acknowledged
 pub ranges_taken : (source sender mark : List ℕ) (ranges : List Range) (old new : CoreState) (text : List ℕ) →
     new.engine ≡ old.engine → new.counts ≡ old.counts → new.kept ≡ without_ranges sender ranges old.kept
-    → Puts old new text text (item_replied source sender mark (items.Acknowledgement ranges))
+    → TextGrows old new text text (item_replied source sender mark (items.Acknowledgement ranges))
 ranges_taken source sender mark ranges old new text engine counts kept w h = (
   record w { replies = without_ranges sender ranges w.replies },
   ([], refl, sym (append-nil text)),
@@ -268,7 +268,7 @@ pub items_more : (source sender mark next : List ℕ) (xs : List MessageItem) (i
     (entered kept new : CoreState) (before text more : List ℕ) (f : World → List ℕ × World) → i < length xs →
     x ≡ get_or xs i d → next ≡ mark_after mark x
     → IsUnderWay entered kept before text f (replied_to source sender mark (drop i xs)) →
-    Puts kept new text more (item_replied source sender mark x)
+    TextGrows kept new text more (item_replied source sender mark x)
     → IsUnderWay entered new before more f (replied_to source sender next (drop (i + 1) xs))
 items_more source sender mark next xs i x d entered kept new before text more f lt is marked inside step w h =
     let (now, out, came, written, stands) = inside w h in
@@ -293,7 +293,8 @@ no_items source sender mark xs i w le = rw (drop_all i xs le) refl
 
 pub items_end : (source sender mark : List ℕ) (xs : List MessageItem) (i : ℕ) (entered kept : CoreState)
     (before text : List ℕ) (f : World → List ℕ × World) → length xs ≤ i →
-    IsUnderWay entered kept before text f (replied_to source sender mark (drop i xs)) → Puts entered kept before text f
+    IsUnderWay entered kept before text f (replied_to source sender mark (drop i xs)) →
+    TextGrows entered kept before text f
 items_end source sender mark xs i entered kept before text f le inside w h =
     let (now, out, came, written, stands) = inside w h in (
       now,

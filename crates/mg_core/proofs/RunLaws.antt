@@ -21,7 +21,8 @@ use Rattle.mg_lines.specs.Lines.{without_return, lines_after, lines_of}
 use Rattle.mg_core.specs.Script.{event_of, events_of, then_all}
 use Rattle.mg_core.specs.Step.{Sent, Run}
 use Rattle.mg_core.specs.Flows.{changes_by}
-use Rattle.mg_core.specs.Run.{IsText, Tells, Ran, RanInPart, HasRead, RanBeforeMore, HasBadAfter, RanAllRead, lines_for, line_of}
+use Rattle.mg_core.specs.Run.{IsShownText, TellsChanges, Ran, RanInPart, HasRead, RanBeforeMore, HasBadAfter}
+use Rattle.mg_core.specs.Run.{RanAllRead, lines_for, line_of}
 use Rattle.mg_core.specs.aids.Steps.{Follows, LeadsOn, AllRan, LineRan, BytesRan, Finishes, RanCounted, after_sent, script_fault_of}
 use Rattle.mg_lines.proofs.WriterLaws.{appends_then, appends_keeps}
 use Rattle.mg_core.proofs.LineLaws.{no_text, same_appends, sent_both}
@@ -70,10 +71,10 @@ run_both w v u (e ∷ es) fs a b h k = (
 lines_both : (a b : List Sent) → lines_for (a ++ b) ≡ lines_for a ++ lines_for b
 lines_both a b = flat_map-append line_of a b
 
-tells_both : (w v u : World) (es fs : List Event) (s t : List ℕ) → Tells w es s v → Tells v fs t u →
-    Tells w (es ++ fs) (s ++ t) u
-tells_both w v u [] fs s t h k = subst (λ (x : World). Tells x fs (s ++ t) u) h.1
-    (subst (λ (l : List ℕ). Tells v fs l u) (ap (λ (l : List ℕ). l ++ t) (sym h.0)) k)
+tells_both : (w v u : World) (es fs : List Event) (s t : List ℕ) → TellsChanges w es s v → TellsChanges v fs t u →
+    TellsChanges w (es ++ fs) (s ++ t) u
+tells_both w v u [] fs s t h k = subst (λ (x : World). TellsChanges x fs (s ++ t) u) h.1
+    (subst (λ (l : List ℕ). TellsChanges v fs l u) (ap (λ (l : List ℕ). l ++ t) (sym h.0)) k)
 tells_both w v u (e ∷ es) fs s t h k = (
   h.0,
   h.1 ++ t,
@@ -85,7 +86,7 @@ tells_both w v u (e ∷ es) fs s t h k = (
 )
 
 texts_both : (shown : Shown) (w v u : World) (es fs : List Event) (a b : List Sent) (s t : List ℕ) →
-    IsText shown w es a s v → IsText shown v fs b t u → IsText shown w (es ++ fs) (a ++ b) (s ++ t) u
+    IsShownText shown w es a s v → IsShownText shown v fs b t u → IsShownText shown w (es ++ fs) (a ++ b) (s ++ t) u
 texts_both shows.Sent w v u es fs a b s t h k =
     ap (λ (l : List ℕ). l ++ t) h ∙ ap (λ (l : List ℕ). lines_for a ++ l) k ∙ sym (lines_both a b)
 texts_both shows.SentAndFlows w v u es fs a b s t h k = tells_both w v u es fs s t h k

@@ -8,12 +8,12 @@ use Rattle.mg_text.specs.declared.request.Request.{Request}
 use Rattle.mg_engine.specs.Work.{RisesAtMost}
 use Rattle.mg_engine.proofs.WorkLaws.{rises_twice, stays}
 use Rattle.mg_commands.specs.Transaction.{replied}
-use Rattle.mg_commands.specs.Work.{edits_in}
+use Rattle.mg_commands.specs.Work.{edits_told}
 use Rattle.mg_core.specs.declared.state.CoreState.{CoreState}
 use Rattle.mg_core.specs.Answer.{item_replied}
 use Rattle.mg_core.specs.World.{World, StandsFor}
 use Rattle.mg_core.specs.Work.{edits_by_item, edits_by_items, edits_unless_kept}
-use Rattle.mg_core.specs.aids.Steps.{Puts}
+use Rattle.mg_core.specs.aids.Steps.{TextGrows}
 
 -- the work rose by at most four for each edit, in each world that the state stood for
 abbrev pub IsPaid : CoreState → CoreState → (World → ℕ) → Type 0
@@ -30,7 +30,7 @@ kept_in state w sender n o h is = sym is ∙ ap (λ (l : List KeptReply). kept_t
 -- a request that was run
 pub request_paid : (source sender : List ℕ) (request : Request) (old new : CoreState) →
     kept_text old.kept sender request.number ≡ None
-    → IsPaid old new (λ w. edits_in (replied source request w.gateway).items) →
+    → IsPaid old new (λ w. edits_told (replied source request w.gateway).items) →
     IsPaid old new (edits_by_item source sender (items.Request request))
 request_paid source sender request old new none paid w h =
     subst (λ (o : Option (List ℕ)). RisesAtMost (4 * edits_of source request o w) old.engine.sums.work
@@ -73,7 +73,7 @@ next_item source sender mark xs i x d w next out lt is did =
 pub one_more : (source sender mark : List ℕ) (xs : List MessageItem) (i : ℕ) (x d : MessageItem)
     (entered kept new : CoreState) (text more : List ℕ) (f : World → ℕ) → i < length xs → x ≡ get_or xs i d
     → IsPaidSoFar entered kept f (edits_by_items source sender (drop i xs)) →
-    Puts kept new text more (item_replied source sender mark x) → IsPaid kept new (edits_by_item source sender x)
+    TextGrows kept new text more (item_replied source sender mark x) → IsPaid kept new (edits_by_item source sender x)
     → IsPaidSoFar entered new f (edits_by_items source sender (drop (i + 1) xs))
 one_more source sender mark xs i x d entered kept new text more f lt is inside step paid w h =
     let (now, done, counted, rises, stands) = inside w h in

@@ -11,7 +11,7 @@ use Rattle.mg_text.specs.declared.body.MessageItem.{MessageItem}
 use Rattle.mg_text.specs.declared.body.MessageItem.TheVariants as items
 use Rattle.mg_text.specs.Message.{items_of}
 use Rattle.mg_text.specs.MessageReading.{MessageReading, Read, TooMany, OtherVersion, NoMessage}
-use Rattle.mg_text.specs.MessageReading.{IsReading}
+use Rattle.mg_text.specs.MessageReading.{IsMessageReading}
 use Rattle.mg_reply.specs.declared.item.Item.TheVariants as told
 use Rattle.mg_words.specs.declared.error_number.ErrorNumber.{ErrorNumber}
 use Rattle.mg_words.specs.declared.error_number.ErrorNumber.TheVariants.{Syntax, Version, NotServed}
@@ -132,5 +132,5 @@ answered source NoMessage w = refused Syntax w
 -- the answer to a datagram, if there is one, and the world after it, by what it reads as
 abbrev pub Answers : List ℕ → World → Option (List ℕ) → World → Type 0
 Answers source w answer next =
-    (reading : MessageReading) × IsReading source reading
+    (reading : MessageReading) × IsMessageReading source reading
     × (answered source reading w ≡ (answer, next))

@@ -4,7 +4,7 @@ use Rattle.std.specs.List.{AllByRecursion}
 use Rattle.mg_kept.specs.KeptReplies.{KeptReply}
 use Rattle.mg_rooms.specs.Limits.{slot_port}
 use Rattle.mg_engine.specs.declared.config.Config.{Config}
-use Rattle.mg_engine.specs.declared.peer.Peer.{Peer}
+use Rattle.mg_words.specs.declared.peer.Peer.{Peer}
 use Rattle.mg_engine.specs.Apart as engine
 use Rattle.mg_engine.specs.Apart.{HearsNone, IsPortAmong}
 use Rattle.mg_engine.specs.Gateway.{Gateway}
@@ -61,13 +61,12 @@ HearsNoneAt some w port =
 
 -- in a tick, whoever has the port hears none of some terminations
 abbrev pub HearsNoneIn : Event → List ℕ → Gateway → ℕ → Type 0
-HearsNoneIn (Control source bytes) some w port = Unit {0}
-HearsNoneIn (Media other source bytes) some w port = Unit {0}
 HearsNoneIn Tick some w port = HearsNoneAt some w port
+HearsNoneIn _ some w port = Unit {0}
 
 -- the same event has the same packets sent from the port of whoever hears none of them
-abbrev pub SamePackets : Type 0
-SamePackets =
+abbrev pub SamePacketsFromPort : Type 0
+SamePacketsFromPort =
     (some : List ℕ) (port : ℕ) (a b x y : World) (event : Event) (s t : List Sent)
     → AgreeOutside some a b → HearsNoneIn event some a.gateway port
     → Step a event s x → Step b event t y → packets_from port s ≡ packets_from port t
@@ -81,17 +80,17 @@ pub data Happening : Type 0 where
   SecondAlone : (port : ℕ) (source : Peer) (bytes : List ℕ) → Happening
 
 -- what comes to the one, and to the other
-abbrev pub first_of : List Happening → List Event
-first_of [] = []
-first_of (Both event ∷ xs) = event ∷ first_of xs
-first_of (FirstAlone port source bytes ∷ xs) = Media port source bytes ∷ first_of xs
-first_of (SecondAlone port source bytes ∷ xs) = first_of xs
+abbrev pub to_first : List Happening → List Event
+to_first [] = []
+to_first (Both event ∷ xs) = event ∷ to_first xs
+to_first (FirstAlone port source bytes ∷ xs) = Media port source bytes ∷ to_first xs
+to_first (SecondAlone port source bytes ∷ xs) = to_first xs
 
-abbrev pub second_of : List Happening → List Event
-second_of [] = []
-second_of (Both event ∷ xs) = event ∷ second_of xs
-second_of (FirstAlone port source bytes ∷ xs) = second_of xs
-second_of (SecondAlone port source bytes ∷ xs) = Media port source bytes ∷ second_of xs
+abbrev pub to_second : List Happening → List Event
+to_second [] = []
+to_second (Both event ∷ xs) = event ∷ to_second xs
+to_second (FirstAlone port source bytes ∷ xs) = to_second xs
+to_second (SecondAlone port source bytes ∷ xs) = Media port source bytes ∷ to_second xs
 
 -- Whatever comes to one of the worlds alone comes to a port that one of some terminations has at
 -- that time, and in each tick whoever has this port hears none of them.
@@ -113,7 +112,7 @@ abbrev pub UnheardChangesNothing : Type 0
 UnheardChangesNothing =
     (some : List ℕ) (port : ℕ) (a b x y : World) (xs : List Happening) (s t : List Sent)
     → AgreeOutside some a b → IsUnheardAt some port a xs
-    → Run a (first_of xs) s x → Run b (second_of xs) t y
+    → Run a (to_first xs) s x → Run b (to_second xs) t y
     → (packets_from port s ≡ packets_from port t) × AgreeOutside some x y
 
 -- So it is of what came to two gateways that were started alike ..
@@ -122,7 +121,7 @@ UnheardInHistories =
     (some : List ℕ) (port : ℕ) (config : Config) (xs : List Happening) (s t : List Sent)
     (v w : World) (one other : CoreState)
     → IsUnheardAt some port (start_of config) xs
-    → CameTo config (first_of xs) s v one → CameTo config (second_of xs) t w other
+    → CameTo config (to_first xs) s v one → CameTo config (to_second xs) t w other
     → packets_from port s ≡ packets_from port t
 
 -- .. and of two scripts that were run whole, in either form.
@@ -133,5 +132,5 @@ UnheardInScripts =
     (a : RanToEnd config first one counts old new)
     (b : RanToEnd config second other more was is)
     → IsUnheardAt some port (start_of config) xs
-    → a.ran.events ≡ first_of xs → b.ran.events ≡ second_of xs
+    → a.ran.events ≡ to_first xs → b.ran.events ≡ to_second xs
     → packets_from port a.ran.sent ≡ packets_from port b.ran.sent

@@ -1,35 +1,28 @@
 -- What is counted are the events that came, what became of each RTP datagram among them, and the
 -- frames that stood in for missing ones.
-use Rattle.std.specs.Prelude.{◌≡◌, ℕ, ◌+◌, Bool, true, false, List, [], ◌∷◌, count_by}
-use Rattle.mg_playout.specs.declared.placed.Placed.TheVariants.{Started, Pushed, Again, Late}
-use Rattle.mg_playout.specs.declared.placed.Placed.TheVariants as answers
+use Rattle.std.specs.Prelude.{◌≡◌, ℕ, ◌+◌, ◌==◌, Bool, true, false, List, [], ◌∷◌, map, count_by}
 use Rattle.mg_engine.specs.declared.config.Config.{Config}
-use Rattle.mg_engine.specs.declared.taken.DropCause.TheVariants.{NoTermination, Stray, NoLocal, Rtp}
-use Rattle.mg_engine.specs.declared.taken.DropCause.TheVariants.{PayloadType, Length}
 use Rattle.mg_engine.specs.declared.taken.Taken.{Taken}
 use Rattle.mg_engine.specs.declared.taken.Taken.TheVariants.{Placed, Dropped}
 use Rattle.mg_engine.specs.Tick.{concealed_in_tick}
 use Rattle.mg_core.specs.declared.event.Event.{Event}
 use Rattle.mg_core.specs.declared.event.Event.TheVariants.{Control, Media, Tick}
 use Rattle.mg_core.specs.Step.{Sent, Step, Run}
-use Rattle.mg_core.specs.World.{World, Tally, Took, start_of}
+use Rattle.mg_core.specs.World.{World, Tally, Took, cause_of, placed_counter, start_of}
 
 -- ## Events, and what became of RTP datagrams
 
 abbrev pub is_control : Event → Bool
 is_control (Control source bytes) = true
-is_control (Media port source bytes) = false
-is_control Tick = false
+is_control _ = false
 
 abbrev pub is_media : Event → Bool
-is_media (Control source bytes) = false
 is_media (Media port source bytes) = true
-is_media Tick = false
+is_media _ = false
 
 abbrev pub is_tick : Event → Bool
-is_tick (Control source bytes) = false
-is_tick (Media port source bytes) = false
 is_tick Tick = true
+is_tick _ = false
 
 -- Events are run one after another. This becomes of the RTP datagrams among them, in order, and so
 -- many frames are concealed in the ticks among them.
@@ -49,65 +42,26 @@ RunTaking w (Tick ∷ events) taken concealed last =
 
 -- ## Numbers of each
 
-abbrev pub is_started : Taken → Bool
-is_started (Placed Started) = true
-is_started _ = false
+-- a play list answered in the way that the counter with this place counts
+abbrev pub is_placed_as : ℕ → Taken → Bool
+is_placed_as k (Placed p) = placed_counter p == k
+is_placed_as k (Dropped cause) = false
 
-abbrev pub is_placed : Taken → Bool
-is_placed (Placed answers.Placed) = true
-is_placed _ = false
-
-abbrev pub is_pushed : Taken → Bool
-is_pushed (Placed Pushed) = true
-is_pushed _ = false
-
-abbrev pub is_again : Taken → Bool
-is_again (Placed Again) = true
-is_again _ = false
-
-abbrev pub is_late : Taken → Bool
-is_late (Placed Late) = true
-is_late _ = false
-
-abbrev pub is_to_nobody : Taken → Bool
-is_to_nobody (Dropped NoTermination) = true
-is_to_nobody _ = false
-
-abbrev pub is_stray : Taken → Bool
-is_stray (Dropped Stray) = true
-is_stray _ = false
-
-abbrev pub is_without_local : Taken → Bool
-is_without_local (Dropped NoLocal) = true
-is_without_local _ = false
-
-abbrev pub is_no_packet : Taken → Bool
-is_no_packet (Dropped (Rtp fault)) = true
-is_no_packet _ = false
-
-abbrev pub is_of_another_type : Taken → Bool
-is_of_another_type (Dropped PayloadType) = true
-is_of_another_type _ = false
-
-abbrev pub is_of_another_length : Taken → Bool
-is_of_another_length (Dropped Length) = true
-is_of_another_length _ = false
+-- the datagram was dropped for the cause that the counter with this place counts
+abbrev pub is_dropped_for : ℕ → Taken → Bool
+is_dropped_for k (Placed p) = false
+is_dropped_for k (Dropped cause) = cause_of cause == k
 
 -- how many came of each kind of event, how many were placed in each way, how many were dropped for
 -- each cause, and how many frames were concealed
-abbrev pub numbers_of : List Event → List Taken → ℕ → Tally
-numbers_of events taken concealed =
+abbrev pub tally_of : List Event → List Taken → ℕ → Tally
+tally_of events taken concealed =
     record {
       control = count_by is_control events;
       media = count_by is_media events;
       ticks = count_by is_tick events;
-      placed =
-          count_by is_started taken ∷ count_by is_placed taken ∷ count_by is_pushed taken
-          ∷ count_by is_again taken ∷ count_by is_late taken ∷ [];
-      dropped =
-          count_by is_to_nobody taken ∷ count_by is_stray taken
-          ∷ count_by is_without_local taken ∷ count_by is_no_packet taken
-          ∷ count_by is_of_another_type taken ∷ count_by is_of_another_length taken ∷ [];
+      placed = map (λ k. count_by (is_placed_as k) taken) (0 ∷ 1 ∷ 2 ∷ 3 ∷ 4 ∷ []);
+      dropped = map (λ k. count_by (is_dropped_for k) taken) (0 ∷ 1 ∷ 2 ∷ 3 ∷ 4 ∷ 5 ∷ []);
       concealed = concealed;
     }
 
@@ -116,7 +70,7 @@ abbrev pub EventsAreCounted : Type 0
 EventsAreCounted =
     (config : Config) (events : List Event) (taken : List Taken) (concealed : ℕ) (last : World)
     → RunTaking (start_of config) events taken concealed last
-    → last.tally ≡ numbers_of events taken concealed
+    → last.tally ≡ tally_of events taken concealed
 
 -- In each run something became of each RTP datagram, and some number of frames was concealed.
 abbrev pub RunsTake : Type 0

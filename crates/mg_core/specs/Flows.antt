@@ -59,43 +59,43 @@ line_head ticks n = codes "# " ++ (decimal ticks ++ (codes " ticks: RTP/" ++ dec
 abbrev pub telling : ℕ → Listener → List ℕ → List ℕ
 telling ticks x what = line_head ticks x.number ++ (what ++ codes "\n")
 
-abbrev pub ended : ℕ → Listener → List ℕ
-ended ticks x = telling ticks x (codes " ended")
+abbrev pub ended_line : ℕ → Listener → List ℕ
+ended_line ticks x = telling ticks x (codes " ended")
 
-abbrev pub made : ℕ → Listener → List ℕ
-made ticks x =
+abbrev pub made_line : ℕ → Listener → List ℕ
+made_line ticks x =
     telling ticks x
     (codes " made in context " ++ (decimal x.context ++ (codes " at port " ++ decimal x.port)))
 
-abbrev pub moved : ℕ → Listener → List ℕ
-moved ticks x = telling ticks x (codes " moved to context " ++ decimal x.context)
+abbrev pub moved_line : ℕ → Listener → List ℕ
+moved_line ticks x = telling ticks x (codes " moved to context " ++ decimal x.context)
 
 abbrev pub in_mode : ℕ → Listener → List ℕ
 in_mode ticks x = telling ticks x (codes " mode " ++ mode_text x.mode)
 
-abbrev pub name_of : ℕ → List ℕ
-name_of n = codes " RTP/" ++ decimal n
+abbrev pub name_in_line : ℕ → List ℕ
+name_in_line n = codes " RTP/" ++ decimal n
 
-abbrev pub names_of : List ℕ → List ℕ
-names_of ns = if length ns == 0 then codes " nobody" else flat_map name_of ns
+abbrev pub names_in_line : List ℕ → List ℕ
+names_in_line ns = if length ns == 0 then codes " nobody" else flat_map name_in_line ns
 
 abbrev pub hearing : ℕ → Listener → List ℕ
-hearing ticks x = telling ticks x (codes " hears" ++ names_of x.talkers)
+hearing ticks x = telling ticks x (codes " hears" ++ names_in_line x.talkers)
 
 -- ## Changes
 
 -- one that was there is there no more
 abbrev pub told_of_old : ℕ → List Listener → Listener → List ℕ
-told_of_old ticks after x = if is_some (listener_at after x.number) then [] else ended ticks x
+told_of_old ticks after x = if is_some (listener_at after x.number) then [] else ended_line ticks x
 
 -- Of one that wasn't there all is told. Of one that was, what is another now: its context, its
 -- mode, and whose speech goes to it.
 abbrev pub told_of_new : ℕ → Option Listener → Listener → List ℕ
 told_of_new ticks None x =
-    made ticks x ++ (in_mode ticks x ++
+    made_line ticks x ++ (in_mode ticks x ++
     (if length x.talkers == 0 then [] else hearing ticks x))
 told_of_new ticks (Some old) x =
-    (if old.context == x.context then [] else moved ticks x) ++
+    (if old.context == x.context then [] else moved_line ticks x) ++
     ((if is_same_mode old.mode x.mode then [] else in_mode ticks x) ++
     (if bytes_eq old.talkers x.talkers then [] else hearing ticks x))
 

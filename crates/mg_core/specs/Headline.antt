@@ -62,8 +62,7 @@ PacketsAreAnew state outbox =
 -- to one gateway.
 abbrev pub is_of_media : Event → Bool
 is_of_media (Control source bytes) = false
-is_of_media (Media port source bytes) = true
-is_of_media Tick = true
+is_of_media _ = true
 
 abbrev pub OneGatewayOneFuture : Type 0
 OneGatewayOneFuture =

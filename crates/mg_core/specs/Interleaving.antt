@@ -13,9 +13,8 @@ use Rattle.mg_core.specs.World.{World, start_of}
 
 -- an RTP datagram at another port
 abbrev pub is_elsewhere : ℕ → Event → Bool
-is_elsewhere port (Control source bytes) = false
 is_elsewhere port (Media other source bytes) = not (other == port)
-is_elsewhere port Tick = false
+is_elsewhere port _ = false
 
 -- what a port sees of events: all but the RTP datagrams at other ports
 abbrev pub seen_at : ℕ → List Event → List Event

@@ -5,7 +5,7 @@ use Rattle.mg_words.specs.OptionSteps.{◌>>=◌}
 use Rattle.mg_words.specs.Address.{address_of}
 use Rattle.mg_words.specs.Cut.{cut}
 use Rattle.mg_words.specs.Address.{address_text}
-use Rattle.mg_engine.specs.declared.peer.Peer.{Peer}
+use Rattle.mg_words.specs.declared.peer.Peer.{Peer}
 
 abbrev pub peer : List ℕ → ℕ → Peer
 peer address port = record { address = address; port = port }

@@ -79,8 +79,7 @@ Spares sender number w (Control source bytes) n =
     (m : Message) → IsMessage bytes m
     → (list_any (acknowledges sender number (text_of bytes m.sender)) (items_of m.body) ≡ false)
     × (kept_for_all bytes (text_of bytes m.sender) (items_of m.body) (with_control w) ≤ n)
-Spares sender number w (Media port source bytes) n = Unit {0}
-Spares sender number w Tick n = Unit {0}
+Spares sender number w _ n = Unit {0}
 
 -- So do events one after another, with at most n other replies kept for all of them.
 abbrev pub SpareAll : List ℕ → ℕ → World → List Event → ℕ → Type 0
@@ -130,8 +129,7 @@ abbrev pub IsUnasked : List ℕ → ℕ → Event → Type 0
 IsUnasked sender number (Control source bytes) =
     (m : Message) → IsMessage bytes m
     → list_any (asks sender number (text_of bytes m.sender)) (items_of m.body) ≡ false
-IsUnasked sender number (Media port source bytes) = Unit {0}
-IsUnasked sender number Tick = Unit {0}
+IsUnasked sender number _ = Unit {0}
 
 -- After that a request is run again when it comes again, its answer included.
 abbrev pub GoneAreRun : Type 0

@@ -6,7 +6,7 @@ use Rattle.std.specs.Io.KnownBytes.{Keeps, Appends, Consumes, IsAtEnd}
 use Rattle.hex.specs.Hex.{encode_lower}
 use Rattle.mg_engine.specs.declared.config.Config.{Config}
 use Rattle.mg_engine.specs.declared.datagram.Datagram.{Datagram}
-use Rattle.mg_engine.specs.declared.peer.Peer.{Peer}
+use Rattle.mg_words.specs.declared.peer.Peer.{Peer}
 use Rattle.mg_core.specs.declared.counts.Counts.{Counts}
 use Rattle.mg_core.specs.declared.event.Event.{Event}
 use Rattle.mg_core.specs.declared.fault.RunFault.{RunFault}
@@ -42,24 +42,24 @@ lines_for sent = flat_map line_of sent
 
 -- Events one after another, each in the world that the one before it left. Of each the lines for
 -- what it sends are written, and after them those that tell what it changed.
-abbrev pub Tells : World → List Event → List ℕ → World → Type 0
-Tells w [] text last = (text ≡ []) × (last ≡ w)
-Tells w (event ∷ events) text last =
+abbrev pub TellsChanges : World → List Event → List ℕ → World → Type 0
+TellsChanges w [] text last = (text ≡ []) × (last ≡ w)
+TellsChanges w (event ∷ events) text last =
     (sent : List Sent) × (others : List ℕ) × (next : World)
-    × Step w event sent next × Tells next events others last
+    × Step w event sent next × TellsChanges next events others last
     × (text ≡ lines_for sent ++ (changes_by w next ++ others))
 
 -- what is written of events, one after another, that have these datagrams sent
-abbrev pub IsText : Shown → World → List Event → List Sent → List ℕ → World → Type 0
-IsText shows.Sent w events sent text last = text ≡ lines_for sent
-IsText shows.SentAndFlows w events sent text last = Tells w events text last
+abbrev pub IsShownText : Shown → World → List Event → List Sent → List ℕ → World → Type 0
+IsShownText shows.Sent w events sent text last = text ≡ lines_for sent
+IsShownText shows.SentAndFlows w events sent text last = TellsChanges w events text last
 
 -- events that run in a world have one text, in each form
 abbrev pub TextsAreOne : Type 0
 TextsAreOne =
     (shown : Shown) (w x y : World) (events : List Event) (s t : List Sent) (a b : List ℕ)
     → Run w events s x → Run w events t y
-    → IsText shown w events s a x → IsText shown w events t b y → a ≡ b
+    → IsShownText shown w events s a x → IsShownText shown w events t b y → a ≡ b
 
 -- ## Lines in
 
@@ -72,7 +72,7 @@ pub record Ran (shown : Shown) (w : World) (lines : List (List ℕ)) (last : Wor
   pub text : List ℕ
   pub are : events_of lines ≡ Some events
   pub run : Run w events sent last
-  pub is_text : IsText shown w events sent text last
+  pub is_text : IsShownText shown w events sent text last
   pub written : Appends old new text
 
 -- the same, but that a writer holds the front of that text alone
@@ -85,7 +85,7 @@ pub record RanInPart (shown : Shown) (w : World) (lines : List (List ℕ)) (last
   pub rest : List ℕ
   pub are : events_of lines ≡ Some events
   pub run : Run w events sent last
-  pub is_text : IsText shown w events sent text last
+  pub is_text : IsShownText shown w events sent text last
   pub parts : text ≡ front ++ rest
   pub written : Appends old new front
 

@@ -1,5 +1,4 @@
--- Scripts: text lines that stand for the events of a gateway, and the lines that it writes for its
--- answers. The format is this gateway's own.
+-- Scripts: text lines that stand for the events of a gateway. The format is this gateway's own.
 use Rattle.std.specs.Prelude.{ℕ, Bool, true, false, ◌&&◌, ◌==◌, nat_le, nat_lt, List, []}
 use Rattle.std.specs.Prelude.{◌∷◌, length, flat_map, Option, Some, None, Result, Ok}
 use Rattle.std.specs.Prelude.{Err, codes, if◌then◌else◌}

@@ -2,13 +2,13 @@
 -- and the world that it comes to.
 use Rattle.std.specs.Prelude.{◌≡◌, ℕ, List, [], ◌∷◌, ◌++◌, map, Option, Some, None}
 use Rattle.mg_engine.specs.declared.datagram.Datagram.{Datagram}
-use Rattle.mg_engine.specs.declared.peer.Peer.{Peer}
+use Rattle.mg_words.specs.declared.peer.Peer.{Peer}
 use Rattle.mg_engine.specs.declared.taken.Taken.{Taken}
 use Rattle.mg_core.specs.declared.event.Event.{Event}
 use Rattle.mg_core.specs.declared.event.Event.TheVariants.{Control, Media, Tick}
 use Rattle.mg_core.specs.declared.answer.Answer.{Answer}
 use Rattle.mg_core.specs.declared.answer.Answer.TheVariants.{Send, Silent}
-use Rattle.mg_core.specs.World.{World, Took, with_control, ticked, packets_of}
+use Rattle.mg_core.specs.World.{World, Took, with_control, world_after_tick, packets_of}
 use Rattle.mg_core.specs.Answer.{Answers}
 
 -- a datagram that is sent: an answer from the control port, or a packet of a tick
@@ -34,7 +34,7 @@ Step w (Control source bytes) sent next =
     × (sent ≡ answer_to source answer)
 Step w (Media port source bytes) sent next =
     (taken : Taken) × Took w port source bytes next taken × (sent ≡ [])
-Step w Tick sent next = (sent ≡ map Packet (packets_of w)) × (next ≡ ticked w)
+Step w Tick sent next = (sent ≡ map Packet (packets_of w)) × (next ≡ world_after_tick w)
 
 -- events one after another, each in the world that the one before it left
 abbrev pub Run : World → List Event → List Sent → World → Type 0

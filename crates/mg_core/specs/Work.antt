@@ -6,17 +6,17 @@ use Rattle.mg_text.specs.declared.body.MessageItem.{MessageItem}
 use Rattle.mg_text.specs.declared.body.MessageItem.TheVariants as items
 use Rattle.mg_text.specs.Message.{items_of}
 use Rattle.mg_text.specs.MessageReading.{MessageReading, Read, TooMany, OtherVersion, NoMessage}
-use Rattle.mg_text.specs.MessageReading.{IsReading}
+use Rattle.mg_text.specs.MessageReading.{IsMessageReading}
 use Rattle.mg_reply.specs.declared.item.Item.{Item}
 use Rattle.mg_commands.specs.Transaction.{replied}
-use Rattle.mg_commands.specs.Work.{edits_in}
+use Rattle.mg_commands.specs.Work.{edits_told}
 use Rattle.mg_core.specs.Answer.{item_replied}
 use Rattle.mg_core.specs.World.{World}
 
 -- a request that is answered by a kept reply has none done
 abbrev pub edits_unless_kept : Option (List ℕ) → List Item → ℕ
 edits_unless_kept (Some text) told = 0
-edits_unless_kept None told = edits_in told
+edits_unless_kept None told = edits_told told
 
 -- the edits that an item of a message has done, which came from a sender in the world w
 abbrev pub edits_by_item : List ℕ → List ℕ → MessageItem → World → ℕ
@@ -35,11 +35,10 @@ edits_by_items source sender (x ∷ xs) w =
 -- a datagram that is refused as a whole has none done
 abbrev pub edits_by : List ℕ → MessageReading → World → ℕ
 edits_by source (Read m) w = edits_by_items source (text_of source m.sender) (items_of m.body) w
-edits_by source TooMany w = 0
-edits_by source (OtherVersion n) w = 0
-edits_by source NoMessage w = 0
+edits_by source _ w = 0
 
 -- a datagram that comes in the world w has so many edits done, by what it reads as
 abbrev pub HasDone : List ℕ → World → ℕ → Type 0
 HasDone source w edits =
-    (reading : MessageReading) × IsReading source reading × (edits ≡ edits_by source reading w)
+    (reading : MessageReading) × IsMessageReading source reading
+    × (edits ≡ edits_by source reading w)

@@ -6,7 +6,7 @@ use Rattle.mg_playout.specs.declared.placed.Placed.{Placed}
 use Rattle.mg_playout.specs.declared.placed.Placed.TheVariants as placed
 use Rattle.mg_engine.specs.declared.config.Config.{Config}
 use Rattle.mg_engine.specs.declared.datagram.Datagram.{Datagram}
-use Rattle.mg_engine.specs.declared.peer.Peer.{Peer}
+use Rattle.mg_words.specs.declared.peer.Peer.{Peer}
 use Rattle.mg_engine.specs.declared.taken.DropCause.{DropCause}
 use Rattle.mg_engine.specs.declared.taken.DropCause.TheVariants as causes
 use Rattle.mg_engine.specs.declared.taken.Taken.{Taken}
@@ -113,8 +113,8 @@ Took w port source bytes after result =
     × (after ≡ record w { gateway = g; tally = with_taken result w.tally })
 
 -- the world after a tick, and the packets that are sent in it
-abbrev pub ticked : World → World
-ticked w =
+abbrev pub world_after_tick : World → World
+world_after_tick w =
     record w {
       gateway = after_tick w.gateway;
       tally = with_tick (concealed_in_tick w.gateway) w.tally;

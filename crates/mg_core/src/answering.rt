@@ -1,6 +1,6 @@
 ghost use Rattle.std.specs.Prelude.{◌≡◌, ◌≤◌, ◌+◌, ◌*◌, ◌++◌, [], ◌∷◌, true, length, None};
 ghost use Rattle.mg_commands.specs.Transaction.{replied};
-ghost use Rattle.mg_commands.specs.Work.{edits_in};
+ghost use Rattle.mg_commands.specs.Work.{edits_told};
 ghost use Rattle.mg_engine.specs.Work.{RisesAtMost};
 ghost use Rattle.mg_kept.specs.KeptReplies.{kept_text};
 ghost use Rattle.mg_reply.specs.Bytes.{appended};
@@ -12,7 +12,7 @@ ghost use Rattle.mg_text.specs.Proper.{are_proper, item_is_proper, request_is_pr
 ghost use Rattle.mg_core.specs.Answer.{has_requests, item_replied, mark_after, replied_to, request_replied, run_and_kept, without_ranges};
 ghost use Rattle.mg_core.specs.World.{World, StandsFor};
 ghost use Rattle.mg_core.specs.Work.{edits_by_item, edits_by_items};
-ghost use Rattle.mg_core.specs.aids.Steps.{Puts, put_text, refusal_of};
+ghost use Rattle.mg_core.specs.aids.Steps.{TextGrows, put_text, refusal_of};
 
 use crate::state::CoreState;
 use mg_commands::{Kept, transaction};
@@ -97,10 +97,10 @@ fn run_request(
     requires sender { length sender.now ≤ SENDER_LIMIT }
     requires room { REPLY_LIMIT ≤ answer.old.room }
     requires new { kept_text state.old.kept sender.now request.now.number ≡ None }
-    ensures ran { Puts state.old state.new answer.old.text answer.new.text (λ w.
+    ensures ran { TextGrows state.old state.new answer.old.text answer.new.text (λ w.
         run_and_kept sender.now request.now.number w (replied source.now request.now w.gateway)) }
     ensures work { (w : World) → StandsFor state.old w →
-        RisesAtMost (4 * edits_in (replied source.now request.now w.gateway).items) state.old.engine.sums.work
+        RisesAtMost (4 * edits_told (replied source.now request.now w.gateway).items) state.old.engine.sums.work
         state.new.engine.sums.work }
     ensures total { answer.new.room + length answer.new.text ≡ answer.old.room + length answer.old.text }
     ensures short { length answer.new.text ≤ length answer.old.text + REPLY_LIMIT }
@@ -125,7 +125,7 @@ fn put_request(
     requires proper { request_is_proper source.now request.now ≡ true }
     requires sender { length sender.now ≤ SENDER_LIMIT }
     requires room { REPLY_LIMIT ≤ answer.old.room }
-    ensures ran { Puts state.old state.new answer.old.text answer.new.text
+    ensures ran { TextGrows state.old state.new answer.old.text answer.new.text
         (request_replied source.now sender.now request.now) }
     ensures work { (w : World) → StandsFor state.old w →
         RisesAtMost (4 * edits_by_item source.now sender.now (MessageItem.Request request.now) w)
@@ -163,7 +163,7 @@ fn put_item<'m>(
     requires proper { item_is_proper source.now item.now ≡ true }
     requires sender { length sender.now ≤ SENDER_LIMIT }
     requires room { 16001 * requests_in (item.now ∷ []) + length mark.now ≤ 1 + answer.old.room }
-    ensures ran { Puts state.old state.new answer.old.text answer.new.text
+    ensures ran { TextGrows state.old state.new answer.old.text answer.new.text
         (item_replied source.now sender.now mark.now item.now) }
     ensures work { (w : World) → StandsFor state.old w →
         RisesAtMost (4 * edits_by_item source.now sender.now item.now w) state.old.engine.sums.work
@@ -200,7 +200,7 @@ pub fn put_replies(
     requires proper { are_proper source.now items.now ≡ true }
     requires sender { length sender.now ≤ SENDER_LIMIT }
     requires room { 16001 * requests_in items.now ≤ 1 + answer.old.room }
-    ensures ran { Puts state.old state.new answer.old.text answer.new.text
+    ensures ran { TextGrows state.old state.new answer.old.text answer.new.text
         (replied_to source.now sender.now [] items.now) }
     ensures work { (w : World) → StandsFor state.old w →
         RisesAtMost (4 * edits_by_items source.now sender.now items.now w) state.old.engine.sums.work

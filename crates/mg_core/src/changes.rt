@@ -2,12 +2,12 @@
 
 ghost use Rattle.std.specs.Prelude.{◌≡◌, ◌≤◌, ◌+◌, ◌*◌, ◌++◌, length, codes, decimal, flat_map, MatchOption, None, Some};
 ghost use Rattle.mg_reply.specs.Bytes.{appended};
-ghost use Rattle.mg_core.specs.Flows.{changes, ended, hearing, in_mode, is_same_mode, line_head, listener_at, made, moved, name_of, names_of, told_of_new, told_of_old};
+ghost use Rattle.mg_core.specs.Flows.{changes, ended_line, hearing, in_mode, is_same_mode, line_head, listener_at, made_line, moved_line, name_in_line, names_in_line, told_of_new, told_of_old};
 
 use crate::listener::KeptListener;
 use itoa::Buffer;
 use mg_text::Bytes;
-use mg_words::Mode;
+use mg_words::{MEMBERS, Mode};
 
 /// Writes a number in plain decimal.
 #[tactic(auto, using(crate::proofs::ChangeLaws::lengths))]
@@ -37,8 +37,8 @@ fn push_head(ticks: u64, number: u32, out: &mut Bytes)
 #[tactic(auto, using(crate::proofs::ChangeLaws::steps))]
 fn push_ended(ticks: u64, old: &KeptListener, out: &mut Bytes)
     requires room { 61 ≤ out.old.room }
-    ensures value { out.new ≡ appended out.old (ended ticks old.now) }
-    ensures short { length (ended ticks old.now) ≤ 61 }
+    ensures value { out.new ≡ appended out.old (ended_line ticks old.now) }
+    ensures short { length (ended_line ticks old.now) ≤ 61 }
 {
     push_head(ticks, old.number, out);
     out.push(b" ended\n");
@@ -63,8 +63,8 @@ fn push_place(context: u32, port: u16, out: &mut Bytes)
 #[tactic(auto, using(crate::proofs::ChangeLaws::steps))]
 fn push_made(ticks: u64, new: &KeptListener, out: &mut Bytes)
     requires room { 121 ≤ out.old.room }
-    ensures value { out.new ≡ appended out.old (made ticks new.now) }
-    ensures short { length (made ticks new.now) ≤ 121 }
+    ensures value { out.new ≡ appended out.old (made_line ticks new.now) }
+    ensures short { length (made_line ticks new.now) ≤ 121 }
 {
     push_head(ticks, new.number, out);
     push_place(new.context, new.port, out);
@@ -86,8 +86,8 @@ fn push_context(context: u32, out: &mut Bytes)
 #[tactic(auto, using(crate::proofs::ChangeLaws::steps))]
 fn push_moved(ticks: u64, new: &KeptListener, out: &mut Bytes)
     requires room { 93 ≤ out.old.room }
-    ensures value { out.new ≡ appended out.old (moved ticks new.now) }
-    ensures short { length (moved ticks new.now) ≤ 93 }
+    ensures value { out.new ≡ appended out.old (moved_line ticks new.now) }
+    ensures short { length (moved_line ticks new.now) ≤ 93 }
 {
     push_head(ticks, new.number, out);
     push_context(new.context, out);
@@ -111,8 +111,8 @@ fn push_mode(ticks: u64, new: &KeptListener, out: &mut Bytes)
 #[tactic(auto, using(crate::proofs::ChangeLaws::steps))]
 fn push_name(number: u32, out: &mut Bytes)
     requires room { 25 ≤ out.old.room }
-    ensures value { out.new ≡ appended out.old (name_of number) }
-    ensures short { length (name_of number) ≤ 25 }
+    ensures value { out.new ≡ appended out.old (name_in_line number) }
+    ensures short { length (name_in_line number) ≤ 25 }
 {
     out.push(b" RTP/");
     push_number(u64::from(number), out);
@@ -121,10 +121,10 @@ fn push_name(number: u32, out: &mut Bytes)
 /// Writes the names of terminations, or that there is none.
 #[tactic(auto, using(crate::proofs::ChangeLaws::steps))]
 fn push_names(numbers: &[u32], out: &mut Bytes)
-    requires few { length numbers.now ≤ 64 }
+    requires few { length numbers.now ≤ MEMBERS }
     requires room { 1600 ≤ out.old.room }
-    ensures value { out.new ≡ appended out.old (names_of numbers.now) }
-    ensures short { length (names_of numbers.now) ≤ 1600 }
+    ensures value { out.new ≡ appended out.old (names_in_line numbers.now) }
+    ensures short { length (names_in_line numbers.now) ≤ 1600 }
 {
     if numbers.is_empty() {
         out.push(b" nobody");

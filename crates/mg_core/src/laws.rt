@@ -2,11 +2,11 @@
 
 ghost use Rattle.std.specs.Prelude.{◌≡◌, List};
 ghost use Rattle.mg_core.specs.declared.event.Event.{Event};
-ghost use Rattle.mg_commands.specs.Theorems.{RefusedNamesChangeNothing, RefusedCommandsChangeNothing, RefusedActionsChangeNothing, RefusedTopologiesChangeNothing, OthersAreTried};
-ghost use Rattle.mg_core.specs.Apart.{SameEventKeepsAgreement, OneArrivalKeepsAgreement, SamePackets, UnheardChangesNothing, UnheardInHistories, UnheardInScripts};
+ghost use Rattle.mg_commands.specs.Theorems.{RefusedNamesChangeNothing, RefusedCommandsChangeNothing, RefusedActionsChangeNothing, RefusedTopologiesChangeNothing, OthersAreTried, RefusedRequestsChangeNothing};
+ghost use Rattle.mg_core.specs.Apart.{SameEventKeepsAgreement, OneArrivalKeepsAgreement, SamePacketsFromPort, UnheardChangesNothing, UnheardInHistories, UnheardInScripts};
 ghost use Rattle.mg_core.specs.Counting.{EventsAreCounted, RunsTake};
 ghost use Rattle.mg_core.specs.Headline.{EventsLeadToOneWorld, OneGatewayOneFuture, WorldsAreConsistent};
-ghost use Rattle.mg_engine.specs.Isolation.{NobodyHearsHimself, IsolatedAreNotHeard, UnheardChangesNoPacket, PayloadsAreMixes};
+ghost use Rattle.mg_engine.specs.Isolation.{NobodyHearsHimself, OwnSpeechChangesNoPacket, IsolatedAreNotHeard, UnheardChangesNoPacket, PayloadsAreMixes};
 ghost use Rattle.mg_core.specs.Interleaving.{OrderOfPortsIsNothing, HistoriesAreOne, ScriptsAreOne};
 ghost use Rattle.mg_core.specs.Recording.{RecordingsAreRead, CutRecordingsAreRead};
 ghost use Rattle.mg_core.specs.Repeats.{KeptRepliesAreSent, RepetitionsAreAnsweredAlike, OthersAreRun, RepliesLast, NoneIsNewer, AcknowledgedAreGone, PushedOutAreGone, GoneAreRun, RepliesAreKept};
@@ -105,7 +105,7 @@ pub fn order_of_ports_is_nothing()
 pub fn unheard_changes_nothing()
     ensures event { SameEventKeepsAgreement }
     ensures one { OneArrivalKeepsAgreement }
-    ensures packets { SamePackets }
+    ensures packets { SamePacketsFromPort }
     ensures lists { UnheardChangesNothing }
     ensures histories { UnheardInHistories }
     ensures scripts { UnheardInScripts }
@@ -148,8 +148,10 @@ pub fn headline()
     ensures refused_actions { RefusedActionsChangeNothing }
     ensures refused_topologies { RefusedTopologiesChangeNothing }
     ensures others { OthersAreTried }
+    ensures refused_requests { RefusedRequestsChangeNothing }
     ensures later { OneGatewayOneFuture }
     ensures himself { NobodyHearsHimself }
+    ensures own { OwnSpeechChangesNoPacket }
     ensures isolated { IsolatedAreNotHeard }
     ensures unheard { UnheardChangesNoPacket }
 {

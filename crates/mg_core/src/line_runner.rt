@@ -3,7 +3,7 @@ ghost use Rattle.mg_engine.specs.declared.config.Config.{Config};
 ghost use Rattle.mg_engine.specs.Config.{IsValidConfig};
 ghost use Rattle.mg_words.specs.Leads.{Leads};
 ghost use Rattle.mg_core.specs.Step.{Step};
-ghost use Rattle.mg_core.specs.aids.Steps.{AreKept, ChangesWritten, EventRan, Follows, LeadsOn, LineRan};
+ghost use Rattle.mg_core.specs.aids.Steps.{AreKeptListeners, ChangesWritten, EventRan, Follows, LeadsOn, LineRan};
 ghost use Rattle.mg_core.specs.declared.shown.Shown.{Shown};
 ghost use Rattle.mg_core.specs.World.{World, StandsFor, start_of};
 
@@ -27,7 +27,7 @@ const OUTPUT_LIMIT: usize = 27 + 2 * ANSWER_LIMIT;
 
 /// What is kept of terminations for a form of a run, on a gateway without terminations.
 fn watched_for(alloc: Global, shown: Shown) -> Result<Option<Watched>, AllocError>
-    ensures value { (config : Config) → IfOk result (λ watched. AreKept shown watched (start_of config)) }
+    ensures value { (config : Config) → IfOk result (λ watched. AreKeptListeners shown watched (start_of config)) }
 {
     match shown {
         Shown::Sent => Ok(None),
@@ -127,10 +127,10 @@ impl LineRunner {
     fn show_changes<W: Write>(&mut self, writer: &mut W) -> Result<(), EventFault>
         ensures core { self.new.core ≡ self.old.core }
         ensures sent { self.new.sent ≡ self.old.sent }
-        ensures value { (shown : Shown) (w next : World) → AreKept shown self.old.watched w →
+        ensures value { (shown : Shown) (w next : World) → AreKeptListeners shown self.old.watched w →
             StandsFor self.old.core.state next →
             ChangesWritten shown w next (W.contents writer.old) (W.contents writer.new) result
-            × AreKept shown self.new.watched next }
+            × AreKeptListeners shown self.new.watched next }
     {
         match &mut self.watched {
             None => Ok(()),

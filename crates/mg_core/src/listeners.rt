@@ -18,13 +18,14 @@ pub struct KeptListeners {
 
 impl Model for KeptListeners {
     ghost use Rattle.std.specs.Prelude.{◌≡◌, ◌≤◌, List, length, take};
+    ghost use Rattle.mg_words.specs.Limits.{termination_limit};
     ghost use Rattle.mg_core.specs.Flows.{Listener};
 
     ghost Value = { List Listener };
 
     ghost view = { λ x. take x.len x.places.items };
 
-    ghost invariant = { λ x. (length x.places.items ≡ 256) × (x.len ≤ 256) };
+    ghost invariant = { λ x. (length x.places.items ≡ termination_limit) × (x.len ≤ termination_limit) };
 }
 
 impl KeptListeners {

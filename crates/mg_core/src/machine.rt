@@ -17,7 +17,7 @@ ghost use Rattle.mg_core.specs.Headline.{CameTo, GoesOn, FlowIsAnew, TotalIsAnew
 ghost use Rattle.mg_core.specs.Step.{Step, Packet, answer_to, told};
 ghost use Rattle.mg_words.specs.Leads.{Leads};
 ghost use Rattle.mg_core.specs.Work.{HasDone, edits_by_items};
-ghost use Rattle.mg_core.specs.World.{World, StandsFor, Took, counts_of, packets_of, start_of, ticked, with_control};
+ghost use Rattle.mg_core.specs.World.{World, StandsFor, Took, counts_of, packets_of, start_of, world_after_tick, with_control};
 
 use crate::answer::Answer;
 use crate::answering::{has_requests, items_of, put_error, put_replies, refusal_of};
@@ -188,7 +188,7 @@ impl Core {
     /// Passes on by 20 ms. The packets that are to be sent are told by [`Core::outbox`].
     pub fn tick(&mut self)
         ensures sent { (w : World) → StandsFor self.old.state w → self.new.outbox ≡ packets_of w }
-        ensures next { (w : World) → StandsFor self.old.state w → StandsFor self.new.state (ticked w) }
+        ensures next { (w : World) → StandsFor self.old.state w → StandsFor self.new.state (world_after_tick w) }
         ensures packets { PacketsAreAnew self.old.state self.new.outbox }
         ensures headline { GoesOn self.old.state self.new.state events.Tick (map Packet self.new.outbox) }
         ensures work { (w : World) → StandsFor self.old.state w →

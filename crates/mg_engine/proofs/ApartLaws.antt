@@ -5,7 +5,7 @@ use Rattle.std.specs.Prelude.{option_to_list}
 use Rattle.std.specs.Option.{option_map}
 use Rattle.mg_words.specs.ResultSteps.{◌>>=◌}
 use Rattle.mg_words.specs.declared.error_number.ErrorNumber.{ErrorNumber}
-use Rattle.mg_playout.specs.Playout.{first_state}
+use Rattle.mg_playout.specs.Playout.{first_list}
 use Rattle.mg_rtp.specs.declared.header.Header.{Header}
 use Rattle.mg_rtp.specs.Reading.{Reading}
 use Rattle.mg_rooms.specs.declared.record.Record.{Record}
@@ -18,7 +18,7 @@ use Rattle.mg_rooms.specs.Registry.{members_at}
 use Rattle.mg_sums.specs.Samples.{silence}
 use Rattle.mg_engine.specs.declared.topology_triple.TopologyTriple.{TopologyTriple}
 use Rattle.mg_engine.specs.Apart.{AgreeOutside, EndsAlike, IsPortAmong, SameEditsKeepAgreement, AgreementIsMutual, SamePackets, SameStatsButReceived, SameTickKeepsAgreement, but_received, unless_among, without_arrivals}
-use Rattle.mg_engine.specs.Arrival.{Arrived, arrived, at_port, placed, placed_at, taken_at, taken_by}
+use Rattle.mg_engine.specs.Arrival.{Arrived, arrived, at_port, frame_placed, frame_placed_at, taken_at, taken_by}
 use Rattle.mg_engine.specs.Flow.{has}
 use Rattle.mg_engine.specs.Steps.{counted_up}
 use Rattle.mg_engine.specs.Gateway.{Gateway, TerminationMedia, ContextEdit, Enter, Leave, frame_in, frame_of, media_of, new_media}
@@ -77,7 +77,7 @@ module _ (some : List ℕ) where
   like_at : (s t : TerminationMedia) (b : Bool) → is_in s ≡ b → IsLike some s t → unless b s ≡ unless b t
   like_at s t true e h = λ i. record {
     number = h.number i;
-    play = first_state;
+    play = first_list;
     frame = silence;
     stats = record { ps = h.ps i; pr = 0; os = h.os i; or_ = 0 };
     ticks = h.ticks i;
@@ -233,7 +233,7 @@ module _ (some : List ℕ) where
   }
 
   placed_like : (p : Header × List ℤ) (s t : TerminationMedia) → IsLike some s t →
-      IsLike some (placed p.0 p.1 s) (placed p.0 p.1 t)
+      IsLike some (frame_placed p.0 p.1 s) (frame_placed p.0 p.1 t)
   placed_like p s t h = record {
     number = h.number;
     ticks = h.ticks;
@@ -241,12 +241,12 @@ module _ (some : List ℕ) where
     sent_last = h.sent_last;
     ps = h.ps;
     os = h.os;
-    outside = λ out. ap (placed p.0 p.1) (h.outside out);
+    outside = λ out. ap (frame_placed p.0 p.1) (h.outside out);
   }
 
   -- what comes to one of some changes nothing else
   one_placed : (p : Header × List ℤ) (s : TerminationMedia) → has some s.number ≡ true →
-      IsLike some (placed p.0 p.1 s) s
+      IsLike some (frame_placed p.0 p.1 s) s
   one_placed p s is_one = record {
     number = refl;
     ticks = refl;
@@ -330,7 +330,7 @@ module _ (some : List ℕ) where
   -- ## Arrivals
 
   abbrev place : ℕ → Header × List ℤ → Gateway → Option TerminationMedia → Gateway
-  place n p w o = (placed_at w n p o).0
+  place n p w o = (frame_placed_at w n p o).0
 
   places : (n : ℕ) (p : Header × List ℤ) (a b : Gateway) (o k : Option TerminationMedia) → BothLike o k →
       AgreeOutside some a b → AgreeOutside some (place n p a o) (place n p b k)
@@ -342,9 +342,10 @@ module _ (some : List ℕ) where
         config = h.config;
         rooms = h.rooms;
         edits = h.edits;
-        media = same_map (changed n (λ m. Some (placed p.0 p.1 m)) a.media)
-            (changed n (λ m. Some (placed p.0 p.1 m)) b.media)
-            (changes n (λ m. Some (placed p.0 p.1 m)) (λ m. Some (placed p.0 p.1 m)) a.media b.media (placed_like p)
+        media = same_map (changed n (λ m. Some (frame_placed p.0 p.1 m)) a.media)
+            (changed n (λ m. Some (frame_placed p.0 p.1 m)) b.media)
+            (changes n (λ m. Some (frame_placed p.0 p.1 m)) (λ m. Some (frame_placed p.0 p.1 m)) a.media b.media
+            (placed_like p)
             (media_like a b h));
       }
 
@@ -364,14 +365,14 @@ module _ (some : List ℕ) where
 
   -- at one of some
   one_changes_at : (n : ℕ) (p : Header × List ℤ) (s : TerminationMedia) (xs : List TerminationMedia) (b : Bool) →
-      eqb s.number n ≡ b → has some n ≡ true → AreLike (changed n (λ m. Some (placed p.0 p.1 m)) xs) xs
-      → AreLike (cond b (placed p.0 p.1 s ∷ xs) (s ∷ changed n (λ m. Some (placed p.0 p.1 m)) xs)) (s ∷ xs)
+      eqb s.number n ≡ b → has some n ≡ true → AreLike (changed n (λ m. Some (frame_placed p.0 p.1 m)) xs) xs
+      → AreLike (cond b (frame_placed p.0 p.1 s ∷ xs) (s ∷ changed n (λ m. Some (frame_placed p.0 p.1 m)) xs)) (s ∷ xs)
   one_changes_at n p s xs true e is_one rest =
       (one_placed p s (ap (has some) (eqb-true s.number n e) ∙ is_one), all_like xs)
   one_changes_at n p s xs false e is_one rest = (like_self s, rest)
 
   one_changes : (n : ℕ) (p : Header × List ℤ) (xs : List TerminationMedia) → has some n ≡ true →
-      AreLike (changed n (λ m. Some (placed p.0 p.1 m)) xs) xs
+      AreLike (changed n (λ m. Some (frame_placed p.0 p.1 m)) xs) xs
   one_changes n p [] is_one = tt
   one_changes n p (s ∷ xs) is_one = one_changes_at n p s xs (eqb s.number n) refl is_one (one_changes n p xs is_one)
 
@@ -383,7 +384,7 @@ module _ (some : List ℕ) where
     config = h.config;
     rooms = h.rooms;
     edits = h.edits;
-    media = same_map (changed n (λ m. Some (placed p.0 p.1 m)) a.media) a.media (one_changes n p a.media is_one) ∙
+    media = same_map (changed n (λ m. Some (frame_placed p.0 p.1 m)) a.media) a.media (one_changes n p a.media is_one) ∙
         h.media;
   }
 

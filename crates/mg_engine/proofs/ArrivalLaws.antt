@@ -24,9 +24,10 @@ use Rattle.mg_engine.specs.declared.taken.Taken.{Taken}
 use Rattle.mg_engine.specs.declared.taken.Taken.TheVariants.{Placed}
 use Rattle.mg_engine.specs.Gateway.{Gateway, TerminationMedia, media_of}
 use Rattle.mg_engine.specs.Steps.{received}
-use Rattle.mg_rtp.specs.Reading.{IsReading, reading_of}
-use Rattle.mg_engine.specs.Arrival.{Arrived, placed, placed_at, taken_at}
+use Rattle.mg_rtp.specs.Reading.{IsPacketReading, reading_of}
+use Rattle.mg_engine.specs.Arrival.{Arrived, frame_placed, frame_placed_at, taken_at}
 use Rattle.mg_engine.specs.Media as media
+use Rattle.mg_engine.specs.aids.MediaSteps as media_steps
 use Rattle.mg_engine.specs.Media.{idle}
 use Rattle.mg_engine.specs.aids.Sending.{PlacedAt}
 use Rattle.mg_engine.specs.Stands.{EngineState, StandsFor, IsMediaOf, media_at}
@@ -38,13 +39,13 @@ use Rattle.mg_engine.proofs.GatewayLaws.{has_media, media_is}
 
 pub is_reading : (bytes : List ℕ) (r : Result Packet RtpFault) →
     IfOk r (λ packet. IsPacket bytes packet.header packet.payload.now) →
-    ((f : RtpFault) → (r ≡ Err f) ↔ IsFault bytes f) → IsReading bytes (reading_of r)
+    ((f : RtpFault) → (r ≡ Err f) ↔ IsFault bytes f) → IsPacketReading bytes (reading_of r)
 is_reading bytes (Ok packet) found fault = found
 is_reading bytes (Err f) found fault = (fault f).0 refl
 
 placed_is : (config : Config) (header : Header) (frame : List ℤ) (m : media.SlotMedia) (row : List ℤ)
     (s : TerminationMedia) → IsMediaOf config m row s →
-    IsMediaOf config ((media.placed m header frame).0) row (placed header frame s)
+    IsMediaOf config ((media_steps.slot_placed m header frame).0) row (frame_placed header frame s)
 placed_is config header frame m row s h = record {
   play = ap (λ (p : PlayList). (play_lists.placed p header.ssrc header.sequence frame).0) h.play;
   frame = h.frame;
@@ -113,14 +114,14 @@ took_stands k w r after (Err cause) result slots found lt p h = (
 )
 took_stands k w r after (Ok a) result slots found lt p h =
     let (s, there, is) = has_media k w r.number r h found in
-    let now = with_changed w r.number (placed a.0 a.1) in
-    let m = (media.placed (media_at k.media r.slot) a.0 a.1).0 in
+    let now = with_changed w r.number (frame_placed a.0 a.1) in
+    let m = (media_steps.slot_placed (media_at k.media r.slot) a.0 a.1).0 in
     let answer = ap (λ (x : PlayList). Placed ((play_lists.placed x a.0.ssrc a.0.sequence a.1).1)) (sym is.play) ∙
     sym p.1 in
-    let stands = placed_stands k w r (placed a.0 a.1) m s (λ x. refl) slots found lt h there
+    let stands = placed_stands k w r (frame_placed a.0 a.1) m s (λ x. refl) slots found lt h there
     (placed_is k.config a.0 a.1 (media_at k.media r.slot) (get_or k.sums.frames r.slot []) s is) in (
       now,
-      ap (placed_at w r.number a) there ∙
+      ap (frame_placed_at w r.number a) there ∙
           ap (λ (t : Taken). let q : Gateway × Taken = (now, t) in q) answer,
       subst (λ (ms : List media.SlotMedia). StandsFor (with_media k ms) now) (sym p.0) stands,
     )

@@ -10,6 +10,7 @@ use Rattle.mg_rooms.specs.declared.record.Record.{Record}
 use Rattle.mg_rooms.specs.Registry as rooms
 use Rattle.mg_engine.specs.Gateway.{Gateway}
 use Rattle.mg_engine.specs.Media as media
+use Rattle.mg_engine.specs.aids.MediaSteps as media_steps
 use Rattle.mg_engine.specs.Stands.{EngineState, StandsFor, media_at}
 use Rattle.mg_engine.specs.Tick.{conceals, conceals_in, concealed_in_tick}
 use Rattle.mg_engine.proofs.GatewayLaws.{has_media}
@@ -17,7 +18,7 @@ use Rattle.mg_engine.proofs.PlaceLaws.{ByNumber}
 use Rattle.mg_engine.proofs.SendingLaws.{nobody}
 
 abbrev pub conceals_slot : List media.SlotMedia → ℕ → Bool
-conceals_slot kept slot = media.is_concealing (media_at kept slot)
+conceals_slot kept slot = media_steps.is_concealing (media_at kept slot)
 
 abbrev one : Bool → ℕ
 one b = cond b 1 0

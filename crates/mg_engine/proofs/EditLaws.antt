@@ -21,6 +21,7 @@ use Rattle.mg_sums.specs.Samples.{silence}
 use Rattle.mg_engine.specs.Gateway.{Gateway, TerminationMedia, Enter, new_media, media_of}
 use Rattle.mg_engine.specs.Steps.{play_after}
 use Rattle.mg_engine.specs.Media as media
+use Rattle.mg_engine.specs.aids.MediaSteps as media_steps
 use Rattle.mg_engine.specs.Media.{idle}
 use Rattle.mg_engine.specs.Outcome.{tuned, media_with, media_without, added, subtracted}
 use Rattle.mg_engine.specs.Stands.{EngineState, StandsFor, IsMediaOf, media_at}
@@ -28,7 +29,7 @@ use Rattle.mg_sums.specs.Sums as sums
 use Rattle.mg_engine.specs.aids.Joined.{AreJoined}
 use Rattle.mg_engine.specs.aids.Members.{HasMembers}
 use Rattle.mg_engine.specs.aids.Seating.{AreSeated}
-use Rattle.mg_engine.specs.aids.Whole.{IsWhole}
+use Rattle.mg_engine.specs.aids.Whole.{IsWholeEngine}
 use Rattle.mg_engine.proofs.MemberLaws.{Others, Hears, no_record, unequal}
 use Rattle.mg_engine.proofs.JoinedLaws.{Slots}
 use Rattle.mg_engine.proofs.KeyLaws.{none_before_last, found_push, found_push_other, found_changed, found_other, found_replaced, none_left, mapped_kept, keys_left, spots_left}
@@ -37,7 +38,7 @@ use Rattle.mg_engine.proofs.GatewayLaws.{found_too, found_key, has_media, media_
 
 -- ## Media of the termination that an edit is done on
 
-begun_is : (config : Config) (n : ℕ) → IsMediaOf config (media.begun config) silence (new_media n)
+begun_is : (config : Config) (n : ℕ) → IsMediaOf config (media_steps.begun config) silence (new_media n)
 begun_is config n = record {
   play = refl;
   frame = refl;
@@ -48,7 +49,7 @@ begun_is config n = record {
 }
 
 tuned_is : (config : Config) (settings : Settings) (m : media.SlotMedia) (row : List ℤ) (s : TerminationMedia) →
-    IsMediaOf config m row s → IsMediaOf config (media.tuned settings.depth m) row (tuned settings s)
+    IsMediaOf config m row s → IsMediaOf config (media_steps.slot_tuned settings.depth m) row (tuned settings s)
 tuned_is config settings m row s h = record {
   play = ap (λ (p : PlayList). play_after settings.depth p) h.play;
   frame = h.frame;
@@ -74,24 +75,27 @@ more_terminations old new d a = ap length a.terminations ∙ length_push old.ter
 
 pub slots_kept : (config : Config) (old new : rooms.Registry) (pool : Limits) (kept : List media.SlotMedia)
     (held : List ℕ) (flows : List flow.Room) (seating : List ℕ) (rows : List (Option ℕ)) →
-    IsWhole config old pool kept held flows seating rows → new.limits ≡ old.limits → new.limits.slots ≤ length kept
+    IsWholeEngine config old pool kept held flows seating rows → new.limits ≡ old.limits →
+    new.limits.slots ≤ length kept
 slots_kept config old new pool kept held flows seating rows h same =
     omega (arith, ap (λ (l : Limits). l.slots) (same ∙ h.limits), h.media)
 
 pub room_left : (config : Config) (old new : rooms.Registry) (d : Record) (pool : Limits)
     (kept : List media.SlotMedia) (held : List ℕ) (flows : List flow.Room) (seating : List ℕ) (rows : List (Option ℕ))
-    → IsWhole config old pool kept held flows seating rows → Adds old new d → IsSound new → length held < TERMINATIONS
+    → IsWholeEngine config old pool kept held flows seating rows → Adds old new d → IsSound new →
+    length held < TERMINATIONS
 room_left config old new d pool kept held flows seating rows h a sound =
     let some = ap length h.held ∙ length-map old.terminations (λ r. r.slot) in
     omega (arith, sound.few, more_terminations old new d a, some, sound.consistent.limits.0.few_slots)
 
 pub whole_added : (config : Config) (old new : rooms.Registry) (d : Record) (pool : Limits)
     (kept after : List media.SlotMedia) (held now : List ℕ) (before flows : List flow.Room) (seating seated : List ℕ)
-    (rows joined : List (Option ℕ)) → IsWhole config old pool kept held before seating rows → (a : Adds old new d) →
+    (rows joined : List (Option ℕ)) → IsWholeEngine config old pool kept held before seating rows →
+    (a : Adds old new d) →
     IsSound new
     → length after ≡ length kept → now ≡ held ++ d.slot ∷ [] → HasMembers new flows → AreSeated new seated →
     length seated ≡ length seating → AreJoined new joined → length joined ≡ termination_limit →
-    IsWhole config new pool after now flows seated joined
+    IsWholeEngine config new pool after now flows seated joined
 whole_added config old new d pool kept after held now before flows seating seated rows joined h a sound same pushed
     members seats long at_rooms limited =
     record {
@@ -113,13 +117,14 @@ whole_added config old new d pool kept after held now before flows seating seate
 -- media that begin and are tuned
 pub begun_tuned : (kept first after : List media.SlotMedia) (slot : ℕ) (begun : media.SlotMedia) (depth : Option ℕ) →
     slot < length kept → first ≡ set kept slot begun →
-    after ≡ set first slot (media.tuned depth (media_at first slot)) → after ≡ set kept slot (media.tuned depth begun)
+    after ≡ set first slot (media_steps.slot_tuned depth (media_at first slot)) →
+    after ≡ set kept slot (media_steps.slot_tuned depth begun)
 begun_tuned kept first after slot begun depth lt one two =
     two
-    ∙ ap (λ (ms : List media.SlotMedia). set ms slot (media.tuned depth (media_at ms slot))) one
-    ∙ ap (λ (m : media.SlotMedia). set (set kept slot begun) slot (media.tuned depth m))
+    ∙ ap (λ (ms : List media.SlotMedia). set ms slot (media_steps.slot_tuned depth (media_at ms slot))) one
+    ∙ ap (λ (m : media.SlotMedia). set (set kept slot begun) slot (media_steps.slot_tuned depth m))
     (get_or-set_same kept slot begun idle lt)
-    ∙ set-set kept slot begun (media.tuned depth begun)
+    ∙ set-set kept slot begun (media_steps.slot_tuned depth begun)
 
 -- no termination had the number before
 pub unknown_before : (old new : rooms.Registry) (d : Record) → Adds old new d → IsSound new →
@@ -171,7 +176,7 @@ added_media : (k : EngineState) (new : rooms.Registry) (after : List media.SlotM
     (w : Gateway) (settings : Settings) (d : Record) (r : Record) → Adds k.rooms new d → IsSound new → Slots new →
     Others k.rooms new d.number → record_at new d.number ≡ Some r
     → r.slot < length k.media → r.slot < length k.sums.frames →
-    after ≡ set k.media r.slot (media.tuned settings.depth (media.begun k.config)) →
+    after ≡ set k.media r.slot (media_steps.slot_tuned settings.depth (media_steps.begun k.config)) →
     frames ≡ set k.sums.frames r.slot silence → StandsFor k w
     → (m : ℕ) (q : Record) (s : TerminationMedia) → record_at new m ≡ Some q →
     find (λ s. eqb s.number m) (w.media ++ newcomer settings d ∷ []) ≡ Some s → (b : Bool) → eqb d.number m ≡ b →
@@ -183,17 +188,18 @@ added_media k new after frames w settings d r a sound slots others made lt in_ro
     let none = none_too k w d.number h.numbers (unknown_before k.rooms new d a sound) (media_of w d.number) refl in
     let pushed = found_push (λ s. s.number) m w.media (newcomer settings d) e (ap (media_of w) (sym same) ∙ none) in
     let stream : newcomer settings d ≡ s = same_Some (newcomer settings d) s (sym pushed ∙ there) in
-    let kept : media_at after q.slot ≡ media.tuned settings.depth (media.begun k.config) =
+    let kept : media_at after q.slot ≡ media_steps.slot_tuned settings.depth (media_steps.begun k.config) =
     ap (λ (x : Record). media_at after x.slot) (sym is) ∙
     ap (λ (ms : List media.SlotMedia). media_at ms r.slot) set_to ∙
-    get_or-set_same k.media r.slot (media.tuned settings.depth (media.begun k.config)) idle lt in
+    get_or-set_same k.media r.slot (media_steps.slot_tuned settings.depth (media_steps.begun k.config)) idle lt in
     let row : get_or frames q.slot [] ≡ silence =
     ap (λ (x : Record). get_or frames x.slot []) (sym is) ∙ ap (λ (fs : List (List ℤ)). get_or fs r.slot []) silent ∙
     get_or-set_same k.sums.frames r.slot silence [] in_rows in
-    media_is k.config (media_at after q.slot) (media.tuned settings.depth (media.begun k.config))
+    media_is k.config (media_at after q.slot) (media_steps.slot_tuned settings.depth (media_steps.begun k.config))
     (get_or frames q.slot []) silence s kept row
-    (subst (λ (x : TerminationMedia). IsMediaOf k.config (media.tuned settings.depth (media.begun k.config)) silence
-    x) stream (tuned_is k.config settings (media.begun k.config) silence (new_media d.number)
+    (subst (λ (x : TerminationMedia). IsMediaOf k.config
+    (media_steps.slot_tuned settings.depth (media_steps.begun k.config)) silence
+    x) stream (tuned_is k.config settings (media_steps.begun k.config) silence (new_media d.number)
     (begun_is k.config d.number)))
 added_media k new after frames w settings d r a sound slots others made lt in_rows set_to silent h m q s found there
     false e =
@@ -202,7 +208,8 @@ added_media k new after frames w settings d r a sound slots others made lt in_ro
     let stream = sym (found_push_other (λ s. s.number) m w.media (newcomer settings d) e) ∙ there in
     let kept : media_at after q.slot ≡ media_at k.media q.slot =
     ap (λ (ms : List media.SlotMedia). media_at ms q.slot) set_to ∙
-    others_kept new k.media (media.tuned settings.depth (media.begun k.config)) m d.number r q slots made found
+    others_kept new k.media (media_steps.slot_tuned settings.depth (media_steps.begun k.config)) m d.number r q slots
+    made found
     apart in
     let row = ap (λ (fs : List (List ℤ)). get_or fs q.slot []) silent ∙
     frames_kept new k.sums.frames silence m d.number r q slots made found apart in
@@ -213,7 +220,7 @@ pub added_stands : (k : EngineState) (new : rooms.Registry) (after : List media.
     (kept : sums.SumsState) (w : Gateway) (settings : Settings) (d : Record) (r : Record) → Adds k.rooms new d →
     IsSound new → Slots new → Others k.rooms new d.number → record_at new d.number ≡ Some r
     → r.slot < length k.media → r.slot < length k.sums.frames →
-    after ≡ set k.media r.slot (media.tuned settings.depth (media.begun k.config)) →
+    after ≡ set k.media r.slot (media_steps.slot_tuned settings.depth (media_steps.begun k.config)) →
     kept.frames ≡ set k.sums.frames r.slot silence → Hears new flows (Enter d.number ∷ w.edits) → StandsFor k w
     → StandsFor (with_rooms k new after flows kept) (added w settings new d)
 added_stands k new after flows kept w settings d r a sound slots others made lt in_rows set_to silent hears h = record {
@@ -255,10 +262,10 @@ kept_by f k new n d a same =
 
 pub whole_changed : (k : EngineState) (new : rooms.Registry) (n : ℕ) (d : Record) (pool : Limits)
     (after : List media.SlotMedia) (held : List ℕ) (flows : List flow.Room) (seating seated : List ℕ)
-    (joined : List (Option ℕ)) → IsWhole k.config k.rooms pool k.media held k.flows seating k.sums.rooms →
+    (joined : List (Option ℕ)) → IsWholeEngine k.config k.rooms pool k.media held k.flows seating k.sums.rooms →
     Changes k.rooms new n d → IsSound new → length after ≡ length k.media
     → HasMembers new flows → AreSeated new seated → length seated ≡ length seating → AreJoined new joined →
-    length joined ≡ termination_limit → IsWhole k.config new pool after held flows seated joined
+    length joined ≡ termination_limit → IsWholeEngine k.config new pool after held flows seated joined
 whole_changed k new n d pool after held flows seating seated joined h a sound same members seats long at_rooms
     limited = record {
       sound = sound;
@@ -276,7 +283,8 @@ whole_changed k new n d pool after held flows seating seated joined h a sound sa
 tuned_media : (k : EngineState) (new : rooms.Registry) (after : List media.SlotMedia) (frames : List (List ℤ))
     (w : Gateway) (settings : Settings) (n : ℕ) (d : Record) (a : Changes k.rooms new n d) → Slots new →
     Others k.rooms new n
-    → d.slot < length k.media → after ≡ set k.media d.slot (media.tuned settings.depth (media_at k.media d.slot)) →
+    → d.slot < length k.media →
+    after ≡ set k.media d.slot (media_steps.slot_tuned settings.depth (media_at k.media d.slot)) →
     frames ≡ k.sums.frames → StandsFor k w
     → (m : ℕ) (q : Record) (s : TerminationMedia) → record_at new m ≡ Some q →
     find (λ s. eqb s.number m) (media_with settings n w.media) ≡ Some s → (b : Bool) → eqb n m ≡ b →
@@ -290,17 +298,17 @@ tuned_media k new after frames w settings n d a slots others lt set_to rows h m 
     let s_is : tuned settings t ≡ s = same_Some (tuned settings t) s
     (ap (option_map (tuned settings)) (sym was) ∙ now) in
     let old = media_at k.media d.slot in
-    let kept : media_at after q.slot ≡ media.tuned settings.depth old =
+    let kept : media_at after q.slot ≡ media_steps.slot_tuned settings.depth old =
     ap (λ (x : Record). media_at after x.slot) (sym is) ∙
     ap (λ (ms : List media.SlotMedia). media_at ms d.slot) set_to ∙
-    get_or-set_same k.media d.slot (media.tuned settings.depth old) idle lt in
+    get_or-set_same k.media d.slot (media_steps.slot_tuned settings.depth old) idle lt in
     let begin = subst (λ (slot : ℕ). IsMediaOf k.config (media_at k.media slot) (get_or k.sums.frames slot []) t)
     (sym a.slot) stream in
     let row : get_or frames q.slot [] ≡ get_or k.sums.frames d.slot [] =
     ap (λ (x : Record). get_or frames x.slot []) (sym is) ∙ ap (λ (fs : List (List ℤ)). get_or fs d.slot []) rows in
-    media_is k.config (media_at after q.slot) (media.tuned settings.depth old) (get_or frames q.slot [])
+    media_is k.config (media_at after q.slot) (media_steps.slot_tuned settings.depth old) (get_or frames q.slot [])
     (get_or k.sums.frames d.slot []) s kept row
-    (subst (λ (x : TerminationMedia). IsMediaOf k.config (media.tuned settings.depth old)
+    (subst (λ (x : TerminationMedia). IsMediaOf k.config (media_steps.slot_tuned settings.depth old)
     (get_or k.sums.frames d.slot []) x) s_is
     (tuned_is k.config settings old (get_or k.sums.frames d.slot []) t begin))
 tuned_media k new after frames w settings n d a slots others lt set_to rows h m q s found there false e =
@@ -311,7 +319,7 @@ tuned_media k new after frames w settings n d a slots others lt set_to rows h m 
     rw no refl)) ∙ there in
     let kept : media_at after q.slot ≡ media_at k.media q.slot =
     ap (λ (ms : List media.SlotMedia). media_at ms q.slot) set_to ∙
-    others_kept new k.media (media.tuned settings.depth (media_at k.media d.slot)) m n d q slots
+    others_kept new k.media (media_steps.slot_tuned settings.depth (media_at k.media d.slot)) m n d q slots
     (changed_is k new n d a) found apart in
     media_is k.config (media_at after q.slot) (media_at k.media q.slot) (get_or frames q.slot [])
     (get_or k.sums.frames q.slot []) s kept (ap (λ (fs : List (List ℤ)). get_or fs q.slot []) rows)
@@ -330,7 +338,8 @@ tuned_numbers k new w settings n d a h =
 pub changed_stands : (k : EngineState) (new : rooms.Registry) (after : List media.SlotMedia) (flows : List flow.Room)
     (kept : sums.SumsState) (w now : Gateway) (settings : Settings) (n : ℕ) (d : Record) (a : Changes k.rooms new n d)
     → Slots new → Others k.rooms new n
-    → d.slot < length k.media → after ≡ set k.media d.slot (media.tuned settings.depth (media_at k.media d.slot)) →
+    → d.slot < length k.media →
+    after ≡ set k.media d.slot (media_steps.slot_tuned settings.depth (media_at k.media d.slot)) →
     kept.frames ≡ k.sums.frames → StandsFor k w
     → now.config ≡ w.config → now.rooms ≡ new → now.media ≡ media_with settings n w.media →
     Hears new flows now.edits → StandsFor (with_rooms k new after flows kept) now
@@ -356,10 +365,10 @@ left_terminations k new n d a = a.terminations ∙
 
 pub whole_removed : (k : EngineState) (new : rooms.Registry) (n : ℕ) (d : Record) (pool : Limits) (held now : List ℕ)
     (flows : List flow.Room) (seating : List ℕ) (joined : List (Option ℕ)) →
-    IsWhole k.config k.rooms pool k.media held k.flows seating k.sums.rooms → (a : Removes k.rooms new n d) →
+    IsWholeEngine k.config k.rooms pool k.media held k.flows seating k.sums.rooms → (a : Removes k.rooms new n d) →
     IsSound k.rooms → IsSound new → now ≡ filter (λ s. not (eqb s d.slot)) held
     → HasMembers new flows → AreSeated new seating → AreJoined new joined → length joined ≡ termination_limit →
-    IsWhole k.config new pool k.media now flows seating joined
+    IsWholeEngine k.config new pool k.media now flows seating joined
 whole_removed k new n d pool held now flows seating joined h a sound after left members seats at_rooms limited =
     record {
       sound = after;

@@ -3,7 +3,7 @@ use Rattle.std.proofs.Common.{◌≡◌, ℕ, ◌<◌, eqb, not, Bool, true, fal
 use Rattle.std.specs.Prelude.{IsSome, ok_or, option_to_list}
 use Rattle.std.proofs.lemmas.Bool.{eqb-true, ne_eqb}
 use Rattle.mg_rooms.specs.declared.context.Context.{Context}
-use Rattle.mg_rooms.specs.declared.place.Place.{Place}
+use Rattle.mg_rooms.specs.declared.place.EntryPlace.{EntryPlace}
 use Rattle.mg_rooms.specs.declared.record.Record.{Record}
 use Rattle.mg_rooms.specs.declared.settings.Settings.{Settings}
 use Rattle.mg_rooms.specs.declared.target.Target.{Target}
@@ -50,7 +50,7 @@ newcomer w c n h next = newcomer_at w c n (has (members_at w c) n) h next refl
 
 -- ## Contexts
 
-context_entered : (w : Registry) (place : Place) (n : ℕ) (made : Option ℕ) (c : ℕ) → eqb place.context c ≡ false →
+context_entered : (w : Registry) (place : EntryPlace) (n : ℕ) (made : Option ℕ) (c : ℕ) → eqb place.context c ≡ false →
     context_at (entered_at w place n made) c ≡ context_at w c
 context_entered w place n None c apart =
     found_other (λ x. x.number) (λ x. Some (record x { members = x.members ++ n ∷ [] })) place.context c w.contexts
@@ -71,10 +71,10 @@ context_left w d n c apart =
 
 -- ## The place that a termination enters
 
-abbrev at_last : Place → Result Place ErrorNumber
+abbrev at_last : EntryPlace → Result EntryPlace ErrorNumber
 at_last p = Ok p
 
-place_is : (p q : Place) → at_last p ≡ at_last q → p ≡ q
+place_is : (p q : EntryPlace) → at_last p ≡ at_last q → p ≡ q
 place_is p q e = cc e
 
 below_next : (w : Registry) (c : ℕ) → IsSound w → IsSome (context_at w c) → c < w.next_context
@@ -84,21 +84,21 @@ below_next w c h there =
     omega (arith, number, is.below)
 
 -- it is in another context than one that is there and that isn't the action's
-place_elsewhere : (w : Registry) (target : Target) (place : Place) (c : ℕ) → IsSound w → IsSome (context_at w c) →
+place_elsewhere : (w : Registry) (target : Target) (place : EntryPlace) (c : ℕ) → IsSound w → IsSome (context_at w c) →
     is_number target c ≡ false → new_place w target ≡ Ok place → eqb place.context c ≡ false
 place_elsewhere w Null place c h there apart e = absurd (cc e)
 place_elsewhere w New place c h there apart e =
     after_ok (eqb place.context c ≡ false) (passes (nat_lt (length w.contexts) context_limit && has_context_left w)
     NoContextLeft) _ place e (λ _ one.
     after_ok (eqb place.context c ≡ false) (ok_or (free_room w) NoContextLeft) _ place one (λ room two.
-    let is = ap (λ (p : Place). p.context) (place_is _ place two) in
+    let is = ap (λ (p : EntryPlace). p.context) (place_is _ place two) in
     let below = below_next w c h there in
     ne_eqb place.context c (λ same. omega (arith, is, same, below))))
 place_elsewhere w (Number t) place c h there apart e =
     after_ok (eqb place.context c ≡ false) (passes (nat_lt (length (members_at w t)) member_limit) ContextFull) _
     place e (λ _ one.
     after_ok (eqb place.context c ≡ false) (ok_or (free_seat w t) ContextFull) _ place one (λ seat two.
-    ap (λ (p : Place). eqb p.context c) (sym (place_is _ place two)) ∙ apart))
+    ap (λ (p : EntryPlace). eqb p.context c) (sym (place_is _ place two)) ∙ apart))
 
 -- ## Commands
 
@@ -108,7 +108,7 @@ pub record Spares (w next : Registry) (c n : ℕ) : Type 0 where
   pub records : (m : ℕ) → eqb n m ≡ false → record_at next m ≡ record_at w m
   pub apart : has (members_at w c) n ≡ false
 
-entered_same : (w : Registry) (place : Place) (n : ℕ) (made : Option ℕ) (m : ℕ) →
+entered_same : (w : Registry) (place : EntryPlace) (n : ℕ) (made : Option ℕ) (m : ℕ) →
     record_at (entered_at w place n made) m ≡ record_at w m
 entered_same w place n (Some room) m = refl
 entered_same w place n None m = refl

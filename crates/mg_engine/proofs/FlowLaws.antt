@@ -32,7 +32,7 @@ context_found k w n r h found = ap (λ (x : rooms.Registry). context_in (record_
 -- ## What a table says of two places
 
 same_room : (table : List flow.Room) (p q : Place) → p.room ≡ q.room →
-    flow.flows table p q ≡ (flow.talks table p && (flow.listens table q && flow.hears table p q))
+    flow.flows table p q ≡ (flow.talks_at table p && (flow.listens_at table q && flow.hears table p q))
 same_room table p q e = refl
 
 pub nobody_hears_itself : (table : List flow.Room) (p : Place) → flow.hears table p p ≡ false
@@ -55,16 +55,16 @@ not_apart a b c false h = not_together a b c h
 pub silenced_apart : (table : List flow.Room) (p q : Place) → eqb p.room q.room ≡ false →
     flow.is_silenced table p q ≡ false
 silenced_apart table p q e =
-    ap (λ (b : Bool). flow.talks table p && ((flow.holds table p &&
+    ap (λ (b : Bool). flow.talks_at table p && ((flow.holds table p &&
     (flow.holds table q && (b && not (eqb p.seat q.seat)))) && not (flow.hears table p q))) e
-    ∙ not_together (flow.talks table p) (flow.holds table p) (flow.holds table q) (not (flow.hears table p q))
+    ∙ not_together (flow.talks_at table p) (flow.holds table p) (flow.holds table q) (not (flow.hears table p q))
 
 pub not_itself : (table : List flow.Room) (p : Place) → flow.is_silenced table p p ≡ false
 not_itself table p =
-    ap (λ (b : Bool). flow.talks table p && ((flow.holds table p &&
+    ap (λ (b : Bool). flow.talks_at table p && ((flow.holds table p &&
     (flow.holds table p && (eqb p.room p.room && not b))) && not (flow.hears table p p)))
     (eq-eqb p.seat p.seat refl)
-    ∙ not_apart (flow.talks table p) (flow.holds table p) (flow.holds table p) (eqb p.room p.room)
+    ∙ not_apart (flow.talks_at table p) (flow.holds table p) (flow.holds table p) (eqb p.room p.room)
     (not (flow.hears table p p))
 
 -- ## Flow by the places of both

@@ -87,7 +87,7 @@ module _ {A B : Type 0} (key : A → ℕ) (name : B → ℕ) (n : ℕ) where
 -- each termination has its stream
 pub has_media : (k : EngineState) (w : Gateway) (n : ℕ) (r : Record) → StandsFor k w → record_at k.rooms n ≡ Some r →
     (s : TerminationMedia) × (media_of w n ≡ Some s) ×
-    IsMediaOf k.config (media_at k.media r.slot) (sums.frame_of k.sums r.slot) s
+    IsMediaOf k.config (media_at k.media r.slot) (sums.frame_of_row k.sums r.slot) s
 has_media k w n r h found =
     let (s, there) = found_too (λ r. r.number) (λ s. s.number) n k.rooms.terminations w.media (sym h.numbers) r found in
     (s, there, h.media n r s found there)

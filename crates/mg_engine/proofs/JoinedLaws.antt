@@ -6,7 +6,7 @@ use Rattle.mg_rooms.specs.declared.record.Record.{Record}
 use Rattle.mg_rooms.specs.Registry.{Registry, record_at, start_of}
 use Rattle.mg_flow.specs.declared.place.Place.{Place}
 use Rattle.mg_engine.specs.Place.{IsOnPlace}
-use Rattle.mg_engine.specs.aids.Joined.{AreJoined, SetsRow, room_at, room_for}
+use Rattle.mg_engine.specs.aids.Joined.{AreJoined, SetsRow, room_of_row, room_for}
 use Rattle.mg_engine.proofs.MemberLaws.{SameOthers, no_record, unequal}
 use Rattle.mg_engine.proofs.PlaceLaws.{one_record, one_place}
 
@@ -23,28 +23,29 @@ module _ (old new : Registry) (n : ℕ) (r : Record) (p : Place) (before after :
     (mine : (was : Record) → record_at old n ≡ Some was → was.slot ≡ r.slot)
     (set : SetsRow before after r.slot (room_for r.mode p.room)) (h : AreJoined old before) where
   each_case : (m : ℕ) (x : Record) (q : Place) → IsOnPlace new m x q → (b : Bool) → eqb m n ≡ b →
-      room_at after x.slot ≡ room_for x.mode q.room
+      room_of_row after x.slot ≡ room_for x.mode q.room
   each_case m x q there true e =
       let at_n = eqb-true m n e in
       let is : x ≡ r = one_record new m n x r there.found on.found at_n in
       let here : q ≡ p = one_place new m n x r q p there on at_n in
-      ap (λ (y : Record). room_at after y.slot) is
+      ap (λ (y : Record). room_of_row after y.slot) is
       ∙ set r.slot
-      ∙ ap (λ (b : Bool). cond b (room_for r.mode p.room) (room_at before r.slot)) (eq-eqb r.slot r.slot refl)
+      ∙ ap (λ (b : Bool). cond b (room_for r.mode p.room) (room_of_row before r.slot)) (eq-eqb r.slot r.slot refl)
       ∙ ap (λ (y : Record). room_for y.mode p.room) (sym is)
       ∙ ap (λ (y : Place). room_for x.mode y.room) (sym here)
   each_case m x q there false e =
       let apart = unequal m n e in
       set x.slot
-      ∙ ap (λ (b : Bool). cond b (room_for r.mode p.room) (room_at before x.slot))
+      ∙ ap (λ (b : Bool). cond b (room_for r.mode p.room) (room_of_row before x.slot))
       (ne_eqb x.slot r.slot (λ equal. apart (slots m n x r there.found on.found equal)))
       ∙ h.each m x q ((same m x q apart).1 there)
 
-  nobody_case : (row room : ℕ) → room_at after row ≡ Some room → (b : Bool) → eqb row r.slot ≡ b → (m : ℕ) ×
+  nobody_case : (row room : ℕ) → room_of_row after row ≡ Some room → (b : Bool) → eqb row r.slot ≡ b → (m : ℕ) ×
       (x : Record) × (q : Place) × IsOnPlace new m x q × (x.slot ≡ row)
   nobody_case row room joined true e = (n, r, p, on, sym (eqb-true row r.slot e))
   nobody_case row room joined false e =
-      let was = sym (set row ∙ ap (λ (b : Bool). cond b (room_for r.mode p.room) (room_at before row)) e) ∙ joined in
+      let was = sym (set row ∙ ap (λ (b : Bool). cond b (room_for r.mode p.room) (room_of_row before row)) e)
+      ∙ joined in
       let (m, x, q, there, slot) = h.nobody row room was in
       let apart : m ≢ n = λ (equal : m ≡ n). unequal row r.slot e
       (sym slot ∙ mine x (ap (record_at old) (sym equal) ∙ there.found)) in
@@ -60,21 +61,21 @@ module _ (old new : Registry) (n : ℕ) (r : Record) (p : Place) (before after :
 module _ (old new : Registry) (n : ℕ) (was : Record) (before after : List (Option ℕ)) (slots : Slots old)
     (same : SameOthers old new n) (there : record_at old n ≡ Some was) (gone : record_at new n ≡ None)
     (set : SetsRow before after was.slot None) (h : AreJoined old before) where
-  each_left : (m : ℕ) (x : Record) (q : Place) → IsOnPlace new m x q → room_at after x.slot ≡ room_for x.mode q.room
+  each_left : (m : ℕ) (x : Record) (q : Place) → IsOnPlace new m x q → room_of_row after x.slot ≡ room_for x.mode q.room
   each_left m x q on =
       let apart : m ≢ n = λ (equal : m ≡ n). no_record x (sym on.found ∙ ap (record_at new) equal ∙ gone) in
       let at_first = (same m x q apart).1 on in
       set x.slot
-      ∙ ap (λ (b : Bool). cond b None (room_at before x.slot))
+      ∙ ap (λ (b : Bool). cond b None (room_of_row before x.slot))
       (ne_eqb x.slot was.slot (λ equal. apart (slots m n x was at_first.found there equal)))
       ∙ h.each m x q at_first
 
-  nobody_left : (row room : ℕ) → room_at after row ≡ Some room → (b : Bool) → eqb row was.slot ≡ b → (m : ℕ) ×
+  nobody_left : (row room : ℕ) → room_of_row after row ≡ Some room → (b : Bool) → eqb row was.slot ≡ b → (m : ℕ) ×
       (x : Record) × (q : Place) × IsOnPlace new m x q × (x.slot ≡ row)
   nobody_left row room joined true e = absurd
-      (no_room room (sym joined ∙ set row ∙ ap (λ (b : Bool). cond b None (room_at before row)) e))
+      (no_room room (sym joined ∙ set row ∙ ap (λ (b : Bool). cond b None (room_of_row before row)) e))
   nobody_left row room joined false e =
-      let at_first = sym (set row ∙ ap (λ (b : Bool). cond b None (room_at before row)) e) ∙ joined in
+      let at_first = sym (set row ∙ ap (λ (b : Bool). cond b None (room_of_row before row)) e) ∙ joined in
       let (m, x, q, on, slot) = h.nobody row room at_first in
       let apart : m ≢ n = λ (equal : m ≡ n). unequal row was.slot e
       (sym slot ∙ ap (λ (y : Record). y.slot) (one_record old m n x was on.found there equal)) in
@@ -88,7 +89,7 @@ module _ (old new : Registry) (n : ℕ) (was : Record) (before after : List (Opt
 
 -- nobody is there, and no row is joined
 pub joined_nowhere : (w : Registry) (limits : Limits) (joined : List (Option ℕ)) → w ≡ start_of limits →
-    ((row : ℕ) → room_at joined row ≡ None) → AreJoined w joined
+    ((row : ℕ) → room_of_row joined row ≡ None) → AreJoined w joined
 joined_nowhere w limits joined e none = record {
   each = λ n r p on. absurd (no_record r (sym on.found ∙ ap (λ (x : Registry). record_at x n) e));
   nobody = λ row room at_room. absurd (no_room room (sym at_room ∙ none row));

@@ -28,7 +28,7 @@ use Rattle.mg_engine.specs.declared.taken.Taken.{Taken}
 use Rattle.mg_engine.specs.declared.topology_triple.TopologyTriple.{TopologyTriple}
 use Rattle.mg_engine.specs.declared.triple_term.TripleTerm.{TripleTerm}
 use Rattle.mg_engine.specs.declared.triple_term.TripleTerm.TheVariants as terms
-use Rattle.mg_engine.specs.Arrival.{Arrived, Takes, arrived, at_port, placed_at, taken_at, taken_by}
+use Rattle.mg_engine.specs.Arrival.{Arrived, Takes, arrived, at_port, frame_placed_at, taken_at, taken_by}
 use Rattle.mg_engine.specs.Flow.{has, flow, hears, lets_hear}
 use Rattle.mg_engine.specs.Gateway.{Gateway, TerminationMedia, ContextEdit, Apply, Enter, context_in, frame_in, media_of, mode_or_inactive, new_media}
 use Rattle.mg_engine.specs.LeftAlone.{IsLeftAlone, IsElsewhere, IsEditElsewhere, IsPortElsewhere, is_member}
@@ -318,10 +318,10 @@ edit_alone w next (edits.Triples target xs) done c h e there apart =
 -- ## RTP datagrams
 
 placed_alone : (w : Gateway) (c n : ℕ) (p : Header × List ℤ) (o : Option TerminationMedia) → is_member w c n ≡ false →
-    IsLeftAlone w (placed_at w n p o).0 c
+    IsLeftAlone w (frame_placed_at w n p o).0 c
 placed_alone w c n p None out = same_alone w c
 placed_alone w c n p (Some s) out =
-    alone w (placed_at w n p (Some s)).0 c refl (λ m there. refl)
+    alone w (frame_placed_at w n p (Some s)).0 c refl (λ m there. refl)
     (λ m there. other_media w n m p (apart_from w c n m out there)) (λ a b one two. refl)
 
 arrived_alone : (w : Gateway) (c n : ℕ) (x : Arrived) → is_member w c n ≡ false → IsLeftAlone w (taken_at w n x).0 c

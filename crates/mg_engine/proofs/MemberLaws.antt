@@ -11,7 +11,7 @@ use Rattle.mg_rooms.specs.Registry.{Registry, start_of, record_at, context_at}
 use Rattle.mg_flow.specs.declared.place.Place.{Place}
 use Rattle.mg_flow.specs.Place.{is_same_place, are_together}
 use Rattle.mg_flow.specs.Table as flow
-use Rattle.mg_flow.specs.Table.{Room, holds, talks, listens, hears, SetsPlace}
+use Rattle.mg_flow.specs.Table.{Room, holds, talks_at, listens_at, hears, SetsPlace}
 use Rattle.mg_engine.specs.Gateway.{ContextEdit, Enter}
 use Rattle.mg_engine.specs.Flow.{lets_hear}
 use Rattle.mg_engine.specs.Place.{place_of, IsOnPlace}
@@ -171,8 +171,8 @@ module _ (old new : List Room) (p : Place) (held does_talk does_listen : Bool)
   elsewhere : (q : Place) (r : Record) → is_same_place q p ≡ false → SaysOf old r q → SaysOf new r q
   elsewhere q r apart says = record {
     held = set.held q ∙ ap (λ (b : Bool). cond b held (holds old q)) apart ∙ says.held;
-    talks = set.talkers q ∙ ap (λ (b : Bool). cond b does_talk (talks old q)) apart ∙ says.talks;
-    listens = set.listeners q ∙ ap (λ (b : Bool). cond b does_listen (listens old q)) apart ∙ says.listens;
+    talks = set.talkers q ∙ ap (λ (b : Bool). cond b does_talk (talks_at old q)) apart ∙ says.talks;
+    listens = set.listeners q ∙ ap (λ (b : Bool). cond b does_listen (listens_at old q)) apart ∙ says.listens;
   }
 
   held_elsewhere : (q : Place) → is_same_place q p ≡ false → IsTrue (holds new q) → IsTrue (holds old q)
@@ -181,11 +181,11 @@ module _ (old new : List Room) (p : Place) (held does_talk does_listen : Bool)
   held_here : holds new p ≡ held
   held_here = set.held p ∙ ap (λ (b : Bool). cond b held (holds old p)) (same_is p)
 
-  talks_here : talks new p ≡ does_talk
-  talks_here = set.talkers p ∙ ap (λ (b : Bool). cond b does_talk (talks old p)) (same_is p)
+  talks_here : talks_at new p ≡ does_talk
+  talks_here = set.talkers p ∙ ap (λ (b : Bool). cond b does_talk (talks_at old p)) (same_is p)
 
-  listens_here : listens new p ≡ does_listen
-  listens_here = set.listeners p ∙ ap (λ (b : Bool). cond b does_listen (listens old p)) (same_is p)
+  listens_here : listens_at new p ≡ does_listen
+  listens_here = set.listeners p ∙ ap (λ (b : Bool). cond b does_listen (listens_at old p)) (same_is p)
 
 -- ## One leaves
 

@@ -159,7 +159,7 @@ module _ (k : EngineState) (seating : List ℕ) (l : Record) (p : Place) (y : Co
       IsOnPlace k.rooms n r (beside p seat) → mode.talks r.mode ≡ true
   talks_there seat n r h at =
       sym (members.each n r (beside p seat) at).talks
-      ∙ first_true (flow.talks k.flows (beside p seat)) _ (sym (kept seat) ∙ h) where
+      ∙ first_true (flow.talks_at k.flows (beside p seat)) _ (sym (kept seat) ∙ h) where
         first_true : (a b : Bool) → (a && b) ≡ true → a ≡ true
         first_true true b e = refl
         first_true false b e = absurd (cc e)

@@ -17,7 +17,7 @@ use Rattle.mg_rooms.specs.Registry as rooms
 use Rattle.mg_rooms.specs.Registry.{members_at}
 use Rattle.mg_engine.specs.declared.taken.Taken.{Taken}
 use Rattle.mg_engine.specs.declared.topology_triple.TopologyTriple.{TopologyTriple}
-use Rattle.mg_engine.specs.Arrival.{Arrived, Takes, arrived, at_port, placed, placed_at, taken_at, taken_by}
+use Rattle.mg_engine.specs.Arrival.{Arrived, Takes, arrived, at_port, frame_placed, frame_placed_at, taken_at, taken_by}
 use Rattle.mg_engine.specs.Gateway.{Gateway, TerminationMedia, media_of}
 use Rattle.mg_engine.specs.Order.{OrderOfTwoIsNothing}
 use Rattle.mg_engine.specs.Outcome.{apply_triples, context_there, done_with}
@@ -98,7 +98,7 @@ apart_at w port other r d h ports here there = numbers_differ (eqb r.number d.nu
 -- ## Two changes of media
 
 abbrev play : Header × List ℤ → TerminationMedia → TerminationMedia
-play p s = placed p.0 p.1 s
+play p s = frame_placed p.0 p.1 s
 
 abbrev played_at : ℕ → Header × List ℤ → List TerminationMedia → List TerminationMedia
 played_at n p list = change (λ s. s.number) n (λ s. Some (play p s)) list
@@ -144,28 +144,30 @@ AreSwapped first second after before = (last : Gateway) × (after first.0 ≡ (l
     (before second.0 ≡ (last, first.1))
 
 abbrev place : ℕ → Header × List ℤ → Gateway → Gateway × Taken
-place n p w = placed_at w n p (media_of w n)
+place n p w = frame_placed_at w n p (media_of w n)
 
 swap_placed : (w : Gateway) (n m : ℕ) (p q : Header × List ℤ) (o k : Option TerminationMedia) → eqb n m ≡ false →
-    media_of w n ≡ o → media_of w m ≡ k → AreSwapped (placed_at w n p o) (placed_at w m q k) (place m q) (place n p)
-swap_placed w n m p q None None apart here there = (w, ap (placed_at w m q) there, ap (placed_at w n p) here)
+    media_of w n ≡ o → media_of w m ≡ k →
+    AreSwapped (frame_placed_at w n p o) (frame_placed_at w m q k) (place m q) (place n p)
+swap_placed w n m p q None None apart here there =
+    (w, ap (frame_placed_at w m q) there, ap (frame_placed_at w n p) here)
 swap_placed w n m p q None (Some t) apart here there =
-    let after = (placed_at w m q (Some t)).0 in (
+    let after = (frame_placed_at w m q (Some t)).0 in (
       after,
-      ap (placed_at w m q) there,
-      ap (placed_at after n p)
+      ap (frame_placed_at w m q) there,
+      ap (frame_placed_at after n p)
           (other_media w m n q (turned_numbers (eqb m n) n m apart refl) ∙ here),
     )
 swap_placed w n m p q (Some s) None apart here there =
-    let after = (placed_at w n p (Some s)).0 in
-    (after, ap (placed_at after m q) (other_media w n m p apart ∙ there), ap (placed_at w n p) here)
+    let after = (frame_placed_at w n p (Some s)).0 in
+    (after, ap (frame_placed_at after m q) (other_media w n m p apart ∙ there), ap (frame_placed_at w n p) here)
 swap_placed w n m p q (Some s) (Some t) apart here there =
-    let first = (placed_at w n p (Some s)).0 in
-    let second = (placed_at w m q (Some t)).0 in
-    let result = (placed_at w n p (Some s)).1 in (
-      (placed_at first m q (Some t)).0,
-      ap (placed_at first m q) (other_media w n m p apart ∙ there),
-      ap (placed_at second n p) (other_media w m n q (turned_numbers (eqb m n) n m apart refl) ∙ here)
+    let first = (frame_placed_at w n p (Some s)).0 in
+    let second = (frame_placed_at w m q (Some t)).0 in
+    let result = (frame_placed_at w n p (Some s)).1 in (
+      (frame_placed_at first m q (Some t)).0,
+      ap (frame_placed_at first m q) (other_media w n m p apart ∙ there),
+      ap (frame_placed_at second n p) (other_media w m n q (turned_numbers (eqb m n) n m apart refl) ∙ here)
           ∙ ap (λ (l : List TerminationMedia). (record w { media = l }, result))
           (sym (two_changes n m p q w.media apart)),
     )
@@ -193,7 +195,7 @@ swap_by w (Some r) (Some d) s t x y apart =
 -- ## A packet changes media alone
 
 placed_rooms : (w : Gateway) (n : ℕ) (p : Header × List ℤ) (o : Option TerminationMedia) →
-    (placed_at w n p o).0.rooms ≡ w.rooms
+    (frame_placed_at w n p o).0.rooms ≡ w.rooms
 placed_rooms w n p None = refl
 placed_rooms w n p (Some s) = refl
 

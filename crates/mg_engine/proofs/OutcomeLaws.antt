@@ -1,7 +1,7 @@
 -- What a command on a termination does to the records of terminations.
 use Rattle.std.proofs.Common.{◌≡◌, ℕ, not, [], ◌∷◌, ◌++◌, Option, Some, None, Result, Ok, Err, refl, sym, ap, subst, ◌∙◌}
 use Rattle.std.specs.Prelude.{ok_or}
-use Rattle.mg_rooms.specs.declared.place.Place.{Place}
+use Rattle.mg_rooms.specs.declared.place.EntryPlace.{EntryPlace}
 use Rattle.mg_rooms.specs.declared.record.Record.{Record}
 use Rattle.mg_words.specs.declared.error_number.ErrorNumber.{ErrorNumber}
 use Rattle.mg_words.specs.declared.error_number.ErrorNumber.TheVariants.{AlreadyInContext, NotInContext, UnknownTermination}
@@ -32,12 +32,12 @@ did p = Ok p
 pub ok_is : (p q : Registry × Record) → did p ≡ did q → p ≡ q
 ok_is p q e = cc
 
-entered_terminations : (w : Registry) (place : Place) (n : ℕ) (made : Option ℕ) →
+entered_terminations : (w : Registry) (place : EntryPlace) (n : ℕ) (made : Option ℕ) →
     (entered_at w place n made).terminations ≡ w.terminations
 entered_terminations w place n (Some room) = refl
 entered_terminations w place n None = refl
 
-entered_limits : (w : Registry) (place : Place) (n : ℕ) (made : Option ℕ) →
+entered_limits : (w : Registry) (place : EntryPlace) (n : ℕ) (made : Option ℕ) →
     (entered_at w place n made).limits ≡ w.limits
 entered_limits w place n (Some room) = refl
 entered_limits w place n None = refl
@@ -62,7 +62,7 @@ pub record Removes (old new : Registry) (n : ℕ) (d : Record) : Type 0 where
   pub terminations : new.terminations ≡ change (λ x. x.number) d.number (λ _. None) old.terminations
   pub limits : new.limits ≡ old.limits
 
-adds_by : (w new : Registry) (d : Record) (r : Record) (place : Place) →
+adds_by : (w new : Registry) (d : Record) (r : Record) (place : EntryPlace) →
     did (entered (inserted w r) place r.number, r) ≡ did (new, d) → Adds w new d
 adds_by w new d r place e =
     subst (λ (p : Registry × Record). Adds w p.0 p.1) (ok_is (entered (inserted w r) place r.number, r) (new, d) e)
@@ -151,7 +151,7 @@ modify_changes w target n settings new d e =
     changes_by w new n d old r (member_at w target n old found) (settings_keep w.limits settings old r set)
     (settings_stay w.limits settings old r set) two))
 
-moves_by : (w new : Registry) (n : ℕ) (d : Record) (was r : Record) (place : Place) (from : ℕ) →
+moves_by : (w new : Registry) (n : ℕ) (d : Record) (was r : Record) (place : EntryPlace) (from : ℕ) →
     record_at w n ≡ Some was → SameTermination was r →
     did (left (entered (replaced w r) place r.number) from r.number, r) ≡ did (new, d) → Changes w new n d
 moves_by w new n d was r place from there same e =

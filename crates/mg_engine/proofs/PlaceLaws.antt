@@ -13,7 +13,7 @@ use Rattle.mg_rooms.specs.Sound.{IsSound}
 use Rattle.mg_rooms.specs.Registry.{Registry, record_at, context_at}
 use Rattle.mg_flow.specs.declared.place.Place.{Place}
 use Rattle.mg_flow.specs.Place.{IsWithinLimits, is_same_place}
-use Rattle.mg_flow.specs.Table.{Room, room_at, talks, listens, hears, flows}
+use Rattle.mg_flow.specs.Table.{Room, room_at, talks_at, listens_at, hears, flows}
 use Rattle.mg_topology.specs.Topology as topology
 use Rattle.mg_engine.specs.Place.{place_of, member_place, IsOnPlace}
 
@@ -57,7 +57,7 @@ and_false false b = refl
 
 -- who isn't heard has no speech that flows
 pub no_hearing : (table : List Room) (t l : Place) → hears table t l ≡ false → flows table t l ≡ false
-no_hearing table t l e = rw e (and_false (talks table t) (listens table l))
+no_hearing table t l e = rw e (and_false (talks_at table t) (listens_at table l))
 
 no_place : (o : Option Context) (r : Record) → is_some o ≡ true → option_map (seated r.seat) o ≡ None → ⊥
 no_place (Some x) r h none = cc none

@@ -12,7 +12,7 @@ use Rattle.mg_flow.specs.declared.place.Place.{Place}
 use Rattle.mg_sums.specs.Sums.{SumsState, sample_in, is_room, is_joined, joined_rows, total_of}
 use Rattle.mg_sums.specs.Samples.{sum_of}
 use Rattle.mg_engine.proofs.PlainSums.{sum_of-filter}
-use Rattle.mg_engine.specs.aids.Joined.{AreJoined, room_at, room_for}
+use Rattle.mg_engine.specs.aids.Joined.{AreJoined, room_of_row, room_for}
 use Rattle.mg_engine.specs.aids.Sending.{sample_at}
 use Rattle.mg_engine.proofs.SendingLaws.{nobody}
 use Rattle.mg_engine.proofs.SeatSums.{found_counts, seat_sums}
@@ -26,7 +26,8 @@ joined_by mode false at room e = ap (λ (b : Bool). is_room (cond b (Some at) No
 
 -- the row of one on a place is joined to a room where it talks and the place is in it
 pub joined_is : (joined : List (Option ℕ)) (r : Record) (p : Place) (room : ℕ) →
-    room_at joined r.slot ≡ room_for r.mode p.room → is_joined joined room r.slot ≡ (talks r.mode && eqb p.room room)
+    room_of_row joined r.slot ≡ room_for r.mode p.room →
+    is_joined joined room r.slot ≡ (talks r.mode && eqb p.room room)
 joined_is joined r p room h = ap (λ (o : Option ℕ). is_room o room) h ∙ joined_by r.mode (talks r.mode) p.room room refl
 
 some_room : (o : Option ℕ) (room : ℕ) → is_room o room ≡ true → (at : ℕ) × (o ≡ Some at)
@@ -48,7 +49,7 @@ module _ (w : Registry) (kept : SumsState) (room i : ℕ) (sound : IsSound w) (j
   silent_row : (row : ℕ) (b : Bool) → is_joined kept.rooms room row ≡ b →
       count_by (λ t. eqb t.slot row) w.terminations ≡ 0 → cond b (sample_at kept.frames row i) (pos 0) ≡ pos 0
   silent_row row true e none =
-      let (at, is) = some_room (room_at kept.rooms row) room e in
+      let (at, is) = some_room (room_of_row kept.rooms row) room e in
       let (n, r, p, on, slot) = joined.nobody row at is in
       absurd (omega (
         arith,

@@ -12,6 +12,7 @@ use Rattle.mg_rooms.specs.declared.record.Record.{Record}
 use Rattle.mg_rooms.specs.Limits.{slot_port}
 use Rattle.mg_engine.specs.declared.datagram.Datagram.{Datagram}
 use Rattle.mg_engine.specs.Media as media
+use Rattle.mg_engine.specs.aids.MediaSteps as media_steps
 use Rattle.mg_engine.specs.aids.Sending.{packet_now, mixed_now}
 use Rattle.mg_engine.specs.Stands.{EngineState, media_at}
 use Rattle.mg_engine.specs.Tick.{type_of}
@@ -26,13 +27,13 @@ pub packet_is : (k : EngineState) (r : Record) (to : Chosen) (from : ℕ) (bytes
     (m : media.SlotMedia)
     → from ≡ slot_port k.rooms.limits r.slot → bytes ≡ header_bytes plain header ++ payload →
     payload ≡ map (byte_of to.law) (mixed_now k r)
-    → header ≡ media.header m (type_of to.law) (ssrc_of k r) → m ≡ media_at k.media r.slot
+    → header ≡ media_steps.header m (type_of to.law) (ssrc_of k r) → m ≡ media_at k.media r.slot
     → datagram to from bytes ≡ packet_now k r to
 packet_is k r to from bytes payload header m port joined body headed kept =
-    let head = headed ∙ ap (λ (x : media.SlotMedia). media.header x (type_of to.law) (ssrc_of k r)) kept in
+    let head = headed ∙ ap (λ (x : media.SlotMedia). media_steps.header x (type_of to.law) (ssrc_of k r)) kept in
     let whole = joined
     ∙ ap (λ (h : Header). header_bytes plain h ++ payload) head
-    ∙ ap (λ (p : List ℕ). header_bytes plain (media.header (media_at k.media r.slot) (type_of to.law) (ssrc_of k r))
+    ∙ ap (λ (p : List ℕ). header_bytes plain (media_steps.header (media_at k.media r.slot) (type_of to.law) (ssrc_of k r))
     ++ p) body in
     ap (λ (f : ℕ). datagram to f bytes) port ∙
     ap (λ (b : List ℕ). datagram to (slot_port k.rooms.limits r.slot) b) whole

@@ -20,6 +20,7 @@ use Rattle.mg_engine.specs.declared.datagram.Datagram.{Datagram}
 use Rattle.mg_engine.specs.Gateway.{Gateway, TerminationMedia, media_of, frame_in}
 use Rattle.mg_engine.specs.Mix.{played_sample, part_of_mix, heard, mix, mixed, is_loopback}
 use Rattle.mg_engine.specs.Media as media
+use Rattle.mg_engine.specs.aids.MediaSteps as media_steps
 use Rattle.mg_engine.specs.Tick.{type_of, header_of, packet, packet_to, packet_of, packets, sent_to}
 use Rattle.mg_engine.specs.aids.Members.{HasMembers}
 use Rattle.mg_engine.specs.aids.Sending.{flows_now, sample_at, part_now, heard_now, mix_now, mixed_now, packet_now, packets_now}
@@ -89,7 +90,7 @@ headed marker payload_type sequence timestamp ssrc =
 
 header_is : (w : Gateway) (to : Chosen) (n : ℕ) (m : media.SlotMedia) (row : List ℤ) (s : TerminationMedia) →
     IsMediaOf w.config m row s → 1 ≤ s.ticks → s.number ≡ n →
-    header_of w to s ≡ media.header m (type_of to.law) ((w.config.ssrc + n) % 2 ^ 32)
+    header_of w to s ≡ media_steps.header m (type_of to.law) ((w.config.ssrc + n) % 2 ^ 32)
 header_is w to n m row s is old same =
     let config = w.config in
     let t = type_of to.law in
@@ -114,7 +115,7 @@ packet_same k w r to s sound members by_number h found there old =
     let mine = subst (λ (x : Config). IsMediaOf x (media_at k.media r.slot) (get_or k.sums.frames r.slot []) s)
     (sym h.config) is in
     let head = header_is w to r.number (media_at k.media r.slot) (get_or k.sums.frames r.slot []) s mine old number
-    ∙ ap (λ (x : Config). media.header (media_at k.media r.slot) (type_of to.law) ((x.ssrc + r.number) % 2 ^ 32))
+    ∙ ap (λ (x : Config). media_steps.header (media_at k.media r.slot) (type_of to.law) ((x.ssrc + r.number) % 2 ^ 32))
     h.config in
     let body = mixed_is k w r sound members by_number h found in
     ap (λ (x : rooms.Registry). datagram to (slot_port x.limits r.slot)
@@ -122,7 +123,7 @@ packet_same k w r to s sound members by_number h found there old =
     ∙ ap (λ (x : Header). datagram to (slot_port k.rooms.limits r.slot)
     (header_bytes plain x ++ map (byte_of to.law) (mixed w r.number))) head
     ∙ ap (λ (x : List ℤ). datagram to (slot_port k.rooms.limits r.slot)
-    (header_bytes plain (media.header (media_at k.media r.slot) (type_of to.law)
+    (header_bytes plain (media_steps.header (media_at k.media r.slot) (type_of to.law)
     ((k.config.ssrc + r.number) % 2 ^ 32)) ++ map (byte_of to.law) x)) body
 
 abbrev some : Datagram → Option Datagram

@@ -17,6 +17,7 @@ use Rattle.mg_engine.specs.Gateway.{Gateway, TerminationMedia, media_of}
 use Rattle.mg_engine.specs.Steps.{transmitted}
 use Rattle.mg_sums.specs.Samples.{frame_or_silence}
 use Rattle.mg_engine.specs.Media as media
+use Rattle.mg_engine.specs.aids.MediaSteps as media_steps
 use Rattle.mg_engine.specs.Tick.{played, all_played, sent, has_destination, sends_at, all_ended}
 use Rattle.mg_engine.specs.aids.Playing.{AreOld, IsPlayed}
 use Rattle.mg_engine.specs.aids.Sending.{slot_sends, with_mixes, IsEnded}
@@ -32,7 +33,7 @@ with_frames k kept frames = record k { media = kept; sums = frames }
 -- ## The frames are played
 
 played_is : (config : Config) (m : media.SlotMedia) (row : List ℤ) (s : TerminationMedia) → IsMediaOf config m row s →
-    IsMediaOf config (media.played m) (media.frame_played m) (played s)
+    IsMediaOf config (media_steps.slot_played m) (media_steps.frame_played m) (played s)
 played_is config m row s h = record {
   play = ap (λ (p : PlayList). (play_lists.ticked p).0) h.play;
   frame = ap (λ (p : PlayList). frame_or_silence (sound_of ((play_lists.ticked p).1))) h.play;
@@ -62,8 +63,8 @@ played_stands k w new kept all h = record {
       let row = get_or kept.frames r.slot [] in
       from_mapped played (λ t. IsMediaOf k.config (media_at new r.slot) row t) (media_of w n) s
       (sym (found_in_map (λ s. s.number) played n w.media (λ t. refl)) ∙ there)
-      (λ t was. media_is k.config (media_at new r.slot) (media.played (media_at k.media r.slot)) row
-      (media.frame_played (media_at k.media r.slot)) (played t) p.ticked p.frame
+      (λ t was. media_is k.config (media_at new r.slot) (media_steps.slot_played (media_at k.media r.slot)) row
+      (media_steps.frame_played (media_at k.media r.slot)) (played t) p.ticked p.frame
       (played_is k.config (media_at k.media r.slot) (get_or k.sums.frames r.slot []) t (h.media n r t found was)));
   hears = h.hears;
 }
@@ -71,7 +72,7 @@ played_stands k w new kept all h = record {
 -- ## Packets are sent
 
 ended_is : (config : Config) (b : Bool) (m : media.SlotMedia) (row : List ℤ) (s : TerminationMedia) →
-    IsMediaOf config m row s → IsMediaOf config (media.ended b m) row (sent b s)
+    IsMediaOf config m row s → IsMediaOf config (media_steps.slot_ended b m) row (sent b s)
 ended_is config true m row s h = record {
   play = h.play;
   frame = h.frame;
@@ -133,7 +134,7 @@ ended_stands k w new by_slot ended h = record {
       same_sender k.rooms n r found (by_slot n r found) ∙
       ap (λ (x : rooms.Registry). sends_at x n) (sym h.rooms) ∙
       ap (sends_at w.rooms) (sym (found_number n w.media t was)) in
-      let m = ended n r found ∙ ap (λ (x : Bool). media.ended x (media_at k.media r.slot)) b in
+      let m = ended n r found ∙ ap (λ (x : Bool). media_steps.slot_ended x (media_at k.media r.slot)) b in
       subst (λ (x : media.SlotMedia). IsMediaOf k.config x (get_or k.sums.frames r.slot []) (sent_at w.rooms t))
       (sym m) (ended_is k.config (sends_at w.rooms t.number) (media_at k.media r.slot)
       (get_or k.sums.frames r.slot []) t (h.media n r t found was)));

@@ -5,7 +5,7 @@ use Rattle.std.specs.Prelude.{if◌then◌else◌}
 use Rattle.std.specs.Option.{option_map}
 use Rattle.mg_words.specs.declared.stats.Stats.{Stats}
 use Rattle.mg_words.specs.declared.error_number.ErrorNumber.{ErrorNumber}
-use Rattle.mg_playout.specs.Playout.{first_state}
+use Rattle.mg_playout.specs.Playout.{first_list}
 use Rattle.mg_rooms.specs.declared.record.Record.{Record}
 use Rattle.mg_rooms.specs.declared.settings.Settings.{Settings}
 use Rattle.mg_rooms.specs.declared.target.Target.{Target}
@@ -29,7 +29,7 @@ but_received s = record s { pr = 0; or_ = 0 }
 -- was received
 abbrev pub without_arrivals : TerminationMedia → TerminationMedia
 without_arrivals s =
-    record s { play = first_state; frame = silence; stats = but_received s.stats }
+    record s { play = first_list; frame = silence; stats = but_received s.stats }
 
 -- the same for those of some terminations alone
 abbrev pub unless_among : List ℕ → TerminationMedia → TerminationMedia
@@ -50,8 +50,7 @@ abbrev pub EndsAlike : {A : Type 0} → List ℕ → Result (Gateway × A) Error
     → Result (Gateway × A) ErrorNumber → Type 0
 EndsAlike some (Ok p) (Ok q) = AgreeOutside some p.0 q.0 × (p.1 ≡ q.1)
 EndsAlike some (Err e) (Err d) = e ≡ d
-EndsAlike some (Ok p) (Err d) = ⊥
-EndsAlike some (Err e) (Ok q) = ⊥
+EndsAlike some _ _ = ⊥
 
 pub record SameEditsKeepAgreement : Type 0 where
   pub add : (some : List ℕ) (a b : Gateway) (target : Target) (settings : Settings)

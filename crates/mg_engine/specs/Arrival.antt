@@ -6,7 +6,7 @@ use Rattle.std.specs.Str.{bytes_eq}
 use Rattle.mg_g711.specs.declared.law.Law.{Law}
 use Rattle.mg_g711.specs.Law.{sample_of}
 use Rattle.mg_rtp.specs.declared.header.Header.{Header}
-use Rattle.mg_rtp.specs.Reading.{Reading, IsReading}
+use Rattle.mg_rtp.specs.Reading.{Reading, IsPacketReading}
 use Rattle.mg_sdp.specs.declared.chosen.Chosen.{Chosen}
 use Rattle.mg_playout.specs.Playout as play_lists
 use Rattle.mg_rooms.specs.declared.record.Record.{Record}
@@ -37,9 +37,9 @@ frame_by_law law (Ok p) = decoded law p
 frame_by_law law (Err fault) = Err (causes.Rtp fault)
 
 -- a termination that has a Remote takes packets from its address alone
-abbrev pub is_stray : Option Chosen → List ℕ → Bool
-is_stray None source = false
-is_stray (Some remote) source = not (bytes_eq remote.address source)
+abbrev pub is_stray_source : Option Chosen → List ℕ → Bool
+is_stray_source None source = false
+is_stray_source (Some remote) source = not (bytes_eq remote.address source)
 
 abbrev pub law_in : Option Chosen → Result Law DropCause
 law_in None = Err causes.NoLocal
@@ -47,7 +47,7 @@ law_in (Some local) = Ok local.law
 
 -- the law of the payloads that a termination takes from a source
 abbrev pub law_for : Record → List ℕ → Result Law DropCause
-law_for r source = if is_stray r.remote source then Err causes.Stray else law_in r.local
+law_for r source = if is_stray_source r.remote source then Err causes.Stray else law_in r.local
 
 -- what comes to a termination
 abbrev pub arrived : Record → List ℕ → Reading → Arrived
@@ -56,22 +56,23 @@ arrived r source reading = do
   frame_by_law law reading
 
 -- a frame is placed in the play list of a stream
-abbrev pub placed : Header → List ℤ → TerminationMedia → TerminationMedia
-placed header frame s =
+abbrev pub frame_placed : Header → List ℤ → TerminationMedia → TerminationMedia
+frame_placed header frame s =
     record s {
       play = (play_lists.placed s.play header.ssrc header.sequence frame).0;
       stats = received s.stats;
     }
 
-abbrev pub placed_at : Gateway → ℕ → Header × List ℤ → Option TerminationMedia → Gateway × Taken
-placed_at w n p None = (w, Dropped causes.NoTermination)
-placed_at w n p (Some s) = (
-  record w { media = change (λ s. s.number) n (λ s. Some (placed p.0 p.1 s)) w.media },
+abbrev pub frame_placed_at : Gateway → ℕ → Header × List ℤ → Option TerminationMedia →
+    Gateway × Taken
+frame_placed_at w n p None = (w, Dropped causes.NoTermination)
+frame_placed_at w n p (Some s) = (
+  record w { media = change (λ s. s.number) n (λ s. Some (frame_placed p.0 p.1 s)) w.media },
   Placed ((play_lists.placed s.play p.0.ssrc p.0.sequence p.1).1),
 )
 
 abbrev pub taken_at : Gateway → ℕ → Arrived → Gateway × Taken
-taken_at w n (Ok p) = placed_at w n p (media_of w n)
+taken_at w n (Ok p) = frame_placed_at w n p (media_of w n)
 taken_at w n (Err cause) = (w, Dropped cause)
 
 -- the termination that has a port
@@ -88,4 +89,5 @@ taken w port source reading = taken_by w (at_port w.rooms port) source reading
 
 abbrev pub Takes : Gateway → ℕ → List ℕ → List ℕ → Gateway → Taken → Type 0
 Takes w port source bytes after result =
-    (reading : Reading) × IsReading bytes reading × (taken w port source reading ≡ (after, result))
+    (reading : Reading) × IsPacketReading bytes reading
+    × (taken w port source reading ≡ (after, result))

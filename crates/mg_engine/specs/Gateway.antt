@@ -3,7 +3,7 @@
 use Rattle.std.specs.Prelude.{ℕ, ℤ, ◌==◌, Bool, false, List, [], Option, Some, None, find, map}
 use Rattle.std.specs.Option.{option_map}
 use Rattle.mg_words.specs.declared.association.Association.{Association}
-use Rattle.mg_playout.specs.Playout.{PlayList, first_state}
+use Rattle.mg_playout.specs.Playout.{PlayList, first_list}
 use Rattle.mg_words.specs.declared.mode.Mode.{Mode}
 use Rattle.mg_words.specs.declared.mode.Mode.TheVariants.{Inactive}
 use Rattle.mg_rooms.specs.declared.record.Record.{Record}
@@ -56,7 +56,7 @@ start_of config = record {
 abbrev pub new_media : ℕ → TerminationMedia
 new_media n = record {
   number = n;
-  play = first_state;
+  play = first_list;
   frame = silence;
   stats = no_packets;
   ticks = 0;

@@ -1,15 +1,8 @@
--- What is kept of the media of one slot, and the steps that it takes (RFC 3550, section 5.1).
-use Rattle.std.specs.Prelude.{ℕ, ℤ, ◌+◌, ◌-◌, ◌%◌, ◌^◌, Bool, true, false, not, List, Option}
-use Rattle.mg_rtp.specs.declared.header.Header.{Header}
-use Rattle.mg_playout.specs.declared.placed.Placed.{Placed}
-use Rattle.mg_playout.specs.Played.{is_concealed, sound_of}
-use Rattle.mg_playout.specs.Playout as play_lists
-use Rattle.mg_playout.specs.Playout.{PlayList, first_state}
-use Rattle.mg_engine.specs.declared.config.Config.{Config}
+-- What is kept of the media of one slot (RFC 3550, section 5.1).
+use Rattle.std.specs.Prelude.{ℕ, ◌+◌, ◌-◌, ◌%◌, ◌^◌, Bool, false}
+use Rattle.mg_playout.specs.Playout.{PlayList, first_list}
 use Rattle.mg_words.specs.declared.stats.Stats.{Stats}
 use Rattle.mg_words.specs.Stats.{no_packets}
-use Rattle.mg_engine.specs.Steps.{play_after, received, transmitted}
-use Rattle.mg_sums.specs.Samples.{frame_or_silence}
 
 -- The play list, the counters, the timestamp of this tick, the sequence number of the next packet,
 -- and whether the last tick sent one. The frame of this tick is kept in the row of the slot.
@@ -20,10 +13,6 @@ pub record SlotMedia : Type 0 where
   pub sequence : ℕ
   pub is_sending : Bool
 
--- 160 samples on
-abbrev pub next_timestamp : ℕ → ℕ
-next_timestamp n = (n + 160) % 2 ^ 32
-
 -- the timestamp before another
 abbrev pub timestamp_before : ℕ → ℕ
 timestamp_before n = (n + (2 ^ 32 - 160)) % 2 ^ 32
@@ -31,71 +20,9 @@ timestamp_before n = (n + (2 ^ 32 - 160)) % 2 ^ 32
 -- media of nobody
 abbrev pub idle : SlotMedia
 idle = record {
-  play = first_state;
+  play = first_list;
   stats = no_packets;
   timestamp = 0;
   sequence = 0;
   is_sending = false;
 }
-
--- those of a termination as it is made, with the timestamp of its first tick and the number of its
--- first packet
-abbrev pub begun_at : ℕ → ℕ → SlotMedia
-begun_at timestamp sequence =
-    record {
-      play = first_state;
-      stats = no_packets;
-      timestamp = timestamp_before timestamp;
-      sequence = sequence % 2 ^ 16;
-      is_sending = false;
-    }
-
-abbrev pub begun : Config → SlotMedia
-begun config = begun_at config.timestamp config.sequence
-
--- with the depth of the play list that a command names
-abbrev pub tuned : Option ℕ → SlotMedia → SlotMedia
-tuned depth m = record m { play = play_after depth m.play }
-
--- a packet came, and its frame was placed
-abbrev pub placed : SlotMedia → Header → List ℤ → SlotMedia × Placed
-placed m header frame =
-    let after = play_lists.placed m.play header.ssrc header.sequence frame in
-    (record m { play = after.0; stats = received m.stats }, after.1)
-
--- the play list ticks
-abbrev pub played : SlotMedia → SlotMedia
-played m =
-    record m {
-      play = (play_lists.ticked m.play).0;
-      timestamp = next_timestamp m.timestamp;
-    }
-
--- what it gives is the frame of this tick
-abbrev pub frame_played : SlotMedia → List ℤ
-frame_played m = frame_or_silence (sound_of ((play_lists.ticked m.play).1))
-
--- whether that stands in for a missing frame
-abbrev pub is_concealing : SlotMedia → Bool
-is_concealing m = is_concealed ((play_lists.ticked m.play).1)
-
--- the header of the next packet; the marker is set where the last tick sent none
-abbrev pub header : SlotMedia → ℕ → ℕ → Header
-header m payload_type ssrc =
-    record {
-      marker = not m.is_sending;
-      payload_type = payload_type;
-      sequence = m.sequence;
-      timestamp = m.timestamp;
-      ssrc = ssrc;
-    }
-
--- the end of a tick in which a packet was sent, or none
-abbrev pub ended : Bool → SlotMedia → SlotMedia
-ended true m =
-    record m {
-      stats = transmitted m.stats;
-      sequence = (m.sequence + 1) % 2 ^ 16;
-      is_sending = true;
-    }
-ended false m = record m { is_sending = false }

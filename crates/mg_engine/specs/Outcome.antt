@@ -85,11 +85,10 @@ subtract w target n = done_with (subtracted w) (outcomes.subtract w.rooms target
 
 -- the number of an action's context that is there
 abbrev pub context_there : rooms.Registry → Target → Result ℕ ErrorNumber
-context_there w targets.Null = Err UnknownContext
-context_there w targets.New = Err UnknownContext
 context_there w (targets.Number c) = do
   _ ← outcomes.there w c
   Ok c
+context_there w _ = Err UnknownContext
 
 -- all triples are applied to the members that are there now, or none
 unfoldable pub apply_triples : Gateway → Target → List TopologyTriple

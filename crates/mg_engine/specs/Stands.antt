@@ -59,7 +59,7 @@ pub record StandsFor (kept : EngineState) (w : Gateway) : Type 0 where
   pub numbers : map (λ s. s.number) w.media ≡ map (λ r. r.number) kept.rooms.terminations
   pub media : (n : ℕ) (r : Record) (s : TerminationMedia) → record_at kept.rooms n ≡ Some r
       → media_of w n ≡ Some s
-      → IsMediaOf kept.config (media_at kept.media r.slot) (sums.frame_of kept.sums r.slot) s
+      → IsMediaOf kept.config (media_at kept.media r.slot) (sums.frame_of_row kept.sums r.slot) s
   pub hears : (talker listener : ℕ) (t l : Record) (p q : Place)
       → ShareContext kept.rooms talker listener t l p q
       → flow.hears kept.flows p q ≡ lets_hear w.edits talker listener

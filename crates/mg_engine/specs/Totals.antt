@@ -11,6 +11,6 @@ use Rattle.mg_engine.specs.Mix.{total}
 -- of each context's room is the sum over those of its members who talk.
 pub record TellsTotals (w : Gateway) (kept : sums.SumsState) : Type 0 where
   pub frames : (n : ℕ) (r : Record) → record_at w.rooms n ≡ Some r
-      → sums.frame_of kept r.slot ≡ frame_of w n
+      → sums.frame_of_row kept r.slot ≡ frame_of w n
   pub totals : (c i : ℕ) (x : Context) → context_at w.rooms c ≡ Some x → i < 160
       → sums.total_of kept x.room i ≡ total w c i

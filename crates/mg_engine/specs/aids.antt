@@ -1,4 +1,5 @@
 pub mod Joined
+pub mod MediaSteps
 pub mod Members
 pub mod Playing
 pub mod Ports

@@ -4,20 +4,19 @@ ghost use Rattle.std.specs.Prelude.{◌≡◌, ℕ, ℤ, List, Result, Ok, Err};
 ghost use Rattle.mg_rtp.specs.declared.header.Header.{Header};
 ghost use Rattle.mg_rtp.specs.declared.rtp_fault.RtpFault.{RtpFault};
 ghost use Rattle.mg_rtp.specs.Reading.{reading_of};
-ghost use Rattle.mg_engine.specs.Arrival.{is_stray, law_for, decoded, frame_by_law};
+ghost use Rattle.mg_engine.specs.Arrival.{is_stray_source, law_for, decoded, frame_by_law};
 
-use crate::peer::Peer;
 use crate::sending::payload_type;
 use crate::taken::DropCause;
 use mg_g711::{Frame, Law, decode_frame};
 use mg_rooms::Record;
 use mg_rtp::{Header, Packet, RtpFault};
 use mg_sdp::Chosen;
-use mg_words::SAMPLES;
+use mg_words::{Peer, SAMPLES};
 
 /// Whether a datagram came from another address than that of the termination's Remote.
 fn is_stray(remote: Option<Chosen>, source: Peer) -> bool
-    ensures value { result ≡ is_stray remote source.address }
+    ensures value { result ≡ is_stray_source remote source.address }
 {
     match remote {
         Some(remote) => remote.address != source.address,

@@ -4,11 +4,10 @@ ghost use Rattle.mg_engine.specs.aids.Shares.{IsPut, packet_at, payload_of};
 ghost use Rattle.mg_engine.specs.aids.Sending.{addressed};
 ghost use Rattle.mg_words.specs.declared.limits.TheConstants.{TERMINATIONS};
 
-use crate::peer::Peer;
 use arrayvec::ArrayVec;
 use mg_rooms::TERMINATIONS;
 use mg_rtp::{Header, PACKET_LEN, write_header, write_payload};
-use mg_words::SAMPLES;
+use mg_words::{Peer, SAMPLES};
 
 /// An RTP packet that is to be sent.
 #[derive(Clone, Copy, Debug, PartialEq, Eq)]

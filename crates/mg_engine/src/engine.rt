@@ -21,13 +21,14 @@ ghost use Rattle.mg_engine.specs.Place.{IsOnPlace, IsOnSeat};
 ghost use Rattle.mg_engine.specs.Tick.{sends, sent_to, packets, all_played, all_ended, sent_in_tick, after_tick, concealed_in_tick};
 ghost use Rattle.mg_g711.specs.Law.{byte_of};
 ghost use Rattle.mg_words.specs.Mode.{listens};
-ghost use Rattle.mg_sums.specs.Sums.{frame_of};
+ghost use Rattle.mg_sums.specs.Sums.{frame_of_row};
 ghost use Rattle.mg_rtp.specs.Reading.{reading_of};
 ghost use Rattle.mg_engine.specs.Arrival.{at_port, arrived, Takes};
 ghost use Rattle.mg_engine.specs.Flow.{flow, hears};
 ghost use Rattle.mg_engine.specs.LeftAlone.{IsLeftAlone, IsElsewhere, IsEditElsewhere, IsPortElsewhere};
 ghost use Rattle.mg_engine.specs.Mix.{total_at};
-ghost use Rattle.mg_engine.specs.Media.{idle, begun, ended, is_concealing, tuned as tuned_media};
+ghost use Rattle.mg_engine.specs.Media.{idle};
+ghost use Rattle.mg_engine.specs.aids.MediaSteps.{begun, slot_ended, is_concealing, slot_tuned as tuned_media};
 ghost use Rattle.mg_engine.specs.Config.{IsValidConfig};
 ghost use Rattle.mg_engine.specs.Gateway.{Gateway, start_of, stats_of};
 ghost use Rattle.mg_sums.specs.Samples.{silence};
@@ -40,11 +41,10 @@ use crate::done::Done;
 use crate::edit::Edit;
 use crate::fault::StartFault;
 use crate::joining::part;
-use crate::media::Media;
+use crate::media::HeldMedia;
 use crate::membership::{enter, member_place, place_of, take_mode, vacate};
 use crate::mixing::{own_row, rows_on};
-use crate::peer::Peer;
-use crate::ports::Ports;
+use crate::ports::PortPool;
 use crate::seated_member::{SeatedMember, seated_members};
 use crate::seating::Seating;
 use crate::sending::{is_loopback, payload_type, sent_to};
@@ -61,7 +61,7 @@ use mg_rtp::{Packet, RtpFault, read};
 use mg_sdp::Chosen;
 use mg_sums::{Room, Row, Sums};
 use mg_topology::{Overlap, mask};
-use mg_words::{SAMPLES, Stats};
+use mg_words::{Peer, SAMPLES, Stats};
 use std::alloc::{AllocError, Global};
 use std::marker::Model;
 
@@ -71,9 +71,9 @@ use std::marker::Model;
 pub struct Engine {
     config: Config,
     rooms: Rooms,
-    ports: Ports,
+    ports: PortPool,
     /// By slot.
-    media: Vec<Media>,
+    media: Vec<HeldMedia>,
     /// The slots that are held, by rising numbers of their terminations.
     held: ArrayVec<u8, TERMINATIONS>,
     /// Who hears whom, by the places of members.
@@ -88,7 +88,7 @@ pub struct Engine {
 
 impl Model for Engine {
     ghost use Rattle.mg_engine.specs.Stands.{EngineState};
-    ghost use Rattle.mg_engine.specs.aids.Whole.{IsWhole};
+    ghost use Rattle.mg_engine.specs.aids.Whole.{IsWholeEngine};
 
     ghost Value = { EngineState };
 
@@ -101,17 +101,17 @@ impl Model for Engine {
       shares = e.shares;
     } };
 
-    ghost invariant = { λ e. IsWhole e.config e.rooms e.ports e.media.items e.held.items e.flows e.seating
+    ghost invariant = { λ e. IsWholeEngine e.config e.rooms e.ports e.media.items e.held.items e.flows e.seating
         e.sums.rooms };
 }
 
 /// Media of nobody for so many slots.
-fn idle_media(alloc: Global, slots: u16) -> Result<Vec<Media>, AllocError>
+fn idle_media(alloc: Global, slots: u16) -> Result<Vec<HeldMedia>, AllocError>
     ensures value { IfOk result (λ media. media.items ≡ replicate slots idle) }
 {
     let mut media = Vec::new(alloc);
     for _ in 0..slots {
-        media.push(Media::new(alloc)?)?;
+        media.push(HeldMedia::new(alloc)?)?;
     }
     Ok(media)
 }
@@ -129,7 +129,7 @@ impl Engine {
             return Err(StartFault::BadConfig);
         }
         let rooms = Rooms::new(alloc, config.limits())?;
-        let ports = Ports::new(alloc, config.limits())?;
+        let ports = PortPool::new(alloc, config.limits())?;
         let media = idle_media(alloc, config.slots)?;
         let flows = FlowTable::new(alloc)?;
         let seating = Seating::new(alloc)?;
@@ -687,13 +687,13 @@ fn fill(engine: &mut Engine, count: usize, outbox: &mut Outbox)
 
 /// Has the play list of a slot tick, and its frame is in the slot's row from then on. Says whether the frame is
 /// concealed.
-fn play(media: &mut Vec<Media>, sums: &mut Sums, slot: u8) -> bool
+fn play(media: &mut Vec<HeldMedia>, sums: &mut Sums, slot: u8) -> bool
     requires slot { (slot < length media.old.items) × (slot < termination_limit) }
     ensures long { length media.new.items ≡ length media.old.items }
     ensures played { IsPlayed media.old.items media.new.items sums.new.frames slot }
     ensures concealed { result ≡ is_concealing (media_at media.old.items slot) }
     ensures others { (other : ℕ) → other ≢ slot → (media_at media.new.items other ≡ media_at media.old.items other)
-        × (frame_of sums.new other ≡ frame_of sums.old other) }
+        × (frame_of_row sums.new other ≡ frame_of_row sums.old other) }
     ensures rooms { sums.new.rooms ≡ sums.old.rooms }
     ensures work { RisesAtMost 2 sums.old.work sums.new.work }
 {
@@ -707,7 +707,7 @@ fn play(media: &mut Vec<Media>, sums: &mut Sums, slot: u8) -> bool
 }
 
 /// Has each play list of the slots that are held tick, and says how many frames are concealed.
-fn play_slots(held: &[u8], media: &mut Vec<Media>, sums: &mut Sums) -> usize
+fn play_slots(held: &[u8], media: &mut Vec<HeldMedia>, sums: &mut Sums) -> usize
     requires slots { EachIndex held.now (λ i. slice_index_or held.now i 0 < length media.old.items) }
     requires few { length media.old.items ≤ TERMINATIONS }
     requires apart { AreApart held.now }
@@ -736,17 +736,17 @@ fn sends_in(rooms: &Rooms, slot: u8) -> bool
 }
 
 /// Ends a tick of the termination that holds a slot, in which it has sent a packet if it sends.
-fn end_slot(rooms: &Rooms, media: &mut Vec<Media>, slot: u8)
+fn end_slot(rooms: &Rooms, media: &mut Vec<HeldMedia>, slot: u8)
     requires slot { slot < length media.old.items }
     ensures value { media.new.items ≡ slice_set media.old.items slot
-        (ended (slot_sends rooms.now slot) (media_at media.old.items slot)) }
+        (slot_ended (slot_sends rooms.now slot) (media_at media.old.items slot)) }
 {
     let is_sent = sends_in(rooms, slot);
     media[usize::from(slot)].end_tick(is_sent);
 }
 
 /// Ends a tick of those who hold the slots, in which all that send have sent a packet.
-fn end_slots(rooms: &Rooms, held: &[u8], media: &mut Vec<Media>)
+fn end_slots(rooms: &Rooms, held: &[u8], media: &mut Vec<HeldMedia>)
     requires slots { EachIndex held.now (λ i. slice_index_or held.now i 0 < length media.old.items) }
     requires apart { AreApart held.now }
     ensures long { length media.new.items ≡ length media.old.items }
@@ -759,7 +759,7 @@ fn end_slots(rooms: &Rooms, held: &[u8], media: &mut Vec<Media>)
 }
 
 /// The counters of the termination that holds a slot.
-fn stats_in(media: &[Media], slot: u8) -> Stats
+fn stats_in(media: &[HeldMedia], slot: u8) -> Stats
     requires slot { slot < length media.now }
     ensures value { result ≡ (media_at media.now slot).stats }
 {
@@ -792,7 +792,7 @@ fn slot_of(rooms: &Rooms, number: u32) -> Option<u8>
 }
 
 /// Sets the depth of the play list of a slot, where a command names one.
-fn tune(media: &mut Vec<Media>, slot: u8, depth: Option<u16>)
+fn tune(media: &mut Vec<HeldMedia>, slot: u8, depth: Option<u16>)
     requires slot { slot < length media.old.items }
     ensures tuned { media.new.items ≡ slice_set media.old.items slot
         (tuned_media depth (media_at media.old.items slot)) }
@@ -801,7 +801,7 @@ fn tune(media: &mut Vec<Media>, slot: u8, depth: Option<u16>)
 }
 
 /// Begins the media of a slot, with a silent frame.
-fn begin(media: &mut Vec<Media>, sums: &mut Sums, slot: u8, config: &Config)
+fn begin(media: &mut Vec<HeldMedia>, sums: &mut Sums, slot: u8, config: &Config)
     requires slot { (slot < length media.old.items) × (slot < termination_limit) }
     ensures begun { media.new.items ≡ slice_set media.old.items slot (begun config.now) }
     ensures silent { sums.new.frames ≡ slice_set sums.old.frames slot silence }

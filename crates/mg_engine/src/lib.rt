@@ -35,7 +35,6 @@ pub mod laws;
 mod media;
 mod membership;
 mod mixing;
-mod peer;
 mod ports;
 mod room_shares;
 mod seated_member;
@@ -54,7 +53,6 @@ pub use crate::done::Done;
 pub use crate::edit::Edit;
 pub use crate::engine::Engine;
 pub use crate::fault::StartFault;
-pub use crate::peer::Peer;
 pub use crate::seated_member::SeatedMember;
 pub use crate::taken::{DropCause, Taken};
 pub use crate::topology_triple::{TRIPLES, TopologyTriple, TopologyTriples};
@@ -64,4 +62,4 @@ pub use mg_rooms::{
     mode_talks,
 };
 pub use mg_sums::{Room, Row, Sums};
-pub use mg_words::{Association, Stats};
+pub use mg_words::{Association, Peer, Stats};

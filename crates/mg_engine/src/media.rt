@@ -10,7 +10,7 @@ use std::marker::Model;
 
 /// The media of the termination that holds a slot.
 #[derive(Drop)]
-pub struct Media {
+pub struct HeldMedia {
     play: Playout,
     stats: Stats,
     /// The timestamp of this tick.
@@ -21,7 +21,7 @@ pub struct Media {
     is_sending: bool,
 }
 
-impl Model for Media {
+impl Model for HeldMedia {
     ghost use Rattle.mg_engine.specs.Media.{SlotMedia};
 
     ghost Value = { SlotMedia };
@@ -35,16 +35,17 @@ impl Model for Media {
     } };
 }
 
-impl Media {
-    ghost use Rattle.mg_engine.specs.Media.{idle, begun_at, tuned, placed, played, frame_played, is_concealing, header, ended};
+impl HeldMedia {
+    ghost use Rattle.mg_engine.specs.Media.{idle};
+    ghost use Rattle.mg_engine.specs.aids.MediaSteps.{begun_at, slot_tuned, slot_placed, slot_played, frame_played, is_concealing, header, slot_ended};
     ghost use Rattle.mg_playout.specs.Played.{is_concealed, sound_of};
     ghost use Rattle.mg_sums.specs.Samples.{frame_or_silence};
 
     /// Media of nobody. It takes the memory for a play list.
-    pub fn new(alloc: Global) -> Result<Media, AllocError>
+    pub fn new(alloc: Global) -> Result<HeldMedia, AllocError>
         ensures value { IfOk result (λ media. media ≡ idle) }
     {
-        Ok(Media {
+        Ok(HeldMedia {
             play: Playout::new(alloc)?,
             stats: Stats::new(),
             timestamp: 0,
@@ -67,7 +68,7 @@ impl Media {
 
     /// Sets the depth of the play list, where a command names one, within what a play list can have.
     pub fn tune(&mut self, depth: Option<u16>)
-        ensures value { self.new ≡ tuned depth self.old }
+        ensures value { self.new ≡ slot_tuned depth self.old }
     {
         if let Some(depth) = depth {
             self.play.set_depth(usize::from(depth_within(depth)));
@@ -76,7 +77,7 @@ impl Media {
 
     /// Takes the frame of a packet that came.
     pub fn place(&mut self, header: Header, frame: Frame) -> Placed
-        ensures value { placed self.old header frame ≡ (self.new, result) }
+        ensures value { slot_placed self.old header frame ≡ (self.new, result) }
     {
         self.stats.pr = self.stats.pr.saturating_add(1);
         self.stats.or_ = self.stats.or_.saturating_add(160);
@@ -85,7 +86,7 @@ impl Media {
 
     /// Passes on by 20 ms. What the play list gives is the frame of this tick, which is silent where it gives none.
     pub fn play(&mut self) -> Played
-        ensures value { self.new ≡ played self.old }
+        ensures value { self.new ≡ slot_played self.old }
         ensures frame { frame_or_silence (sound_of result) ≡ frame_played self.old }
         ensures concealed { is_concealed result ≡ is_concealing self.old }
     {
@@ -115,7 +116,7 @@ impl Media {
 
     /// Ends a tick in which a packet was sent, or none.
     pub fn end_tick(&mut self, is_sent: bool)
-        ensures value { self.new ≡ ended is_sent self.old }
+        ensures value { self.new ≡ slot_ended is_sent self.old }
     {
         if is_sent {
             self.stats.ps = self.stats.ps.saturating_add(1);

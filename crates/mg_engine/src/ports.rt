@@ -9,12 +9,12 @@ use std::marker::Model;
 
 /// The slots of the media ports. Contracts see the limits that the pool is made by.
 #[derive(Drop)]
-pub struct Ports {
+pub struct PortPool {
     limits: Limits,
     slots: IndexMap<u16, u8>,
 }
 
-impl Model for Ports {
+impl Model for PortPool {
     ghost use Rattle.std.specs.Prelude.{◌≡◌, ℕ, nat_eq};
     ghost use Rattle.indexmap.specs.IndexMap.{get};
     ghost use Rattle.mg_rooms.specs.declared.limits.Limits.{Limits};
@@ -27,9 +27,9 @@ impl Model for Ports {
     ghost invariant = { λ p. (port : ℕ) → get nat_eq p.slots port ≡ slot_of p.limits port };
 }
 
-impl Ports {
+impl PortPool {
     /// The ports of the pool. It takes memory for each of them.
-    pub fn new(alloc: Global, limits: Limits) -> Result<Ports, AllocError>
+    pub fn new(alloc: Global, limits: Limits) -> Result<PortPool, AllocError>
         requires valid { AreValidLimits limits }
         ensures value { IfOk result (λ ports. ports ≡ limits) }
     {
@@ -37,7 +37,7 @@ impl Ports {
         for slot in 0..limits.slots {
             slots.insert(limits.base_port + 2 * slot, slot as u8)?;
         }
-        Ok(Ports { limits, slots })
+        Ok(PortPool { limits, slots })
     }
 
     /// The slot of a port, if it is one of the pool's.

@@ -12,10 +12,12 @@ use Rattle.mg_topology.specs.Edits as topology
 use Rattle.mg_topology.specs.Topology as kept
 use Rattle.mg_flow.specs.declared.place.Place.{Place}
 use Rattle.mg_flow.specs.Place.{is_same_place, beside, are_together}
-use Rattle.mg_flow.specs.Edits.{Edit, Enter, Leave, SetMode, Apply, apply_all, edits_in, is_held, talks_in, listens_in, lets_hear, hears_in, flows_in, is_silenced_in}
+use Rattle.mg_flow.specs.Edits.{FlowEdit, Enter, Leave, SetMode, Apply, apply_in_room, edits_in, is_held, talks_in}
+use Rattle.mg_flow.specs.Edits.{listens_in, lets_hear, hears_in, flows_in, is_silenced_in}
 use Rattle.mg_flow.specs.aids.Room.{flows_to, is_kept_from, IsVacant, SetsSeat}
-use Rattle.mg_flow.specs.aids.Table.{IsTable}
-use Rattle.mg_flow.specs.Table.{Room, vacant, room_at, talks, listens, holds, hears, flows, is_silenced, StandsFor}
+use Rattle.mg_flow.specs.aids.Table.{IsFlowTable}
+use Rattle.mg_flow.specs.Table.{Room, vacant, room_at, talks_at, listens_at, holds, hears, flows, is_silenced}
+use Rattle.mg_flow.specs.Table.{StandsFor}
 use Rattle.mg_flow.proofs.SeatLemmas.{has_seat-empty}
 
 -- ---- a table in which one room was written
@@ -109,11 +111,11 @@ new_stands table each = record {
 -- ---- the edits, one by one
 
 -- what an edit of one room owes: its own topology, and who talks and who listens everywhere
-edited : (table : List Room) (i : ℕ) (r : Room) (es es' : List Edit) → i < length table
+edited : (table : List Room) (i : ℕ) (r : Room) (es es' : List FlowEdit) → i < length table
     → (kept.StandsFor (room_at table i).topology (edits_in i es) → kept.StandsFor r.topology (edits_in i es'))
     → ((k : ℕ) → k ≢ i → edits_in k es' ≡ edits_in k es)
-    → ((p : Place) → talks (slice_set table i r) p ≡ talks_in es' p)
-    → ((p : Place) → listens (slice_set table i r) p ≡ listens_in es' p)
+    → ((p : Place) → talks_at (slice_set table i r) p ≡ talks_in es' p)
+    → ((p : Place) → listens_at (slice_set table i r) p ≡ listens_in es' p)
     → StandsFor table es → StandsFor (slice_set table i r) es'
 edited table i r es es' within own quiet talkers listeners h = record {
   topologies = λ k. elim (cases_eq k i) [
@@ -128,10 +130,10 @@ edited table i r es es' within own quiet talkers listeners h = record {
 
 pub enter_stands : {table : List Room} {place : Place} {i s : ℕ} {old new : Room} {t l : Bool} →
     IsRead table place i s old
-    → ((edits : List topology.Edit) → kept.StandsFor old.topology edits →
+    → ((edits : List topology.TopologyEdit) → kept.StandsFor old.topology edits →
     kept.StandsFor new.topology (topology.Enter s ∷ edits))
     → SetsSeat old new s true t l
-    → (es : List Edit) → StandsFor table es → StandsFor (slice_set table i new) (Enter place t l ∷ es)
+    → (es : List FlowEdit) → StandsFor table es → StandsFor (slice_set table i new) (Enter place t l ∷ es)
 enter_stands {table} {place} {i} {s} {old} {new} {t} {l} read edits set es h =
     edited table i new es (Enter place t l ∷ es) read.within
     (λ x. rw (eq-eqb place.room i (sym read.number), ← read.seat) (edits (edits_in i es) (rw (found_at read) x)))
@@ -142,10 +144,10 @@ enter_stands {table} {place} {i} {s} {old} {new} {t} {l} read edits set es h =
     h
 
 pub leave_stands : {table : List Room} {place : Place} {i s : ℕ} {old new : Room} → IsRead table place i s old
-    → ((edits : List topology.Edit) → kept.StandsFor old.topology edits →
+    → ((edits : List topology.TopologyEdit) → kept.StandsFor old.topology edits →
     kept.StandsFor new.topology (topology.Leave s ∷ edits))
     → SetsSeat old new s false false false
-    → (es : List Edit) → StandsFor table es → StandsFor (slice_set table i new) (Leave place ∷ es)
+    → (es : List FlowEdit) → StandsFor table es → StandsFor (slice_set table i new) (Leave place ∷ es)
 leave_stands {table} {place} {i} {s} {old} {new} read edits set es h =
     edited table i new es (Leave place ∷ es) read.within
     (λ x. rw (eq-eqb place.room i (sym read.number), ← read.seat) (edits (edits_in i es) (rw (found_at read) x)))
@@ -159,7 +161,7 @@ leave_stands {table} {place} {i} {s} {old} {new} read edits set es h =
 pub mode_stands : {table : List Room} {place : Place} {i s : ℕ} {old new : Room} {t l : Bool} →
     IsRead table place i s old
     → new.topology ≡ old.topology → SetsSeat old new s true t l
-    → (es : List Edit) → StandsFor table es → StandsFor (slice_set table i new) (SetMode place t l ∷ es)
+    → (es : List FlowEdit) → StandsFor table es → StandsFor (slice_set table i new) (SetMode place t l ∷ es)
 mode_stands {table} {place} {i} {s} {old} {new} {t} {l} read same set es h =
     edited table i new es (SetMode place t l ∷ es) read.within
     (λ x. rw (same, found_at read) x)
@@ -171,28 +173,28 @@ mode_stands {table} {place} {i} {s} {old} {new} {t} {l} read same set es h =
 
 -- ---- triples in order
 
-pub own_triples : (room : ℕ) (triples : List Triple) (es : List Edit)
-    → edits_in room (apply_all room triples es) ≡ topology.apply_all triples (edits_in room es)
+pub own_triples : (room : ℕ) (triples : List Triple) (es : List FlowEdit)
+    → edits_in room (apply_in_room room triples es) ≡ topology.apply_all triples (edits_in room es)
 own_triples room [] es = refl
 own_triples room (triple ∷ triples) es =
     own_triples room triples (Apply room triple ∷ es)
     ∙ ap (λ x. topology.apply_all triples (cond x (topology.Apply triple ∷ edits_in room es) (edits_in room es)))
     (eq-eqb room room refl)
 
-other_triples : (room k : ℕ) (triples : List Triple) (es : List Edit)
-    → k ≢ room → edits_in k (apply_all room triples es) ≡ edits_in k es
+other_triples : (room k : ℕ) (triples : List Triple) (es : List FlowEdit)
+    → k ≢ room → edits_in k (apply_in_room room triples es) ≡ edits_in k es
 other_triples room k [] es ne = refl
 other_triples room k (triple ∷ triples) es ne =
     other_triples room k triples (Apply room triple ∷ es) ne
     ∙ ap (λ x. cond x (topology.Apply triple ∷ edits_in k es) (edits_in k es)) (ne_eqb room k (λ e. ne (sym e)))
 
-talks_in-triples : (room : ℕ) (triples : List Triple) (es : List Edit) (p : Place)
-    → talks_in (apply_all room triples es) p ≡ talks_in es p
+talks_in-triples : (room : ℕ) (triples : List Triple) (es : List FlowEdit) (p : Place)
+    → talks_in (apply_in_room room triples es) p ≡ talks_in es p
 talks_in-triples room [] es p = refl
 talks_in-triples room (triple ∷ triples) es p = talks_in-triples room triples (Apply room triple ∷ es) p
 
-listens_in-triples : (room : ℕ) (triples : List Triple) (es : List Edit) (p : Place)
-    → listens_in (apply_all room triples es) p ≡ listens_in es p
+listens_in-triples : (room : ℕ) (triples : List Triple) (es : List FlowEdit) (p : Place)
+    → listens_in (apply_in_room room triples es) p ≡ listens_in es p
 listens_in-triples room [] es p = refl
 listens_in-triples room (triple ∷ triples) es p = listens_in-triples room triples (Apply room triple ∷ es) p
 
@@ -207,13 +209,13 @@ seat_kept f table i r p within same =
 
 pub triples_stand : (table : List Room) (room i : ℕ) (triples : List Triple) (old new : Room) → i ≡ room →
     i < length table → old ≡ get_or table i old
-    → ((edits : List topology.Edit) → kept.StandsFor old.topology edits →
+    → ((edits : List topology.TopologyEdit) → kept.StandsFor old.topology edits →
     kept.StandsFor new.topology (topology.apply_all triples edits))
     → new.talks ≡ old.talks → new.listens ≡ old.listens
-    → (es : List Edit) → StandsFor table es → StandsFor (slice_set table i new) (apply_all room triples es)
+    → (es : List FlowEdit) → StandsFor table es → StandsFor (slice_set table i new) (apply_in_room room triples es)
 triples_stand table room i triples old new number within is edits talkers listeners es h =
     let here : old ≡ room_at table i = room_at-read table i old within is in
-    rw (← number) (edited table i new es (apply_all i triples es) within
+    rw (← number) (edited table i new es (apply_in_room i triples es) within
     (λ x. rw (own_triples i triples es) (edits (edits_in i es) (rw here x)))
     (λ k ne. other_triples i k triples es ne)
     (λ p. seat_kept (λ (x : Room). x.talks) table i new p within (rw (← here) talkers) ∙ h.talkers p ∙
@@ -224,17 +226,17 @@ triples_stand table room i triples old new number within is edits talkers listen
 
 -- ---- there is a list of edits after each edit
 
-pub IsTable-edited : (table : List Room) (i : ℕ) (new : Room) (edit : List Edit → List Edit)
-    → ((es : List Edit) → StandsFor table es → StandsFor (slice_set table i new) (edit es)) → IsTable table →
-    IsTable (slice_set table i new)
-IsTable-edited table i new edit stands h = record {
+pub IsFlowTable-edited : (table : List Room) (i : ℕ) (new : Room) (edit : List FlowEdit → List FlowEdit)
+    → ((es : List FlowEdit) → StandsFor table es → StandsFor (slice_set table i new) (edit es)) → IsFlowTable table →
+    IsFlowTable (slice_set table i new)
+IsFlowTable-edited table i new edit stands h = record {
   rooms = length-set table i new ∙ h.rooms;
-  edits = ∥∥₁_map h.edits (λ (x : (es : List Edit) × StandsFor table es). (edit x.0, stands x.0 x.1));
+  edits = ∥∥₁_map h.edits (λ (x : (es : List FlowEdit) × StandsFor table es). (edit x.0, stands x.0 x.1));
 }
 
 -- a room that is written as it was
 same_stands : (table : List Room) (i : ℕ) (old new : Room) → i < length table → old ≡ get_or table i old → new ≡ old
-    → (es : List Edit) → StandsFor table es → StandsFor (slice_set table i new) es
+    → (es : List FlowEdit) → StandsFor table es → StandsFor (slice_set table i new) es
 same_stands table i old new within is same es h =
     let here : new ≡ room_at table i = same ∙ room_at-read table i old within is in
     edited table i new es es within
@@ -244,23 +246,23 @@ same_stands table i old new within is same es h =
     (λ p. seat_kept (λ (x : Room). x.listens) table i new p within (ap (λ (x : Room). x.listens) here) ∙ h.listeners p)
     h
 
-pub IsTable-tried : (result : Result (Unit {0}) Overlap) (table : List Room) (i : ℕ) (old new : Room)
-    (edit : List Edit → List Edit)
+pub IsFlowTable-tried : (result : Result (Unit {0}) Overlap) (table : List Room) (i : ℕ) (old new : Room)
+    (edit : List FlowEdit → List FlowEdit)
     → i < length table → old ≡ get_or table i old
-    → OnOk result ((es : List Edit) → StandsFor table es → StandsFor (slice_set table i new) (edit es)) →
+    → OnOk result ((es : List FlowEdit) → StandsFor table es → StandsFor (slice_set table i new) (edit es)) →
     OnErr result (new ≡ old)
-    → IsTable table → IsTable (slice_set table i new)
-IsTable-tried (Ok u) table i old new edit within is ok err h = IsTable-edited table i new edit ok h
-IsTable-tried (Err e) table i old new edit within is ok err h =
-    IsTable-edited table i new (λ es. es) (same_stands table i old new within is err) h
+    → IsFlowTable table → IsFlowTable (slice_set table i new)
+IsFlowTable-tried (Ok u) table i old new edit within is ok err h = IsFlowTable-edited table i new edit ok h
+IsFlowTable-tried (Err e) table i old new edit within is ok err h =
+    IsFlowTable-edited table i new (λ es. es) (same_stands table i old new within is err) h
 
 -- ---- what a table tells
 
-pub hears-stands : (table : List Room) (es : List Edit) (t l : Place) → StandsFor table es
+pub hears-stands : (table : List Room) (es : List FlowEdit) (t l : Place) → StandsFor table es
     → hears table t l ≡ hears_in es t l
 hears-stands table es t l h = grind (arith, nat_tests, (h.topologies t.room).pairs t.seat l.seat)
 
-pub flows-stands : (table : List Room) (es : List Edit) (t l : Place) → StandsFor table es
+pub flows-stands : (table : List Room) (es : List FlowEdit) (t l : Place) → StandsFor table es
     → flows table t l ≡ flows_in es t l
 flows-stands table es t l h = rw (h.talkers t, h.listeners l, hears-stands table es t l h) refl
 
@@ -268,7 +270,7 @@ not_both : (x w : Bool) → (x && not (x && w)) ≡ (x && not w)
 not_both true w = refl
 not_both false w = refl
 
-pub is_silenced-stands : (table : List Room) (es : List Edit) (t l : Place) → StandsFor table es
+pub is_silenced-stands : (table : List Room) (es : List FlowEdit) (t l : Place) → StandsFor table es
     → is_silenced table t l ≡ is_silenced_in es t l
 is_silenced-stands table es t l h =
     rw (

@@ -8,23 +8,24 @@ use Rattle.mg_flow.specs.Place.{is_same_place, are_together}
 
 -- A member enters, one leaves, or the mode of one changes, which says whether it talks and whether
 -- it listens; or a triple is applied in a room.
-pub data Edit : Type 0 where
-  Enter : (place : Place) → (talks listens : Bool) → Edit
-  Leave : (place : Place) → Edit
-  SetMode : (place : Place) → (talks listens : Bool) → Edit
-  Apply : (room : ℕ) → (triple : Triple) → Edit
+pub data FlowEdit : Type 0 where
+  Enter : (place : Place) → (talks listens : Bool) → FlowEdit
+  Leave : (place : Place) → FlowEdit
+  SetMode : (place : Place) → (talks listens : Bool) → FlowEdit
+  Apply : (room : ℕ) → (triple : Triple) → FlowEdit
 
 -- the edits, and then the triples in order
-abbrev pub apply_all : ℕ → List Triple → List Edit → List Edit
-apply_all room [] es = es
-apply_all room (triple ∷ triples) es = apply_all room triples (Apply room triple ∷ es)
+abbrev pub apply_in_room : ℕ → List Triple → List FlowEdit → List FlowEdit
+apply_in_room room [] es = es
+apply_in_room room (triple ∷ triples) es = apply_in_room room triples (Apply room triple ∷ es)
 
 -- the edits of a room, and one more, if it is of the room
-abbrev pub with_edit_if : Bool → topology.Edit → List topology.Edit → List topology.Edit
+abbrev pub with_edit_if : Bool → topology.TopologyEdit → List topology.TopologyEdit →
+    List topology.TopologyEdit
 with_edit_if is_here edit es = if is_here then edit ∷ es else es
 
 -- the edits of one room, as its topology has them
-abbrev pub edits_in : ℕ → List Edit → List topology.Edit
+abbrev pub edits_in : ℕ → List FlowEdit → List topology.TopologyEdit
 edits_in room [] = []
 edits_in room (Enter p talks listens ∷ es) =
     with_edit_if (p.room == room) (topology.Enter p.seat) (edits_in room es)
@@ -35,11 +36,11 @@ edits_in room (Apply r triple ∷ es) =
     with_edit_if (r == room) (topology.Apply triple) (edits_in room es)
 
 -- whether the place is held
-abbrev pub is_held : List Edit → Place → Bool
+abbrev pub is_held : List FlowEdit → Place → Bool
 is_held es place = topology.is_held (edits_in place.room es) place.seat
 
 -- whether the member on the place talks, by what was last said of it
-abbrev pub talks_in : List Edit → Place → Bool
+abbrev pub talks_in : List FlowEdit → Place → Bool
 talks_in [] place = false
 talks_in (Enter p talks listens ∷ es) place =
     if is_same_place place p then talks else talks_in es place
@@ -49,7 +50,7 @@ talks_in (SetMode p talks listens ∷ es) place =
 talks_in (Apply room triple ∷ es) place = talks_in es place
 
 -- whether it listens, by what was last said of it
-abbrev pub listens_in : List Edit → Place → Bool
+abbrev pub listens_in : List FlowEdit → Place → Bool
 listens_in [] place = false
 listens_in (Enter p talks listens ∷ es) place =
     if is_same_place place p then listens else listens_in es place
@@ -59,24 +60,24 @@ listens_in (SetMode p talks listens ∷ es) place =
 listens_in (Apply room triple ∷ es) place = listens_in es place
 
 -- whether the last word on two places of one room lets the listener hear the talker
-abbrev pub lets_hear : List Edit → Place → Place → Bool
+abbrev pub lets_hear : List FlowEdit → Place → Place → Bool
 lets_hear es talker listener =
     topology.lets_hear (edits_in talker.room es) talker.seat listener.seat
 
 -- whether the listener hears the talker: they are different members of one room, and the last word
 -- lets it
-abbrev pub hears_in : List Edit → Place → Place → Bool
+abbrev pub hears_in : List FlowEdit → Place → Place → Bool
 hears_in es talker listener =
     are_together (is_held es) talker listener && lets_hear es talker listener
 
 -- whether the talker's speech goes to the listener: the one talks, the other listens and hears it
-abbrev pub flows_in : List Edit → Place → Place → Bool
+abbrev pub flows_in : List FlowEdit → Place → Place → Bool
 flows_in es talker listener =
     talks_in es talker && (listens_in es listener && hears_in es talker listener)
 
 -- whether the talker is silenced for the listener: it is another member of the room, it talks, and
 -- the last word keeps it from the listener
-abbrev pub is_silenced_in : List Edit → Place → Place → Bool
+abbrev pub is_silenced_in : List FlowEdit → Place → Place → Bool
 is_silenced_in es talker listener =
     talks_in es talker
     && (are_together (is_held es) talker listener && not (lets_hear es talker listener))

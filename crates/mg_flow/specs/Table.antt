@@ -7,7 +7,7 @@ use Rattle.mg_topology.specs.Topology as topology
 use Rattle.mg_topology.specs.Triple.{speaks_of, word_of}
 use Rattle.mg_flow.specs.declared.place.Place.{Place}
 use Rattle.mg_flow.specs.Place.{is_same_place, are_together}
-use Rattle.mg_flow.specs.Edits.{Edit, edits_in, talks_in, listens_in}
+use Rattle.mg_flow.specs.Edits.{FlowEdit, edits_in, talks_in, listens_in}
 
 -- what is kept of a room: its topology, and the seats of those who talk and of those who listen
 pub record Room : Type 0 where
@@ -28,12 +28,12 @@ abbrev pub holds : List Room → Place → Bool
 holds table place = topology.holds (room_at table place.room).topology place.seat
 
 -- whether the member on the place talks
-abbrev pub talks : List Room → Place → Bool
-talks table place = has_seat (room_at table place.room).talks place.seat
+abbrev pub talks_at : List Room → Place → Bool
+talks_at table place = has_seat (room_at table place.room).talks place.seat
 
 -- whether it listens
-abbrev pub listens : List Room → Place → Bool
-listens table place = has_seat (room_at table place.room).listens place.seat
+abbrev pub listens_at : List Room → Place → Bool
+listens_at table place = has_seat (room_at table place.room).listens place.seat
 
 -- whether the listener hears the talker, which is in the same room
 abbrev pub hears : List Room → Place → Place → Bool
@@ -44,24 +44,24 @@ hears table talker listener =
 -- whether the talker's speech goes to the listener
 abbrev pub flows : List Room → Place → Place → Bool
 flows table talker listener =
-    talks table talker && (listens table listener && hears table talker listener)
+    talks_at table talker && (listens_at table listener && hears table talker listener)
 
 -- whether the talker is silenced for the listener
 abbrev pub is_silenced : List Room → Place → Place → Bool
 is_silenced table talker listener =
-    talks table talker
+    talks_at table talker
     && (are_together (holds table) talker listener && not (hears table talker listener))
 
 -- what is kept agrees with the edits, for each room and for each place
-pub record StandsFor (table : List Room) (es : List Edit) : Type 0 where
+pub record StandsFor (table : List Room) (es : List FlowEdit) : Type 0 where
   pub topologies : (room : ℕ) →
       topology.StandsFor (room_at table room).topology (edits_in room es)
-  pub talkers : (place : Place) → talks table place ≡ talks_in es place
-  pub listeners : (place : Place) → listens table place ≡ listens_in es place
+  pub talkers : (place : Place) → talks_at table place ≡ talks_in es place
+  pub listeners : (place : Place) → listens_at table place ≡ listens_in es place
 
 -- there is a list of edits that the table stands for
 abbrev pub StandsForSome : List Room → Type 0
-StandsForSome table = ∥ ((es : List Edit) × StandsFor table es) ∥₁
+StandsForSome table = ∥ ((es : List FlowEdit) × StandsFor table es) ∥₁
 
 -- All rooms but the one are as they were, and with them all that is told of their places.
 abbrev pub KeepsOthers : List Room → List Room → ℕ → Type 0
@@ -74,15 +74,15 @@ pub record SetsPlace (old new : List Room) (place : Place)
   pub held : (p : Place) →
       holds new p ≡ (if is_same_place p place then is_held else holds old p)
   pub talkers : (p : Place) →
-      talks new p ≡ (if is_same_place p place then does_talk else talks old p)
+      talks_at new p ≡ (if is_same_place p place then does_talk else talks_at old p)
   pub listeners : (p : Place) →
-      listens new p ≡ (if is_same_place p place then does_listen else listens old p)
+      listens_at new p ≡ (if is_same_place p place then does_listen else listens_at old p)
 
 -- each place is held, and each member talks and listens, as before
 pub record KeepsPlaces (old new : List Room) : Type 0 where
   pub held : (p : Place) → holds new p ≡ holds old p
-  pub talkers : (p : Place) → talks new p ≡ talks old p
-  pub listeners : (p : Place) → listens new p ≡ listens old p
+  pub talkers : (p : Place) → talks_at new p ≡ talks_at old p
+  pub listeners : (p : Place) → listens_at new p ≡ listens_at old p
 
 -- whether the listener hears the talker after triples, in order, by whether it did before
 abbrev pub hears_after : List Triple → ℕ → ℕ → Bool → Bool

@@ -31,17 +31,17 @@ pub struct FlowTable {
 impl Model for FlowTable {
     ghost use Rattle.std.specs.Prelude.{List};
     ghost use Rattle.mg_flow.specs.Table.{Room};
-    ghost use Rattle.mg_flow.specs.aids.Table.{IsTable};
+    ghost use Rattle.mg_flow.specs.aids.Table.{IsFlowTable};
 
     ghost Value = { List Room };
 
     ghost view = { λ table. table.rooms.items };
 
-    ghost invariant = { λ table. IsTable table.rooms.items };
+    ghost invariant = { λ table. IsFlowTable table.rooms.items };
 }
 
 impl FlowTable {
-    ghost use Rattle.mg_flow.specs.Edits.{Edit, Enter, Leave, SetMode, apply_all, is_held, hears_in, flows_in, is_silenced_in};
+    ghost use Rattle.mg_flow.specs.Edits.{FlowEdit, Enter, Leave, SetMode, apply_in_room, is_held, hears_in, flows_in, is_silenced_in};
     ghost use Rattle.mg_flow.specs.Table.{StandsFor, StandsForSome, KeepsOthers, SetsPlace, KeepsPlaces, holds, hears, hears_after, flows, is_silenced};
 
     /// The table of a gateway whose rooms nobody has entered.
@@ -61,7 +61,7 @@ impl FlowTable {
     /// Whether the place is held. None is that isn't within the limits.
     pub fn holds(&self, place: Place) -> bool
         ensures kept { result ≡ holds self.now place }
-        ensures edits { (es : List Edit) → StandsFor self.now es → result ≡ is_held es place }
+        ensures edits { (es : List FlowEdit) → StandsFor self.now es → result ≡ is_held es place }
     {
         match self.rooms.get(usize::from(place.room)) {
             Some(room) => room.holds(usize::from(place.seat)),
@@ -73,7 +73,7 @@ impl FlowTable {
     pub fn held(&self, room: u8) -> Mask
         ensures kept { (seat : ℕ) →
             has_seat result seat ≡ holds self.now (record { room = room; seat = seat }) }
-        ensures edits { (es : List Edit) → StandsFor self.now es → (seat : ℕ) →
+        ensures edits { (es : List FlowEdit) → StandsFor self.now es → (seat : ℕ) →
             has_seat result seat ≡ is_held es (record { room = room; seat = seat }) }
     {
         match self.rooms.get(usize::from(room)) {
@@ -86,7 +86,7 @@ impl FlowTable {
     /// the last word on the two lets it. The listener comes first, as in the sentence.
     pub fn hears(&self, listener: Place, talker: Place) -> bool
         ensures kept { result ≡ hears self.now talker listener }
-        ensures edits { (es : List Edit) → StandsFor self.now es →
+        ensures edits { (es : List FlowEdit) → StandsFor self.now es →
             result ≡ hears_in es talker listener }
     {
         if talker.room != listener.room {
@@ -103,7 +103,7 @@ impl FlowTable {
         requires { IsTrue (holds self.now place) }
         ensures kept { (seat : ℕ) →
             has_seat result.now seat ≡ flows self.now (beside place seat) place }
-        ensures edits { (es : List Edit) → StandsFor self.now es → (seat : ℕ) →
+        ensures edits { (es : List FlowEdit) → StandsFor self.now es → (seat : ℕ) →
             has_seat result.now seat ≡ flows_in es (beside place seat) place }
         ensures held { (seat : ℕ) → IsTrue (has_seat result.now seat) →
             IsTrue (holds self.now (beside place seat)) }
@@ -118,7 +118,7 @@ impl FlowTable {
         requires { IsTrue (holds self.now place) }
         ensures kept { (seat : ℕ) →
             has_seat result.now seat ≡ is_silenced self.now (beside place seat) place }
-        ensures edits { (es : List Edit) → StandsFor self.now es → (seat : ℕ) →
+        ensures edits { (es : List FlowEdit) → StandsFor self.now es → (seat : ℕ) →
             has_seat result.now seat ≡ is_silenced_in es (beside place seat) place }
         ensures held { (seat : ℕ) → IsTrue (has_seat result.now seat) →
             IsTrue (holds self.now (beside place seat)) }
@@ -131,7 +131,7 @@ impl FlowTable {
     pub fn on_enter(&mut self, place: Place, talks: bool, listens: bool)
         requires within { IsWithinLimits place }
         requires free { IsFalse (holds self.old place) }
-        ensures edits { (es : List Edit) → StandsFor self.old es →
+        ensures edits { (es : List FlowEdit) → StandsFor self.old es →
             StandsFor self.new (Enter place talks listens ∷ es) }
         ensures place { SetsPlace self.old self.new place true talks listens }
         ensures hears { (t l : Place) → hears self.new t l ≡
@@ -147,7 +147,7 @@ impl FlowTable {
     /// The member on the place leaves. Nothing changes between the others.
     pub fn on_leave(&mut self, place: Place)
         requires { IsTrue (holds self.old place) }
-        ensures edits { (es : List Edit) → StandsFor self.old es →
+        ensures edits { (es : List FlowEdit) → StandsFor self.old es →
             StandsFor self.new (Leave place ∷ es) }
         ensures place { SetsPlace self.old self.new place false false false }
         ensures hears { (t l : Place) → hears self.new t l ≡
@@ -161,7 +161,7 @@ impl FlowTable {
     /// The mode of the member on the place changes: whether it talks, and whether it listens.
     pub fn on_mode(&mut self, place: Place, talks: bool, listens: bool)
         requires { IsTrue (holds self.old place) }
-        ensures edits { (es : List Edit) → StandsFor self.old es →
+        ensures edits { (es : List FlowEdit) → StandsFor self.old es →
             StandsFor self.new (SetMode place talks listens ∷ es) }
         ensures place { SetsPlace self.old self.new place true talks listens }
         ensures hears { (t l : Place) → hears self.new t l ≡ hears self.old t l }
@@ -176,8 +176,8 @@ impl FlowTable {
     pub fn on_triples(&mut self, room: u8, triples: &[Triple]) -> Result<(), Overlap>
         requires { room < context_limit }
         ensures overlap { IsErr result ↔ Any Overlaps triples.now }
-        ensures ok { OnOk result ((es : List Edit) → StandsFor self.old es →
-            StandsFor self.new (apply_all room triples.now es)) }
+        ensures ok { OnOk result ((es : List FlowEdit) → StandsFor self.old es →
+            StandsFor self.new (apply_in_room room triples.now es)) }
         ensures places { KeepsPlaces self.old self.new }
         ensures hears { OnOk result ((t l : Place) → t.room ≡ room →
             IsTrue (are_together (holds self.old) t l) →

@@ -1,7 +1,7 @@
 ghost use Rattle.std.specs.Prelude.{◌≡◌, ℕ, ◌<◌, ◌∷◌, List, true, false, ◌↔◌, Any, IsTrue, IsFalse, IsErr, OnOk, OnErr};
 ghost use Rattle.mg_topology.specs.Mask.{seat_limit, has_seat};
 ghost use Rattle.mg_topology.specs.Triple.{Overlaps};
-ghost use Rattle.mg_topology.specs.Edits.{Edit, Enter, Leave, apply_all};
+ghost use Rattle.mg_topology.specs.Edits.{TopologyEdit, Enter, Leave, apply_all};
 ghost use Rattle.mg_topology.specs.Topology.{holds, hears, StandsFor};
 ghost use Rattle.mg_flow.specs.aids.Room.{flows_to, is_kept_from};
 
@@ -91,7 +91,7 @@ impl Room {
     pub(crate) fn enter(&mut self, seat: usize, talks: bool, listens: bool)
         requires below_limit { seat < seat_limit }
         requires free { IsFalse (holds self.old.topology seat) }
-        ensures edits { (es : List Edit) → StandsFor self.old.topology es →
+        ensures edits { (es : List TopologyEdit) → StandsFor self.old.topology es →
             StandsFor self.new.topology (Enter seat ∷ es) }
         ensures seat { SetsSeat self.old self.new seat true talks listens }
     {
@@ -104,7 +104,7 @@ impl Room {
     /// The member on the seat leaves.
     pub(crate) fn leave(&mut self, seat: usize)
         requires { IsTrue (holds self.old.topology seat) }
-        ensures edits { (es : List Edit) → StandsFor self.old.topology es →
+        ensures edits { (es : List TopologyEdit) → StandsFor self.old.topology es →
             StandsFor self.new.topology (Leave seat ∷ es) }
         ensures seat { SetsSeat self.old self.new seat false false false }
     {
@@ -128,7 +128,7 @@ impl Room {
     /// Applies all triples in order, or none of them.
     pub(crate) fn apply(&mut self, triples: &[Triple]) -> Result<(), Overlap>
         ensures overlap { IsErr result ↔ Any Overlaps triples.now }
-        ensures ok { OnOk result ((es : List Edit) → StandsFor self.old.topology es →
+        ensures ok { OnOk result ((es : List TopologyEdit) → StandsFor self.old.topology es →
             StandsFor self.new.topology (apply_all triples.now es)) }
         ensures seats { (seat : ℕ) → holds self.new.topology seat ≡ holds self.old.topology seat }
         ensures talks { self.new.talks ≡ self.old.talks }

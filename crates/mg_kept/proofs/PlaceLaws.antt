@@ -8,13 +8,13 @@ use Rattle.std.proofs.lemmas.List.Quantifiers.{all_pairs_push}
 use Rattle.std.specs.List.{find}
 use Rattle.mg_words.specs.Limits.{kept_limit}
 use Rattle.mg_kept.specs.KeptReplies.{KeptReply, is_in_range, is_reply_to, kept_text, without_range}
-use Rattle.mg_kept.specs.aids.Places.{IsFilled}
+use Rattle.mg_kept.specs.aids.Places.{AreFilledUpTo}
 use Rattle.mg_kept.proofs.FindLaws.{none_found, none_in_drop, fails_at}
 
 -- one more place holds a reply, to a request that the others don't answer
 pub one_more : (places : List KeptReply) (len n : ℕ) (old : List KeptReply) (reply : KeptReply) →
-    IsFilled places len → take len places ≡ drop n old → length (take len places) < kept_limit →
-    kept_text old reply.sender reply.number ≡ None → IsFilled (set places len reply) (len + 1)
+    AreFilledUpTo places len → take len places ≡ drop n old → length (take len places) < kept_limit →
+    kept_text old reply.sender reply.number ≡ None → AreFilledUpTo (set places len reply) (len + 1)
 one_more places len n old reply filled is room none =
     let within : len ≤ length places = omega arith in
     let count : length (take len places) ≡ len = length-take-le len places within in
@@ -38,8 +38,8 @@ written_back n xs ys e = rw (← e) (take-append_seam xs ys)
 
 -- those that stay stand first, and the other places are free
 pub some_stay : (places after : List KeptReply) (len stay : ℕ) (sender : List ℕ) (first last : ℕ) →
-    IsFilled places len → length after ≡ length places → stay ≤ len →
-    take stay after ≡ without_range sender first last (take len places) → IsFilled after stay
+    AreFilledUpTo places len → length after ≡ length places → stay ≤ len →
+    take stay after ≡ without_range sender first last (take len places) → AreFilledUpTo after stay
 some_stay places after len stay sender first last filled many fewer front = record {
   many = many ∙ filled.many;
   within = omega (arith, filled.within);

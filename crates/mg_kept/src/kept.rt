@@ -18,13 +18,13 @@ pub struct Kept {
 impl Model for Kept {
     ghost use Rattle.std.specs.Prelude.{List, take};
     ghost use Rattle.mg_kept.specs.KeptReplies.{KeptReply};
-    ghost use Rattle.mg_kept.specs.aids.Places.{IsFilled};
+    ghost use Rattle.mg_kept.specs.aids.Places.{AreFilledUpTo};
 
     ghost Value = { List KeptReply };
 
     ghost view = { λ k. take k.len k.places.items };
 
-    ghost invariant = { λ k. IsFilled k.places.items k.len };
+    ghost invariant = { λ k. AreFilledUpTo k.places.items k.len };
 }
 
 impl Kept {

@@ -1,1 +1,4 @@
 pub mod NumberLaws
+pub mod CommandLaws
+pub mod AskedLaws
+pub mod EndLaws

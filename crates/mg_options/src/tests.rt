@@ -1,4 +1,7 @@
-use crate::{long_number, long_value, short_number, short_value};
+use crate::{
+    Status, VERSION, long_number, long_value, program_arguments, program_command, short_number,
+    short_value, tell,
+};
 use clap::Command;
 use clap::error::ErrorKind;
 use std::alloc::Global;
@@ -43,4 +46,64 @@ fn refuses_what_is_no_such_number(rt: HostRuntime) {
     ] {
         assert_eq!(rt; given(rt.alloc(), &[word]), Err(ErrorKind::ValueValidation));
     }
+}
+
+/// How a program ends that is given this word and has no options, and what it writes on both outputs.
+fn end_on(alloc: Global, word: &str, unprinted: Status) -> (Status, Vec<u8>, Vec<u8>) {
+    let mut output = Vec::new(alloc);
+    let mut errors = Vec::new(alloc);
+    let words = [word];
+    let matches = program_command(alloc, "gateway", "Joins calls").try_get_matches_from(&words);
+    let status = match matches {
+        Ok(_) => Status::Done,
+        Err(error) => tell(&error, unprinted, &mut output, &mut errors),
+    };
+    (status, output, errors)
+}
+
+#[test]
+fn prints_the_version(rt: HostRuntime) {
+    assert_eq!(rt; VERSION, "0.1.0");
+    let (status, output, errors) = end_on(rt.alloc(), "--version", Status::Failed);
+    assert_eq!(rt; status, Status::Done);
+    assert_eq!(rt; output.as_slice(), b"gateway 0.1.0\n".as_slice());
+    assert!(rt; errors.is_empty());
+}
+
+#[test]
+fn tells_a_usage_fault(rt: HostRuntime) {
+    let (status, output, errors) = end_on(rt.alloc(), "--colour", Status::Done);
+    assert_eq!(rt; status.code(), 2);
+    assert!(rt; output.is_empty());
+    assert!(rt; !errors.is_empty());
+}
+
+/// How a program ends that can't print its help, and what it tells of that.
+fn told_of_help(alloc: Global, unprinted: Status) -> (Status, Vec<u8>) {
+    let mut full: [u8; 0] = [];
+    let mut output: &mut [u8] = &mut full;
+    let mut errors = Vec::new(alloc);
+    let words = ["--help"];
+    let matches = program_command(alloc, "gateway", "Joins calls").try_get_matches_from(&words);
+    match matches {
+        Ok(_) => (Status::BadLine, errors),
+        Err(error) => (tell(&error, unprinted, &mut output, &mut errors), errors),
+    }
+}
+
+#[test]
+fn tells_that_help_cannot_be_printed(rt: HostRuntime) {
+    let (status, errors) = told_of_help(rt.alloc(), Status::Failed);
+    assert_eq!(rt; status, Status::Failed);
+    assert_eq!(rt; errors.as_slice(), b"write failed\n".as_slice());
+    let (status, errors) = told_of_help(rt.alloc(), Status::Done);
+    assert_eq!(rt; status, Status::Done);
+    assert!(rt; errors.is_empty());
+}
+
+#[test]
+fn reads_its_own_arguments(rt: HostRuntime) {
+    let mut errors = Vec::new(rt.alloc());
+    assert!(rt; program_arguments(&rt, &mut errors).is_ok());
+    assert!(rt; errors.is_empty());
 }

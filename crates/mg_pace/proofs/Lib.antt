@@ -1,5 +1,4 @@
 pub mod AskedRows
-pub mod CommandLaws
 pub mod DueLaws
 pub mod InvocationLaws
 pub mod OneLaws

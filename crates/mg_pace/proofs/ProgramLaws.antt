@@ -1,19 +1,20 @@
--- How the program ends where its words led to no run.
-use Rattle.std.proofs.Common.{◌≡◌, inr, subst}
-use Rattle.clap.specs.declared.error.kind.ErrorKind.{ErrorKind}
-use Rattle.mg_pace.specs.declared.status.Status.{Status}
-use Rattle.mg_pace.specs.declared.status.Status.TheVariants.{Done}
-use Rattle.mg_pace.specs.Options.{Invocation, IsRefused, refused, run}
-use Rattle.mg_pace.specs.Program.{Ends, Tells}
-use Rattle.mg_pace.specs.Run.{Seen}
+-- The exit statuses of the program.
+use Rattle.std.proofs.Common.{◌≡◌, ◌≤◌, Result, Ok, Err, arith}
+use Rattle.mg_options.specs.Status.{code_of}
+use Rattle.mg_options.specs.declared.status.Status.{Status}
+use Rattle.mg_options.specs.declared.status.Status.TheVariants.{Done}
+use Rattle.mg_pace.specs.declared.fault.PaceFault.{PaceFault}
+use Rattle.mg_pace.specs.declared.fault.PaceFault.TheVariants as faults
+use Rattle.mg_pace.specs.Status.{status_of}
 
--- a fault of the words was told, and the clock was left alone
-pub ends_told : {K W : Type 0} (seen : K → W → Seen) (fails : K → Type 0) (silent : Type 0) (asked : Invocation)
-    (kind : ErrorKind) (clock after : K) (old new : W)
-    (status : Status) → IsRefused asked kind → Tells kind old new status → (status ≡ Done → silent) → after ≡ clock →
-    Ends seen fails silent asked clock after old new status
-ends_told seen fails silent (run options) kind clock after old new status memory told quiet left =
-    let ended = subst (λ k. Tells k old new status) memory told in
-    inr (ended.0, left, ended.1)
-ends_told seen fails silent (refused kinds) kind clock after old new status why told quiet left =
-    (left, record { kind = kind; among = why; told = told; quiet = quiet })
+pub done_is_small : code_of Done ≤ 4
+unfolding code_of
+done_is_small = omega arith
+
+-- a run ends by none that is of ports
+pub run_is_small : (outcome : Result (Unit {0}) PaceFault) (status : Status) → status ≡ status_of outcome →
+    code_of status ≤ 4
+unfolding code_of status_of
+run_is_small (Ok done) status is = rw is (omega arith)
+run_is_small (Err faults.Closed) status is = rw is (omega arith)
+run_is_small (Err faults.Clock) status is = rw is (omega arith)

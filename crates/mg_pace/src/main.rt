@@ -4,9 +4,6 @@
 //! `mg_pace | mg_bridge serve` is a gateway in real time.
 #![tactic(auto)]
 
-ghost use Rattle.std.specs.Prelude.{◌≡◌, ◌≢◌};
-ghost use Rattle.std.specs.IoError.{error_kind};
-
 mod fault;
 mod laws;
 mod lines;
@@ -19,36 +16,15 @@ mod status;
 mod tests;
 
 use crate::program::program;
-use crate::status::Status;
 use mg_clock::SystemWatch;
-use std::alloc::AllocError;
-use std::io::{ErrorKind, Write};
+use mg_options::program_arguments;
 use std::process::ExitCode;
-use std::{env, io};
-
-/// The arguments after the program's name.
-fn words(rt: &HostRuntime) -> io::Result<Vec<String>> {
-    Ok(env::args(rt)?.skip(1).collect(rt.alloc())?)
-}
-
-/// Tells why the arguments can't be read, and answers how the program ends.
-fn tell<E: Write>(error: &io::Error, errors: &mut E) -> Status
-    ensures memory { error_kind error.now ≡ ErrorKind.OutOfMemory → result ≡ Status.NoMemory }
-    ensures usage { error_kind error.now ≢ ErrorKind.OutOfMemory → result ≡ Status.Usage }
-{
-    if error.kind() == ErrorKind::OutOfMemory {
-        let _ = writeln!(errors, "no memory");
-        return Status::NoMemory;
-    }
-    let _ = writeln!(errors, "error: an argument isn't UTF-8");
-    Status::Usage
-}
 
 fn main(rt: HostRuntime) -> ExitCode {
     let mut errors = rt.stderr();
-    let words = match words(&rt) {
+    let words = match program_arguments(&rt, &mut errors) {
         Ok(words) => words,
-        Err(error) => return ExitCode::from(tell(&error, &mut errors).code()),
+        Err(status) => return ExitCode::from(status.code()),
     };
     let mut watch = SystemWatch::new(&rt);
     let mut output = rt.stdout();

@@ -1,12 +1,13 @@
-ghost use Rattle.std.specs.Prelude.{◌≡◌, ◌<◌, ◌≤◌, IfErr, IfOk, codes, map, max, min, unwrap_or};
+ghost use Rattle.std.specs.Prelude.{◌≡◌, ◌<◌, ◌≤◌, IfErr, IfOk, Ok, codes, map, max, min, unwrap_or};
 ghost use Rattle.clap.specs.Words.{app_of, found_of, kind_of, rows_of, rule_of};
+ghost use Rattle.mg_options.specs.Asked.{IsRefused};
 ghost use Rattle.mg_options.specs.Numbers.{number_rule};
-ghost use Rattle.mg_pace.specs.Options.{IsRefused, asked, command_line, options_in, run};
+ghost use Rattle.mg_pace.specs.Options.{asked, command_line, options_in};
 
 use clap::error::ErrorKind;
 use clap::{Arg, ArgMatches, Command, Error, value_parser};
 use mg_clock::MOST_POLLS;
-use mg_options::{long_number, long_value, short_value};
+use mg_options::{long_number, long_value, program_command, short_value};
 use std::alloc::Global;
 use std::convert::AsStr;
 
@@ -42,9 +43,8 @@ fn command<'a>(alloc: Global) -> Result<Command<'a>, Error>
     ensures app { IfOk result (λ command. app_of command ≡ command_line) }
     ensures memory { IfErr result (λ error. kind_of error ≡ ErrorKind.OutOfMemory) }
 {
-    let command = Command::new(alloc, "mg_pace")
-        .about("Writes the line tick every 20 ms, and lines poll between")
-        .no_binary_name(true)
+    let about = "Writes the line tick every 20 ms, and lines poll between";
+    let command = program_command(alloc, "mg_pace", about)
         .arg(ticks_option(alloc))?
         .arg(polls_option(alloc))?;
     Ok(command)
@@ -76,10 +76,10 @@ fn options_of(matches: &ArgMatches<'_>) -> Options
 
 /// The options of the run that the program's arguments ask for. The arguments stand without the program's name.
 ///
-/// Where they ask for no run the error says why, and is told to the caller: a fault of theirs, a call for help, or
-/// want of memory.
+/// Where they ask for no run the error says why, and is told to the caller: a fault of theirs, a call for help or the
+/// version, or want of memory.
 pub fn asked_options<'a, S: AsStr>(alloc: Global, words: &'a [S]) -> Result<Options, Error>
-    ensures asked { IfOk result (λ options. asked (map S.text words.now) ≡ run options) }
+    ensures asked { IfOk result (λ options. asked (map S.text words.now) ≡ Ok options) }
     ensures some { IfOk result (λ options. 0 < options.polls) }
     ensures few { IfOk result (λ options. options.polls ≤ 1000) }
     ensures refused { IfErr result (λ error. IsRefused (asked (map S.text words.now)) (kind_of error)) }

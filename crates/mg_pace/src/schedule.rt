@@ -22,11 +22,11 @@ impl Model for Schedule {
 
     ghost Value = { Pace };
 
-    ghost use Rattle.mg_pace.specs.aids.View.{pace_of, IsKept};
+    ghost use Rattle.mg_pace.specs.aids.View.{pace_of, IsWithinBounds};
 
     ghost view = { pace_of };
 
-    ghost invariant = { IsKept };
+    ghost invariant = { IsWithinBounds };
 }
 
 impl Schedule {

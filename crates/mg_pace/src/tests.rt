@@ -156,3 +156,11 @@ fn prints_help(rt: HostRuntime) {
     assert!(rt; !output.is_empty());
     assert!(rt; errors.is_empty());
 }
+
+#[test]
+fn prints_its_version(rt: HostRuntime) {
+    let (status, output, errors) = answer(rt.alloc(), &["--version"], &[]);
+    assert_eq!(rt; status, 0);
+    assert_eq!(rt; output.as_slice(), b"mg_pace 0.1.0\n".as_slice());
+    assert!(rt; errors.is_empty());
+}

@@ -2,7 +2,7 @@
 use Rattle.std.proofs.Common.{◌≡◌, ℕ, zero, suc, ◌+◌, ◌-◌, ◌++◌, ap, min, ℤ, Bool, true, false, List, [], ◌∷◌, length, drop, Option, Some, None, arith, refl, sym, inl, inr, ◌∙◌}
 use Rattle.std.proofs.lemmas.Bool.{cases_lt}
 use Rattle.std.proofs.lemmas.List.{get_or_append_left, get_or-append_right, get_or-drop, get_or-replicate, get_or_past, length-drop, length-replicate}
-use Rattle.mg_playout.specs.Places.{FramePlaces, frame_at, empty_places, fallen, is_empty}
+use Rattle.mg_playout.specs.Places.{FramePlaces, frame_at, empty_places, fallen, has_no_frame}
 
 -- no place of empty places has a frame
 pub frame_at-empty : (n i : ℕ) → frame_at (empty_places n) i ≡ None
@@ -27,21 +27,22 @@ frame_at-fallen places count i =
     ]
 
 -- where no place has a frame, each place has none
-pub frame_at-is_empty : (places : FramePlaces) (i : ℕ) → is_empty places ≡ true → frame_at places i ≡ None
-frame_at-is_empty [] i e = refl
-frame_at-is_empty (None ∷ places) zero e = refl
-frame_at-is_empty (None ∷ places) (suc i) e = frame_at-is_empty places i e
-frame_at-is_empty (Some frame ∷ places) i e = cc
+pub frame_at-has_no_frame : (places : FramePlaces) (i : ℕ) → has_no_frame places ≡ true → frame_at places i ≡ None
+frame_at-has_no_frame [] i e = refl
+frame_at-has_no_frame (None ∷ places) zero e = refl
+frame_at-has_no_frame (None ∷ places) (suc i) e = frame_at-has_no_frame places i e
+frame_at-has_no_frame (Some frame ∷ places) i e = cc
 
 -- places above those that have no frame at all have none either
-pub is_empty-drop : (places : FramePlaces) (count : ℕ) → is_empty places ≡ true → is_empty (drop count places) ≡ true
-is_empty-drop places zero e = e
-is_empty-drop [] (suc count) e = refl
-is_empty-drop (None ∷ places) (suc count) e = is_empty-drop places count e
-is_empty-drop (Some frame ∷ places) (suc count) e = cc
+pub has_no_frame-drop : (places : FramePlaces) (count : ℕ) → has_no_frame places ≡ true →
+    has_no_frame (drop count places) ≡ true
+has_no_frame-drop places zero e = e
+has_no_frame-drop [] (suc count) e = refl
+has_no_frame-drop (None ∷ places) (suc count) e = has_no_frame-drop places count e
+has_no_frame-drop (Some frame ∷ places) (suc count) e = cc
 
 -- the place has no frame, where no place from it on has one
-pub frame_at-none : (places : FramePlaces) (place : ℕ) → is_empty (drop place places) ≡ true →
+pub frame_at-none : (places : FramePlaces) (place : ℕ) → has_no_frame (drop place places) ≡ true →
     frame_at places place ≡ None
 frame_at-none [] place e = refl
 frame_at-none (None ∷ places) zero e = refl
@@ -49,19 +50,19 @@ frame_at-none (Some frame ∷ places) zero e = cc
 frame_at-none (x ∷ places) (suc place) e = frame_at-none places place e
 
 -- a place without a frame more makes no difference
-pub is_empty-more : (places : FramePlaces) (place : ℕ) →
-    is_empty (drop place (places ++ None ∷ [])) ≡ is_empty (drop place places)
-is_empty-more [] zero = refl
-is_empty-more [] (suc place) = is_empty-drop [] place refl
-is_empty-more (None ∷ places) zero = is_empty-more places zero
-is_empty-more (Some frame ∷ places) zero = refl
-is_empty-more (x ∷ places) (suc place) = is_empty-more places place
+pub has_no_frame-more : (places : FramePlaces) (place : ℕ) →
+    has_no_frame (drop place (places ++ None ∷ [])) ≡ has_no_frame (drop place places)
+has_no_frame-more [] zero = refl
+has_no_frame-more [] (suc place) = has_no_frame-drop [] place refl
+has_no_frame-more (None ∷ places) zero = has_no_frame-more places zero
+has_no_frame-more (Some frame ∷ places) zero = refl
+has_no_frame-more (x ∷ places) (suc place) = has_no_frame-more places place
 
 -- after a fall by one the places from one on are those from the next one on
-pub is_empty-fallen : (places : FramePlaces) (place : ℕ) →
-    is_empty (drop place (fallen places 1)) ≡ is_empty (drop (suc place) places)
-is_empty-fallen [] zero = refl
-is_empty-fallen [] (suc place) = refl
-is_empty-fallen (x ∷ places) place =
+pub has_no_frame-fallen : (places : FramePlaces) (place : ℕ) →
+    has_no_frame (drop place (fallen places 1)) ≡ has_no_frame (drop (suc place) places)
+has_no_frame-fallen [] zero = refl
+has_no_frame-fallen [] (suc place) = refl
+has_no_frame-fallen (x ∷ places) place =
     let one : min 1 (suc (length places)) ≡ 1 = omega arith in
-    ap (λ n. is_empty (drop place (places ++ empty_places n))) one ∙ is_empty-more places place
+    ap (λ n. has_no_frame (drop place (places ++ empty_places n))) one ∙ has_no_frame-more places place

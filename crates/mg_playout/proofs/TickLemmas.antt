@@ -4,15 +4,15 @@ use Rattle.std.specs.Prelude.{if◌then◌else◌, ◌==◌}
 use Rattle.std.specs.Option.{option_map}
 use Rattle.std.proofs.lemmas.Bool.Decides.{nat_tests}
 use Rattle.mg_playout.specs.Order.{given_after, given_at, frame_before}
-use Rattle.mg_playout.specs.Places.{FramePlaces, frame_at, fallen, is_empty}
-use Rattle.mg_playout.specs.Played.{given, frame_of}
+use Rattle.mg_playout.specs.Places.{FramePlaces, frame_at, fallen, has_no_frame}
+use Rattle.mg_playout.specs.Played.{given, frame_from_packet}
 use Rattle.mg_playout.specs.Playout.{PlayList, shifted, advanced}
 use Rattle.mg_playout.specs.declared.phase.Phase.{Phase}
 use Rattle.mg_playout.specs.declared.phase.Phase.TheVariants.{Idle, Wait, Run}
 use Rattle.mg_playout.specs.declared.played.Played.{Played}
 use Rattle.mg_playout.specs.declared.played.Played.TheVariants.{Silence}
 use Rattle.mg_playout.specs.declared.source.Source.{Source}
-use Rattle.mg_playout.proofs.PlacesLemmas.{frame_at-fallen, frame_at-none, is_empty-drop, is_empty-fallen}
+use Rattle.mg_playout.proofs.PlacesLemmas.{frame_at-fallen, frame_at-none, has_no_frame-drop, has_no_frame-fallen}
 
 -- a play list by its fields
 abbrev list_in : Phase → Option Source → FramePlaces → Option (List ℤ) → PlayList
@@ -23,7 +23,7 @@ abbrev turn_step : FramePlaces → Option (List ℤ) → ℕ → Bool → Played
 turn_step places last place none = if none then Silence else
     given (frame_at places place) (frame_before places last place)
 
-given_at-none : (places : FramePlaces) (last : Option (List ℤ)) (place : ℕ) → is_empty (drop place places) ≡ true →
+given_at-none : (places : FramePlaces) (last : Option (List ℤ)) (place : ℕ) → has_no_frame (drop place places) ≡ true →
     given_at places last place ≡ Silence
 given_at-none places last place e = ap (turn_step places last place) e
 
@@ -31,8 +31,8 @@ given_at-none places last place e = ap (turn_step places last place) e
 given_at-fallen : (places : FramePlaces) (last : Option (List ℤ)) (place : ℕ) →
     given_at (fallen places 1) (frame_at places 0) place ≡ given_at places last (suc place)
 given_at-fallen places last place =
-    ap (turn_step (fallen places 1) (frame_at places 0) place) (is_empty-fallen places place)
-    ∙ ap (λ turn. if is_empty (drop (suc place) places) then Silence else turn) (turn place)
+    ap (turn_step (fallen places 1) (frame_at places 0) place) (has_no_frame-fallen places place)
+    ∙ ap (λ turn. if has_no_frame (drop (suc place) places) then Silence else turn) (turn place)
   where
     next : (place : ℕ) → frame_at (fallen places 1) place ≡ frame_at places (suc place)
     next place = frame_at-fallen places 1 place ∙ ap (frame_at places) (omega arith)
@@ -46,19 +46,19 @@ given_at-fallen places last place =
         ∙ ap (given (frame_at places (suc (suc place)))) (next place)
 
 -- the turn of a place gives the frame that came for it
-pub frame_of-given_at : (places : FramePlaces) (last : Option (List ℤ)) (place : ℕ) →
-    frame_of (given_at places last place) ≡ frame_at places place
-frame_of-given_at places last place = by (is_empty (drop place places)) refl
+pub frame_from_packet-given_at : (places : FramePlaces) (last : Option (List ℤ)) (place : ℕ) →
+    frame_from_packet (given_at places last place) ≡ frame_at places place
+frame_from_packet-given_at places last place = by (has_no_frame (drop place places)) refl
   where
-    came : (frame before : Option (List ℤ)) → frame_of (given frame before) ≡ frame
+    came : (frame before : Option (List ℤ)) → frame_from_packet (given frame before) ≡ frame
     came (Some frame) before = refl
     came None (Some before) = refl
     came None None = refl
 
-    by : (b : Bool) → is_empty (drop place places) ≡ b →
-        frame_of (turn_step places last place (is_empty (drop place places))) ≡ frame_at places place
-    by true e = ap (λ b. frame_of (turn_step places last place b)) e ∙ sym (frame_at-none places place e)
-    by false e = ap (λ b. frame_of (turn_step places last place b)) e ∙
+    by : (b : Bool) → has_no_frame (drop place places) ≡ b →
+        frame_from_packet (turn_step places last place (has_no_frame (drop place places))) ≡ frame_at places place
+    by true e = ap (λ b. frame_from_packet (turn_step places last place b)) e ∙ sym (frame_at-none places place e)
+    by false e = ap (λ b. frame_from_packet (turn_step places last place b)) e ∙
         came (frame_at places place) (frame_before places last place)
 
 -- an idle play list gives nothing
@@ -79,23 +79,24 @@ run_step source places last empty =
 -- one that runs gives what the turn of each place gives
 pub given_after-run : (ticks : ℕ) (source : Option Source) (places : FramePlaces) (last : Option (List ℤ)) →
     given_after ticks (list_in Run source places last) ≡ given_at places last ticks
-given_after-run zero source places last = by (is_empty places) refl
+given_after-run zero source places last = by (has_no_frame places) refl
   where
-    by : (b : Bool) → is_empty places ≡ b → (run_step source places last (is_empty places)).1 ≡ given_at places last 0
+    by : (b : Bool) → has_no_frame places ≡ b →
+        (run_step source places last (has_no_frame places)).1 ≡ given_at places last 0
     by true e = ap (λ b. (run_step source places last b).1) e ∙ sym (given_at-none places last 0 e)
     by false e = ap (λ b. (run_step source places last b).1) e ∙ sym (ap (turn_step places last 0) e)
 given_after-run (suc ticks) source places last =
-    by (is_empty places) refl (given_after-run ticks (option_map (advanced 1) source) (fallen places 1)
+    by (has_no_frame places) refl (given_after-run ticks (option_map (advanced 1) source) (fallen places 1)
     (frame_at places 0))
   where
-    by : (b : Bool) → is_empty places ≡ b
+    by : (b : Bool) → has_no_frame places ≡ b
         → given_after ticks (list_in Run (option_map (advanced 1) source) (fallen places 1) (frame_at places 0)) ≡
         given_at (fallen places 1) (frame_at places 0) ticks
-        → given_after ticks (run_step source places last (is_empty places)).0 ≡ given_at places last (suc ticks)
+        → given_after ticks (run_step source places last (has_no_frame places)).0 ≡ given_at places last (suc ticks)
     by true e rest =
         ap (λ b. given_after ticks (run_step source places last b).0) e
         ∙ given_after-idle ticks source places None
-        ∙ sym (given_at-none places last (suc ticks) (is_empty-drop places (suc ticks) e))
+        ∙ sym (given_at-none places last (suc ticks) (has_no_frame-drop places (suc ticks) e))
     by false e rest = ap (λ b. given_after ticks (run_step source places last b).0) e ∙ rest ∙
         given_at-fallen places last ticks
 

@@ -3,7 +3,7 @@
 use Rattle.std.specs.Prelude.{◌≡◌, ℕ, zero, suc, ◌<◌, ℤ, List, drop, Option, Some, None, IfSome}
 use Rattle.std.specs.Prelude.{if◌then◌else◌}
 use Rattle.mg_g711.specs.Frame.{IsFrame}
-use Rattle.mg_playout.specs.Places.{FramePlaces, frame_at, is_empty, ArePlaces}
+use Rattle.mg_playout.specs.Places.{FramePlaces, frame_at, has_no_frame, ArePlaces}
 use Rattle.mg_playout.specs.Played.{given}
 use Rattle.mg_playout.specs.Playout.{PlayList, HasTicksLeft, ticked}
 use Rattle.mg_playout.specs.Sequence.{steps_between}
@@ -40,5 +40,5 @@ frame_before places last (suc place) = frame_at places place
 -- frame.
 abbrev pub given_at : FramePlaces → Option (List ℤ) → ℕ → Played
 given_at places last place =
-    if is_empty (drop place places) then Silence
+    if has_no_frame (drop place places) then Silence
     else given (frame_at places place) (frame_before places last place)

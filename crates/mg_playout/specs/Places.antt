@@ -15,8 +15,8 @@ abbrev pub frame_at : FramePlaces → ℕ → Option (List ℤ)
 frame_at places place = slice_index_or places place None
 
 -- whether no place has a frame
-abbrev pub is_empty : FramePlaces → Bool
-is_empty places = list_all is_none places
+abbrev pub has_no_frame : FramePlaces → Bool
+has_no_frame places = list_all is_none places
 
 -- so many places without a frame
 abbrev pub empty_places : ℕ → FramePlaces

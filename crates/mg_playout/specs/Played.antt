@@ -18,10 +18,10 @@ sound_of (Frame frame) = Some frame
 sound_of (Concealed frame) = Some frame
 
 -- the frame, if it came in a packet
-abbrev pub frame_of : Played → Option (List ℤ)
-frame_of Silence = None
-frame_of (Frame frame) = Some frame
-frame_of (Concealed frame) = None
+abbrev pub frame_from_packet : Played → Option (List ℤ)
+frame_from_packet Silence = None
+frame_from_packet (Frame frame) = Some frame
+frame_from_packet (Concealed frame) = None
 
 abbrev pub is_concealed : Played → Bool
 is_concealed Silence = false

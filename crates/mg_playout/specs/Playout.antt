@@ -4,7 +4,7 @@ use Rattle.std.specs.Prelude.{◌==◌, ◌≤◌, nat_le, if◌then◌else◌, 
 use Rattle.std.specs.Prelude.{Some, None, is_some}
 use Rattle.std.specs.Option.{option_map}
 use Rattle.mg_words.specs.Limits.{first_depth}
-use Rattle.mg_playout.specs.Places.{FramePlaces, empty_places, started_with, frame_at, is_empty}
+use Rattle.mg_playout.specs.Places.{FramePlaces, empty_places, started_with, frame_at, has_no_frame}
 use Rattle.mg_playout.specs.Places.{fallen, resized}
 use Rattle.mg_playout.specs.Played.{given}
 use Rattle.mg_playout.specs.Sequence.{distance_of}
@@ -36,8 +36,8 @@ abbrev pub depth_of : PlayList → ℕ
 depth_of list = length list.places
 
 -- what a play list begins as
-abbrev pub first_state : PlayList
-first_state = record { phase = Idle; source = None; last = None; places = empty_places first_depth }
+abbrev pub first_list : PlayList
+first_list = record { phase = Idle; source = None; last = None; places = empty_places first_depth }
 
 -- a start: the frame's sequence number is the next one, and the wait is half of the depth in ticks
 abbrev pub started : PlayList → ℕ → ℕ → List ℤ → PlayList
@@ -107,7 +107,7 @@ ticked_in Idle list = (list, Silence)
 ticked_in (Wait ticks) list =
     (record list { phase = if ticks == 1 then Run else Wait (ticks - 1) }, Silence)
 ticked_in Run list =
-    if is_empty list.places then (record list { phase = Idle; last = None }, Silence)
+    if has_no_frame list.places then (record list { phase = Idle; last = None }, Silence)
     else (
       record (shifted list 1) { last = frame_at list.places 0 },
       given (frame_at list.places 0) list.last,

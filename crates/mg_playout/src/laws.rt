@@ -7,7 +7,7 @@ ghost use Rattle.std.specs.Int.{w16, int_rem_euclid};
 ghost use Rattle.mg_g711.specs.Frame.{halved};
 ghost use Rattle.mg_playout.specs.Order.{IsValidList, frame_under, given_after, given_at};
 ghost use Rattle.mg_playout.specs.Places.{FramePlaces, frame_at};
-ghost use Rattle.mg_playout.specs.Played.{frame_of};
+ghost use Rattle.mg_playout.specs.Played.{frame_from_packet};
 ghost use Rattle.mg_playout.specs.Playout.{PlayList, depth_of, placed};
 ghost use Rattle.mg_playout.specs.Sequence.{distance_of, steps_between};
 
@@ -66,7 +66,7 @@ pub fn ticks_give_frames_in_order()
     ensures wait { (list : PlayList) (wait ticks : ℕ) → list.phase ≡ Phase.Wait wait → 1 ≤ wait →
         given_after (wait + ticks) list ≡ given_at list.places list.last ticks }
     ensures frames { (places : FramePlaces) (last : Option (List ℤ)) (place : ℕ) →
-        frame_of (given_at places last place) ≡ frame_at places place }
+        frame_from_packet (given_at places last place) ≡ frame_at places place }
 
     // The frame at a place is the one under the next sequence number plus the place.
     ensures numbers { (list : PlayList) (source : Source) (place : ℕ) →

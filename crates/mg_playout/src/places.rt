@@ -2,7 +2,7 @@ ghost use Rattle.std.specs.Prelude.{◌≡◌, ◌+◌, ◌<◌, ◌≤◌, ◌+
 ghost use Rattle.std.specs.Option.{option_copied, option_flatten};
 ghost use Rattle.circular_buffer.specs.Buffer.{buffer};
 ghost use Rattle.mg_g711.specs.Frame.{IsFrame};
-ghost use Rattle.mg_playout.specs.Places.{empty_places, frame_at, is_empty, fallen, resized, started_with};
+ghost use Rattle.mg_playout.specs.Places.{empty_places, frame_at, has_no_frame, fallen, resized, started_with};
 ghost use Rattle.mg_playout.specs.Played.{given, sound_of};
 
 use crate::played::Played;
@@ -68,7 +68,7 @@ impl Places {
 
     /// Whether no place is filled.
     pub(crate) fn is_empty(&self) -> bool
-        ensures { result ≡ is_empty self.now.places }
+        ensures { result ≡ has_no_frame self.now.places }
     {
         let mut items = self.ring.iter();
         let _last = items.next();

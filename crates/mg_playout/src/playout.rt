@@ -37,7 +37,7 @@ impl Model for Playout {
 }
 
 impl Playout {
-    ghost use Rattle.mg_playout.specs.Playout.{first_state, placed, ticked, with_depth, turn_of, turn_at, started, shifted};
+    ghost use Rattle.mg_playout.specs.Playout.{first_list, placed, ticked, with_depth, turn_of, turn_at, started, shifted};
     ghost use Rattle.mg_playout.specs.Places.{frame_at};
     ghost use Rattle.mg_playout.specs.Played.{given, sound_of};
     ghost use Rattle.mg_playout.specs.Order.{IsValidList};
@@ -46,7 +46,7 @@ impl Playout {
     ///
     /// It takes the memory for the most places that there may be. Fails only where that is refused.
     pub fn new(alloc: Global) -> Result<Self, AllocError>
-        ensures first { IfOk result (λ playout. playout ≡ first_state) }
+        ensures first { IfOk result (λ playout. playout ≡ first_list) }
     {
         Ok(Playout {
             phase: Phase::Idle,
@@ -117,7 +117,7 @@ impl Playout {
 
     /// Goes back to the first state, with its depth of four places.
     pub fn clear(&mut self)
-        ensures first { self.new ≡ first_state }
+        ensures first { self.new ≡ first_list }
     {
         self.phase = Phase::Idle;
         self.source = None;

@@ -1,5 +1,5 @@
 use crate::payload::Payload;
-use mg_engine::Peer;
+use mg_words::Peer;
 
 /// A datagram that waits at a slot.
 #[derive(Drop)]

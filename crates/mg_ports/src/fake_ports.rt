@@ -8,7 +8,7 @@ use crate::payload::Payload;
 use crate::port_fault::PortFault;
 use crate::ports::Ports;
 use crate::receipt::Receipt;
-use mg_engine::Peer;
+use mg_words::Peer;
 use std::alloc::{AllocError, Global};
 
 /// Ports in memory, for tests. Each call is told, as long as there is memory for it.

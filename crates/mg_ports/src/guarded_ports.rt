@@ -4,7 +4,7 @@ ghost use Rattle.mg_ports.specs.Guard.{GivesNoStrangers, may_command};
 
 use crate::port_fault::PortFault;
 use crate::ports::Ports;
-use mg_engine::Peer;
+use mg_words::Peer;
 
 /// The most datagrams of strangers that one receive lets fall.
 const MOST_STRANGERS: usize = 64;

@@ -37,4 +37,4 @@ pub use crate::payload::Payload;
 pub use crate::port_fault::PortFault;
 pub use crate::ports::Ports;
 pub use crate::receipt::Receipt;
-pub use mg_engine::Peer;
+pub use mg_words::Peer;

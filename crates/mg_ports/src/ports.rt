@@ -1,11 +1,11 @@
 ghost use Rattle.std.specs.Prelude.{◌≡◌, ℕ, ◌≤◌, [], ◌∷◌, length, List, Option, None, IfOk, IfSome, OnErr, ⊤};
-ghost use Rattle.mg_engine.specs.declared.peer.Peer.{Peer};
+ghost use Rattle.mg_words.specs.declared.peer.Peer.{Peer};
 ghost use Rattle.mg_ports.specs.declared.call.Call.{Call};
 ghost use Rattle.mg_ports.specs.declared.call.Call.TheVariants.{Receive, Send};
 ghost use Rattle.mg_ports.specs.Calls.{Told, IsCounted, receipt_of};
 
 use crate::port_fault::PortFault;
-use mg_engine::Peer;
+use mg_words::Peer;
 
 /// UDP ports by their slots. Slot 0 is the control port, slot s + 1 the media port of slot s of the pool.
 pub trait Ports {

@@ -1,5 +1,5 @@
 use crate::payload::Payload;
-use mg_engine::Peer;
+use mg_words::Peer;
 
 /// What a receive answered.
 #[derive(Drop)]

@@ -6,7 +6,7 @@ use Rattle.mg_reply.specs.declared.item.Item.{Item}
 use Rattle.mg_reply.specs.declared.entry_kind.EntryKind.{EntryKind}
 use Rattle.mg_reply.specs.aids.Draft.{Drafted, drafted}
 use Rattle.mg_reply.specs.Listed.{listed, grouped}
-use Rattle.mg_reply.specs.aids.Marks.{is_empty, mark_of, closing}
+use Rattle.mg_reply.specs.aids.Marks.{has_no_part, mark_of, closing}
 use Rattle.mg_reply.specs.Entries.{is_of, item_text, texts_of, topology_entry}
 use Rattle.mg_reply.proofs.DraftLaws.{drafted-drafted}
 
@@ -22,7 +22,7 @@ listed-append (x ∷ xs) ys =
 -- after some parts the next is no longer the first
 pub listed-first-append : (opening : List ℕ) (first : Bool) (xs ys : List (List ℕ)) →
     listed (mark_of opening first) (xs ++ ys) ≡ listed (mark_of opening first) xs ++
-    listed (mark_of opening (first && is_empty xs)) ys
+    listed (mark_of opening (first && has_no_part xs)) ys
 unfolding listed
 listed-first-append opening true [] ys = refl
 listed-first-append opening false [] ys = refl
@@ -36,14 +36,14 @@ pub listed-one : (mark x : List ℕ) → listed mark (x ∷ []) ≡ mark ++ x
 unfolding listed
 listed-one mark x = ap (λ t. mark ++ t) (append-nil x)
 
-pub grouped-closing : (xs : List (List ℕ)) → grouped xs ≡ listed (codes "{") xs ++ closing (is_empty xs)
+pub grouped-closing : (xs : List (List ℕ)) → grouped xs ≡ listed (codes "{") xs ++ closing (has_no_part xs)
 unfolding listed
 grouped-closing [] = refl
 grouped-closing (x ∷ xs) = refl
 
-pub is_empty-append : (xs ys : List (List ℕ)) → is_empty (xs ++ ys) ≡ (is_empty xs && is_empty ys)
-is_empty-append [] ys = refl
-is_empty-append (x ∷ xs) ys = refl
+pub has_no_part-append : (xs ys : List (List ℕ)) → has_no_part (xs ++ ys) ≡ (has_no_part xs && has_no_part ys)
+has_no_part-append [] ys = refl
+has_no_part-append (x ∷ xs) ys = refl
 
 pub and_assoc : (a b c : Bool) → ((a && b) && c) ≡ (a && (b && c))
 and_assoc true b c = refl
@@ -82,25 +82,25 @@ one_of mark kind x e = this_by mark x (is_of kind x) e
 -- the loop over items: one more, and the end
 pub all_step : (d : Drafted) (opening : List ℕ) (first : Bool) (kind : EntryKind) (xs : List Item) (i : ℕ) (x : Item)
     → i < length xs → drafted (drafted d (listed (mark_of opening first) (texts_of kind (get_or xs i x ∷ []))))
-    (listed (mark_of opening (first && is_empty (texts_of kind (get_or xs i x ∷ []))))
+    (listed (mark_of opening (first && has_no_part (texts_of kind (get_or xs i x ∷ []))))
     (texts_of kind (drop (i + 1) xs))) ≡ drafted d (listed (mark_of opening first) (texts_of kind (drop i xs)))
 all_step d opening first kind xs i x lt =
     let one = texts_of kind (get_or xs i x ∷ []) in
     let rest = texts_of kind (drop (i + 1) xs) in
-    drafted-drafted d (listed (mark_of opening first) one) (listed (mark_of opening (first && is_empty one)) rest)
+    drafted-drafted d (listed (mark_of opening first) one) (listed (mark_of opening (first && has_no_part one)) rest)
     ∙ ap (drafted d) (sym (listed-first-append opening first one rest) ∙
     ap (listed (mark_of opening first)) (sym (texts_of-cons kind (get_or xs i x) (drop (i + 1) xs)) ∙
     ap (texts_of kind) (sym (drop_more xs i x lt))))
 
 pub first_step : (first : Bool) (kind : EntryKind) (xs : List Item) (i : ℕ) (x : Item) → i < length xs →
-    ((first && is_empty (texts_of kind (get_or xs i x ∷ []))) && is_empty (texts_of kind (drop (i + 1) xs))) ≡
-    (first && is_empty (texts_of kind (drop i xs)))
+    ((first && has_no_part (texts_of kind (get_or xs i x ∷ []))) && has_no_part (texts_of kind (drop (i + 1) xs))) ≡
+    (first && has_no_part (texts_of kind (drop i xs)))
 first_step first kind xs i x lt =
     let one = texts_of kind (get_or xs i x ∷ []) in
     let rest = texts_of kind (drop (i + 1) xs) in
-    and_assoc first (is_empty one) (is_empty rest)
-    ∙ ap (λ b. first && b) (sym (is_empty-append one rest) ∙
-    ap is_empty (sym (texts_of-cons kind (get_or xs i x) (drop (i + 1) xs)) ∙
+    and_assoc first (has_no_part one) (has_no_part rest)
+    ∙ ap (λ b. first && b) (sym (has_no_part-append one rest) ∙
+    ap has_no_part (sym (texts_of-cons kind (get_or xs i x) (drop (i + 1) xs)) ∙
     ap (texts_of kind) (sym (drop_more xs i x lt))))
 
 pub all_end : (d : Drafted) (mark : List ℕ) (kind : EntryKind) (xs : List Item) (i : ℕ) → length xs ≤ i →
@@ -109,34 +109,34 @@ unfolding listed
 all_end d mark kind xs i le = rw (drop_all i xs le) refl
 
 pub first_end : (first : Bool) (kind : EntryKind) (xs : List Item) (i : ℕ) → length xs ≤ i →
-    (first && is_empty (texts_of kind (drop i xs))) ≡ first
+    (first && has_no_part (texts_of kind (drop i xs))) ≡ first
 first_end true kind xs i le = rw (drop_all i xs le) refl
 first_end false kind xs i le = refl
 
 -- the topology with its braces as the first entry
 pub topology_is : (xs : List (List ℕ)) → listed (codes "{Topology{") xs ++
-    closing (is_empty xs) ≡ listed (codes "{") (topology_entry xs)
+    closing (has_no_part xs) ≡ listed (codes "{") (topology_entry xs)
 unfolding listed
 topology_is [] = refl
 topology_is (x ∷ xs) = sym (listed-one (codes "{") (listed (codes "Topology{") (x ∷ xs) ++ codes "}"))
 
-pub is_empty-topology : (xs : List (List ℕ)) → is_empty (topology_entry xs) ≡ is_empty xs
-is_empty-topology [] = refl
-is_empty-topology (x ∷ xs) = refl
+pub has_no_part-topology : (xs : List (List ℕ)) → has_no_part (topology_entry xs) ≡ has_no_part xs
+has_no_part-topology [] = refl
+has_no_part-topology (x ∷ xs) = refl
 
 -- the topology, the commands and the errors, with the braces that they have together
 pub entries_are : (xs ys zs : List (List ℕ)) →
-    ((listed (codes "{") xs ++ listed (mark_of (codes "{") (is_empty xs)) ys) ++
-    listed (mark_of (codes "{") (is_empty xs && is_empty ys)) zs) ++
-    closing ((is_empty xs && is_empty ys) && is_empty zs) ≡ grouped (xs ++ (ys ++ zs))
+    ((listed (codes "{") xs ++ listed (mark_of (codes "{") (has_no_part xs)) ys) ++
+    listed (mark_of (codes "{") (has_no_part xs && has_no_part ys)) zs) ++
+    closing ((has_no_part xs && has_no_part ys) && has_no_part zs) ≡ grouped (xs ++ (ys ++ zs))
 entries_are xs ys zs =
-    let both = is_empty-append xs ys in
-    ap (λ b. ((listed (codes "{") xs ++ listed (mark_of (codes "{") (is_empty xs)) ys) ++
-    listed (mark_of (codes "{") b) zs) ++ closing (b && is_empty zs)) (sym both)
-    ∙ ap (λ t. (t ++ listed (mark_of (codes "{") (is_empty (xs ++ ys))) zs) ++
-    closing (is_empty (xs ++ ys) && is_empty zs)) (sym (listed-first-append (codes "{") true xs ys))
-    ∙ ap (λ t. t ++ closing (is_empty (xs ++ ys) && is_empty zs))
+    let both = has_no_part-append xs ys in
+    ap (λ b. ((listed (codes "{") xs ++ listed (mark_of (codes "{") (has_no_part xs)) ys) ++
+    listed (mark_of (codes "{") b) zs) ++ closing (b && has_no_part zs)) (sym both)
+    ∙ ap (λ t. (t ++ listed (mark_of (codes "{") (has_no_part (xs ++ ys))) zs) ++
+    closing (has_no_part (xs ++ ys) && has_no_part zs)) (sym (listed-first-append (codes "{") true xs ys))
+    ∙ ap (λ t. t ++ closing (has_no_part (xs ++ ys) && has_no_part zs))
     (sym (listed-first-append (codes "{") true (xs ++ ys) zs))
-    ∙ ap (λ b. listed (codes "{") ((xs ++ ys) ++ zs) ++ closing b) (sym (is_empty-append (xs ++ ys) zs))
+    ∙ ap (λ b. listed (codes "{") ((xs ++ ys) ++ zs) ++ closing b) (sym (has_no_part-append (xs ++ ys) zs))
     ∙ sym (grouped-closing ((xs ++ ys) ++ zs))
     ∙ ap grouped (append_assoc xs ys zs)

@@ -52,7 +52,5 @@ entries_of items =
 
 -- the context of an action that ends with an item
 abbrev pub action_id : Item → Option ContextId
-action_id (Triple a b association) = None
-action_id (Command word term outcome) = None
-action_id (Fault e) = None
 action_id (Action id) = Some id
+action_id _ = None

@@ -17,10 +17,8 @@ abbrev pub new_reply : ℕ → Answered
 new_reply n = record { number = n; items = []; room = 1600; has_pending = false; is_long = false }
 
 abbrev pub is_action : Item → Bool
-is_action (Triple a b association) = false
-is_action (Command word term outcome) = false
-is_action (Fault e) = false
 is_action (Action id) = true
+is_action _ = false
 
 -- whether the last of these ends an action; where there is none, what was said before
 abbrev pub last_is_action : Bool → List Item → Bool
@@ -77,10 +75,8 @@ after_all r (x ∷ xs) = after_all (after_put r x) xs
 -- none for the end of an action that has items.
 abbrev pub places_of : Bool → List Item → ℕ
 places_of waits [] = 0
-places_of waits (Triple a b association ∷ xs) = 1 + places_of true xs
-places_of waits (Command word term outcome ∷ xs) = 1 + places_of true xs
-places_of waits (Fault e ∷ xs) = 1 + places_of true xs
 places_of waits (Action id ∷ xs) = (if waits then 0 else 1) + places_of false xs
+places_of waits (_ ∷ xs) = 1 + places_of true xs
 
 -- Which items wait is seen of the last, and there are twice as many places as there was room, so
 -- that each item's action finds one

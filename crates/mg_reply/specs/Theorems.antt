@@ -14,8 +14,7 @@ use Rattle.mg_reply.specs.Written.{action_text, reply_text}
 abbrev pub has_terms : Item → Bool
 has_terms (Triple a b association) = is_term a && is_term b
 has_terms (Command word term outcome) = is_term term
-has_terms (Fault e) = true
-has_terms (Action id) = true
+has_terms _ = true
 
 -- no reply's text goes on after another reply's text
 abbrev pub NoProperPrefix : Type 0

@@ -1,7 +1,7 @@
 ghost use Rattle.std.specs.Prelude.{◌≡◌, ◌&&◌, ◌++◌, ◌∷◌, [], codes};
 ghost use Rattle.mg_reply.specs.aids.Draft.{drafted};
 ghost use Rattle.mg_reply.specs.Listed.{listed, grouped};
-ghost use Rattle.mg_reply.specs.aids.Marks.{is_empty, mark_of, closing};
+ghost use Rattle.mg_reply.specs.aids.Marks.{has_no_part, mark_of, closing};
 ghost use Rattle.mg_reply.specs.Entries.{outcome_text, item_text, texts_of, topology_entry, entries_of};
 ghost use Rattle.mg_words.specs.Association.{association_text};
 ghost use Rattle.mg_words.specs.ContextId.{context_text};
@@ -116,7 +116,7 @@ fn put_if_of(
 ) -> bool
     ensures value { draft.new ≡ drafted draft.old
         (listed (mark_of opening.now is_first) (texts_of kind (item.now ∷ []))) }
-    ensures first { result ≡ (is_first && is_empty (texts_of kind (item.now ∷ []))) }
+    ensures first { result ≡ (is_first && has_no_part (texts_of kind (item.now ∷ []))) }
 {
     if !item.is_of(kind) {
         draft.put(b"");
@@ -137,7 +137,7 @@ fn put_all(
     items: &[Item],
 ) -> bool
     ensures value { draft.new ≡ drafted draft.old (listed (mark_of opening.now is_first) (texts_of kind items.now)) }
-    ensures first { result ≡ (is_first && is_empty (texts_of kind items.now)) }
+    ensures first { result ≡ (is_first && has_no_part (texts_of kind items.now)) }
 {
     let mut is_next_first = is_first;
     for item in items {
@@ -151,7 +151,7 @@ fn put_all(
 fn put_topology(draft: &mut Draft, items: &[Item]) -> bool
     ensures value { draft.new ≡ drafted draft.old
         (listed (codes "{") (topology_entry (texts_of EntryKind.Triples items.now))) }
-    ensures first { result ≡ is_empty (topology_entry (texts_of EntryKind.Triples items.now)) }
+    ensures first { result ≡ has_no_part (topology_entry (texts_of EntryKind.Triples items.now)) }
 {
     let is_empty = put_all(draft, b"{Topology{", true, EntryKind::Triples, items);
     close(draft, is_empty);

@@ -19,14 +19,14 @@ pub struct Draft {
 
 impl Model for Draft {
     ghost use Rattle.std.specs.Prelude.{◌+◌, ◌-◌, length, take, drop};
-    ghost use Rattle.mg_reply.specs.aids.Draft.{Drafted, text_of, IsDraft};
+    ghost use Rattle.mg_reply.specs.aids.Draft.{Drafted, text_unless, IsDraft};
 
     ghost Value = { Drafted };
 
     ghost view = { λ d. record {
       front = take d.start d.bytes.text;
       room = d.bytes.room + length d.bytes.text - d.start;
-      text = text_of d.is_full (drop d.start d.bytes.text);
+      text = text_unless d.is_full (drop d.start d.bytes.text);
     } };
 
     ghost invariant = { λ d. IsDraft d.bytes d.start d.left d.is_full };

@@ -13,7 +13,7 @@ use Rattle.mg_rooms.specs.aids.Entries.{entered_entry, left_entry}
 use Rattle.mg_rooms.specs.Members.{without}
 use Rattle.mg_rooms.specs.Outcome.{new_context}
 use Rattle.mg_words.specs.declared.limits.TheConstants.{CONTEXTS, MEMBERS, LAST_CONTEXT}
-use Rattle.mg_rooms.specs.aids.Tables.{IsKept, IsTable, world_of}
+use Rattle.mg_rooms.specs.aids.Tables.{HasTables, IsTable, world_of}
 use Rattle.mg_rooms.specs.Registry.{Registry, members_of, record_at, context_at, free_slot, free_room, free_seat}
 use Rattle.mg_rooms.proofs.OrderLaws.{any-in_order, KeepsKey, change_at, change_none, found_key, in_order-push, length-in_order_room, length-in_order_full, find-in_order, first_at_zero}
 use Rattle.mg_rooms.proofs.TableLaws.{OnlyAt, lookup_some, lookup_none, free-in_order, find_spot, entry_at, empty_place, IsTable-set}
@@ -37,7 +37,7 @@ pub context_none : (a : Inside) (n : ℕ) → None ≡ position_from (has_key (�
 context_none a n found = lookup_none (λ x. x.number) (λ x. x.room) n a.rooms.items found
 
 -- a context's room is its place
-pub room_some : (a : Inside) (n s : ℕ) → IsKept a →
+pub room_some : (a : Inside) (n s : ℕ) → HasTables a →
     Some s ≡ position_from (has_key (λ x. x.number) n) 0 a.rooms.items →
     Some s ≡ option_map (λ x. x.room) (context_at (world_of a) n)
 room_some a n s kept found =
@@ -46,12 +46,12 @@ room_some a n s kept found =
     let at : x.room ≡ s = kept.rooms.at_spot s x is in
     rw (same, at) refl
 
-pub free_slot_is : (a : Inside) (o : Option ℕ) → IsKept a → o ≡ position_from is_none 0 a.slots.items →
+pub free_slot_is : (a : Inside) (o : Option ℕ) → HasTables a → o ≡ position_from is_none 0 a.slots.items →
     o ≡ free_slot (world_of a)
 free_slot_is a o kept found =
     found ∙ free-in_order (λ r. r.number) (λ r. r.slot) a.next_termination a.limits.slots a.slots.items kept.slots
 
-pub free_room_is : (a : Inside) (o : Option ℕ) → IsKept a → o ≡ position_from is_none 0 a.rooms.items →
+pub free_room_is : (a : Inside) (o : Option ℕ) → HasTables a → o ≡ position_from is_none 0 a.rooms.items →
     o ≡ free_room (world_of a)
 free_room_is a o kept found =
     found ∙ free-in_order (λ x. x.number) (λ x. x.room) a.next_context CONTEXTS a.rooms.items kept.rooms
@@ -85,20 +85,20 @@ slot_entry : (a : Inside) (s : ℕ) (o : Option Record) → s < length a.slots.i
     slice_get a.slots.items s ≡ Some o
 slot_entry a s o lt at = slice_get_read a.slots.items (length a.slots.items) s o refl lt at
 
-pub at_slot_is : (a : Inside) (s : ℕ) (o : Option Record) → IsKept a → s < length a.slots.items →
+pub at_slot_is : (a : Inside) (s : ℕ) (o : Option Record) → HasTables a → s < length a.slots.items →
     o ≡ get_or a.slots.items s o → o ≡ find (λ r. r.slot == s) ((world_of a).terminations)
 at_slot_is a s o kept lt at =
     sym (find_spot (λ r. r.number) (λ r. r.slot) a.next_termination a.limits.slots a.slots.items s kept.slots ∙
     ap entry_at (slot_entry a s o lt at))
 
-pub at_slot_past : (a : Inside) (s : ℕ) → IsKept a → length a.slots.items ≤ s →
+pub at_slot_past : (a : Inside) (s : ℕ) → HasTables a → length a.slots.items ≤ s →
     None ≡ find (λ r. r.slot == s) ((world_of a).terminations)
 at_slot_past a s kept le =
     sym (find_spot (λ r. r.number) (λ r. r.slot) a.next_termination a.limits.slots a.slots.items s kept.slots ∙
     ap entry_at (slice_get_past a.slots.items s le))
 
 -- a room is left where one is found empty
-pub place_some : (a : Inside) (room : ℕ) → IsKept a → Some room ≡ position_from is_none 0 a.rooms.items →
+pub place_some : (a : Inside) (room : ℕ) → HasTables a → Some room ≡ position_from is_none 0 a.rooms.items →
     a.next_context ≤ LAST_CONTEXT → Ok (record { context = a.next_context; seat = 0; made = Some room }) ≡
     new_context (world_of a)
 place_some a room kept found le =
@@ -112,7 +112,7 @@ place_some a room kept found le =
     let left : nat_le a.next_context LAST_CONTEXT ≡ true = le-leb _ _ le in
     rw (few, left, ← free) refl
 
-pub place_none : (a : Inside) → IsKept a → None ≡ position_from is_none 0 a.rooms.items →
+pub place_none : (a : Inside) → HasTables a → None ≡ position_from is_none 0 a.rooms.items →
     Err NoContextLeft ≡ new_context (world_of a)
 place_none a kept found =
     let full : length (in_order (λ x. x.number) a.rooms.items) ≡ length a.rooms.items =
@@ -200,12 +200,12 @@ unchanged_context a n f found =
     ap (with_contexts (world_of a)) (sym (change_none (λ x. x.number) n f ((world_of a).contexts)
     (context_none a n found)))
 
-pub slot_is_empty : (a : Inside) (s : ℕ) → IsKept a → free_slot (world_of a) ≡ Some s →
+pub slot_is_empty : (a : Inside) (s : ℕ) → HasTables a → free_slot (world_of a) ≡ Some s →
     (slice_get a.slots.items s ≡ Some None) × (s < length a.slots.items)
 slot_is_empty a s kept free = empty_place (λ r. r.number) (λ r. r.slot) a.next_termination a.limits.slots
     a.slots.items s kept.slots free
 
-pub room_is_empty : (a : Inside) (s : ℕ) → IsKept a → free_room (world_of a) ≡ Some s →
+pub room_is_empty : (a : Inside) (s : ℕ) → HasTables a → free_room (world_of a) ≡ Some s →
     (slice_get a.rooms.items s ≡ Some None) × (s < length a.rooms.items)
 room_is_empty a s kept free = empty_place (λ x. x.number) (λ x. x.room) a.next_context CONTEXTS a.rooms.items s
     kept.rooms free
@@ -220,7 +220,7 @@ inserted_kept next size t r h number = IsTable-set (λ x. x.number) (λ x. x.slo
           absurd (omega arith),
     ) h
 
-pub inserted_is : (a : Inside) (r : Record) → IsKept a → free_slot (world_of a) ≡ Some r.slot →
+pub inserted_is : (a : Inside) (r : Record) → HasTables a → free_slot (world_of a) ≡ Some r.slot →
     r.number ≡ a.next_termination → in_order (λ x. x.number) (set a.slots.items r.slot (Some r)) ≡
     in_order (λ x. x.number) a.slots.items ++ (r ∷ [])
 inserted_is a r kept free number =
@@ -237,7 +237,7 @@ made_kept next size t x h number = IsTable-set (λ y. y.number) (λ y. y.room) n
           absurd (omega arith),
     ) h
 
-pub made_is : (a : Inside) (x : Context) → IsKept a → free_room (world_of a) ≡ Some x.room →
+pub made_is : (a : Inside) (x : Context) → HasTables a → free_room (world_of a) ≡ Some x.room →
     x.number ≡ a.next_context → in_order (λ y. y.number) (set a.rooms.items x.room (Some x)) ≡
     in_order (λ y. y.number) a.rooms.items ++ (x ∷ [])
 made_is a x kept free number =
@@ -295,7 +295,7 @@ left_and_then n None = refl
 left_and_then n (Some x) = refl
 
 -- n enters the context c in its room
-pub entered_there : (a : Inside) (c n s : ℕ) (old new : Option Context) → IsKept a →
+pub entered_there : (a : Inside) (c n s : ℕ) (old new : Option Context) → HasTables a →
     Some s ≡ position_from (has_key (λ x. x.number) c) 0 a.rooms.items → old ≡ get_or a.rooms.items s old →
     new ≡ entered_entry n old
     → AreRooms a.next_context CONTEXTS (set a.rooms.items s new) ×
@@ -306,7 +306,7 @@ entered_there a c n s old new kept found was is =
     was (is ∙ entered_and_then n old)
 
 -- n leaves the context c in its room
-pub left_there : (a : Inside) (c n s : ℕ) (old new : Option Context) → IsKept a →
+pub left_there : (a : Inside) (c n s : ℕ) (old new : Option Context) → HasTables a →
     Some s ≡ position_from (has_key (λ x. x.number) c) 0 a.rooms.items → old ≡ get_or a.rooms.items s old →
     new ≡ left_entry n old
     → AreRooms a.next_context CONTEXTS (set a.rooms.items s new) ×
@@ -332,7 +332,7 @@ pub few_rooms : (a : Inside) (s : ℕ) → s < length a.rooms.items → s < vec_
 few_rooms a s lt = omega (arith, a.rooms.ok)
 
 -- a context that one termination is in
-pub made_context_is : (a : Inside) (c room n : ℕ) (v : List ℕ) → IsKept a → free_room (world_of a) ≡ Some room →
+pub made_context_is : (a : Inside) (c room n : ℕ) (v : List ℕ) → HasTables a → free_room (world_of a) ≡ Some room →
     c ≡ a.next_context → v ≡ n ∷ [] → in_order (λ y. y.number)
     (set a.rooms.items room (Some (record { number = c; room = room; members = v }))) ≡
     in_order (λ y. y.number) a.rooms.items ++ (record { number = c; room = room; members = n ∷ [] } ∷ [])

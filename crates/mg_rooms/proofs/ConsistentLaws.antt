@@ -5,7 +5,7 @@ use Rattle.std.proofs.Common.{length-append}
 use Rattle.std.proofs.lemmas.Bool.{cases_Bool, eqb-true, eqb-false, eq-eqb, and_parts, and_from, not-true, ltb-true, leb-true}
 use Rattle.mg_rooms.specs.declared.record.Record.{Record}
 use Rattle.mg_rooms.specs.declared.context.Context.{Context}
-use Rattle.mg_rooms.specs.declared.place.Place.{Place}
+use Rattle.mg_rooms.specs.declared.place.EntryPlace.{EntryPlace}
 use Rattle.mg_rooms.specs.declared.settings.Settings.{Settings}
 use Rattle.mg_rooms.specs.declared.target.Target.{Target}
 use Rattle.mg_rooms.specs.declared.target.Target.TheVariants.{Null, New, Number}
@@ -123,7 +123,7 @@ abbrev pub HasSeat : Registry → ℕ → ℕ → Option ℕ → Type 0
 HasSeat w c seat None = free_seat w c ≡ Some seat
 HasSeat w c seat (Some room) = seat ≡ 0
 
-new_seat_ok : (w : Registry) (c : ℕ) (place : Place) → IsSome (context_at w c) → new_seat w c ≡ Ok place →
+new_seat_ok : (w : Registry) (c : ℕ) (place : EntryPlace) → IsSome (context_at w c) → new_seat w c ≡ Ok place →
     IsOpen w place.context place.made × HasSeat w place.context place.seat place.made
 new_seat_ok w c place some h =
     let (u, passed, later) = bind_ok (passes (nat_lt (length (members_at w c)) MEMBERS) ErrorNumber.ContextFull) _
@@ -133,11 +133,11 @@ new_seat_ok w c place some h =
     ltb-true (length (members_at w c)) MEMBERS
     (passes_ok (nat_lt (length (members_at w c)) MEMBERS) ErrorNumber.ContextFull u passed) in
     let free : free_seat w c ≡ Some seat = ok_or_ok (free_seat w c) ErrorNumber.ContextFull seat found in
-    let there : Place = record { context = c; seat = seat; made = None } in
+    let there : EntryPlace = record { context = c; seat = seat; made = None } in
     let is : there ≡ place = cc in
-    subst (λ (x : Place). IsOpen w x.context x.made × HasSeat w x.context x.seat x.made) is ((some, few), free)
+    subst (λ (x : EntryPlace). IsOpen w x.context x.made × HasSeat w x.context x.seat x.made) is ((some, few), free)
 
-new_context_ok : (w : Registry) (place : Place) → new_context w ≡ Ok place → IsOpen w place.context place.made ×
+new_context_ok : (w : Registry) (place : EntryPlace) → new_context w ≡ Ok place → IsOpen w place.context place.made ×
     HasSeat w place.context place.seat place.made
 new_context_ok w place h =
     let test : Bool = nat_lt (length w.contexts) CONTEXTS && nat_le w.next_context LAST_CONTEXT in
@@ -149,37 +149,38 @@ new_context_ok w place h =
     ErrorNumber.NoContextLeft u passed) in
     let below : w.next_context ≤ LAST_CONTEXT = leb-true w.next_context LAST_CONTEXT left in
     let free : free_room w ≡ Some room = ok_or_ok (free_room w) ErrorNumber.NoContextLeft room found in
-    let there : Place = record { context = w.next_context; seat = 0; made = Some room } in
+    let there : EntryPlace = record { context = w.next_context; seat = 0; made = Some room } in
     let is : there ≡ place = cc in
-    subst (λ (x : Place). IsOpen w x.context x.made × HasSeat w x.context x.seat x.made) is ((refl, below, free), refl)
+    subst (λ (x : EntryPlace). IsOpen w x.context x.made × HasSeat w x.context x.seat x.made) is
+    ((refl, below, free), refl)
 
-pub new_place_ok : (w : Registry) (target : Target) (u : Unit {0}) (place : Place) → may_enter w target ≡ Ok u →
+pub new_place_ok : (w : Registry) (target : Target) (u : Unit {0}) (place : EntryPlace) → may_enter w target ≡ Ok u →
     new_place w target ≡ Ok place → IsOpen w place.context place.made × HasSeat w place.context place.seat place.made
 new_place_ok w Null u place may h = absurd (cc)
 new_place_ok w New u place may h = new_context_ok w place h
 new_place_ok w (Number c) u place may h = new_seat_ok w c place
     (there_ok (context_at w c) ErrorNumber.UnknownContext u may) h
 
-new_seat_context : (w : Registry) (c : ℕ) (place : Place) → new_seat w c ≡ Ok place → place.context ≡ c
+new_seat_context : (w : Registry) (c : ℕ) (place : EntryPlace) → new_seat w c ≡ Ok place → place.context ≡ c
 new_seat_context w c place h =
     let (u, passed, later) = bind_ok (passes (nat_lt (length (members_at w c)) MEMBERS) ErrorNumber.ContextFull) _
     place h in
     let (seat, found, last) = bind_ok (ok_or (free_seat w c) ErrorNumber.ContextFull) _ place later in
-    let there : Place = record { context = c; seat = seat; made = None } in
+    let there : EntryPlace = record { context = c; seat = seat; made = None } in
     let is : there ≡ place = cc in
-    subst (λ (x : Place). x.context ≡ c) is refl
+    subst (λ (x : EntryPlace). x.context ≡ c) is refl
 
-new_context_next : (w : Registry) (place : Place) → new_context w ≡ Ok place → place.context ≡ w.next_context
+new_context_next : (w : Registry) (place : EntryPlace) → new_context w ≡ Ok place → place.context ≡ w.next_context
 new_context_next w place h =
     let (u, passed, later) = bind_ok (passes (nat_lt (length w.contexts) CONTEXTS && nat_le w.next_context
     LAST_CONTEXT) ErrorNumber.NoContextLeft) _ place h in
     let (room, found, last) = bind_ok (ok_or (free_room w) ErrorNumber.NoContextLeft) _ place later in
-    let there : Place = record { context = w.next_context; seat = 0; made = Some room } in
+    let there : EntryPlace = record { context = w.next_context; seat = 0; made = Some room } in
     let is : there ≡ place = cc in
-    subst (λ (x : Place). x.context ≡ w.next_context) is refl
+    subst (λ (x : EntryPlace). x.context ≡ w.next_context) is refl
 
 -- a termination that is not in the action's context enters another context
-pub other_context : (w : Registry) (target : Target) (place : Place) (c : ℕ) → new_place w target ≡ Ok place →
+pub other_context : (w : Registry) (target : Target) (place : EntryPlace) (c : ℕ) → new_place w target ≡ Ok place →
     c < w.next_context → is_number target c ≡ false → place.context ≡ c → ⊥
 other_context w Null place c h below not_it same = absurd (cc)
 other_context w New place c h below not_it same =
@@ -224,7 +225,7 @@ joined-few limits next n x few h =
     let size = length-append x.members (n ∷ []) in
     record { from = h.from; below = h.below; room = h.room; some = omega arith; few = omega arith }
 
-pub entered_ok : (w : Registry) (place : Place) (n : ℕ) (made : Option ℕ) →
+pub entered_ok : (w : Registry) (place : EntryPlace) (n : ℕ) (made : Option ℕ) →
     AreContexts w.limits w.next_context w.contexts → w.limits.first_context ≤ w.next_context →
     w.next_context ≤ LAST_CONTEXT + 1 → IsOpen w place.context made →
     HasEntered w (entered_at w place n made) place.context n
@@ -465,7 +466,8 @@ subtract_sound w after target n d h outcome =
         }
 
 -- what is made is within the limits
-fresh_termination : (w : Registry) (slot : ℕ) (place : Place) (r : Record) → IsConsistent w → slot < w.limits.slots →
+fresh_termination : (w : Registry) (slot : ℕ) (place : EntryPlace) (r : Record) → IsConsistent w →
+    slot < w.limits.slots →
     place.seat < MEMBERS → HasSettings (fresh w.next_termination slot place) r →
     IsTermination w.limits (w.next_termination + 1) r
 fresh_termination w slot place r h below seat has =
@@ -517,7 +519,7 @@ add_sound w after target settings d h outcome =
     subst IsConsistent is (sound slot place r (new_slot_ok w slot new) opens has
     (with_settings_ok w.limits settings (fresh w.next_termination slot place) r set))
   where
-    sound : (slot : ℕ) (place : Place) (r : Record) → (w.next_termination ≤ LAST_TERMINATION) ×
+    sound : (slot : ℕ) (place : EntryPlace) (r : Record) → (w.next_termination ≤ LAST_TERMINATION) ×
         (free_slot w ≡ Some slot) → IsOpen w place.context place.made →
         HasSeat w place.context place.seat place.made → HasSettings (fresh w.next_termination slot place) r →
         IsConsistent (entered (inserted w r) place r.number)
@@ -544,7 +546,7 @@ add_sound w after target settings d h outcome =
         (omega arith)
 
 -- a termination that enters another context takes a seat that nobody holds
-moved_seat : (rs : List Record) (place : Place) (old r : Record) →
+moved_seat : (rs : List Record) (place : EntryPlace) (old r : Record) →
     ((c seat : ℕ) → count_by (λ x. (x.context == c) && (x.seat == seat)) rs ≤ 1) →
     count_by (λ x. (x.context == place.context) && (x.seat == place.seat)) rs ≡ 0 →
     HasSettings (at_place old place) r → (c seat : ℕ) →
@@ -568,7 +570,7 @@ moved_seat rs place old r few free has c seat =
           omega arith
     ]
 
-moved_termination : (w : Registry) (n : ℕ) (old : Record) (place : Place) (r : Record) → IsConsistent w →
+moved_termination : (w : Registry) (n : ℕ) (old : Record) (place : EntryPlace) (r : Record) → IsConsistent w →
     record_at w n ≡ Some old → place.seat < MEMBERS → HasSettings (at_place old place) r →
     IsTermination w.limits w.next_termination r
 moved_termination w n old place r h found seat has =
@@ -599,7 +601,7 @@ move_sound w after target n settings d h outcome =
     subst IsConsistent is (sound old place r (ok_or_ok (record_at w n) ErrorNumber.UnknownTermination old found) opens
     has (with_settings_ok w.limits settings (at_place old place) r set))
   where
-    sound : (old : Record) (place : Place) (r : Record) → record_at w n ≡ Some old →
+    sound : (old : Record) (place : EntryPlace) (r : Record) → record_at w n ≡ Some old →
         IsOpen w place.context place.made → HasSeat w place.context place.seat place.made →
         HasSettings (at_place old place) r → IsConsistent
         (left (entered (replaced w r) place r.number) old.context r.number)

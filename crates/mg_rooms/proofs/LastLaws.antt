@@ -3,7 +3,7 @@ use Rattle.std.proofs.Common.{◌≡◌, ℕ, false, not, List, [], ◌∷◌, �
 use Rattle.std.proofs.lemmas.Bool.{cases_Bool, eqb-true, eq-eqb, ne_eqb, not-true}
 use Rattle.mg_rooms.specs.declared.record.Record.{Record}
 use Rattle.mg_rooms.specs.declared.context.Context.{Context}
-use Rattle.mg_rooms.specs.declared.place.Place.{Place}
+use Rattle.mg_rooms.specs.declared.place.EntryPlace.{EntryPlace}
 use Rattle.mg_rooms.specs.declared.settings.Settings.{Settings}
 use Rattle.mg_rooms.specs.declared.target.Target.{Target}
 use Rattle.mg_words.specs.declared.error_number.ErrorNumber.{ErrorNumber}
@@ -57,19 +57,19 @@ own_removed w n h =
     gone None = refl
     gone (Some x) = refl
 
-entered_terminations : (w : Registry) (place : Place) (n : ℕ) (made : Option ℕ) →
+entered_terminations : (w : Registry) (place : EntryPlace) (n : ℕ) (made : Option ℕ) →
     (entered_at w place n made).terminations ≡ w.terminations
 entered_terminations w place n None = refl
 entered_terminations w place n (Some room) = refl
 
-pub record_entered : (w : Registry) (place : Place) (n : ℕ) (made : Option ℕ) (m : ℕ) →
+pub record_entered : (w : Registry) (place : EntryPlace) (n : ℕ) (made : Option ℕ) (m : ℕ) →
     record_at (entered_at w place n made) m ≡ record_at w m
 record_entered w place n made m = ap (λ (rs : List Record). find (λ x. x.number == m) rs)
     (entered_terminations w place n made)
 
 -- ## Contexts
 
-pub context_entered : (w : Registry) (place : Place) (n : ℕ) (made : Option ℕ) (c : ℕ) →
+pub context_entered : (w : Registry) (place : EntryPlace) (n : ℕ) (made : Option ℕ) (c : ℕ) →
     (place.context == c) ≡ false → context_at (entered_at w place n made) c ≡ context_at w c
 context_entered w place n None c ne = find-change_other (λ x. x.number) place.context c
     (λ x. Some (record x { members = x.members ++ (n ∷ []) })) w.contexts (λ x e. refl) ne
@@ -89,7 +89,7 @@ context_left w d n c ne = find-change_other (λ x. x.number) d c (λ x. with_mem
     (left_keeps d n) ne
 
 -- a context that is there stays so when a termination enters, with its room
-pub room_entered : (w : Registry) (place : Place) (n : ℕ) (made : Option ℕ) (c : ℕ) (x : Context) →
+pub room_entered : (w : Registry) (place : EntryPlace) (n : ℕ) (made : Option ℕ) (c : ℕ) (x : Context) →
     AreContexts w.limits w.next_context w.contexts → IsOpen w place.context made → context_at w c ≡ Some x →
     (y : Context) × (context_at (entered_at w place n made) c ≡ Some y) × (y.room ≡ x.room)
 room_entered w place n (Some room) c x h opens found = (
@@ -185,11 +185,11 @@ add_lasts w after target settings d h outcome =
     subst (λ (p : Registry × Record). Lasts w p.0 × LeavesOthers w p.0 p.1.number p.1.context p.1.context) made
     (lasts r place has opens, leaves r place has)
   where
-    same : (r : Record) (place : Place) (m : ℕ) → (r.number == m) ≡ false →
+    same : (r : Record) (place : EntryPlace) (m : ℕ) → (r.number == m) ≡ false →
         record_at (entered (inserted w r) place r.number) m ≡ record_at w m
     same r place m ne = record_entered (inserted w r) place r.number place.made m ∙ record_inserted w r m ne
 
-    lasts : {slot : ℕ} (r : Record) (place : Place) → HasSettings (fresh w.next_termination slot place) r →
+    lasts : {slot : ℕ} (r : Record) (place : EntryPlace) → HasSettings (fresh w.next_termination slot place) r →
         IsOpen w place.context place.made → Lasts w (entered (inserted w r) place r.number)
     lasts r place has opens = record {
       slot = λ n x y a b. ap (λ (z : Record). z.slot)
@@ -205,7 +205,7 @@ add_lasts w after target settings d h outcome =
           ap (λ (v : Context). v.room) (sym is) ∙ room;
     }
 
-    leaves : {slot : ℕ} (r : Record) (place : Place) → HasSettings (fresh w.next_termination slot place) r →
+    leaves : {slot : ℕ} (r : Record) (place : EntryPlace) → HasSettings (fresh w.next_termination slot place) r →
         LeavesOthers w (entered (inserted w r) place r.number) r.number r.context r.context
     leaves r place has = record {
       termination = λ m ne. same r place m (ne_eqb r.number m (λ q. ne (sym q)));
@@ -338,21 +338,21 @@ move_lasts w after target n settings d from h at outcome =
     (subst (λ (p : Registry × Record). Lasts w p.0 × LeavesOthers w p.0 n old.context p.1.context) made
     (lasts old place r there has opens differ, leaves old place r there has))
   where
-    number : (old : Record) (place : Place) (r : Record) → record_at w n ≡ Some old →
+    number : (old : Record) (place : EntryPlace) (r : Record) → record_at w n ≡ Some old →
         HasSettings (at_place old place) r → r.number ≡ n
     number old place r there has = has.number ∙ found_number w n old there
 
-    same : (old : Record) (place : Place) (r : Record) (m : ℕ) → (r.number == m) ≡ false →
+    same : (old : Record) (place : EntryPlace) (r : Record) (m : ℕ) → (r.number == m) ≡ false →
         record_at (left (entered (replaced w r) place r.number) old.context r.number) m ≡ record_at w m
     same old place r m ne = record_entered (replaced w r) place r.number place.made m ∙ record_replaced w r m ne
 
-    now : (old : Record) (place : Place) (r : Record) → record_at w n ≡ Some old →
+    now : (old : Record) (place : EntryPlace) (r : Record) → record_at w n ≡ Some old →
         HasSettings (at_place old place) r → record_at
         (left (entered (replaced w r) place r.number) old.context r.number) n ≡ Some r
     now old place r there has = record_entered (replaced w r) place r.number place.made n ∙
         now_replaced w n old r h there (number old place r there has)
 
-    stays : (old : Record) (place : Place) (r : Record) → record_at w n ≡ Some old →
+    stays : (old : Record) (place : EntryPlace) (r : Record) → record_at w n ≡ Some old →
         HasSettings (at_place old place) r → (place.context ≡ old.context → ⊥) → (m : ℕ) (x y : Record) →
         record_at w m ≡ Some x → record_at (left (entered (replaced w r) place r.number) old.context r.number) m ≡
         Some y → (y.slot ≡ x.slot) × (y.context ≡ x.context → y.seat ≡ x.seat)
@@ -377,7 +377,7 @@ move_lasts w after target n settings d from h at outcome =
               (ap (λ (z : Record). z.slot) eq, λ _. ap (λ (z : Record). z.seat) eq)
         ]
 
-    lasts : (old : Record) (place : Place) (r : Record) → record_at w n ≡ Some old →
+    lasts : (old : Record) (place : EntryPlace) (r : Record) → record_at w n ≡ Some old →
         HasSettings (at_place old place) r → IsOpen w place.context place.made → (place.context ≡ old.context → ⊥) →
         Lasts w (left (entered (replaced w r) place r.number) old.context r.number)
     lasts old place r there has opens differ =
@@ -391,7 +391,7 @@ move_lasts w after target n settings d from h at outcome =
               (rw came.limits came.contexts) mid b ∙ room;
         }
 
-    leaves : (old : Record) (place : Place) (r : Record) → record_at w n ≡ Some old →
+    leaves : (old : Record) (place : EntryPlace) (r : Record) → record_at w n ≡ Some old →
         HasSettings (at_place old place) r → LeavesOthers w
         (left (entered (replaced w r) place r.number) old.context r.number) n old.context r.context
     leaves old place r there has = record {

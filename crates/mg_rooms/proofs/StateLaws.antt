@@ -7,7 +7,7 @@ use Rattle.mg_rooms.specs.declared.context.Context.{Context}
 use Rattle.mg_words.specs.declared.limits.TheConstants.{CONTEXTS, MEMBERS, LAST_TERMINATION, LAST_CONTEXT}
 use Rattle.mg_words.specs.declared.error_number.ErrorNumber.TheVariants.{ContextFull, NoContextLeft, NoTerminationLeft}
 use Rattle.mg_rooms.specs.Outcome.{new_slot, new_seat, new_context}
-use Rattle.mg_rooms.specs.declared.place.Place.{Place}
+use Rattle.mg_rooms.specs.declared.place.EntryPlace.{EntryPlace}
 use Rattle.mg_words.specs.declared.error_number.ErrorNumber.{ErrorNumber}
 use Rattle.mg_rooms.specs.Registry.{Registry, record_at, context_at, members_of, members_at, free_seat, free_room, IsMember, free_slot}
 use Rattle.mg_rooms.specs.Consistent.{IsTermination, IsContext, IsConsistent}
@@ -167,11 +167,11 @@ room_is_free w h few =
 -- ## What is used up
 
 -- two answers are the same
-abbrev Is : Result Place ErrorNumber → Result Place ErrorNumber → Type 0
+abbrev Is : Result EntryPlace ErrorNumber → Result EntryPlace ErrorNumber → Type 0
 Is a b = a ≡ b
 
 -- a place is no refusal
-apart : (place : Place) (refusal : ErrorNumber) → Is (Ok place) (Err refusal) → ⊥
+apart : (place : EntryPlace) (refusal : ErrorNumber) → Is (Ok place) (Err refusal) → ⊥
 apart place refusal h = absurd (cc)
 
 pub slot_used_up : (w : Registry) → (new_slot w ≡ Err NoTerminationLeft) ↔

@@ -3,7 +3,7 @@ use Rattle.std.specs.Prelude.{ℕ, ◌+◌, List, [], ◌∷◌, ◌++◌, Optio
 use Rattle.std.specs.Prelude.{option_to_list}
 use Rattle.mg_rooms.specs.declared.record.Record.{Record}
 use Rattle.mg_rooms.specs.declared.context.Context.{Context}
-use Rattle.mg_rooms.specs.declared.place.Place.{Place}
+use Rattle.mg_rooms.specs.declared.place.EntryPlace.{EntryPlace}
 use Rattle.mg_rooms.specs.Members.{without}
 use Rattle.mg_rooms.specs.Registry.{Registry}
 
@@ -47,11 +47,11 @@ joined w c n =
     }
 
 -- n enters, into a context that is made for it or one that is there
-abbrev pub entered_at : Registry → Place → ℕ → Option ℕ → Registry
+abbrev pub entered_at : Registry → EntryPlace → ℕ → Option ℕ → Registry
 entered_at w place n (Some room) = made w place.context room n
 entered_at w place n None = joined w place.context n
 
-abbrev pub entered : Registry → Place → ℕ → Registry
+abbrev pub entered : Registry → EntryPlace → ℕ → Registry
 entered w place n = entered_at w place n place.made
 
 -- a context with these members, where there is one

@@ -5,7 +5,7 @@
 use Rattle.std.specs.Prelude.{◌≡◌, ℕ, Bool, false, not, ◌&&◌, length, Some, None, Result, Ok, Err}
 use Rattle.std.specs.Prelude.{◌==◌, nat_lt, ok_or}
 use Rattle.mg_rooms.specs.declared.record.Record.{Record}
-use Rattle.mg_rooms.specs.declared.place.Place.{Place}
+use Rattle.mg_rooms.specs.declared.place.EntryPlace.{EntryPlace}
 use Rattle.mg_rooms.specs.declared.settings.Settings.{Settings}
 use Rattle.mg_rooms.specs.declared.target.Target.{Target}
 use Rattle.mg_rooms.specs.declared.target.Target.TheVariants as targets
@@ -42,9 +42,8 @@ may_have_members w (targets.Number c) = there w c
 
 -- whether the action's context is the one with this number
 abbrev pub is_number : Target → ℕ → Bool
-is_number targets.Null n = false
-is_number targets.New n = false
 is_number (targets.Number c) n = c == n
+is_number _ n = false
 
 -- a member of the action's context
 abbrev pub member : Registry → Target → ℕ → Result Record ErrorNumber
@@ -63,21 +62,21 @@ new_slot w = do
   ok_or (free_slot w) refusals.NoTerminationLeft
 
 -- a seat in a context that is there; one is free where it has not as many members as it can have
-abbrev pub new_seat : Registry → ℕ → Result Place ErrorNumber
+abbrev pub new_seat : Registry → ℕ → Result EntryPlace ErrorNumber
 new_seat w c = do
   _ ← passes (nat_lt (length (members_at w c)) member_limit) refusals.ContextFull
   seat ← ok_or (free_seat w c) refusals.ContextFull
   Ok (record { context = c; seat = seat; made = None })
 
 -- the first seat of one more context; a room is free where there are not as many as there can be
-abbrev pub new_context : Registry → Result Place ErrorNumber
+abbrev pub new_context : Registry → Result EntryPlace ErrorNumber
 new_context w = do
   _ ← passes (nat_lt (length w.contexts) context_limit && has_context_left w) refusals.NoContextLeft
   room ← ok_or (free_room w) refusals.NoContextLeft
   Ok (record { context = w.next_context; seat = 0; made = Some room })
 
 -- where a termination enters that may enter
-abbrev pub new_place : Registry → Target → Result Place ErrorNumber
+abbrev pub new_place : Registry → Target → Result EntryPlace ErrorNumber
 new_place w targets.Null = Err refusals.UnknownContext
 new_place w targets.New = new_context w
 new_place w (targets.Number c) = new_seat w c

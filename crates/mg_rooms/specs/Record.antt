@@ -5,14 +5,14 @@ use Rattle.mg_words.specs.declared.error_number.ErrorNumber.{ErrorNumber}
 use Rattle.mg_rooms.specs.declared.settings.Settings.{Settings}
 use Rattle.mg_rooms.specs.declared.limits.Limits.{Limits}
 use Rattle.mg_rooms.specs.declared.record.Record.{Record}
-use Rattle.mg_rooms.specs.declared.place.Place.{Place}
+use Rattle.mg_rooms.specs.declared.place.EntryPlace.{EntryPlace}
 use Rattle.mg_rooms.specs.Limits.{slot_port}
 use Rattle.mg_words.specs.Limits.{first_depth}
 use Rattle.mg_words.specs.ResultSteps.{◌>>=◌}
 use Rattle.mg_rooms.specs.Settings.{mode_after, depth_after, local_after, remote_after}
 
 -- as it is made
-abbrev pub fresh : ℕ → ℕ → Place → Record
+abbrev pub fresh : ℕ → ℕ → EntryPlace → Record
 fresh number slot place =
     record {
       number = number;
@@ -26,7 +26,7 @@ fresh number slot place =
     }
 
 -- at another place; all else goes with it
-abbrev pub at_place : Record → Place → Record
+abbrev pub at_place : Record → EntryPlace → Record
 at_place old place = record old { context = place.context; seat = place.seat }
 
 -- with the settings that a command names, or the refusal of its media

@@ -9,7 +9,7 @@ use crate::context::Context;
 use crate::entries::{enter_entry, leave_entry, room_of, slot_of};
 use crate::member::Member;
 use crate::members::Members;
-use crate::place::Place;
+use crate::place::EntryPlace;
 use crate::record::Record;
 use crate::tables::Tables;
 use mg_words::MEMBERS;
@@ -63,7 +63,7 @@ impl Tables {
     }
 
     /// Lets a termination enter at a place that is free.
-    pub(crate) fn enter(&mut self, place: Place, number: u32)
+    pub(crate) fn enter(&mut self, place: EntryPlace, number: u32)
         requires can { CanEnter self.old place }
         ensures value { self.new ≡ entered self.old place number }
     {

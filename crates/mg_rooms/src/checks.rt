@@ -7,7 +7,7 @@ ghost use Rattle.mg_rooms.specs.Outcome.{named, there, may_enter, may_have_membe
 ghost use Rattle.mg_rooms.specs.aids.Entering.{CanEnter};
 
 use crate::entries::empty_place;
-use crate::place::Place;
+use crate::place::EntryPlace;
 use crate::record::Record;
 use crate::settings::Settings;
 use crate::tables::Tables;
@@ -95,7 +95,7 @@ impl Tables {
         }
     }
 
-    fn new_seat(&self, context: u32) -> Result<Place, ErrorNumber>
+    fn new_seat(&self, context: u32) -> Result<EntryPlace, ErrorNumber>
         ensures value { result ≡ new_seat self.now context }
         ensures can { IfOk result (CanEnter self.now) }
     {
@@ -103,19 +103,19 @@ impl Tables {
             return Err(ErrorNumber::ContextFull);
         }
         let seat = self.free_seat(context).ok_or(ErrorNumber::ContextFull)?;
-        Ok(Place {
+        Ok(EntryPlace {
             context,
             seat,
             made: None,
         })
     }
 
-    fn new_context(&self) -> Result<Place, ErrorNumber>
+    fn new_context(&self) -> Result<EntryPlace, ErrorNumber>
         ensures value { result ≡ new_context self.now }
         ensures can { IfOk result (CanEnter self.now) }
     {
         match empty_place(&self.rooms) {
-            Some(room) if self.next_context <= u64::from(LAST_CONTEXT) => Ok(Place {
+            Some(room) if self.next_context <= u64::from(LAST_CONTEXT) => Ok(EntryPlace {
                 context: self.next_context as u32,
                 seat: 0,
                 made: Some(room as u8),
@@ -125,7 +125,7 @@ impl Tables {
     }
 
     /// Where a termination enters the action's context.
-    pub(crate) fn new_place(&self, target: Target) -> Result<Place, ErrorNumber>
+    pub(crate) fn new_place(&self, target: Target) -> Result<EntryPlace, ErrorNumber>
         ensures value { result ≡ new_place self.now target }
         ensures can { IfOk result (CanEnter self.now) }
     {

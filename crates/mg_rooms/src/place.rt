@@ -1,6 +1,6 @@
 /// Where a termination enters.
 #[derive(Clone, Copy)]
-pub struct Place {
+pub struct EntryPlace {
     /// The context.
     pub context: u32,
     /// The seat that the termination takes in it.

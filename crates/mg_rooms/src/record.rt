@@ -1,7 +1,7 @@
 ghost use Rattle.std.specs.Prelude.{◌≡◌};
 ghost use Rattle.mg_rooms.specs.Record.{fresh, at_place};
 
-use crate::place::Place;
+use crate::place::EntryPlace;
 use mg_sdp::Chosen;
 use mg_words::{FIRST_DEPTH, Mode};
 
@@ -28,7 +28,7 @@ pub struct Record {
 
 impl Record {
     /// A termination as it is made.
-    pub(crate) fn fresh(number: u32, slot: u8, place: Place) -> Record
+    pub(crate) fn fresh(number: u32, slot: u8, place: EntryPlace) -> Record
         ensures value { result ≡ fresh number slot place }
     {
         Record {
@@ -44,7 +44,7 @@ impl Record {
     }
 
     /// The termination at another place.
-    pub(crate) fn at_place(self, place: Place) -> Record
+    pub(crate) fn at_place(self, place: EntryPlace) -> Record
         ensures value { result ≡ at_place self place }
     {
         Record {

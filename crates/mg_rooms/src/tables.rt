@@ -32,11 +32,11 @@ impl Model for Tables {
 
     ghost Value = { Registry };
 
-    ghost use Rattle.mg_rooms.specs.aids.Tables.{world_of, IsKept};
+    ghost use Rattle.mg_rooms.specs.aids.Tables.{world_of, HasTables};
 
     ghost view = { world_of };
 
-    ghost invariant = { IsKept };
+    ghost invariant = { HasTables };
 }
 
 impl Tables {

@@ -10,9 +10,9 @@ use Rattle.mg_rtp.specs.RtpFault.{IsFault}
 abbrev pub Reading : Type 0
 Reading = Result (Header × List ℕ) RtpFault
 
-abbrev pub IsReading : List ℕ → Reading → Type 0
-IsReading bytes (Ok p) = IsPacket bytes p.0 p.1
-IsReading bytes (Err fault) = IsFault bytes fault
+abbrev pub IsPacketReading : List ℕ → Reading → Type 0
+IsPacketReading bytes (Ok p) = IsPacket bytes p.0 p.1
+IsPacketReading bytes (Err fault) = IsFault bytes fault
 
 -- what was read
 abbrev pub reading_of : Result Packet RtpFault → Reading

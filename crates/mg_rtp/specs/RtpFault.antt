@@ -64,8 +64,8 @@ IsFault bytes Extension = LacksExtension bytes
 IsFault bytes Padding = LacksPadding bytes
 
 -- how a fault is printed
-abbrev pub message_of : RtpFault → List ℕ
-message_of Short = codes "the datagram ends within the header or the sources"
-message_of Version = codes "the version is not 2"
-message_of Extension = codes "the datagram ends within the extension"
-message_of Padding = codes "no valid count of padding ends the datagram"
+abbrev pub fault_text : RtpFault → List ℕ
+fault_text Short = codes "the datagram ends within the header or the sources"
+fault_text Version = codes "the version is not 2"
+fault_text Extension = codes "the datagram ends within the extension"
+fault_text Padding = codes "no valid count of padding ends the datagram"

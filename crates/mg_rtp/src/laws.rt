@@ -3,7 +3,7 @@
 ghost use Rattle.std.specs.Prelude.{◌≡◌, ℕ, List};
 ghost use Rattle.mg_rtp.specs.declared.header.Header.{Header};
 ghost use Rattle.mg_rtp.specs.Packet.{IsPacket};
-ghost use Rattle.mg_rtp.specs.Reading.{Reading, IsReading};
+ghost use Rattle.mg_rtp.specs.Reading.{Reading, IsPacketReading};
 
 use crate::reading::read;
 
@@ -15,8 +15,8 @@ pub fn one_packet()
 
 /// All bytes are a packet or have a fault: exactly one packet, or exactly one fault, and not both.
 pub fn one_reading(bytes: &[u8])
-    ensures some { (reading : Reading) × IsReading bytes.now reading }
-    ensures at_most_one { (list : List ℕ) (a b : Reading) → IsReading list a → IsReading list b → a ≡ b }
+    ensures some { (reading : Reading) × IsPacketReading bytes.now reading }
+    ensures at_most_one { (list : List ℕ) (a b : Reading) → IsPacketReading list a → IsPacketReading list b → a ≡ b }
 {
     let _ = read(bytes);
 }

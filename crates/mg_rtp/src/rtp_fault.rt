@@ -17,9 +17,9 @@ pub enum RtpFault {
 
 impl fmt::Display for RtpFault {
     ghost use Rattle.std.specs.Prelude.{Some};
-    ghost use Rattle.mg_rtp.specs.RtpFault.{message_of};
+    ghost use Rattle.mg_rtp.specs.RtpFault.{fault_text};
 
-    ghost output = { λ fault. Some (message_of fault) };
+    ghost output = { λ fault. Some (fault_text fault) };
 
     fn fmt<W: fmt::Write>(&self, f: &mut fmt::Formatter<W>) -> fmt::Result {
         match self {

@@ -6,9 +6,9 @@ use Rattle.std.proofs.lemmas.List.Folds.{list_all-append}
 use Rattle.std.proofs.lemmas.Bool.{eqb-true}
 use Rattle.std.specs.List.{list_all, last_or, cons_option}
 use Rattle.mg_words.specs.OptionSteps.{◌>>=◌}
-use Rattle.mg_sdp.specs.declared.media.Media.{Media}
-use Rattle.mg_sdp.specs.declared.part.Part.{Part}
-use Rattle.mg_sdp.specs.declared.part.Part.TheVariants.{Missing, Faulty}
+use Rattle.mg_sdp.specs.declared.media.MediaLine.{MediaLine}
+use Rattle.mg_sdp.specs.declared.part.AlternativePart.{AlternativePart}
+use Rattle.mg_sdp.specs.declared.part.AlternativePart.TheVariants.{Missing, Faulty}
 use Rattle.mg_sdp.specs.declared.alternative.Alternative.{Alternative}
 use Rattle.mg_sdp.specs.Lines.{letter_and_value, value_by, line_value, values_of}
 use Rattle.mg_sdp.specs.Fields.{fields_of}
@@ -17,12 +17,12 @@ use Rattle.mg_sdp.specs.Connection.{connection_in}
 use Rattle.mg_sdp.specs.Offer.{is_served_version, is_served_attribute, only_media, address_by, offer_with, offer_of}
 use Rattle.mg_sdp.specs.aids.Reader.{part_of, no_lines, with_line, media_with_line, offer_at, offer_from, offer_by}
 
-abbrev media_part : List (List ℕ) → Part Media
+abbrev media_part : List (List ℕ) → AlternativePart MediaLine
 media_part [] = Missing
 media_part (value ∷ []) = part_of (media_in (fields_of value))
 media_part (value ∷ another ∷ values) = Faulty
 
-abbrev connection_part : Option (List ℕ) → Part (Option (List ℕ))
+abbrev connection_part : Option (List ℕ) → AlternativePart (Option (List ℕ))
 connection_part None = Missing
 connection_part (Some value) = part_of (connection_in (fields_of value))
 
@@ -43,7 +43,7 @@ unfolding state_of
 state_of-nil = refl
 
 -- the offer of what lines say is that of the lines
-offer_given : (holds : Bool) (o : Option Media) (address : Option (List ℕ)) →
+offer_given : (holds : Bool) (o : Option MediaLine) (address : Option (List ℕ)) →
     offer_at holds (part_of o) address ≡ (o >>= (λ media. cond holds (Some (offer_with media address)) None))
 offer_given holds None address = refl
 offer_given holds (Some media) address = refl
@@ -87,7 +87,7 @@ and_attribute true true false = refl
 and_attribute true false c = refl
 and_attribute false b c = refl
 
-part_faulty : (o : Option Media) (value : List ℕ) → media_with_line (part_of o) value ≡ Faulty
+part_faulty : (o : Option MediaLine) (value : List ℕ) → media_with_line (part_of o) value ≡ Faulty
 part_faulty None value = refl
 part_faulty (Some media) value = refl
 
@@ -111,7 +111,7 @@ states versions attributes medias connections letter value =
     state_by (more versions 118 letter value) (more attributes 97 letter value) (more medias 109 letter value)
     (more connections 99 letter value)
 
-abbrev with_holds : Part Media → Part (Option (List ℕ)) → Bool → Alternative
+abbrev with_holds : AlternativePart MediaLine → AlternativePart (Option (List ℕ)) → Bool → Alternative
 with_holds media connection holds = record { holds = holds; media = media; connection = connection }
 
 step_version : (versions attributes medias connections : List (List ℕ)) (value : List ℕ) →

@@ -10,7 +10,7 @@ use Rattle.mg_words.specs.Cut.{cut}
 use Rattle.mg_words.specs.Address.{address_of}
 use Rattle.mg_g711.specs.declared.law.Law.{Law}
 use Rattle.mg_g711.specs.declared.law.Law.TheVariants.{Mu, A}
-use Rattle.mg_sdp.specs.declared.media.Media.{Media}
+use Rattle.mg_sdp.specs.declared.media.MediaLine.{MediaLine}
 use Rattle.mg_words.specs.LineEnd.{is_line_end}
 use Rattle.mg_sdp.specs.Lines.{is_space_or_tab, is_filled, trimmed, content_lines, letter_and_value}
 use Rattle.mg_sdp.specs.Fields.{fields_of}
@@ -197,7 +197,7 @@ media_fields port law h f =
     ∙ ap (λ (others : List (List ℕ)). codes "RTP/AVP" ∷ others)
     (field_last (law_text law) (law_inks law) (law_filled law))))
 
-abbrev media_given : ℕ → Law → Media
+abbrev media_given : ℕ → Law → MediaLine
 media_given port law = record { port = Some port; law = Some law }
 
 pub media_read : (port : ℕ) (law : Law) → port < 2 ^ 16 →

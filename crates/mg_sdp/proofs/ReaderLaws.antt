@@ -10,10 +10,10 @@ use Rattle.mg_sdp.specs.declared.fault.SdpFault.TheVariants.{Line, TooMany}
 use Rattle.mg_sdp.specs.declared.alternative.Alternative.{Alternative}
 use Rattle.mg_sdp.specs.Lines.{letter_and_value, is_line, content_lines}
 use Rattle.mg_sdp.specs.Offer.{offer_of}
-use Rattle.mg_sdp.specs.Alternatives.{is_version, IsReading}
+use Rattle.mg_sdp.specs.Alternatives.{is_version, IsContentReading}
 use Rattle.mg_sdp.specs.Sessions.{one_alternative, alternatives_after, sessions_of}
 use Rattle.mg_sdp.specs.aids.Progress.{Progress}
-use Rattle.mg_sdp.specs.aids.Reader.{with_line, start, ended, continued, line_read, closed, finished}
+use Rattle.mg_sdp.specs.aids.Reader.{with_line, progress_at_start, ended, continued, line_read, offers_at_end, finished}
 use Rattle.mg_sdp.proofs.GroupLaws.{are_alternatives}
 use Rattle.mg_sdp.proofs.AlternativeLaws.{state_of, state_of-nil, state_of-push, offer_by-state_of}
 
@@ -117,7 +117,7 @@ given lined alternatives = cond (not lined) (Err Line)
     (cond (ltb 8 (length alternatives)) (Err TooMany) (Ok (map offer_of alternatives)))
 
 closed_at : (done : List (List (List ℕ))) (over : Bool) → ltb 8 (length done) ≡ over →
-    closed (paused (take 8 (map offer_of done)) over) ≡ given true done
+    offers_at_end (paused (take 8 (map offer_of done)) over) ≡ given true done
 closed_at done true e = rw e refl
 closed_at done false e =
     let len = length-map done offer_of in
@@ -128,7 +128,7 @@ closed_at done false e =
 finished-progress_of : (done : List (List (List ℕ))) (current : List (List ℕ)) →
     finished (progress_of done current) ≡ given true (done ++ one_alternative current)
 unfolding finished
-finished-progress_of done current = ap closed (ended-progress_of done current) ∙
+finished-progress_of done current = ap offers_at_end (ended-progress_of done current) ∙
     closed_at (done ++ one_alternative current) (ltb 8 (length (done ++ one_alternative current))) refl
 
 some_if : (b : Bool) (value : List ℕ) → is_some (cond b (Some value) None) ≡ b
@@ -180,12 +180,12 @@ read_on-progress_of (line ∷ lines) done current =
     (λ done' current'. read_on-progress_of lines done' current')
 
 -- a content is read as its lines are, one after another
-pub content_read : (content : List ℕ) → read_on start (content_lines content) ≡ sessions_of content
+pub content_read : (content : List ℕ) → read_on progress_at_start (content_lines content) ≡ sessions_of content
 unfolding sessions_of
 content_read content = read_on-progress_of (content_lines content) [] []
 
 pub sessions_read : (content : List ℕ) (result : Result (List (Option Offer)) SdpFault) →
-    result ≡ sessions_of content → IsReading content result
+    result ≡ sessions_of content → IsContentReading content result
 unfolding sessions_of
 sessions_read content result e = (
   alternatives_after [] (content_lines content),

@@ -33,14 +33,15 @@ pub record AreAlternatives (lines : List (List ℕ))
   pub later : AllByRecursion BeginsWithVersion (drop 1 alternatives)
 
 -- what reading gives: what each of at most eight alternatives offers, where each line is one
-abbrev pub reading_of : List (List ℕ) → List (List (List ℕ)) → Result (List (Option Offer)) SdpFault
-reading_of lines alternatives =
+abbrev pub offers_read : List (List ℕ) → List (List (List ℕ)) →
+    Result (List (Option Offer)) SdpFault
+offers_read lines alternatives =
     if not (list_all is_line lines) then Err Line
     else (if nat_lt alternative_limit (length alternatives) then Err TooMany
     else Ok (map offer_of alternatives))
 
 -- a result of reading a content
-abbrev pub IsReading : List ℕ → Result (List (Option Offer)) SdpFault → Type 0
-IsReading content result =
+abbrev pub IsContentReading : List ℕ → Result (List (Option Offer)) SdpFault → Type 0
+IsContentReading content result =
     (alternatives : List (List (List ℕ))) × AreAlternatives (content_lines content) alternatives
-    × (result ≡ reading_of (content_lines content) alternatives)
+    × (result ≡ offers_read (content_lines content) alternatives)

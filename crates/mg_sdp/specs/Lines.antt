@@ -29,10 +29,9 @@ content_lines content = filter is_filled (map trimmed (slice_split is_line_end c
 
 -- a line is a letter, =, and its value
 unfoldable pub letter_and_value : List ℕ → Option (ℕ × List ℕ)
-letter_and_value [] = None
-letter_and_value (letter ∷ []) = None
 letter_and_value (letter ∷ equals ∷ value) =
     if is_ascii_alphabetic letter && equals == byte "=" then Some (letter, value) else None
+letter_and_value _ = None
 
 abbrev pub is_line : List ℕ → Bool
 is_line line = is_some (letter_and_value line)

@@ -9,7 +9,7 @@ use Rattle.mg_words.specs.Numbers.{port_of}
 use Rattle.mg_words.specs.OptionSteps.{◌>>=◌}
 use Rattle.mg_g711.specs.declared.law.Law.{Law}
 use Rattle.mg_g711.specs.declared.law.Law.TheVariants.{Mu, A}
-use Rattle.mg_sdp.specs.declared.media.Media.{Media}
+use Rattle.mg_sdp.specs.declared.media.MediaLine.{MediaLine}
 
 -- the value of a field, or None for $
 abbrev pub asked_in_field : {X : Type 0} → (List ℕ → Option X) → List ℕ → Option (Option X)
@@ -31,14 +31,14 @@ law_of format =
 abbrev pub first_law : List (List ℕ) → Option (Option Law)
 first_law formats = slice_get (filter_map law_of formats) 0
 
-abbrev pub media_asked : Option (Option ℕ) → Option (Option Law) → Option Media
+abbrev pub media_asked : Option (Option ℕ) → Option (Option Law) → Option MediaLine
 media_asked port law = do
   port ← port
   law ← law
   Some (record { port = port; law = law })
 
 -- media = "audio" port "RTP/AVP" 1*format, letters' case ignored
-unfoldable pub media_in : List (List ℕ) → Option Media
+unfoldable pub media_in : List (List ℕ) → Option MediaLine
 media_in (kind ∷ port ∷ protocol ∷ formats) =
     if str_eq_ignore_ascii_case kind (codes "audio")
     && str_eq_ignore_ascii_case protocol (codes "RTP/AVP")

@@ -7,7 +7,7 @@ use Rattle.std.specs.List.{list_all, last_or, starts_with}
 use Rattle.mg_words.specs.OptionSteps.{◌>>=◌}
 use Rattle.mg_sdp.specs.Lines.{values_of}
 use Rattle.mg_sdp.specs.Fields.{fields_of}
-use Rattle.mg_sdp.specs.declared.media.Media.{Media}
+use Rattle.mg_sdp.specs.declared.media.MediaLine.{MediaLine}
 use Rattle.mg_sdp.specs.Media.{media_in}
 use Rattle.mg_sdp.specs.Connection.{connection_in}
 use Rattle.mg_sdp.specs.declared.offer.Offer.{Offer}
@@ -22,17 +22,16 @@ is_served_attribute value =
     not (starts_with nat_eq value (codes "ptime:")) || bytes_eq value (codes "ptime:20")
 
 -- what the only media line asks for
-abbrev pub only_media : List (List ℕ) → Option Media
-only_media [] = None
+abbrev pub only_media : List (List ℕ) → Option MediaLine
 only_media (value ∷ []) = media_in (fields_of value)
-only_media (value ∷ another ∷ values) = None
+only_media _ = None
 
 -- what the last connection line asks for; where there is none, the address is left to the gateway
 abbrev pub address_by : Option (List ℕ) → Option (Option (List ℕ))
 address_by None = Some None
 address_by (Some value) = connection_in (fields_of value)
 
-abbrev pub offer_with : Media → Option (List ℕ) → Offer
+abbrev pub offer_with : MediaLine → Option (List ℕ) → Offer
 offer_with media address = record { address = address; port = media.port; law = media.law }
 
 -- what an alternative offers, or None where its lines aren't served

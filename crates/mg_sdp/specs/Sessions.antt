@@ -4,7 +4,7 @@ use Rattle.std.specs.Prelude.{ℕ, List, [], ◌∷◌, ◌++◌, Option, Result
 use Rattle.mg_sdp.specs.declared.fault.SdpFault.{SdpFault}
 use Rattle.mg_sdp.specs.declared.offer.Offer.{Offer}
 use Rattle.mg_sdp.specs.Lines.{content_lines}
-use Rattle.mg_sdp.specs.Alternatives.{is_version, reading_of}
+use Rattle.mg_sdp.specs.Alternatives.{is_version, offers_read}
 
 -- the lines of an alternative, as a list of one, or of none where there is no line
 abbrev pub one_alternative : List (List ℕ) → List (List (List ℕ))
@@ -20,4 +20,4 @@ alternatives_after current (line ∷ lines) =
 
 unfoldable pub sessions_of : List ℕ → Result (List (Option Offer)) SdpFault
 sessions_of content =
-    reading_of (content_lines content) (alternatives_after [] (content_lines content))
+    offers_read (content_lines content) (alternatives_after [] (content_lines content))

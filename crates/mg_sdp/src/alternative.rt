@@ -3,9 +3,9 @@ ghost use Rattle.mg_sdp.specs.Offer.{is_served_attribute};
 ghost use Rattle.mg_sdp.specs.aids.Reader.{no_lines, with_line, media_with_line, connection_with_line, offer_by};
 
 use crate::connection::connection_of;
-use crate::media::{Media, media_of};
+use crate::media::{MediaLine, media_of};
 use crate::offer::Offer;
-use crate::part::Part;
+use crate::part::AlternativePart;
 
 /// What the lines of an alternative say, as far as they were read.
 #[derive(Clone, Copy, Debug, PartialEq, Eq)]
@@ -13,9 +13,9 @@ pub struct Alternative {
     /// Whether each version and each attribute is one that is served.
     pub holds: bool,
     /// What the one media line asks for.
-    pub media: Part<Media>,
+    pub media: AlternativePart<MediaLine>,
     /// The address that the last connection line asks for.
-    pub connection: Part<Option<[u8; 4]>>,
+    pub connection: AlternativePart<Option<[u8; 4]>>,
 }
 
 /// Whether an attribute is served: a packet time is 20 ms, and all others are passed over.
@@ -26,25 +26,25 @@ fn is_served_attribute(value: &[u8]) -> bool
 }
 
 /// What the media lines ask for with one more of them.
-fn media_with_line(media: Part<Media>, value: &[u8]) -> Part<Media>
+fn media_with_line(media: AlternativePart<MediaLine>, value: &[u8]) -> AlternativePart<MediaLine>
     ensures value { result ≡ media_with_line media value.now }
 {
-    if media != Part::Missing {
-        return Part::Faulty;
+    if media != AlternativePart::Missing {
+        return AlternativePart::Faulty;
     }
     match media_of(value) {
-        Some(media) => Part::Given(media),
-        None => Part::Faulty,
+        Some(media) => AlternativePart::Given(media),
+        None => AlternativePart::Faulty,
     }
 }
 
 /// What a connection line asks for.
-fn connection_with_line(value: &[u8]) -> Part<Option<[u8; 4]>>
+fn connection_with_line(value: &[u8]) -> AlternativePart<Option<[u8; 4]>>
     ensures value { result ≡ connection_with_line value.now }
 {
     match connection_of(value) {
-        Some(address) => Part::Given(address),
-        None => Part::Faulty,
+        Some(address) => AlternativePart::Given(address),
+        None => AlternativePart::Faulty,
     }
 }
 
@@ -55,8 +55,8 @@ impl Alternative {
     {
         Alternative {
             holds: true,
-            media: Part::Missing,
-            connection: Part::Missing,
+            media: AlternativePart::Missing,
+            connection: AlternativePart::Missing,
         }
     }
 
@@ -80,12 +80,16 @@ impl Alternative {
         ensures value { result ≡ offer_by self }
     {
         let address = match self.connection {
-            Part::Missing => None,
-            Part::Given(address) => address,
-            Part::Faulty => return None,
+            AlternativePart::Missing => None,
+            AlternativePart::Given(address) => address,
+            AlternativePart::Faulty => return None,
         };
         match self.media {
-            Part::Given(Media { port, law }) if self.holds => Some(Offer { address, port, law }),
+            AlternativePart::Given(MediaLine { port, law }) if self.holds => Some(Offer {
+                address,
+                port,
+                law,
+            }),
             _ => None,
         }
     }

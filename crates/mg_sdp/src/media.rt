@@ -10,7 +10,7 @@ use mg_words::port_of;
 /// What the media line of an alternative asks for: a port and a law, each `None` where the gateway is to
 /// choose it.
 #[derive(Clone, Copy, Debug, PartialEq, Eq)]
-pub struct Media {
+pub struct MediaLine {
     pub port: Option<u16>,
     pub law: Option<Law>,
 }
@@ -52,7 +52,7 @@ fn port_asked(field: &[u8]) -> Option<Option<u16>>
 
 /// What the value of a media line asks for.
 #[tactic(auto, unfolding(crate::specs::Media::media_in))]
-pub fn media_of(value: &[u8]) -> Option<Media>
+pub fn media_of(value: &[u8]) -> Option<MediaLine>
     ensures value { result ≡ media_in (fields_of value.now) }
 {
     let mut fields = Fields::new(value);
@@ -64,5 +64,5 @@ pub fn media_of(value: &[u8]) -> Option<Media>
     }
     let port = port_asked(port)?;
     let law = first_law(fields)?;
-    Some(Media { port, law })
+    Some(MediaLine { port, law })
 }

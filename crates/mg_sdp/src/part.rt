@@ -1,6 +1,6 @@
 /// A part of an alternative, as far as its lines were read.
 #[derive(Clone, Copy, Debug, PartialEq, Eq)]
-pub enum Part<T> {
+pub enum AlternativePart<T> {
     /// No line has it.
     Missing,
     /// A line has it.

@@ -1,8 +1,8 @@
 ghost use Rattle.std.specs.Prelude.{◌≡◌, ◌↔◌, Err, false, OnOk, IfErr, IsOk, IsTrue};
 ghost use Rattle.std.specs.List.{list_all};
 ghost use Rattle.mg_sdp.specs.Lines.{content_lines, is_line};
-ghost use Rattle.mg_sdp.specs.aids.Reader.{start, ended, line_read, finished};
-ghost use Rattle.mg_sdp.specs.Alternatives.{IsReading};
+ghost use Rattle.mg_sdp.specs.aids.Reader.{progress_at_start, ended, line_read, finished};
+ghost use Rattle.mg_sdp.specs.Alternatives.{IsContentReading};
 ghost use Rattle.mg_sdp.specs.Sessions.{sessions_of};
 
 use crate::alternative::Alternative;
@@ -35,7 +35,7 @@ impl Model for Reader {
 
 impl Reader {
     fn new() -> Self
-        ensures value { result ≡ start }
+        ensures value { result ≡ progress_at_start }
     {
         Reader {
             offers: ArrayVec::new(),
@@ -93,7 +93,7 @@ impl Reader {
 /// empty lines neither. An alternative begins at the first line and at each later `v=` line. A blank
 /// content has none.
 pub fn read_sessions(content: &[u8]) -> Result<Sessions, SdpFault>
-    ensures alternatives { IsReading content.now result }
+    ensures alternatives { IsContentReading content.now result }
     ensures line { (result ≡ Err SdpFault.Line)
         ↔ (list_all is_line (content_lines content.now) ≡ false) }
     ensures value { result ≡ sessions_of content.now }

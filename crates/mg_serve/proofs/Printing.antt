@@ -7,13 +7,13 @@ use Rattle.std.specs.Io.KnownBytes.{Keeps, Appends}
 use Rattle.mg_lines.specs.Streams.{WritesFront}
 use Rattle.mg_ports.specs.declared.call.Call.{Call}
 use Rattle.mg_serve.specs.declared.form.Form.{Form}
-use Rattle.mg_serve.specs.Trace.{Did, Called, Happened, Printed, Noted, calls_of, output_of, text_of}
+use Rattle.mg_serve.specs.Trace.{Did, Called, Happened, Printed, Noted, calls_of, output_of, printed_text}
 use Rattle.mg_serve.specs.aids.Printing.{PrinterView, Prints, Puts}
 
 -- ## What is done, in two parts
 
 pub output_both : (form : Form) (p q : List Did) → output_of form (p ++ q) ≡ output_of form p ++ output_of form q
-output_both form p q = flat_map-append (text_of form) p q
+output_both form p q = flat_map-append (printed_text form) p q
 
 pub calls_both : (p q : List Did) → calls_of (p ++ q) ≡ calls_of p ++ calls_of q
 calls_both [] q = refl
@@ -83,8 +83,9 @@ prints_nothing a x p none = record {
 
 -- one text
 pub prints_one : (a b : PrinterView) (x y : Option (List ℕ)) (did : Did) (text : List ℕ) → b.form ≡ a.form →
-    text_of a.form did ≡ text → Puts a.has_failed b.has_failed text x y → Prints a b x y (did ∷ [])
+    printed_text a.form did ≡ text → Puts a.has_failed b.has_failed text x y → Prints a b x y (did ∷ [])
 prints_one a b x y did text same is h = record {
   form = same;
-  puts = subst (λ (l : List ℕ). Puts a.has_failed b.has_failed l x y) (sym (append-nil (text_of a.form did) ∙ is)) h;
+  puts = subst (λ (l : List ℕ). Puts a.has_failed b.has_failed l x y) (sym (append-nil (printed_text a.form did) ∙ is))
+      h;
 }

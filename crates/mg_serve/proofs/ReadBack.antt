@@ -5,7 +5,7 @@ use Rattle.std.proofs.lemmas.Bool.{eq-eqb}
 use Rattle.std.specs.Io.KnownBytes.{Appends}
 use Rattle.std.specs.List.{filter, range_with_len}
 use Rattle.mg_engine.specs.declared.config.Config.{Config}
-use Rattle.mg_engine.specs.declared.peer.Peer.{Peer}
+use Rattle.mg_words.specs.declared.peer.Peer.{Peer}
 use Rattle.mg_engine.specs.Config.{IsValidConfig}
 use Rattle.mg_core.specs.declared.event.Event.{Event}
 use Rattle.mg_core.specs.declared.event.Event.TheVariants as events
@@ -18,14 +18,14 @@ use Rattle.mg_core.specs.World.{World, start_of}
 use Rattle.mg_lines.specs.Lines.{lines_of}
 use Rattle.mg_ports.specs.declared.call.Call.TheVariants.{Receive}
 use Rattle.mg_ports.specs.declared.receipt.Receipt.TheVariants.{Came, Nothing, Failed}
-use Rattle.mg_serve.specs.declared.command.Command.{Command}
-use Rattle.mg_serve.specs.declared.command.Command.TheVariants.{Poll, Tick, Stats, Quit, Unknown}
+use Rattle.mg_serve.specs.declared.command.LineCommand.{LineCommand}
+use Rattle.mg_serve.specs.declared.command.LineCommand.TheVariants.{Poll, Tick, Stats, Quit, Unknown}
 use Rattle.mg_serve.specs.declared.form.Form.TheVariants.{Recording}
 use Rattle.mg_serve.specs.Laws.{CutSessionsAreReadBack, ReplaysAreTheSession, SessionsAreReadBack, recorded}
 use Rattle.mg_serve.specs.Lines.{line_command}
 use Rattle.mg_serve.specs.Serve.{opening}
 use Rattle.mg_serve.specs.Session.{Each, Comes, Does, EndsTurn, Happens, Session, SlotTurn, event_at, sends_of}
-use Rattle.mg_serve.specs.Trace.{Did, Called, Happened, Printed, Noted, events_of, one_line, output_of}
+use Rattle.mg_serve.specs.Trace.{Did, Called, Happened, Printed, Noted, events_of_trace, one_line, output_of}
 use Rattle.mg_serve.proofs.OneLine.{short}
 use Rattle.mg_serve.proofs.Runs.{session_run}
 
@@ -45,7 +45,7 @@ recording_is (Happened event ∷ p) = ap (λ (l : List ℕ). entry_line (entry.H
 recording_is (Printed text ∷ p) = ap (λ (l : List ℕ). entry_line (entry.Noted (one_line text)) ++ l) (recording_is p)
 recording_is (Noted text ∷ p) = ap (λ (l : List ℕ). entry_line (entry.Noted (one_line text)) ++ l) (recording_is p)
 
-events_are : (p : List Did) → events_in (entries_of p) ≡ events_of p
+events_are : (p : List Did) → events_in (entries_of p) ≡ events_of_trace p
 events_are [] = refl
 events_are (Called call ∷ p) = events_are p
 events_are (Happened event ∷ p) = ap (λ (l : List Event). event ∷ l) (events_are p)
@@ -152,7 +152,7 @@ turn_read config valid slot w next p lt h = read_as p (h.received ++ h.last) h.p
     (each_read (Comes config slot) (comes_read config slot valid lt) h.datagrams w next h.received h.come)
     (ends_read slot (length h.datagrams) h.last h.ends))
 
-does_read : (config : Config) → IsValidConfig config → (command : Command) (w next : World) (p : List Did) →
+does_read : (config : Config) → IsValidConfig config → (command : LineCommand) (w next : World) (p : List Did) →
     Does config command w p next → AreRead p
 does_read config valid Poll w next p h =
     slots_read (SlotTurn config) 0 (config.slots + 1)
@@ -207,11 +207,11 @@ same_events a b xs ys h k is = cc
 pub replayed : RecordingsAreRead → OneOutcome → ReplaysAreTheSession
 replayed law one config title lines next p counts old new valid h ran =
     let session = session_run config lines (start_of config) next p h in
-    let same : ran.ran.events ≡ events_of p =
+    let same : ran.ran.events ≡ events_of_trace p =
     same_events (script.events_of (lines_of true (recorded title p)))
-    (script.events_of (lines_of true (recorded title p))) ran.ran.events (events_of p) ran.ran.are
+    (script.events_of (lines_of true (recorded title p))) ran.ran.events (events_of_trace p) ran.ran.are
     (read_back law config title lines next p valid h) refl in
-    let both = one (start_of config) (events_of p) ran.ran.sent session.sent ran.last next
+    let both = one (start_of config) (events_of_trace p) ran.ran.sent session.sent ran.last next
     (subst (λ (es : List Event). Run (start_of config) es ran.ran.sent ran.last) same ran.ran.run) session.run in
     record {
       sent = session.sent;

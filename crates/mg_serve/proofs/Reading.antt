@@ -9,8 +9,8 @@ use Rattle.std.specs.Prelude.{slice_index, codes}
 use Rattle.mg_engine.specs.declared.config.Config.{Config}
 use Rattle.mg_core.specs.World.{World}
 use Rattle.mg_lines.specs.declared.write_failed.WriteFailed.{WriteFailed}
-use Rattle.mg_serve.specs.declared.command.Command.{Command}
-use Rattle.mg_serve.specs.declared.command.Command.TheVariants.{Poll, Tick, Stats, Quit, Unknown}
+use Rattle.mg_serve.specs.declared.command.LineCommand.{LineCommand}
+use Rattle.mg_serve.specs.declared.command.LineCommand.TheVariants.{Poll, Tick, Stats, Quit, Unknown}
 use Rattle.mg_lines.specs.Lines.{without_return, lines_after}
 use Rattle.mg_serve.specs.Lines.{line_command, is_quit, prints, before_quit}
 use Rattle.mg_serve.specs.declared.form.Form.{Form}
@@ -89,7 +89,7 @@ pub first_line : (q : Bool) (line : List ℕ) (lines : List (List ℕ)) → is_q
 unfolding before_quit
 first_line q line lines is = rw is refl
 
-pub quit_idle : (config : Config) (command : Command) (w next : World) (p : List Did) → is_quit command ≡ true →
+pub quit_idle : (config : Config) (command : LineCommand) (w next : World) (p : List Did) → is_quit command ≡ true →
     Does config command w p next → (p ≡ []) × (next ≡ w)
 quit_idle config Poll w next p is h = absurd cc
 quit_idle config Tick w next p is h = absurd cc
@@ -144,7 +144,7 @@ pub last_line : (b : ℕ) (bs : List ℕ) → lines_after true (b ∷ bs) [] ≡
 unfolding lines_after
 last_line b bs = rw (ne_eqb (length (b ∷ bs)) 0 (λ e. absurd (omega (arith, e)))) refl
 
-quit_prints_nothing : (form : Form) (command : Command) → is_quit command ≡ true → prints form command ≡ true → ⊥
+quit_prints_nothing : (form : Form) (command : LineCommand) → is_quit command ≡ true → prints form command ≡ true → ⊥
 quit_prints_nothing form Poll quit printed = absurd (true≢false (sym quit))
 quit_prints_nothing form Tick quit printed = absurd (true≢false (sym quit))
 quit_prints_nothing form Stats quit printed = absurd (true≢false (sym quit))

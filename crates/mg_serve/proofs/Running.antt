@@ -17,7 +17,7 @@ use Rattle.mg_lines.specs.declared.write_failed.WriteFailed.{WriteFailed}
 use Rattle.mg_lines.specs.Lines.{without_return, lines_after}
 use Rattle.mg_lines.specs.Streams.{WritesFront}
 use Rattle.mg_ports.specs.declared.call.Call.{Call}
-use Rattle.mg_serve.specs.declared.command.Command.{Command}
+use Rattle.mg_serve.specs.declared.command.LineCommand.{LineCommand}
 use Rattle.mg_serve.specs.declared.form.Form.{Form}
 use Rattle.mg_serve.specs.Lines.{LastPrints, line_command, is_quit, prints, before_quit}
 use Rattle.mg_serve.specs.Session.{Does, Session}
@@ -25,7 +25,7 @@ use Rattle.mg_serve.specs.Serve.{Exits, IsOutput, Opens, RanLines, ServedSession
 use Rattle.mg_serve.specs.Trace.{Did, output_of}
 use Rattle.mg_serve.specs.aids.Driving.{BytesTaken, EndsBy, Finished}
 use Rattle.mg_serve.specs.aids.Printing.{PrinterView, Prints, Puts}
-use Rattle.mg_serve.specs.aids.Takes.{Outside, Takes, Tells}
+use Rattle.mg_serve.specs.aids.Outside.{Outside, LeadsByTrace, TellsTrace}
 use Rattle.mg_serve.proofs.Printing.{prints_both}
 use Rattle.mg_serve.proofs.Steps.{finished_prints, prints_some, some_printed}
 use Rattle.mg_serve.proofs.Taking.{tells_both, told_none, takes_none, takes_as, takes_joined, takes_seen, takes_then}
@@ -34,9 +34,9 @@ use Rattle.mg_serve.proofs.Reading.{cut_command, cut_return, plain_byte, feed_by
 -- ## Bytes by their index
 
 more_bytes : (config : Config) (begun a b kept new : List ℕ) (r : Result Bool WriteFailed) (old mid core : CoreState)
-    (x y z : Outside) → Takes old mid x y (BytesTaken x.printer.form config begun a kept (Ok false)) →
-    ((left : List ℕ) → kept ≡ take 8 left → Takes mid core y z (BytesTaken y.printer.form config left b new r)) →
-    Takes old core x z (BytesTaken x.printer.form config begun (a ++ b) new r)
+    (x y z : Outside) → LeadsByTrace old mid x y (BytesTaken x.printer.form config begun a kept (Ok false)) →
+    ((left : List ℕ) → kept ≡ take 8 left → LeadsByTrace mid core y z (BytesTaken y.printer.form config left b new r)) →
+    LeadsByTrace old core x z (BytesTaken x.printer.form config begun (a ++ b) new r)
 more_bytes config begun a b kept new r old mid core x y z first second w stands =
     let (p, m, told, h, held) = first w stands in
     let (q, next, more, k, last) = second h.1 h.2 m held in (
@@ -49,12 +49,12 @@ more_bytes config begun a b kept new r old mid core x y z first second w stands 
     )
 
 pub bytes_start : (config : Config) (begun kept : List ℕ) (core : CoreState) (x : Outside) →
-    kept ≡ take 8 begun → Takes core core x x (BytesTaken x.printer.form config begun [] kept (Ok false))
+    kept ≡ take 8 begun → LeadsByTrace core core x x (BytesTaken x.printer.form config begun [] kept (Ok false))
 bytes_start config begun kept core x is = takes_none core x (BytesTaken x.printer.form config begun [] kept (Ok false))
     (λ w. no_bytes x.printer.form config begun kept w is)
 
 takes_plain : (config : Config) (kept : List ℕ) (b : ℕ) (core : CoreState) (y : Outside) → b ≢ 10 →
-    (left : List ℕ) → kept ≡ take 8 left → Takes core core y y
+    (left : List ℕ) → kept ≡ take 8 left → LeadsByTrace core core y y
     (BytesTaken y.printer.form config left (b ∷ []) (take 8 (kept ++ b ∷ [])) (Ok false))
 takes_plain config kept b core y ne left is =
     takes_none core y (BytesTaken y.printer.form config left (b ∷ []) (take 8 (kept ++ b ∷ [])) (Ok false))
@@ -68,26 +68,28 @@ same_command kept left is = ap (λ (k : List ℕ). line_command (without_return 
 
 takes_feed : (config : Config) (kept : List ℕ) (q : Bool) (mid core : CoreState) (y z : Outside) →
     q ≡ is_quit (line_command (without_return kept)) →
-    Takes mid core y z (Does config (line_command (without_return kept))) → (left : List ℕ) → kept ≡ take 8 left →
-    Takes mid core y z (BytesTaken y.printer.form config left (10 ∷ []) [] (Ok q))
+    LeadsByTrace mid core y z (Does config (line_command (without_return kept))) → (left : List ℕ) →
+    kept ≡ take 8 left →
+    LeadsByTrace mid core y z (BytesTaken y.printer.form config left (10 ∷ []) [] (Ok q))
 takes_feed config kept q mid core y z quit h left is =
     let same = same_command kept left is in
     takes_as mid core y z (Does config (line_command (without_return kept)))
     (BytesTaken y.printer.form config left (10 ∷ []) [] (Ok q)) h
     (λ w next p k. feed_byte y.printer.form config q left w next p (sym (quit ∙ ap is_quit same))
-    (subst (λ (d : Command). Does config d w p next) same k))
+    (subst (λ (d : LineCommand). Does config d w p next) same k))
 
 takes_fault : (config : Config) (kept new : List ℕ) (failed : WriteFailed) (mid core : CoreState)
     (y z : Outside) → y.printer.has_failed ≡ false → z.printer.has_failed ≡ true →
-    Takes mid core y z (Does config (line_command (without_return kept))) → (left : List ℕ) → kept ≡ take 8 left →
-    Takes mid core y z (BytesTaken y.printer.form config left (10 ∷ []) new (Err failed))
+    LeadsByTrace mid core y z (Does config (line_command (without_return kept))) → (left : List ℕ) →
+    kept ≡ take 8 left →
+    LeadsByTrace mid core y z (BytesTaken y.printer.form config left (10 ∷ []) new (Err failed))
 takes_fault config kept new failed mid core y z before after h left is =
     let same = same_command kept left is in
     let form = y.printer.form in
     takes_seen mid core y z (Does config (line_command (without_return kept)))
     (BytesTaken form config left (10 ∷ []) new (Err failed)) h
     (λ w next p told k.
-    let done = subst (λ (d : Command). Does config d w p next) same k in
+    let done = subst (λ (d : LineCommand). Does config d w p next) same k in
     feed_fault_by form config (is_quit (line_command (without_return left))) left new failed w next p refl
     (prints_some form config (line_command (without_return left)) w next p done
     (some_printed y z p before after told)) done)
@@ -95,39 +97,42 @@ takes_fault config kept new failed mid core y z before after h left is =
 pub index_plain : (config : Config) (begun bytes kept new : List ℕ) (i : ℕ) (old mid : CoreState)
     (x y : Outside) → i < length bytes → get_or bytes i 0 ≢ 10 →
     new ≡ take 8 (kept ++ get_or bytes i 0 ∷ []) →
-    Takes old mid x y (BytesTaken x.printer.form config begun (take i bytes) kept (Ok false)) →
-    Takes old mid x y (BytesTaken x.printer.form config begun (take (i + 1) bytes) new (Ok false))
+    LeadsByTrace old mid x y (BytesTaken x.printer.form config begun (take i bytes) kept (Ok false)) →
+    LeadsByTrace old mid x y (BytesTaken x.printer.form config begun (take (i + 1) bytes) new (Ok false))
 index_plain config begun bytes kept new i old mid x y lt ne is h =
     let b = get_or bytes i 0 in
-    subst (λ (l : List ℕ). Takes old mid x y (BytesTaken x.printer.form config begun l new (Ok false))) (sym (take_more
+    subst (λ (l : List ℕ). LeadsByTrace old mid x y (BytesTaken x.printer.form config begun l new (Ok false)))
+    (sym (take_more
     bytes i 0 lt))
-    (subst (λ (k : List ℕ). Takes old mid x y (BytesTaken x.printer.form config begun (take i bytes ++ b ∷ []) k (Ok
+    (subst (λ (k : List ℕ). LeadsByTrace old mid x y
+    (BytesTaken x.printer.form config begun (take i bytes ++ b ∷ []) k (Ok
     false))) (sym is)
     (more_bytes config begun (take i bytes) (b ∷ []) kept (take 8 (kept ++ b ∷ [])) (Ok false) old mid mid x y y h
     (takes_plain config kept b mid y ne)))
 
 pub index_feed : (config : Config) (begun bytes kept new : List ℕ) (i : ℕ) (q : Bool) (old mid core : CoreState)
     (x y z : Outside) → i < length bytes → get_or bytes i 0 ≡ 10 →
-    Takes old mid x y (BytesTaken x.printer.form config begun (take i bytes) kept (Ok false)) →
+    LeadsByTrace old mid x y (BytesTaken x.printer.form config begun (take i bytes) kept (Ok false)) →
     q ≡ is_quit (line_command (without_return kept)) → new ≡ [] →
-    Takes mid core y z (Does config (line_command (without_return kept))) →
-    Takes old core x z (BytesTaken x.printer.form config begun (take (i + 1) bytes) new (Ok q))
+    LeadsByTrace mid core y z (Does config (line_command (without_return kept))) →
+    LeadsByTrace old core x z (BytesTaken x.printer.form config begun (take (i + 1) bytes) new (Ok q))
 index_feed config begun bytes kept new i q old mid core x y z lt feed h quit is k =
-    subst (λ (l : List ℕ). Takes old core x z (BytesTaken x.printer.form config begun l new (Ok q)))
+    subst (λ (l : List ℕ). LeadsByTrace old core x z (BytesTaken x.printer.form config begun l new (Ok q)))
     (sym (take_more bytes i 0 lt ∙ ap (λ (b : ℕ). take i bytes ++ b ∷ []) feed))
-    (subst (λ (l : List ℕ). Takes old core x z (BytesTaken x.printer.form config begun (take i bytes ++ 10 ∷ []) l (Ok
+    (subst (λ (l : List ℕ). LeadsByTrace old core x z
+    (BytesTaken x.printer.form config begun (take i bytes ++ 10 ∷ []) l (Ok
     q))) (sym is)
     (more_bytes config begun (take i bytes) (10 ∷ []) kept [] (Ok q) old mid core x y z h
     (takes_feed config kept q mid core y z quit k)))
 
 pub index_quit : (config : Config) (begun bytes kept new : List ℕ) (i : ℕ) (old mid core : CoreState)
     (x y z : Outside) → i < length bytes → get_or bytes i 0 ≡ 10 →
-    Takes old mid x y (BytesTaken x.printer.form config begun (take i bytes) kept (Ok false)) →
+    LeadsByTrace old mid x y (BytesTaken x.printer.form config begun (take i bytes) kept (Ok false)) →
     true ≡ is_quit (line_command (without_return kept)) → new ≡ [] →
-    Takes mid core y z (Does config (line_command (without_return kept))) →
-    Takes old core x z (BytesTaken x.printer.form config begun bytes new (Ok true))
+    LeadsByTrace mid core y z (Does config (line_command (without_return kept))) →
+    LeadsByTrace old core x z (BytesTaken x.printer.form config begun bytes new (Ok true))
 index_quit config begun bytes kept new i old mid core x y z lt feed h quit is k =
-    subst (λ (l : List ℕ). Takes old core x z (BytesTaken x.printer.form config begun l new (Ok true)))
+    subst (λ (l : List ℕ). LeadsByTrace old core x z (BytesTaken x.printer.form config begun l new (Ok true)))
     (take-append-drop (i + 1) bytes)
     (takes_as old core x z (BytesTaken x.printer.form config begun (take (i + 1) bytes) new (Ok true))
     (BytesTaken x.printer.form config begun (take (i + 1) bytes ++ drop (i + 1) bytes) new (Ok true))
@@ -136,16 +141,16 @@ index_quit config begun bytes kept new i old mid core x y z lt feed h quit is k 
 
 pub index_fault : (config : Config) (begun bytes kept new : List ℕ) (i : ℕ) (failed : WriteFailed)
     (old mid core : CoreState) (x y z : Outside) → i < length bytes → get_or bytes i 0 ≡ 10 →
-    Takes old mid x y (BytesTaken x.printer.form config begun (take i bytes) kept (Ok false)) →
+    LeadsByTrace old mid x y (BytesTaken x.printer.form config begun (take i bytes) kept (Ok false)) →
     y.printer.has_failed ≡ false → z.printer.has_failed ≡ true →
-    Takes mid core y z (Does config (line_command (without_return kept))) →
-    Takes old core x z (BytesTaken x.printer.form config begun bytes new (Err failed))
+    LeadsByTrace mid core y z (Does config (line_command (without_return kept))) →
+    LeadsByTrace old core x z (BytesTaken x.printer.form config begun bytes new (Err failed))
 index_fault config begun bytes kept new i failed old mid core x y z lt feed h before after k =
-    subst (λ (l : List ℕ). Takes old core x z (BytesTaken x.printer.form config begun l new (Err failed)))
+    subst (λ (l : List ℕ). LeadsByTrace old core x z (BytesTaken x.printer.form config begun l new (Err failed)))
     (take-append-drop (i + 1) bytes)
     (takes_as old core x z (BytesTaken x.printer.form config begun (take (i + 1) bytes) new (Err failed))
     (BytesTaken x.printer.form config begun (take (i + 1) bytes ++ drop (i + 1) bytes) new (Err failed))
-    (subst (λ (l : List ℕ). Takes old core x z (BytesTaken x.printer.form config begun l new (Err failed)))
+    (subst (λ (l : List ℕ). LeadsByTrace old core x z (BytesTaken x.printer.form config begun l new (Err failed)))
     (sym (take_more bytes i 0 lt ∙ ap (λ (b : ℕ). take i bytes ++ b ∷ []) feed))
     (more_bytes config begun (take i bytes) (10 ∷ []) kept new (Err failed) old mid core x y z h
     (takes_fault config kept new failed mid core y z before after k)))
@@ -178,15 +183,17 @@ Read form config i k kept r w trace next = (text : List ℕ) × Consumes i k tex
     BytesTaken form config [] text kept r w trace next
 
 pub read_start : (config : Config) (i : Option (List ℕ)) (kept : List ℕ) (core : CoreState) (x : Outside) →
-    kept ≡ [] → Takes core core x x (Read x.printer.form config i i kept (Ok false))
+    kept ≡ [] → LeadsByTrace core core x x (Read x.printer.form config i i kept (Ok false))
 read_start config i kept core x is = takes_none core x (Read x.printer.form config i i kept (Ok false))
     (λ w. ([], consumes_none i, no_bytes x.printer.form config [] kept w is))
 
 pub read_more : (config : Config) (i j k : Option (List ℕ)) (b kept new : List ℕ) (r : Result Bool WriteFailed)
-    (old mid core : CoreState) (x y z : Outside) → Takes old mid x y (Read x.printer.form config i j kept (Ok false)) →
-    Consumes j k b → ((left : List ℕ) → kept ≡ take 8 left → Takes mid core y z (BytesTaken y.printer.form config left
+    (old mid core : CoreState) (x y z : Outside) →
+    LeadsByTrace old mid x y (Read x.printer.form config i j kept (Ok false)) →
+    Consumes j k b → ((left : List ℕ) → kept ≡ take 8 left →
+    LeadsByTrace mid core y z (BytesTaken y.printer.form config left
     b new r)) →
-    Takes old core x z (Read x.printer.form config i k new r)
+    LeadsByTrace old core x z (Read x.printer.form config i k new r)
 read_more config i j k b kept new r old mid core x y z first eaten second w stands =
     let (p, m, told, h, held) = first w stands in
     let t = h.2 in
@@ -297,7 +304,7 @@ last_done config (b ∷ bs) (x ∷ xs) w next p is h =
     ap before_quit (last_line x xs) ∙ first_line quit line [] refl ∙
     ap (λ (l : List (List ℕ)). cond quit [] (line ∷ l)) no_more in
     subst (λ (l : List (List ℕ)). Session config l w p next) (sym lines)
-    (last_by config quit line w next p refl (subst (λ (d : Command). Does config d w p next) same h))
+    (last_by config quit line w next p refl (subst (λ (d : LineCommand). Does config d w p next) same h))
 
 last_prints : (form : Form) (kept left : List ℕ) (lines : List (List ℕ)) → kept ≡ take 8 left →
     (0 < length kept) × (prints form (line_command kept) ≡ true) →
@@ -329,9 +336,10 @@ ends_at_end form config i j k kept r w mid next p q same exits h last =
     }
 
 pub takes_end : (config : Config) (i j k : Option (List ℕ)) (kept : List ℕ)
-    (old mid core : CoreState) (x y z : Outside) → Takes old mid x y (Read x.printer.form config i j kept (Ok false)) →
-    Keeps j k × IsAtEnd k → Takes mid core y z (Finished config kept) →
-    Takes old core x z (RanLines x.printer.form config i k done)
+    (old mid core : CoreState) (x y z : Outside) →
+    LeadsByTrace old mid x y (Read x.printer.form config i j kept (Ok false)) →
+    Keeps j k × IsAtEnd k → LeadsByTrace mid core y z (Finished config kept) →
+    LeadsByTrace old core x z (RanLines x.printer.form config i k done)
 takes_end config i j k kept old mid core x y z first end last =
     let form = x.printer.form in
     takes_then old mid core x y z (Read form config i j kept (Ok false)) (Finished config kept)
@@ -341,10 +349,11 @@ takes_end config i j k kept old mid core x y z first end last =
 
 -- and a print of the last line failed
 pub takes_end_fault : (config : Config) (i j k : Option (List ℕ)) (kept : List ℕ)
-    (old mid core : CoreState) (x y z : Outside) → Takes old mid x y (Read x.printer.form config i j kept (Ok false)) →
+    (old mid core : CoreState) (x y z : Outside) →
+    LeadsByTrace old mid x y (Read x.printer.form config i j kept (Ok false)) →
     Keeps j k × IsAtEnd k → y.printer.has_failed ≡ false → z.printer.has_failed ≡ true →
-    Takes mid core y z (Finished config kept) →
-    Takes old core x z (RanLines x.printer.form config i k (failed_by faults.Write))
+    LeadsByTrace mid core y z (Finished config kept) →
+    LeadsByTrace old core x z (RanLines x.printer.form config i k (failed_by faults.Write))
 takes_end_fault config i j k kept old mid core x y z first end before after last =
     let form = x.printer.form in
     takes_joined old mid core x y z (Read form config i j kept (Ok false)) (Finished config kept)
@@ -356,23 +365,24 @@ takes_end_fault config i j k kept old mid core x y z first end before after last
     h l)
 
 pub takes_quit : (config : Config) (i k : Option (List ℕ)) (kept : List ℕ) (old core : CoreState)
-    (x z : Outside) → Takes old core x z (Read x.printer.form config i k kept (Ok true)) →
-    Takes old core x z (RanLines x.printer.form config i k done)
+    (x z : Outside) → LeadsByTrace old core x z (Read x.printer.form config i k kept (Ok true)) →
+    LeadsByTrace old core x z (RanLines x.printer.form config i k done)
 takes_quit config i k kept old core x z h =
     takes_as old core x z (Read x.printer.form config i k kept (Ok true)) (RanLines x.printer.form config i k done) h
     (ends_by_quit x.printer.form config i k kept)
 
 pub takes_broken : (config : Config) (i k : Option (List ℕ)) (kept : List ℕ) (failed : WriteFailed)
-    (old core : CoreState) (x z : Outside) → Takes old core x z (Read x.printer.form config i k kept (Err failed)) →
-    Takes old core x z (RanLines x.printer.form config i k (failed_by faults.Write))
+    (old core : CoreState) (x z : Outside) →
+    LeadsByTrace old core x z (Read x.printer.form config i k kept (Err failed)) →
+    LeadsByTrace old core x z (RanLines x.printer.form config i k (failed_by faults.Write))
 takes_broken config i k kept failed old core x z h =
     takes_as old core x z (Read x.printer.form config i k kept (Err failed)) (RanLines x.printer.form config i k
     (failed_by faults.Write)) h
     (ends_by_write x.printer.form config i k kept failed)
 
 pub takes_unread : (config : Config) (i j k : Option (List ℕ)) (kept : List ℕ) (old mid : CoreState)
-    (x y : Outside) → Keeps j k → Takes old mid x y (Read x.printer.form config i j kept (Ok false)) →
-    Takes old mid x y (RanLines x.printer.form config i k (failed_by faults.Read))
+    (x y : Outside) → Keeps j k → LeadsByTrace old mid x y (Read x.printer.form config i j kept (Ok false)) →
+    LeadsByTrace old mid x y (RanLines x.printer.form config i k (failed_by faults.Read))
 takes_unread config i j k kept old mid x y same h =
     takes_as old mid x y (Read x.printer.form config i j kept (Ok false)) (RanLines x.printer.form config i k
     (failed_by faults.Read)) h
@@ -384,8 +394,8 @@ keeps_same (Some i) = refl
 
 -- too many reads
 pub takes_enough : (config : Config) (i j : Option (List ℕ)) (kept : List ℕ) (old mid : CoreState)
-    (x y : Outside) → Takes old mid x y (Read x.printer.form config i j kept (Ok false)) →
-    Takes old mid x y (RanLines x.printer.form config i j (failed_by faults.Read))
+    (x y : Outside) → LeadsByTrace old mid x y (Read x.printer.form config i j kept (Ok false)) →
+    LeadsByTrace old mid x y (RanLines x.printer.form config i j (failed_by faults.Read))
 takes_enough config i j kept old mid x y h = takes_unread config i j j kept old mid x y (keeps_same j) h
 
 -- ## The whole run
@@ -483,7 +493,7 @@ not_opened config title i x a b held now opened failed =
 
 -- what was printed in all
 all_printed : (title : Option (List ℕ)) (a : PrinterView) (held : Option (List ℕ)) (x z : Outside) (p : List Did) →
-    Opened title a x.printer held x.written → Tells x z p →
+    Opened title a x.printer held x.written → TellsTrace x z p →
     Puts false z.printer.has_failed (output_of (form_of title) (opening title ++ p)) held z.written
 all_printed title a held x z p opened told =
     let both = prints_both a x.printer z.printer held x.written z.written (opening title) p opened.1 told.prints in
@@ -525,7 +535,7 @@ ran_err form fault config i k w next p same h = record {
 pub served_ok : (counts : Counts) (config : Config) (title i k : Option (List ℕ)) (old core : CoreState)
     (a : PrinterView) (held : Option (List ℕ)) (x z : Outside) → StandsFor old (start_of config) →
     Opened title a x.printer held x.written → EndsBy done z.printer.has_failed →
-    Takes old core x z (RanLines x.printer.form config i k done) →
+    LeadsByTrace old core x z (RanLines x.printer.form config i k done) →
     ((w : World) → StandsFor core w → record counts { lines = 0; sent = 0; failed = 0 } ≡ counts_of w.tally) →
     ServedSession config title i k x.calls z.calls held z.written (Ok counts)
 served_ok counts config title i k old core a held x z stands opened ends h counted =
@@ -553,7 +563,7 @@ served_fault : (fault : RunFault) (config : Config) (title i k : Option (List �
     → ((text : List ℕ) (ended : Bool) (lines others : List (List ℕ)) →
     Exits (form_of title) (failed_by fault) ended text lines others k →
     Exits (form_of title) (ended_by fault) ended text lines others k) →
-    Takes old core x z (RanLines x.printer.form config i k (failed_by fault)) →
+    LeadsByTrace old core x z (RanLines x.printer.form config i k (failed_by fault)) →
     ServedSession config title i k x.calls z.calls held z.written (ended_by fault)
 served_fault fault config title i k old core a held x z stands opened opens output exits h =
     let (p, next, told, ran, after) = h (start_of config) stands in
@@ -573,7 +583,7 @@ served_fault fault config title i k old core a held x z stands opened opens outp
 pub served_err : (fault : RunFault) (config : Config) (title i k : Option (List ℕ)) (old core : CoreState)
     (a : PrinterView) (held : Option (List ℕ)) (x z : Outside) → StandsFor old (start_of config) →
     Opened title a x.printer held x.written → EndsBy (failed_by fault) z.printer.has_failed →
-    Takes old core x z (RanLines x.printer.form config i k (failed_by fault)) →
+    LeadsByTrace old core x z (RanLines x.printer.form config i k (failed_by fault)) →
     ServedSession config title i k x.calls z.calls held z.written (ended_by fault)
 served_err faults.Read config title i k old core a held x z stands opened ends h =
     served_fault faults.Read config title i k old core a held x z stands opened refl

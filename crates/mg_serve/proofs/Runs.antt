@@ -4,7 +4,7 @@ use Rattle.std.proofs.lemmas.List.{append-nil, map-append}
 use Rattle.std.proofs.lemmas.List.Elements.{filter-append}
 use Rattle.std.specs.List.{filter, range_with_len}
 use Rattle.mg_engine.specs.declared.config.Config.{Config}
-use Rattle.mg_engine.specs.declared.peer.Peer.{Peer}
+use Rattle.mg_words.specs.declared.peer.Peer.{Peer}
 use Rattle.mg_core.specs.declared.event.Event.{Event}
 use Rattle.mg_core.specs.declared.event.Event.TheVariants as events
 use Rattle.mg_core.specs.World.{World}
@@ -12,12 +12,12 @@ use Rattle.mg_core.specs.Step.{Sent, Reply, Packet, Run}
 use Rattle.mg_ports.specs.declared.call.Call.{Call}
 use Rattle.mg_ports.specs.declared.call.Call.TheVariants.{Receive}
 use Rattle.mg_ports.specs.declared.receipt.Receipt.TheVariants.{Came, Nothing, Failed}
-use Rattle.mg_serve.specs.declared.command.Command.{Command}
-use Rattle.mg_serve.specs.declared.command.Command.TheVariants.{Poll, Tick, Stats, Quit, Unknown}
+use Rattle.mg_serve.specs.declared.command.LineCommand.{LineCommand}
+use Rattle.mg_serve.specs.declared.command.LineCommand.TheVariants.{Poll, Tick, Stats, Quit, Unknown}
 use Rattle.mg_serve.specs.Laws.{SendsAreARun, is_send}
 use Rattle.mg_serve.specs.Lines.{line_command}
 use Rattle.mg_serve.specs.Session.{Each, Comes, Does, EndsTurn, Happens, Session, SlotTurn, event_at, send_of, sends_of}
-use Rattle.mg_serve.specs.Trace.{Did, Called, Happened, Printed, Noted, calls_of, events_of}
+use Rattle.mg_serve.specs.Trace.{Did, Called, Happened, Printed, Noted, calls_of, events_of_trace}
 use Rattle.mg_serve.proofs.Printing.{calls_both}
 
 run_both : (w mid next : World) (es fs : List Event) (s t : List Sent) → Run w es s mid → Run mid fs t next →
@@ -33,7 +33,7 @@ run_both w mid next (e ∷ es) fs s t h k = (
   ap (λ (l : List Sent). l ++ t) h.5 ∙ append_assoc h.0 h.1 t,
 )
 
-pub events_both : (p q : List Did) → events_of (p ++ q) ≡ events_of p ++ events_of q
+pub events_both : (p q : List Did) → events_of_trace (p ++ q) ≡ events_of_trace p ++ events_of_trace q
 events_both [] q = refl
 events_both (Called call ∷ p) q = events_both p q
 events_both (Happened event ∷ p) q = ap (λ (l : List Event). event ∷ l) (events_both p q)
@@ -47,14 +47,14 @@ ran_both : (config : Config) (w mid next : World) (p q : List Did) → SendsAreA
 ran_both config w mid next p q h k = record {
   sent = h.sent ++ k.sent;
   run = subst (λ (l : List Event). Run w l (h.sent ++ k.sent) next) (sym (events_both p q))
-      (run_both w mid next (events_of p) (events_of q) h.sent k.sent h.run k.run);
+      (run_both w mid next (events_of_trace p) (events_of_trace q) h.sent k.sent h.run k.run);
   sends = ap (filter is_send) (calls_both p q) ∙ filter-append is_send (calls_of p) (calls_of q) ∙
       ap (λ (l : List Call). l ++ filter is_send (calls_of q)) h.sends ∙
       ap (λ (l : List Call). map (send_of config) h.sent ++ l) k.sends ∙
       sym (map-append (send_of config) h.sent k.sent);
 }
 
-no_run : (config : Config) (w next : World) (p : List Did) → events_of p ≡ [] → filter is_send (calls_of p) ≡ [] →
+no_run : (config : Config) (w next : World) (p : List Did) → events_of_trace p ≡ [] → filter is_send (calls_of p) ≡ [] →
     next ≡ w → SendsAreARun config w p next
 no_run config w next p none sends same = record {
   sent = [];
@@ -75,7 +75,7 @@ each_ran config R step (x ∷ xs) w next p h = ran_as config w next p (h.0 ++ h.
 
 -- ## Events
 
-no_events : (config : Config) (sent : List Sent) → events_of (sends_of config sent) ≡ []
+no_events : (config : Config) (sent : List Sent) → events_of_trace (sends_of config sent) ≡ []
 no_events config [] = refl
 no_events config (datagram ∷ sent) = no_events config sent
 
@@ -131,7 +131,7 @@ turn_ran config slot w next p h = ran_as config w next p (h.received ++ h.last) 
 
 -- ## Lines
 
-does_ran : (config : Config) (command : Command) (w next : World) (p : List Did) → Does config command w p next →
+does_ran : (config : Config) (command : LineCommand) (w next : World) (p : List Did) → Does config command w p next →
     SendsAreARun config w p next
 does_ran config Poll w next p h =
     each_ran config (SlotTurn config) (turn_ran config) (range_with_len 0 (config.slots + 1)) w next p h

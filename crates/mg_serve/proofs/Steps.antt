@@ -3,21 +3,21 @@ use Rattle.std.proofs.Common.{◌≡◌, ◌≢◌, ℕ, ◌+◌, ◌<◌, ◌�
 use Rattle.std.proofs.lemmas.List.{append-nil, length_push, map_more}
 use Rattle.std.specs.List.{range_with_len}
 use Rattle.mg_engine.specs.declared.config.Config.{Config}
-use Rattle.mg_engine.specs.declared.peer.Peer.{Peer}
+use Rattle.mg_words.specs.declared.peer.Peer.{Peer}
 use Rattle.mg_engine.specs.declared.datagram.Datagram.{Datagram}
 use Rattle.mg_core.specs.declared.event.Event.{Event}
 use Rattle.mg_core.specs.declared.event.Event.TheVariants as events
 use Rattle.mg_core.specs.declared.state.CoreState.{CoreState}
 use Rattle.mg_core.specs.Recording.{IsDatagram}
-use Rattle.mg_core.specs.World.{World, StandsFor, packets_of, ticked}
+use Rattle.mg_core.specs.World.{World, StandsFor, packets_of, world_after_tick}
 use Rattle.mg_core.specs.Step.{Sent, Packet, Step}
 use Rattle.mg_words.specs.Leads.{Leads}
 use Rattle.mg_ports.specs.declared.call.Call.{Call}
 use Rattle.mg_ports.specs.declared.call.Call.TheVariants.{Receive}
 use Rattle.mg_ports.specs.declared.receipt.Receipt.TheVariants.{Came, Nothing, Failed}
 use Rattle.mg_ports.specs.Calls.{Told}
-use Rattle.mg_serve.specs.declared.command.Command.{Command}
-use Rattle.mg_serve.specs.declared.command.Command.TheVariants.{Poll, Tick, Stats, Quit, Unknown}
+use Rattle.mg_serve.specs.declared.command.LineCommand.{LineCommand}
+use Rattle.mg_serve.specs.declared.command.LineCommand.TheVariants.{Poll, Tick, Stats, Quit, Unknown}
 use Rattle.mg_serve.specs.declared.form.Form.{Form}
 use Rattle.mg_serve.specs.declared.form.Form.TheVariants.{Plain, Recording}
 use Rattle.mg_serve.specs.Lines.{line_command, prints}
@@ -25,7 +25,7 @@ use Rattle.mg_serve.specs.Session.{Each, Comes, Does, EndsTurn, Happens, IsNoEve
 use Rattle.mg_serve.specs.Trace.{Did, Called, Happened, Noted, output_of}
 use Rattle.mg_serve.specs.aids.Driving.{Finished, Received}
 use Rattle.mg_serve.specs.aids.Printing.{Puts}
-use Rattle.mg_serve.specs.aids.Takes.{Outside, Takes, Tells}
+use Rattle.mg_serve.specs.aids.Outside.{Outside, LeadsByTrace, TellsTrace}
 use Rattle.mg_serve.proofs.Printing.{output_both}
 use Rattle.mg_serve.proofs.Taking.{called, told_both, tells_both, each_more, takes_after}
 
@@ -37,8 +37,8 @@ Enters config slot source bytes w trace next =
 -- a control datagram, which was printed, and whose answer was sent, if there was one
 pub control_answered : (config : Config) (source : Peer) (bytes : List ℕ) (sent : List Sent) (old new : CoreState)
     (x y z : Outside) → Leads StandsFor old new (λ w next. Step w (events.Control source bytes) sent next) →
-    Tells x y (Happened (events.Control source bytes) ∷ []) → Tells y z (sends_of config sent) →
-    Takes old new x z (Enters config 0 source bytes)
+    TellsTrace x y (Happened (events.Control source bytes) ∷ []) → TellsTrace y z (sends_of config sent) →
+    LeadsByTrace old new x z (Enters config 0 source bytes)
 control_answered config source bytes sent old new x y z h printed told w stands =
     let event = events.Control source bytes in
     let (next, step, held) = h w stands in (
@@ -51,8 +51,8 @@ control_answered config source bytes sent old new x y z h printed told w stands 
 
 -- one that found no memory
 pub control_unread : (config : Config) (source : Peer) (bytes : List ℕ) (old new : CoreState) (x y : Outside) →
-    new ≡ old → Tells x y (Noted (codes "no memory for a control datagram") ∷ []) →
-    Takes old new x y (Enters config 0 source bytes)
+    new ≡ old → TellsTrace x y (Noted (codes "no memory for a control datagram") ∷ []) →
+    LeadsByTrace old new x y (Enters config 0 source bytes)
 control_unread config source bytes old new x y is noted w stands = (
   Noted (codes "no memory for a control datagram") ∷ [],
   w,
@@ -64,23 +64,23 @@ control_unread config source bytes old new x y is noted w stands = (
 -- a media datagram, which has no call
 pub media_taken : (config : Config) (slot : ℕ) (source : Peer) (bytes : List ℕ) (old new : CoreState)
     (x y : Outside) → Leads StandsFor old new (λ w next. Step w (event_at config slot source bytes) [] next) →
-    Tells x y (Happened (event_at config slot source bytes) ∷ []) →
-    Takes old new x y (Enters config slot source bytes)
+    TellsTrace x y (Happened (event_at config slot source bytes) ∷ []) →
+    LeadsByTrace old new x y (Enters config slot source bytes)
 media_taken config slot source bytes old new x y h printed w stands =
     let (next, step, held) = h w stands in
     (Happened (event_at config slot source bytes) ∷ [], next, printed, inl ([], step, refl), held)
 
 -- the same at a slot that is the control port's
 pub at_control : (config : Config) (slot : ℕ) (source : Peer) (bytes : List ℕ) (old new : CoreState)
-    (x y : Outside) → slot ≡ 0 → Takes old new x y (Enters config 0 source bytes) →
-    Takes old new x y (Enters config slot source bytes)
+    (x y : Outside) → slot ≡ 0 → LeadsByTrace old new x y (Enters config 0 source bytes) →
+    LeadsByTrace old new x y (Enters config slot source bytes)
 at_control config slot source bytes old new x y is h =
-    subst (λ (s : ℕ). Takes old new x y (Enters config s source bytes)) (sym is) h
+    subst (λ (s : ℕ). LeadsByTrace old new x y (Enters config s source bytes)) (sym is) h
 
 -- a receive that gave a datagram
 pub came : (config : Config) (slot : ℕ) (source : Peer) (bytes : List ℕ) (old new : CoreState) (x y z : Outside) →
-    IsDatagram source bytes → Tells x y (Called (Receive slot (Came source bytes)) ∷ []) →
-    Takes old new y z (Enters config slot source bytes) → Takes old new x z (Received config slot true)
+    IsDatagram source bytes → TellsTrace x y (Called (Receive slot (Came source bytes)) ∷ []) →
+    LeadsByTrace old new y z (Enters config slot source bytes) → LeadsByTrace old new x z (Received config slot true)
 came config slot source bytes old new x y z fits told h =
     takes_after old new x y z (Called (Receive slot (Came source bytes)) ∷ []) (Enters config slot source bytes)
     (Received config slot true) told h (λ w next q s. ((source, bytes), (q, fits, refl, s)))
@@ -139,12 +139,12 @@ same_sends config (packet ∷ packets) =
 
 pub tick_sent : (config : Config) (old new : CoreState) (outbox : List Datagram) (x y z : Outside) →
     ((w : World) → StandsFor old w → outbox ≡ packets_of w) →
-    ((w : World) → StandsFor old w → StandsFor new (ticked w)) → Tells x y (Happened events.Tick ∷ []) →
-    Tells y z (called (map (λ (packet : Datagram). send_of config (Packet packet)) outbox)) →
-    Takes old new x z (Does config Tick)
+    ((w : World) → StandsFor old w → StandsFor new (world_after_tick w)) → TellsTrace x y (Happened events.Tick ∷ []) →
+    TellsTrace y z (called (map (λ (packet : Datagram). send_of config (Packet packet)) outbox)) →
+    LeadsByTrace old new x z (Does config Tick)
 tick_sent config old new outbox x y z sent after printed told w stands = (
   Happened events.Tick ∷ called (packet_sends config outbox),
-  ticked w,
+  world_after_tick w,
   tells_both x y z (Happened events.Tick ∷ []) (called (packet_sends config outbox)) printed told,
   (
     map Packet (packets_of w),
@@ -222,7 +222,7 @@ quiet_turn config slot w next p h = quiet_as p (h.received ++ h.last) h.parts
     (quiet_end slot (length h.datagrams) h.last h.ends))
 
 -- where something is printed for a command, it is one of those for which something is
-pub prints_some : (form : Form) (config : Config) (command : Command) (w next : World) (p : List Did) →
+pub prints_some : (form : Form) (config : Config) (command : LineCommand) (w next : World) (p : List Did) →
     Does config command w p next → output_of form p ≢ [] → prints form command ≡ true
 prints_some Plain config Poll w next p h some = absurd
     (some (quiet_each (SlotTurn config) (quiet_turn config) (range_with_len 0 (config.slots + 1)) w next p h))
@@ -251,7 +251,7 @@ puts_failed false false text x y before after h = absurd cc
 puts_failed true b text x y before after h = absurd cc
 
 pub some_printed : (x y : Outside) (p : List Did) → x.printer.has_failed ≡ false → y.printer.has_failed ≡ true →
-    Tells x y p → output_of x.printer.form p ≢ []
+    TellsTrace x y p → output_of x.printer.form p ≢ []
 some_printed x y p before after told =
     puts_failed x.printer.has_failed y.printer.has_failed (output_of x.printer.form p) x.written y.written before after
     told.prints.puts

@@ -13,7 +13,7 @@ use Rattle.mg_serve.specs.declared.form.Form.TheVariants.{Plain, Recording}
 use Rattle.mg_serve.specs.Session.{Each, SlotTurn}
 use Rattle.mg_serve.specs.Trace.{Did, Called, calls_of, output_of}
 use Rattle.mg_serve.specs.aids.Printing.{PrinterView, Prints}
-use Rattle.mg_serve.specs.aids.Takes.{Outside, Takes, Tells, outside}
+use Rattle.mg_serve.specs.aids.Outside.{Outside, LeadsByTrace, TellsTrace, outside}
 use Rattle.mg_serve.proofs.Printing.{calls_both, prints_both, prints_nothing}
 
 pub told_both : (a b c : Option (List Call)) (x y : List Call) → Told a b x → Told b c y → Told a c (x ++ y)
@@ -28,19 +28,19 @@ told_none (Some a) = sym (append-nil a)
 
 -- ## What is seen from outside
 
-pub tells_both : (a b c : Outside) (p q : List Did) → Tells a b p → Tells b c q → Tells a c (p ++ q)
+pub tells_both : (a b c : Outside) (p q : List Did) → TellsTrace a b p → TellsTrace b c q → TellsTrace a c (p ++ q)
 tells_both a b c p q h k = record {
   told = subst (λ (l : List Call). Told a.calls c.calls l) (sym (calls_both p q))
       (told_both a.calls b.calls c.calls (calls_of p) (calls_of q) h.told k.told);
   prints = prints_both a.printer b.printer c.printer a.written b.written c.written p q h.prints k.prints;
 }
 
-pub tells_none : (a : Outside) → Tells a a []
+pub tells_none : (a : Outside) → TellsTrace a a []
 tells_none a = record { told = told_none a.calls; prints = prints_nothing a.printer a.written [] refl }
 
 -- what is printed alone
 pub tells_print : (calls : Option (List Call)) (x y : Option (List ℕ)) (a b : PrinterView) (did : Did) →
-    calls_of (did ∷ []) ≡ [] → Prints a b x y (did ∷ []) → Tells (outside calls x a) (outside calls y b) (did ∷ [])
+    calls_of (did ∷ []) ≡ [] → Prints a b x y (did ∷ []) → TellsTrace (outside calls x a) (outside calls y b) (did ∷ [])
 tells_print calls x y a b did none h = record {
   told = subst (λ (l : List Call). Told calls calls l) (sym none) (told_none calls);
   prints = h;
@@ -60,7 +60,7 @@ output_of-called Plain (call ∷ calls) = output_of-called Plain calls
 output_of-called Recording (call ∷ calls) = output_of-called Recording calls
 
 pub tells_called : (x : Option (List ℕ)) (a : PrinterView) (b c : Option (List Call)) (calls : List Call) →
-    Told b c calls → Tells (outside b x a) (outside c x a) (called calls)
+    Told b c calls → TellsTrace (outside b x a) (outside c x a) (called calls)
 tells_called x a b c calls told = record {
   told = subst (λ (l : List Call). Told b c l) (sym (calls_of-called calls)) told;
   prints = prints_nothing a x (called calls) (output_of-called a.form calls);
@@ -99,56 +99,61 @@ range_more n =
 
 -- with what was seen from outside
 pub takes_joined : (a b c : CoreState) (x y z : Outside) (R S T : World → List Did → World → Type 0) →
-    Takes a b x y R → Takes b c y z S → ((w mid next : World) (p q : List Did) → Tells x y p → Tells y z q →
-    R w p mid → S mid q next → T w (p ++ q) next) → Takes a c x z T
+    LeadsByTrace a b x y R → LeadsByTrace b c y z S →
+    ((w mid next : World) (p q : List Did) → TellsTrace x y p → TellsTrace y z q →
+    R w p mid → S mid q next → T w (p ++ q) next) → LeadsByTrace a c x z T
 takes_joined a b c x y z R S T first second join w stands =
     let (p, mid, told, r, held) = first w stands in
     let (q, next, more, s, kept) = second mid held in
     (p ++ q, next, tells_both x y z p q told more, join w mid next p q told more r s, kept)
 
 pub takes_then : (a b c : CoreState) (x y z : Outside) (R S T : World → List Did → World → Type 0) →
-    Takes a b x y R → Takes b c y z S → ((w mid next : World) (p q : List Did) → R w p mid → S mid q next →
-    T w (p ++ q) next) → Takes a c x z T
+    LeadsByTrace a b x y R → LeadsByTrace b c y z S →
+    ((w mid next : World) (p q : List Did) → R w p mid → S mid q next →
+    T w (p ++ q) next) → LeadsByTrace a c x z T
 takes_then a b c x y z R S T first second join =
     takes_joined a b c x y z R S T first second (λ w mid next p q told more. join w mid next p q)
 
 -- the same, by what was seen from outside
 pub takes_seen : (a b : CoreState) (x y : Outside) (R T : World → List Did → World → Type 0) →
-    Takes a b x y R → ((w next : World) (p : List Did) → Tells x y p → R w p next → T w p next) → Takes a b x y T
+    LeadsByTrace a b x y R → ((w next : World) (p : List Did) → TellsTrace x y p → R w p next → T w p next) →
+    LeadsByTrace a b x y T
 takes_seen a b x y R T first map w stands =
     let (p, next, told, r, held) = first w stands in
     (p, next, told, map w next p told r, held)
 
 pub takes_as : (a b : CoreState) (x y : Outside) (R T : World → List Did → World → Type 0) →
-    Takes a b x y R → ((w next : World) (p : List Did) → R w p next → T w p next) → Takes a b x y T
+    LeadsByTrace a b x y R → ((w next : World) (p : List Did) → R w p next → T w p next) → LeadsByTrace a b x y T
 takes_as a b x y R T first map w stands =
     let (p, next, told, r, held) = first w stands in
     (p, next, told, map w next p r, held)
 
 -- nothing was done
 pub takes_none : (a : CoreState) (x : Outside) (R : World → List Did → World → Type 0) →
-    ((w : World) → R w [] w) → Takes a a x x R
+    ((w : World) → R w [] w) → LeadsByTrace a a x x R
 takes_none a x R same w stands = ([], w, tells_none x, same w, stands)
 
 -- what is seen from outside alone
 pub takes_told : (a : CoreState) (x y : Outside) (calls : List Did)
-    (R : World → List Did → World → Type 0) → Tells x y calls → ((w : World) → R w calls w) → Takes a a x y R
+    (R : World → List Did → World → Type 0) → TellsTrace x y calls → ((w : World) → R w calls w) →
+    LeadsByTrace a a x y R
 takes_told a x y calls R told same w stands = (calls, w, told, same w, stands)
 
 -- calls, and then a step of the core
 pub takes_after : (a b : CoreState) (x y z : Outside) (calls : List Did)
-    (S T : World → List Did → World → Type 0) → Tells x y calls → Takes a b y z S →
-    ((w next : World) (q : List Did) → S w q next → T w (calls ++ q) next) → Takes a b x z T
+    (S T : World → List Did → World → Type 0) → TellsTrace x y calls → LeadsByTrace a b y z S →
+    ((w next : World) (q : List Did) → S w q next → T w (calls ++ q) next) → LeadsByTrace a b x z T
 takes_after a b x y z calls S T told second join w stands =
     let (q, next, more, s, kept) = second w stands in
     (calls ++ q, next, tells_both x y z calls q told more, join w next q s, kept)
 
 -- a slot's turn more
 pub one_turn_more : (a b c : CoreState) (x y z : Outside) (config : Config) (slot : ℕ) →
-    Takes a b x y (Each (SlotTurn config) (range_with_len 0 slot)) → Takes b c y z (SlotTurn config slot) →
-    Takes a c x z (Each (SlotTurn config) (range_with_len 0 (slot + 1)))
+    LeadsByTrace a b x y (Each (SlotTurn config) (range_with_len 0 slot)) →
+    LeadsByTrace b c y z (SlotTurn config slot) →
+    LeadsByTrace a c x z (Each (SlotTurn config) (range_with_len 0 (slot + 1)))
 one_turn_more a b c x y z config slot first second =
     let turn = SlotTurn config in
-    subst (λ (l : List ℕ). Takes a c x z (Each turn l)) (sym (range_more slot))
+    subst (λ (l : List ℕ). LeadsByTrace a c x z (Each turn l)) (sym (range_more slot))
     (takes_then a b c x y z (Each turn (range_with_len 0 slot)) (turn slot)
     (Each turn (range_with_len 0 slot ++ slot ∷ [])) first second (each_more turn (range_with_len 0 slot) slot))

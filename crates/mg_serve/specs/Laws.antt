@@ -17,7 +17,7 @@ use Rattle.mg_ports.specs.declared.call.Call.TheVariants.{Receive, Send}
 use Rattle.mg_serve.specs.declared.form.Form.TheVariants.{Recording}
 use Rattle.mg_serve.specs.Serve.{opening}
 use Rattle.mg_serve.specs.Session.{Session, send_of}
-use Rattle.mg_serve.specs.Trace.{Did, calls_of, events_of, output_of}
+use Rattle.mg_serve.specs.Trace.{Did, calls_of, events_of_trace, output_of}
 
 abbrev pub is_send : Call → Bool
 is_send (Receive slot receipt) = false
@@ -27,7 +27,7 @@ is_send (Send slot to bytes) = true
 pub record SendsAreARun (config : Config) (w : World) (trace : List Did) (next : World)
     : Type 0 where
   pub sent : List Sent
-  pub run : Run w (events_of trace) sent next
+  pub run : Run w (events_of_trace trace) sent next
   pub sends : filter is_send (calls_of trace) ≡ map (send_of config) sent
 
 -- It is so of every session.
@@ -46,14 +46,14 @@ abbrev pub SessionsAreReadBack : Type 0
 SessionsAreReadBack =
     (config : Config) (title : List ℕ) (lines : List (List ℕ)) (next : World) (trace : List Did)
     → IsValidConfig config → Session config lines (start_of config) trace next
-    → script.events_of (lines_of true (recorded title trace)) ≡ Some (events_of trace)
+    → script.events_of (lines_of true (recorded title trace)) ≡ Some (events_of_trace trace)
 
 abbrev pub CutSessionsAreReadBack : Type 0
 CutSessionsAreReadBack =
     (config : Config) (title : List ℕ) (lines : List (List ℕ)) (next : World) (trace : List Did)
     (front rest : List ℕ) → IsValidConfig config → Session config lines (start_of config) trace next
     → recorded title trace ≡ front ++ rest
-    → (first : List Event) × (others : List Event) × (events_of trace ≡ first ++ others)
+    → (first : List Event) × (others : List Event) × (events_of_trace trace ≡ first ++ others)
     × (script.events_of (lines_of false front) ≡ Some first)
 
 -- a run over a script wrote the lines of the datagrams that a session has sent, and came to its

@@ -3,7 +3,7 @@ use Rattle.std.specs.Prelude.{◌≡◌, ◌⊎◌, ℕ, zero, suc, ◌+◌, ◌
 use Rattle.std.specs.Prelude.{length, map, codes}
 use Rattle.std.specs.List.{range_with_len}
 use Rattle.mg_engine.specs.declared.config.Config.{Config}
-use Rattle.mg_engine.specs.declared.peer.Peer.{Peer}
+use Rattle.mg_words.specs.declared.peer.Peer.{Peer}
 use Rattle.mg_core.specs.declared.event.Event.{Event}
 use Rattle.mg_core.specs.declared.event.Event.TheVariants as events
 use Rattle.mg_core.specs.Recording.{IsDatagram}
@@ -12,8 +12,8 @@ use Rattle.mg_core.specs.Step.{Sent, Reply, Packet, Step}
 use Rattle.mg_ports.specs.declared.call.Call.{Call}
 use Rattle.mg_ports.specs.declared.call.Call.TheVariants.{Receive, Send}
 use Rattle.mg_ports.specs.declared.receipt.Receipt.TheVariants.{Came, Nothing, Failed}
-use Rattle.mg_serve.specs.declared.command.Command.{Command}
-use Rattle.mg_serve.specs.declared.command.Command.TheVariants.{Poll, Tick, Stats, Quit, Unknown}
+use Rattle.mg_serve.specs.declared.command.LineCommand.{LineCommand}
+use Rattle.mg_serve.specs.declared.command.LineCommand.TheVariants.{Poll, Tick, Stats, Quit, Unknown}
 use Rattle.mg_serve.specs.Lines.{line_command}
 use Rattle.mg_serve.specs.Trace.{Did, Called, Happened, Printed, Noted}
 
@@ -85,7 +85,7 @@ pub record SlotTurn (config : Config) (slot : ℕ) (w : World) (trace : List Did
 
 -- `poll` is a turn of the control port and then of each media port in rising order, `tick` is one
 -- tick. `stats` prints a text, of which nothing is said here.
-abbrev pub Does : Config → Command → World → List Did → World → Type 0
+abbrev pub Does : Config → LineCommand → World → List Did → World → Type 0
 Does config Poll w trace next =
     Each (SlotTurn config) (range_with_len 0 (config.slots + 1)) w trace next
 Does config Tick w trace next = Happens config events.Tick w trace next

@@ -19,16 +19,12 @@ pub data Did : Type 0 where
 abbrev pub calls_of : List Did → List Call
 calls_of [] = []
 calls_of (Called call ∷ trace) = call ∷ calls_of trace
-calls_of (Happened event ∷ trace) = calls_of trace
-calls_of (Printed text ∷ trace) = calls_of trace
-calls_of (Noted text ∷ trace) = calls_of trace
+calls_of (_ ∷ trace) = calls_of trace
 
-abbrev pub events_of : List Did → List Event
-events_of [] = []
-events_of (Called call ∷ trace) = events_of trace
-events_of (Happened event ∷ trace) = event ∷ events_of trace
-events_of (Printed text ∷ trace) = events_of trace
-events_of (Noted text ∷ trace) = events_of trace
+abbrev pub events_of_trace : List Did → List Event
+events_of_trace [] = []
+events_of_trace (Happened event ∷ trace) = event ∷ events_of_trace trace
+events_of_trace (_ ∷ trace) = events_of_trace trace
 
 -- a text as one line: without line feeds, and the first 1,000 bytes at most
 abbrev pub one_line : List ℕ → List ℕ
@@ -36,15 +32,13 @@ one_line text = take 1000 (filter (λ b. not (b == 10)) text)
 
 -- What is printed: for whoever drives the gateway, the texts for him; and of a recording, a line of
 -- a script for each event, and comments.
-abbrev pub text_of : Form → Did → List ℕ
-text_of Plain (Called call) = []
-text_of Plain (Happened event) = []
-text_of Plain (Printed text) = one_line text ++ codes "\n"
-text_of Plain (Noted text) = []
-text_of Recording (Called call) = []
-text_of Recording (Happened event) = event_line event
-text_of Recording (Printed text) = entry_line (entry.Noted (one_line text))
-text_of Recording (Noted text) = entry_line (entry.Noted (one_line text))
+abbrev pub printed_text : Form → Did → List ℕ
+printed_text Plain (Printed text) = one_line text ++ codes "\n"
+printed_text Plain _ = []
+printed_text Recording (Called call) = []
+printed_text Recording (Happened event) = event_line event
+printed_text Recording (Printed text) = entry_line (entry.Noted (one_line text))
+printed_text Recording (Noted text) = entry_line (entry.Noted (one_line text))
 
 abbrev pub output_of : Form → List Did → List ℕ
-output_of form trace = flat_map (text_of form) trace
+output_of form trace = flat_map (printed_text form) trace

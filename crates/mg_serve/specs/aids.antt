@@ -1,3 +1,3 @@
 pub mod Printing
-pub mod Takes
+pub mod Outside
 pub mod Driving

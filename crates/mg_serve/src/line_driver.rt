@@ -8,9 +8,9 @@ ghost use Rattle.mg_serve.specs.Session.{Does};
 ghost use Rattle.mg_serve.specs.Serve.{RanLines, opening};
 ghost use Rattle.mg_serve.specs.aids.Driving.{BytesTaken, EndsBy, Finished};
 ghost use Rattle.mg_serve.specs.aids.Printing.{Prints};
-ghost use Rattle.mg_serve.specs.aids.Takes.{Takes, outside};
+ghost use Rattle.mg_serve.specs.aids.Outside.{LeadsByTrace, outside};
 
-use crate::command::Command;
+use crate::command::LineCommand;
 use crate::form::Form;
 use crate::line::Line;
 use crate::server::Server;
@@ -86,12 +86,12 @@ impl<'a, E: Write> LineDriver<'a, E> {
         ensures quit { IfOk result (λ quit. quit ≡ is_quit (line_command (without_return self.old.begun))) }
         ensures whole { OnOk result (self.new.server.printer.has_failed ≡ false) }
         ensures failed { IfErr result (λ failed. self.new.server.printer.has_failed ≡ true) }
-        ensures value { Takes self.old.server.core.state self.new.server.core.state
+        ensures value { LeadsByTrace self.old.server.core.state self.new.server.core.state
             (outside (P.calls ports.old) (W.contents writer.old) self.old.server.printer)
             (outside (P.calls ports.new) (W.contents writer.new) self.new.server.printer)
             (Does config (line_command (without_return self.old.begun))) }
     {
-        let command = Command::of(without_return(self.begun.as_slice()));
+        let command = LineCommand::of(without_return(self.begun.as_slice()));
         let quit = self
             .server
             .take_command(alloc, config, ports, buffer, command, writer)?;
@@ -115,7 +115,7 @@ impl<'a, E: Write> LineDriver<'a, E> {
         ensures whole { OnOk result (self.new.server.printer.has_failed ≡ false) }
         ensures failed { IfErr result (λ failed. self.new.server.printer.has_failed ≡ true) }
         ensures value { (begun : List ℕ) → self.old.begun ≡ take 8 begun
-            → Takes self.old.server.core.state self.new.server.core.state
+            → LeadsByTrace self.old.server.core.state self.new.server.core.state
             (outside (P.calls ports.old) (W.contents writer.old) self.old.server.printer)
             (outside (P.calls ports.new) (W.contents writer.new) self.new.server.printer)
             (BytesTaken self.old.server.printer.form config begun bytes.now self.new.begun result) }
@@ -144,7 +144,7 @@ impl<'a, E: Write> LineDriver<'a, E> {
         requires sound { IsValidConfig config }
         requires room { length buffer.old ≤ 65535 }
         requires whole { self.old.server.printer.has_failed ≡ false }
-        ensures value { Takes self.old.server.core.state self.new.server.core.state
+        ensures value { LeadsByTrace self.old.server.core.state self.new.server.core.state
             (outside (P.calls ports.old) (W.contents writer.old) self.old.server.printer)
             (outside (P.calls ports.new) (W.contents writer.new) self.new.server.printer)
             (Finished config self.old.begun) }
@@ -155,7 +155,7 @@ impl<'a, E: Write> LineDriver<'a, E> {
         if line.is_empty() {
             return Ok(());
         }
-        let command = Command::of(line);
+        let command = LineCommand::of(line);
         self.server
             .take_command(alloc, config, ports, buffer, command, writer)?;
         Ok(())
@@ -177,7 +177,7 @@ impl<'a, E: Write> LineDriver<'a, E> {
         requires begun { self.old.begun ≡ [] }
         ensures ends { EndsBy result self.new.server.printer.has_failed }
         ensures started { result ≢ Err RunFault.BadConfig }
-        ensures value { Takes self.old.server.core.state self.new.server.core.state
+        ensures value { LeadsByTrace self.old.server.core.state self.new.server.core.state
             (outside (P.calls ports.old) (W.contents writer.old) self.old.server.printer)
             (outside (P.calls ports.new) (W.contents writer.new) self.new.server.printer)
             (RanLines self.old.server.printer.form config (R.remaining reader.old) (R.remaining reader.new) result) }

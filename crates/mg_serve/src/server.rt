@@ -13,9 +13,9 @@ ghost use Rattle.mg_serve.specs.Session.{Does, Happens, IsNoEvent, SlotTurn, eve
 ghost use Rattle.mg_serve.specs.Trace.{Called, Happened};
 ghost use Rattle.mg_serve.specs.aids.Driving.{Received};
 ghost use Rattle.mg_serve.specs.aids.Printing.{Prints};
-ghost use Rattle.mg_serve.specs.aids.Takes.{Takes, outside};
+ghost use Rattle.mg_serve.specs.aids.Outside.{LeadsByTrace, outside};
 
-use crate::command::Command;
+use crate::command::LineCommand;
 use crate::form::Form;
 use crate::output::counts_text;
 use crate::printer::Printer;
@@ -127,7 +127,7 @@ impl<'a, E: Write> Server<'a, E> {
         writer: &mut W,
     )
         requires short { length bytes.now ≤ 65535 }
-        ensures value { Takes self.old.core.state self.new.core.state
+        ensures value { LeadsByTrace self.old.core.state self.new.core.state
             (outside (P.calls ports.old) (W.contents writer.old) self.old.printer)
             (outside (P.calls ports.new) (W.contents writer.new) self.new.printer)
             (λ w trace next.
@@ -183,7 +183,7 @@ impl<'a, E: Write> Server<'a, E> {
         requires sound { IsValidConfig config }
         requires last { slot ≤ config.slots }
         requires room { length buffer.old ≤ 65535 }
-        ensures value { Takes self.old.core.state self.new.core.state
+        ensures value { LeadsByTrace self.old.core.state self.new.core.state
             (outside (P.calls ports.old) (W.contents writer.old) self.old.printer)
             (outside (P.calls ports.new) (W.contents writer.new) self.new.printer)
             (Received config slot result) }
@@ -217,7 +217,7 @@ impl<'a, E: Write> Server<'a, E> {
         requires sound { IsValidConfig config }
         requires last { slot ≤ config.slots }
         requires room { length buffer.old ≤ 65535 }
-        ensures value { Takes self.old.core.state self.new.core.state
+        ensures value { LeadsByTrace self.old.core.state self.new.core.state
             (outside (P.calls ports.old) (W.contents writer.old) self.old.printer)
             (outside (P.calls ports.new) (W.contents writer.new) self.new.printer)
             (SlotTurn config slot) }
@@ -240,10 +240,10 @@ impl<'a, E: Write> Server<'a, E> {
     )
         requires sound { IsValidConfig config }
         requires room { length buffer.old ≤ 65535 }
-        ensures value { Takes self.old.core.state self.new.core.state
+        ensures value { LeadsByTrace self.old.core.state self.new.core.state
             (outside (P.calls ports.old) (W.contents writer.old) self.old.printer)
             (outside (P.calls ports.new) (W.contents writer.new) self.new.printer)
-            (Does config Command.Poll) }
+            (Does config LineCommand.Poll) }
     {
         for slot in 0..=config.slots {
             self.turn(alloc, config, ports, slot, buffer, writer);
@@ -252,10 +252,10 @@ impl<'a, E: Write> Server<'a, E> {
 
     /// Passes on by 20 ms, sends the packets, and reports if that is due.
     fn tick<P: Ports, W: Write>(&mut self, config: Config, ports: &mut P, writer: &mut W)
-        ensures value { Takes self.old.core.state self.new.core.state
+        ensures value { LeadsByTrace self.old.core.state self.new.core.state
             (outside (P.calls ports.old) (W.contents writer.old) self.old.printer)
             (outside (P.calls ports.new) (W.contents writer.new) self.new.printer)
-            (Does config Command.Tick) }
+            (Does config LineCommand.Tick) }
     {
         self.core.tick();
         self.printer.tick(writer);
@@ -295,25 +295,25 @@ impl<'a, E: Write> Server<'a, E> {
         config: Config,
         ports: &mut P,
         buffer: &mut [u8],
-        command: Command,
+        command: LineCommand,
         writer: &mut W,
     )
         requires sound { IsValidConfig config }
         requires room { length buffer.old ≤ 65535 }
-        ensures value { Takes self.old.core.state self.new.core.state
+        ensures value { LeadsByTrace self.old.core.state self.new.core.state
             (outside (P.calls ports.old) (W.contents writer.old) self.old.printer)
             (outside (P.calls ports.new) (W.contents writer.new) self.new.printer)
             (Does config command) }
     {
         match command {
-            Command::Poll => self.poll(alloc, config, ports, buffer, writer),
-            Command::Tick => self.tick(config, ports, writer),
-            Command::Stats => {
+            LineCommand::Poll => self.poll(alloc, config, ports, buffer, writer),
+            LineCommand::Tick => self.tick(config, ports, writer),
+            LineCommand::Stats => {
                 let text = counts_text(&self.counts(ports));
                 self.printer.print(text.as_slice(), writer);
             }
-            Command::Quit => {}
-            Command::Unknown => self.printer.print(b"unknown command", writer),
+            LineCommand::Quit => {}
+            LineCommand::Unknown => self.printer.print(b"unknown command", writer),
         }
     }
 
@@ -324,7 +324,7 @@ impl<'a, E: Write> Server<'a, E> {
         config: Config,
         ports: &mut P,
         buffer: &mut [u8],
-        command: Command,
+        command: LineCommand,
         writer: &mut W,
     ) -> Result<bool, WriteFailed>
         requires sound { IsValidConfig config }
@@ -332,7 +332,7 @@ impl<'a, E: Write> Server<'a, E> {
         ensures quit { IfOk result (λ quit. quit ≡ is_quit command) }
         ensures whole { OnOk result (self.new.printer.has_failed ≡ false) }
         ensures failed { IfErr result (λ failed. self.new.printer.has_failed ≡ true) }
-        ensures value { Takes self.old.core.state self.new.core.state
+        ensures value { LeadsByTrace self.old.core.state self.new.core.state
             (outside (P.calls ports.old) (W.contents writer.old) self.old.printer)
             (outside (P.calls ports.new) (W.contents writer.new) self.new.printer)
             (Does config command) }
@@ -342,6 +342,6 @@ impl<'a, E: Write> Server<'a, E> {
         if self.printer.has_failed() {
             return Err(WriteFailed);
         }
-        Ok(command == Command::Quit)
+        Ok(command == LineCommand::Quit)
     }
 }

@@ -16,8 +16,8 @@ pub record SumsState : Type 0 where
   pub work : ℕ
 
 -- as many rows of silence as there can be terminations, joined nowhere
-unfoldable pub first_state : SumsState
-first_state =
+unfoldable pub first_sums : SumsState
+first_sums =
     record {
       frames = replicate termination_limit silence;
       rooms = replicate termination_limit None;
@@ -25,8 +25,8 @@ first_state =
     }
 
 -- the frame of a row
-abbrev pub frame_of : SumsState → ℕ → List ℤ
-frame_of kept row = slice_index_or kept.frames row []
+abbrev pub frame_of_row : SumsState → ℕ → List ℤ
+frame_of_row kept row = slice_index_or kept.frames row []
 
 -- the room that a row is joined to
 abbrev pub room_of : SumsState → ℕ → Option ℕ

@@ -46,12 +46,12 @@ impl Model for Sums {
 }
 
 impl Sums {
-    ghost use Rattle.mg_sums.specs.Sums.{first_state, frame_of, room_of, total_of, mix_of, heard_of, AreOfRoom, AreValidSums};
+    ghost use Rattle.mg_sums.specs.Sums.{first_sums, frame_of_row, room_of, total_of, mix_of, heard_of, AreOfRoom, AreValidSums};
 
     /// Rows of silence that are joined nowhere. Fails only where memory is refused, and no other
     /// call takes any.
     pub fn new(alloc: Global) -> Result<Self, AllocError>
-        ensures first { IfOk result (λ sums. sums ≡ first_state) }
+        ensures first { IfOk result (λ sums. sums ≡ first_sums) }
         ensures nowhere { IfOk result (λ sums. (row : ℕ) → room_of sums row ≡ None) }
         ensures valid { IfOk result (λ sums. AreValidSums sums) }
     {
@@ -147,7 +147,7 @@ impl Sums {
 
     /// The frame that was last set for a row: silence where that was none, or before any.
     pub fn frame(&self, row: Row) -> &Frame
-        ensures value { result.now ≡ frame_of self.now row }
+        ensures value { result.now ≡ frame_of_row self.now row }
         ensures frame { IsFrame result.now }
     {
         self.frames[row.number()].frame()
@@ -155,7 +155,7 @@ impl Sums {
 
     /// Whether a row is known to be silent: no frame was set for it since it was last set to none, or ever.
     pub fn is_silent(&self, row: Row) -> bool
-        ensures value { IsTrue result → frame_of self.now row ≡ silence }
+        ensures value { IsTrue result → frame_of_row self.now row ≡ silence }
     {
         self.frames[row.number()].is_silent()
     }

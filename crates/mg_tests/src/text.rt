@@ -3,8 +3,8 @@
 use mg_scan::Span;
 use mg_text::{
     Association, AuditWord, Body, Command, CommandWord, ContextId, ContextProperty, ContextWord,
-    ControlPart, Descriptor, MediaPart, MessageItem, Mode, OtherWord, PropertyValue, Range,
-    ReadFault, StreamPart, Triple, read,
+    ControlPart, Descriptor, MediaPart, MessageItem, Mode, NamedTriple, OtherWord, PropertyValue,
+    Range, ReadFault, StreamPart, read,
 };
 use std::alloc::{AllocError, Global};
 use std::test::Fail;
@@ -53,7 +53,7 @@ fn says(span: Span, text: &[u8]) -> bool {
 }
 
 /// Whether triples are the two, of which the second is a Oneway from a to b.
-fn are_triples(triples: &[Triple]) -> bool {
+fn are_triples(triples: &[NamedTriple]) -> bool {
     let [first, second] = triples else {
         return false;
     };

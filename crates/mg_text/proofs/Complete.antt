@@ -1,39 +1,41 @@
 -- What is in the grammar is read: marks, words, groups and lists. Each part also has no more tokens after it than
 -- before it, which bounds the length of a list.
-use Rattle.std.proofs.Common.{◌≡◌, ℕ, zero, suc, ◌-◌, ◌+◌, ◌<◌, ◌≤◌, eqb, Bool, true, false, List, [], ◌∷◌, length, Option, Some, None, Result, Ok, refl, inl, inr, ap, ◌∙◌, arith}
+use Rattle.std.proofs.Common.{◌≡◌, ℕ, zero, suc, ◌-◌, ◌+◌, ◌<◌, ◌≤◌, ◌≢◌, eqb, Bool, true, false, List, [], ◌∷◌, length, Option, Some, None, Result, Ok, refl, inl, inr, ap, ◌∙◌, arith}
 use Rattle.std.proofs.lemmas.Bool.{ne_eqb}
 use Rattle.mg_scan.specs.declared.kind.TokenKind.{TokenKind}
-use Rattle.mg_scan.specs.declared.kind.TokenKind.TheVariants.{Word, Open, Close, Comma, Equals, Quoted, Octets}
+use Rattle.mg_scan.specs.declared.kind.TokenKind.TheVariants.{Word, Open, Close, Comma, Equals}
 use Rattle.mg_scan.specs.declared.span.Span.{Span}
 use Rattle.mg_scan.specs.declared.token.Token.{Token}
 use Rattle.mg_text.specs.declared.keyword.Keyword.{Keyword}
 use Rattle.mg_text.specs.aids.Reading.{is_kind, mark_at, after_mark, span_at, word_at, named_at, meaning_at, term_at, after_group, group_at, filled_at, list_at, items_at, braced_at, any_braced_at, optional_braced_at}
-use Rattle.mg_text.specs.Grammar.{IsMark, IsSpan, IsWord, IsNamed, IsWorded, IsMore, IsListed, IsBraced, IsOptionalBraced, IsAnyBraced, IsPlain, IsBalanced, nothing, plain, nested, IsGroup, IsContent, IsTermName}
-use Rattle.mg_text.proofs.Sound.{balanced_shorter}
+use Rattle.mg_scan.specs.Span.{text_of}
+use Rattle.mg_words.specs.Term.{is_term}
+use Rattle.mg_text.specs.Keyword.{is_named}
+use Rattle.mg_text.specs.Production.{Production}
+use Rattle.mg_text.specs.Grammar.{IsMark, IsSpan, IsWord, IsWordThat, IsWorded, IsMore, IsListed, IsBraced, IsOptionalBraced, IsAnyBraced, IsBalanced, nothing, plain, nested, IsGroup, IsContent}
+use Rattle.mg_text.proofs.Sound.{is_kind-true, is_kind-same, balanced_shorter}
 
-is_kind-same : (k : TokenKind) → is_kind k k ≡ true
-is_kind-same Word = refl
-is_kind-same Open = refl
-is_kind-same Close = refl
-is_kind-same Comma = refl
-is_kind-same Equals = refl
-is_kind-same Quoted = refl
-is_kind-same Octets = refl
+is_kind-other : (a b : TokenKind) → a ≢ b → is_kind a b ≡ false
+is_kind-other a b apart = by_cases (is_kind a b) refl
+  where
+    by_cases : (k : Bool) → is_kind a b ≡ k → is_kind a b ≡ false
+    by_cases true e = absurd (apart (is_kind-true a b e))
+    by_cases false e = e
 
 pub mark_read : (source : List ℕ) (kind : TokenKind) (ts rest : List Token) → IsMark kind ts rest →
     mark_at source kind ts ≡ Ok rest
 unfolding mark_at
-mark_read source kind ts rest m = rw (m.front, m.kind_is, is_kind-same kind) refl
+mark_read source kind ts rest m = rw (m.1, is_kind-same kind) refl
 
 pub after_read : (kind : TokenKind) (ts rest : List Token) → IsMark kind ts rest → after_mark kind ts ≡ Some rest
 unfolding after_mark
-after_read kind ts rest m = rw (m.front, m.kind_is, is_kind-same kind) refl
+after_read kind ts rest m = rw (m.1, is_kind-same kind) refl
 
 -- another mark stands there
 pub after_other : (kind other : TokenKind) (ts rest : List Token) → is_kind kind other ≡ false → IsMark kind ts rest →
     after_mark other ts ≡ None
 unfolding after_mark
-after_other kind other ts rest apart m = rw (m.front, m.kind_is, apart) refl
+after_other kind other ts rest apart m = rw (m.1, apart) refl
 
 -- after a part no opening brace and no equals sign stands, so that nothing more belongs to it
 pub record Stops (rest : List Token) : Type 0 where
@@ -55,7 +57,7 @@ at_close ts rest m = record {
 pub span_read : (source : List ℕ) (kind : TokenKind) (w : Span) (ts rest : List Token) → IsSpan kind w ts rest →
     span_at source kind ts ≡ Ok (w, rest)
 unfolding span_at
-span_read source kind w ts rest m = rw (m.front, m.kind_is, is_kind-same kind, m.span_is) refl
+span_read source kind w ts rest m = rw (m, is_kind-same kind) refl
 
 pub word_read : (source : List ℕ) (w : Span) (ts rest : List Token) → IsWord w ts rest →
     word_at source ts ≡ Ok (w, rest)
@@ -65,107 +67,102 @@ word_read source w ts rest m = span_read source Word w ts rest m
 pub span_other : (kind other : TokenKind) (w : Span) (ts rest : List Token) → is_kind kind other ≡ false →
     IsSpan kind w ts rest → after_mark other ts ≡ None
 unfolding after_mark
-span_other kind other w ts rest apart m = rw (m.front, m.kind_is, apart) refl
+span_other kind other w ts rest apart m = rw (m, apart) refl
 
-pub named_read : (source : List ℕ) (keyword : Keyword) (ts rest : List Token) → IsNamed source keyword ts rest →
-    named_at source keyword ts ≡ Ok rest
+pub named_read : (source : List ℕ) (keyword : Keyword) (w : Span) (ts rest : List Token) →
+    is_named (text_of source w) keyword ≡ true → IsWord w ts rest → named_at source keyword ts ≡ Ok rest
 unfolding named_at
-named_read source keyword ts rest m = rw (word_read source m.word ts rest m.is, m.named) refl
+named_read source keyword w ts rest named m = rw (word_read source w ts rest m, named) refl
 
 pub worded_read : {X : Type 0} (meaning : List ℕ → Option X) (source : List ℕ) (x : X) (ts rest : List Token) →
     IsWorded meaning source x ts rest → meaning_at meaning source ts ≡ Ok (x, rest)
 unfolding meaning_at
-worded_read meaning source x ts rest m = rw (word_read source m.word ts rest m.is, m.means) refl
-
-plain_not : (k : TokenKind) → IsPlain k → (is_kind k Open ≡ false) × (is_kind k Close ≡ false)
-plain_not Open p = absurd p
-plain_not Close p = absurd p
-plain_not Word p = (refl, refl)
-plain_not Comma p = (refl, refl)
-plain_not Equals p = (refl, refl)
-plain_not Quoted p = (refl, refl)
-plain_not Octets p = (refl, refl)
+worded_read meaning source x ts rest m = rw (word_read source m.0 ts rest m.2, m.1) refl
 
 -- balanced tokens leave the depth as it is
 balanced_read : (source : List ℕ) (depth : ℕ) (ts rest : List Token) → IsBalanced ts rest →
     after_group source depth ts ≡ after_group source depth rest
 unfolding after_group
 balanced_read source depth _ _ (nothing ts) = refl
-balanced_read source depth _ _ (plain t ts rest p inside) =
-    let k = plain_not t.kind p in
-    rw (k.0, k.1) (balanced_read source depth ts rest inside)
-balanced_read source depth _ _ (nested o c ts a rest opens closes inside after) =
+balanced_read source depth _ _ (plain t ts rest p q inside) =
+    rw (is_kind-other t.kind Open p, is_kind-other t.kind Close q) (balanced_read source depth ts rest inside)
+balanced_read source depth _ _ (nested ts a b c rest opens inside closes after) =
     let one : suc depth - 1 ≡ depth = omega arith in
     let more : eqb (suc depth) 0 ≡ false = ne_eqb (suc depth) 0 (λ q. absurd (omega arith)) in
-    let back : after_group source (suc depth) (c ∷ a) ≡ after_group source depth a = rw (closes, more, one) refl in
-    rw opens (balanced_read source (suc depth) ts (c ∷ a) inside ∙ back ∙ balanced_read source depth a rest after)
+    let back : after_group source (suc depth) b ≡ after_group source depth c = rw (closes.1, more, one) refl in
+    rw opens.1 (balanced_read source (suc depth) a b inside ∙ back ∙ balanced_read source depth c rest after)
 
-pub inside_read : (source : List ℕ) (ts rest : List Token) (m : IsGroup ts rest) → after_group source 0 m.a ≡ Ok rest
+pub inside_read : (source : List ℕ) (ts rest : List Token) (m : IsGroup ts rest) → after_group source 0 m.0 ≡ Ok rest
 unfolding after_group
-inside_read source ts rest m = balanced_read source 0 m.a m.b m.inside ∙ (rw (m.close.front, m.close.kind_is) refl)
+inside_read source ts rest m = balanced_read source 0 m.0 m.2.0 m.2.1 ∙ (rw m.2.2.1 refl)
 
 pub group_read : (source : List ℕ) (ts rest : List Token) → IsGroup ts rest → group_at source ts ≡ Ok rest
 unfolding group_at
-group_read source ts rest m = rw (mark_read source Open ts m.a m.«open») (inside_read source ts rest m)
+group_read source ts rest m = rw (mark_read source Open ts m.0 m.1) (inside_read source ts rest m)
 
-pub term_read : (source : List ℕ) (w : Span) (ts rest : List Token) → IsTermName source w ts rest →
+pub term_read : (source : List ℕ) (w : Span) (ts rest : List Token) → IsWordThat is_term source w ts rest →
     term_at source ts ≡ Ok (w, rest)
 unfolding term_at
-term_read source w ts rest m = rw (word_read source w ts rest m.is, m.named) refl
+term_read source w ts rest m = rw (word_read source w ts rest m.1, m.0) refl
 
 -- in a group that has a token, the first token isn't the closing brace
-not_close : (ts b : List Token) → length b < length ts → IsBalanced ts b → after_mark Close ts ≡ None
+not_close : (ts b rest : List Token) → IsBalanced ts b → IsMark Close b rest → (IsMark Close ts rest → ⊥) →
+    after_mark Close ts ≡ None
 unfolding after_mark
-not_close _ _ filled (nothing ts) = absurd (omega arith)
-not_close _ b filled (plain t ts b' p inside) = let k = plain_not t.kind p in rw k.1 refl
-not_close _ b filled (nested o c ts a b' opens closes inside after) = rw opens refl
+not_close _ _ rest (nothing ts) close filled = absurd (filled close)
+not_close _ b rest (plain t ts b' p q inside) close filled = rw (is_kind-other t.kind Close q) refl
+not_close _ b rest (nested ts a b' c d opens inside closes after) close filled = rw opens.1 refl
 
 pub filled_read : (source : List ℕ) (b : Bool) (ts rest : List Token) → after_mark Open rest ≡ None →
     IsContent b ts rest → filled_at source ts ≡ Ok (b, rest)
 unfolding filled_at
 filled_read source true ts rest stops m =
-    let g = m.group in
-    rw (after_read Open ts g.a g.«open», not_close g.a g.b m.filled g.inside, inside_read source ts rest g) refl
+    let g = m.0 in
+    rw (
+      after_read Open ts g.0 g.1,
+      not_close g.0 g.2.0 rest g.2.1 g.2.2 (λ close. m.1 (g.0, g.1, close)),
+      inside_read source ts rest g,
+    ) refl
 filled_read source false ts rest stops (inl none) = rw (none, stops) refl
 filled_read source false ts rest stops (inr empty) =
-    rw (after_read Open ts empty.a empty.«open», after_read Close empty.a rest empty.close) refl
+    rw (after_read Open ts empty.0 empty.1, after_read Close empty.0 rest empty.2) refl
 
 pub mark_shorter : (kind : TokenKind) (ts rest : List Token) → IsMark kind ts rest → length rest < length ts
-mark_shorter kind ts rest m = omega (arith, ap length m.front)
+mark_shorter kind ts rest m = omega (arith, ap length m.1)
 
 pub span_shorter : (kind : TokenKind) (w : Span) (ts rest : List Token) → IsSpan kind w ts rest →
     length rest < length ts
-span_shorter kind w ts rest m = omega (arith, ap length m.front)
+span_shorter kind w ts rest m = omega (arith, ap length m)
 
 pub worded_shorter : {X : Type 0} (meaning : List ℕ → Option X) (source : List ℕ) (x : X) (ts rest : List Token) →
     IsWorded meaning source x ts rest → length rest < length ts
-worded_shorter meaning source x ts rest m = span_shorter Word m.word ts rest m.is
+worded_shorter meaning source x ts rest m = span_shorter Word m.0 ts rest m.2
 
 pub group_shorter : (ts rest : List Token) → IsGroup ts rest → length rest < length ts
 group_shorter ts rest m = omega (
   arith,
-  mark_shorter Open ts m.a m.«open»,
-  balanced_shorter m.a m.b m.inside,
-  mark_shorter Close m.b rest m.close,
+  mark_shorter Open ts m.0 m.1,
+  balanced_shorter m.0 m.2.0 m.2.1,
+  mark_shorter Close m.2.0 rest m.2.2,
 )
 
 pub content_shorter : (b : Bool) (ts rest : List Token) → IsContent b ts rest → length rest ≤ length ts
-content_shorter true ts rest m = omega (arith, group_shorter ts rest m.group)
+content_shorter true ts rest m = omega (arith, group_shorter ts rest m.0)
 content_shorter false ts rest (inl none) = omega (arith, ap length none)
 content_shorter false ts rest (inr empty) =
-    omega (arith, mark_shorter Open ts empty.a empty.«open», mark_shorter Close empty.a rest empty.close)
+    omega (arith, mark_shorter Open ts empty.0 empty.1, mark_shorter Close empty.0 rest empty.2)
 
 module _ {X : Type 0} (source : List ℕ) (read : List Token → Result (X × List Token) ℕ)
-    (P : X → List Token → List Token → Type 0)
+    (P : X → Production)
     (complete : (ts : List Token) (x : X) (rest : List Token) → Stops rest → P x ts rest → read ts ≡ Ok (x, rest))
     (shorter : (ts : List Token) (x : X) (rest : List Token) → P x ts rest → length rest ≤ length ts) where
   more_shorter : (xs : List X) (ts rest : List Token) → IsMore P xs ts rest → length xs + length rest < length ts
   more_shorter [] ts rest m = omega (arith, mark_shorter Close ts rest m)
   more_shorter (x ∷ xs) ts rest m = omega (
     arith,
-    mark_shorter Comma ts m.0 m.2,
-    shorter m.0 x m.1 m.3,
-    more_shorter xs m.1 rest m.4,
+    mark_shorter Comma ts m.0 m.1,
+    shorter m.0 x m.2.0 m.2.1,
+    more_shorter xs m.2.0 rest m.2.2,
   )
 
   list_shorter : (xs : List X) (ts rest : List Token) → IsListed P xs ts rest → length xs + length rest ≤ length ts
@@ -187,9 +184,9 @@ module _ {X : Type 0} (source : List ℕ) (read : List Token → Result (X × Li
       ) refl
   list_reads (suc n) x (y ∷ ys) ts rest lt h =
       rw (
-        complete ts x h.0 (at_comma h.0 h.2.0 h.2.2) h.1,
-        after_read Comma h.0 h.2.0 h.2.2,
-        list_reads n y ys h.2.0 rest (omega arith) (h.2.1, h.2.3, h.2.4),
+        complete ts x h.0 (at_comma h.0 h.2.0 h.2.1) h.1,
+        after_read Comma h.0 h.2.0 h.2.1,
+        list_reads n y ys h.2.0 rest (omega arith) h.2.2,
       ) refl
 
   pub items_read : (xs : List X) (ts rest : List Token) → IsListed P xs ts rest →
@@ -200,17 +197,17 @@ module _ {X : Type 0} (source : List ℕ) (read : List Token → Result (X × Li
   pub braced_read : (xs : List X) (ts rest : List Token) → IsBraced P xs ts rest →
       braced_at source read ts ≡ Ok (xs, rest)
   unfolding braced_at
-  braced_read xs ts rest m = rw (mark_read source Open ts m.a m.«open», items_read xs m.a rest m.are) refl
+  braced_read xs ts rest m = rw (mark_read source Open ts m.0 m.1, items_read xs m.0 rest m.2) refl
 
   pub braced_shorter : (xs : List X) (ts rest : List Token) → IsBraced P xs ts rest → length rest < length ts
-  braced_shorter xs ts rest m = omega (arith, mark_shorter Open ts m.a m.«open», items_shorter xs m.a rest m.are)
+  braced_shorter xs ts rest m = omega (arith, mark_shorter Open ts m.0 m.1, items_shorter xs m.0 rest m.2)
 
   pub optional_braced_read : (xs : List X) (ts rest : List Token) → after_mark Open rest ≡ None →
       IsOptionalBraced P xs ts rest → optional_braced_at source read ts ≡ Ok (xs, rest)
   unfolding optional_braced_at
   optional_braced_read [] ts rest stops m = rw (m, stops) refl
   optional_braced_read (x ∷ xs) ts rest stops m =
-      rw (after_read Open ts m.a m.«open», items_read (x ∷ xs) m.a rest m.are) refl
+      rw (after_read Open ts m.0 m.1, items_read (x ∷ xs) m.0 rest m.2) refl
 
   pub optional_braced_shorter : (xs : List X) (ts rest : List Token) → IsOptionalBraced P xs ts rest →
       length rest ≤ length ts
@@ -222,18 +219,18 @@ module _ {X : Type 0} (source : List ℕ) (read : List Token → Result (X × Li
     pub any_braced_read : (xs : List X) (ts rest : List Token) → IsAnyBraced P xs ts rest →
         any_braced_at source read ts ≡ Ok (xs, rest)
     unfolding any_braced_at
-    any_braced_read [] ts rest m = rw (mark_read source Open ts m.a m.«open», after_read Close m.a rest m.close) refl
+    any_braced_read [] ts rest m = rw (mark_read source Open ts m.0 m.1, after_read Close m.0 rest m.2) refl
     any_braced_read (x ∷ xs) ts rest m = rw (
-      mark_read source Open ts m.a m.«open»,
-      begins m.a x m.are.0 m.are.1,
-      items_read (x ∷ xs) m.a rest m.are,
+      mark_read source Open ts m.0 m.1,
+      begins m.0 x m.2.0 m.2.1,
+      items_read (x ∷ xs) m.0 rest m.2,
     ) refl
 
     pub any_braced_shorter : (xs : List X) (ts rest : List Token) → IsAnyBraced P xs ts rest → length rest < length ts
     any_braced_shorter [] ts rest m = omega (
       arith,
-      mark_shorter Open ts m.a m.«open»,
-      mark_shorter Close m.a rest m.close,
+      mark_shorter Open ts m.0 m.1,
+      mark_shorter Close m.0 rest m.2,
     )
     any_braced_shorter (x ∷ xs) ts rest m = braced_shorter (x ∷ xs) ts rest m
 
@@ -249,4 +246,4 @@ module _ {X : Type 0} (meaning : List ℕ → Option X) (source : List ℕ) wher
 
   pub each_word_begins : (ts : List Token) (x : X) (rest : List Token) → IsWorded meaning source x ts rest →
       after_mark Close ts ≡ None
-  each_word_begins ts x rest m = span_other Word Close m.word ts rest refl m.is
+  each_word_begins ts x rest m = span_other Word Close m.0 ts rest refl m.2

@@ -1,5 +1,5 @@
 -- Commands and their descriptors that are in the grammar are read.
-use Rattle.std.proofs.Common.{◌≡◌, ℕ, ◌<◌, ◌≤◌, Bool, true, false, List, [], ◌∷◌, length, None, Ok, refl, inl, inr, ◌⊎◌, ap, ◌∙◌, arith}
+use Rattle.std.proofs.Common.{◌≡◌, ℕ, ◌<◌, ◌≤◌, Bool, true, false, List, [], ◌∷◌, length, None, Ok, refl, inl, inr, ap, ◌∙◌, arith}
 use Rattle.mg_scan.specs.declared.kind.TokenKind.TheVariants.{Word, Open, Close, Equals}
 use Rattle.mg_scan.specs.declared.token.Token.{Token}
 use Rattle.mg_text.specs.declared.keyword.Keyword.TheVariants as keywords
@@ -12,51 +12,55 @@ use Rattle.mg_words.specs.declared.command_word.CommandWord.{CommandWord}
 use Rattle.mg_words.specs.declared.command_word.CommandWord.TheVariants as commands
 use Rattle.mg_text.specs.declared.command.Command.{Command}
 use Rattle.mg_text.specs.Keyword.{keyword_of}
-use Rattle.mg_text.specs.Words.{audit_word_of, command_of}
+use Rattle.mg_text.specs.Words.{by_keyword, audit_word_named, command_of}
 use Rattle.mg_text.specs.aids.Reading.{after_mark, meaning_at}
 use Rattle.mg_text.specs.aids.Media.{media_part_at}
 use Rattle.mg_text.specs.aids.Commands.{audit_words_at, assigned_at, content_at, other_at, descriptor_named, descriptor_at, audit_at, optional_audit_at, skipped_at, descriptors_at, command_at}
-use Rattle.mg_text.specs.Grammar.{IsWorded, IsAnyBraced, IsGroup, IsContent, IsWordAndGroup, IsOtherContent, keyword_for, IsMediaPart, IsAudit, IsDescriptor, IsAuditBraced, IsOptionalAudit, IsSkipped, IsDescribed, head_of, IsCommand}
+use Rattle.mg_text.specs.Production.{◌▹◌}
+use Rattle.mg_text.specs.Grammar.{IsMark, IsWorded, IsAnyBraced, IsContent, IsOtherContent, keyword_for, IsMediaPart, IsAudit, IsDescriptor, IsOptionalAudit, IsSkipped, IsDescribed, head_of, IsCommand}
 use Rattle.mg_text.proofs.Complete.{Stops, mark_read, after_read, after_other, word_read, span_other, worded_read, inside_read, term_read, filled_read, mark_shorter, span_shorter, worded_shorter, group_shorter, content_shorter, braced_read, braced_shorter, optional_braced_read, optional_braced_shorter, any_braced_read, any_braced_shorter, each_word_read, each_word_shorter, each_word_begins}
+use Rattle.mg_text.proofs.SoundCommands.{IsAssignedContent}
 use Rattle.mg_text.proofs.CompleteMedia.{media_part_read, media_part_shorter}
 
 audit_words_read : (source : List ℕ) (xs : List AuditWord) (ts rest : List Token) →
-    IsAnyBraced (IsWorded audit_word_of source) xs ts rest → audit_words_at source ts ≡ Ok (xs, rest)
-audit_words_read source xs ts rest m = any_braced_read source (meaning_at audit_word_of source)
-    (IsWorded audit_word_of source) (each_word_read audit_word_of source) (each_word_shorter audit_word_of source)
-    (each_word_begins audit_word_of source) xs ts rest m
+    IsAnyBraced (IsWorded (by_keyword audit_word_named) source) xs ts rest → audit_words_at source ts ≡ Ok (xs, rest)
+audit_words_read source xs ts rest m = any_braced_read source (meaning_at (by_keyword audit_word_named) source)
+    (IsWorded (by_keyword audit_word_named) source) (each_word_read (by_keyword audit_word_named) source)
+    (each_word_shorter (by_keyword audit_word_named) source)
+    (each_word_begins (by_keyword audit_word_named) source) xs ts rest m
 
 audit_words_shorter : (source : List ℕ) (xs : List AuditWord) (ts rest : List Token) →
-    IsAnyBraced (IsWorded audit_word_of source) xs ts rest → length rest < length ts
-audit_words_shorter source xs ts rest m = any_braced_shorter source (meaning_at audit_word_of source)
-    (IsWorded audit_word_of source) (each_word_read audit_word_of source) (each_word_shorter audit_word_of source)
-    (each_word_begins audit_word_of source) xs ts rest m
+    IsAnyBraced (IsWorded (by_keyword audit_word_named) source) xs ts rest → length rest < length ts
+audit_words_shorter source xs ts rest m = any_braced_shorter source (meaning_at (by_keyword audit_word_named) source)
+    (IsWorded (by_keyword audit_word_named) source) (each_word_read (by_keyword audit_word_named) source)
+    (each_word_shorter (by_keyword audit_word_named) source)
+    (each_word_begins (by_keyword audit_word_named) source) xs ts rest m
 
 assigned_read : (source : List ℕ) (ts rest : List Token) → after_mark Open rest ≡ None →
-    IsGroup ts rest ⊎ IsWordAndGroup ts rest → assigned_at source ts ≡ Ok rest
+    IsAssignedContent ts rest → assigned_at source ts ≡ Ok rest
 unfolding assigned_at
-assigned_read source ts rest stops (inl m) = rw (after_read Open ts m.a m.«open», inside_read source ts rest m) refl
+assigned_read source ts rest stops (inl m) = rw (after_read Open ts m.0 m.1, inside_read source ts rest m) refl
 assigned_read source ts rest stops (inr m) =
     rw (
-      span_other Word Open m.word ts m.a refl m.is,
-      word_read source m.word ts m.a m.is,
-      filled_read source m.group.0 m.a rest stops m.group.1,
+      span_other Word Open m.1.0 ts m.0 refl m.1.1,
+      word_read source m.1.0 ts m.0 m.1.1,
+      filled_read source m.2.0 m.0 rest stops m.2.1,
     ) refl
 
-assigned_shorter : (ts rest : List Token) → IsGroup ts rest ⊎ IsWordAndGroup ts rest → length rest < length ts
+assigned_shorter : (ts rest : List Token) → IsAssignedContent ts rest → length rest < length ts
 assigned_shorter ts rest (inl m) = group_shorter ts rest m
 assigned_shorter ts rest (inr m) = omega (
   arith,
-  span_shorter Word m.word ts m.a m.is,
-  content_shorter m.group.0 m.a rest m.group.1,
+  span_shorter Word m.1.0 ts m.0 m.1.1,
+  content_shorter m.2.0 m.0 rest m.2.1,
 )
 
 -- where a group stands or nothing, no equals sign does
 no_equals : (b : Bool) (ts rest : List Token) → after_mark Equals rest ≡ None → IsContent b ts rest →
     after_mark Equals ts ≡ None
-no_equals true ts rest stops m = after_other Open Equals ts m.group.a refl m.group.«open»
+no_equals true ts rest stops m = after_other Open Equals ts m.0.0 refl m.0.1
 no_equals false ts rest stops (inl none) = rw none stops
-no_equals false ts rest stops (inr empty) = after_other Open Equals ts empty.a refl empty.«open»
+no_equals false ts rest stops (inr empty) = after_other Open Equals ts empty.0 refl empty.1
 
 plain_content_read : (source : List ℕ) (b : Bool) (ts rest : List Token) → Stops rest → IsContent b ts rest →
     content_at source ts ≡ Ok (b, rest)
@@ -91,49 +95,50 @@ descriptor_read : (source : List ℕ) (ts : List Token) (x : Descriptor) (rest :
 unfolding descriptor_at other_at
 descriptor_read source ts (descriptors.Media xs) rest stops m =
     rw (
-      worded_read keyword_of source keywords.Media ts m.a m.name,
+      worded_read keyword_of source keywords.Media ts m.0 m.1,
       braced_read source (media_part_at source) (IsMediaPart source) (media_part_read source)
-          (media_part_shorter source) xs m.a rest m.is,
+          (media_part_shorter source) xs m.0 rest m.2,
     ) refl
 descriptor_read source ts (descriptors.Audit xs) rest stops m =
-    rw (worded_read keyword_of source keywords.Audit ts m.a m.name, audit_words_read source xs m.a rest m.is) refl
+    rw (worded_read keyword_of source keywords.Audit ts m.0 m.1, audit_words_read source xs m.0 rest m.2) refl
 descriptor_read source ts (descriptors.Other word b) rest stops m =
-    rw (worded_read keyword_of source (keyword_for word) ts m.a m.name)
-    (other_named source word _ m.a ∙ (rw (content_read source b m.a rest stops m.is) refl))
+    rw (worded_read keyword_of source (keyword_for word) ts m.0 m.1)
+    (other_named source word _ m.0 ∙ (rw (content_read source b m.0 rest stops m.2) refl))
 
 descriptor_shorter : (source : List ℕ) (ts : List Token) (x : Descriptor) (rest : List Token) →
     IsDescriptor source x ts rest → length rest ≤ length ts
 descriptor_shorter source ts (descriptors.Media xs) rest m =
     omega (
       arith,
-      worded_shorter keyword_of source keywords.Media ts m.a m.name,
+      worded_shorter keyword_of source keywords.Media ts m.0 m.1,
       braced_shorter source (media_part_at source) (IsMediaPart source) (media_part_read source)
-          (media_part_shorter source) xs m.a rest m.is,
+          (media_part_shorter source) xs m.0 rest m.2,
     )
 descriptor_shorter source ts (descriptors.Audit xs) rest m =
     omega (
       arith,
-      worded_shorter keyword_of source keywords.Audit ts m.a m.name,
-      audit_words_shorter source xs m.a rest m.is,
+      worded_shorter keyword_of source keywords.Audit ts m.0 m.1,
+      audit_words_shorter source xs m.0 rest m.2,
     )
 descriptor_shorter source ts (descriptors.Other word b) rest m =
-    omega (arith, worded_shorter keyword_of source (keyword_for word) ts m.a m.name, other_shorter b m.a rest m.is)
+    omega (arith, worded_shorter keyword_of source (keyword_for word) ts m.0 m.1, other_shorter b m.0 rest m.2)
 
 audit_read : (source : List ℕ) (xs : List AuditWord) (ts rest : List Token) → IsAudit source xs ts rest →
     audit_at source ts ≡ Ok (xs, rest)
 unfolding audit_at
 audit_read source xs ts rest m = rw (
-  worded_read keyword_of source keywords.Audit ts m.a m.name,
-  audit_words_read source xs m.a rest m.is,
+  worded_read keyword_of source keywords.Audit ts m.0 m.1,
+  audit_words_read source xs m.0 rest m.2,
 ) refl
 
-audit_braced_read : (source : List ℕ) (xs : List AuditWord) (ts rest : List Token) → IsAuditBraced source xs ts rest →
+audit_braced_read : (source : List ℕ) (xs : List AuditWord) (ts rest : List Token) →
+    (IsMark Open ▹ IsAudit source xs ▹ IsMark Close) ts rest →
     optional_audit_at source ts ≡ Ok (descriptors.Audit xs ∷ [], rest)
 unfolding optional_audit_at
 audit_braced_read source xs ts rest m = rw (
-  after_read Open ts m.a m.«open»,
-  audit_read source xs m.a m.b m.audit,
-  mark_read source Close m.b rest m.close,
+  after_read Open ts m.0 m.1,
+  audit_read source xs m.0 m.2.0 m.2.1,
+  mark_read source Close m.2.0 rest m.2.2,
 ) refl
 
 optional_audit_read : (source : List ℕ) (xs : List Descriptor) (ts rest : List Token) → after_mark Open rest ≡ None →
@@ -149,10 +154,10 @@ optional_audit_shorter source [] ts rest m = omega (arith, ap length m)
 optional_audit_shorter source (descriptors.Audit xs ∷ []) ts rest m =
     omega (
       arith,
-      mark_shorter Open ts m.a m.«open»,
-      worded_shorter keyword_of source keywords.Audit m.a m.audit.a m.audit.name,
-      audit_words_shorter source xs m.audit.a m.b m.audit.is,
-      mark_shorter Close m.b rest m.close,
+      mark_shorter Open ts m.0 m.1,
+      worded_shorter keyword_of source keywords.Audit m.0 m.2.1.0 m.2.1.1,
+      audit_words_shorter source xs m.2.1.0 m.2.0 m.2.1.2,
+      mark_shorter Close m.2.0 rest m.2.2,
     )
 optional_audit_shorter source _ ts rest m = absurd m
 
@@ -200,11 +205,11 @@ pub command_read : (source : List ℕ) (ts : List Token) (x : Command) (rest : L
 unfolding command_at
 command_read source ts x rest stops m =
     rw (
-      worded_read command_of source (head_of x) ts m.a m.head,
-      mark_read source Equals m.a m.b m.equals,
-      term_read source x.term m.b m.d m.term,
-      described_read source x.word x.descriptors m.d rest stops.«open»
-          m.descriptors,
+      worded_read command_of source (head_of x) ts m.0 m.1,
+      mark_read source Equals m.0 m.2.0 m.2.1,
+      term_read source x.term m.2.0 m.2.2.0 m.2.2.1,
+      described_read source x.word x.descriptors m.2.2.0 rest stops.«open»
+          m.2.2.2,
     ) refl
 
 pub command_shorter : (source : List ℕ) (ts : List Token) (x : Command) (rest : List Token) →
@@ -212,8 +217,8 @@ pub command_shorter : (source : List ℕ) (ts : List Token) (x : Command) (rest 
 command_shorter source ts x rest m =
     omega (
       arith,
-      worded_shorter command_of source (head_of x) ts m.a m.head,
-      mark_shorter Equals m.a m.b m.equals,
-      span_shorter Word x.term m.b m.d m.term.is,
-      described_shorter source x.word x.descriptors m.d rest m.descriptors,
+      worded_shorter command_of source (head_of x) ts m.0 m.1,
+      mark_shorter Equals m.0 m.2.0 m.2.1,
+      span_shorter Word x.term m.2.0 m.2.2.0 m.2.2.1.1,
+      described_shorter source x.word x.descriptors m.2.2.0 rest m.2.2.2,
     )

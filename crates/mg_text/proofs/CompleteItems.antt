@@ -1,5 +1,5 @@
 -- Properties, actions, the items of a message and its text that are in the grammar are read.
-use Rattle.std.proofs.Common.{◌≡◌, ℕ, zero, suc, ◌+◌, ◌<◌, ◌≤◌, eqb, true, false, List, [], ◌∷◌, length, Option, Some, None, Result, Ok, refl, inl, inr, ◌⊎◌, sym, ap, ◌∙◌, arith}
+use Rattle.std.proofs.Common.{◌≡◌, ℕ, zero, suc, ◌+◌, ◌<◌, ◌≤◌, eqb, true, false, List, [], ◌∷◌, length, Option, Some, None, Result, Ok, refl, inl, inr, sym, ap, ◌∙◌, arith}
 use Rattle.std.proofs.lemmas.Bool.{ne_eqb}
 use Rattle.mg_scan.specs.declared.kind.TokenKind.TheVariants.{Word, Open, Close, Comma, Equals}
 use Rattle.mg_scan.specs.declared.span.Span.{Span}
@@ -8,7 +8,7 @@ use Rattle.mg_scan.specs.Span.{text_of}
 use Rattle.mg_words.specs.Numbers.{number_of}
 use Rattle.mg_text.specs.declared.keyword.Keyword.{Keyword}
 use Rattle.mg_text.specs.declared.keyword.Keyword.TheVariants as keywords
-use Rattle.mg_text.specs.declared.context_property.Triple.{Triple}
+use Rattle.mg_text.specs.declared.context_property.NamedTriple.{NamedTriple}
 use Rattle.mg_text.specs.declared.context_property.ContextProperty.{ContextProperty}
 use Rattle.mg_text.specs.declared.context_property.ContextProperty.TheVariants as properties
 use Rattle.mg_text.specs.declared.command.Command.{Command}
@@ -21,39 +21,42 @@ use Rattle.mg_text.specs.declared.command_head.CommandHead.{CommandHead}
 use Rattle.mg_text.specs.declared.message.Message.{Message}
 use Rattle.mg_text.specs.Keyword.{keyword_of}
 use Rattle.mg_words.specs.ContextId.{context_id_of}
-use Rattle.mg_text.specs.Words.{association_of, context_word_of, range_of, command_for, command_of}
+use Rattle.mg_text.specs.Words.{by_keyword, association_named, context_word_named, range_of, command_for, command_of}
 use Rattle.mg_text.specs.Head.{version_in_head}
+use Rattle.mg_text.specs.Sender.{is_sender}
 use Rattle.mg_words.specs.ResultSteps.{◌>>=◌}
 use Rattle.mg_text.specs.aids.Reading.{meaning_at}
 use Rattle.mg_text.specs.aids.Commands.{command_at}
 use Rattle.mg_text.specs.aids.Requests.{triple_at, priority_at, emergency_at, property_at, is_property, begins_property, parts_at, action_at, request_at, ranges_at, answer_at, item_at, sequence_at, error_at, body_at}
 use Rattle.mg_text.specs.aids.Text.{version_at, sender_at, text_at}
-use Rattle.mg_text.specs.Grammar.{IsWorded, IsListed, head_of, IsCommand, IsTriple, IsContextProperty, IsParts, IsAction, IsAnswer, IsItem, IsSequence, kept, body_of, IsItems, IsBody, IsSender, IsText}
+use Rattle.mg_text.specs.Production.{◌or◌}
+use Rattle.mg_text.specs.Grammar.{IsWordThat, IsWorded, IsName, IsListed, head_of, IsCommand, IsTriple, IsContextProperty, IsParts, IsAction, IsAnswer, IsItem, IsSequence, kept, body_of, IsItems, IsBody, IsText}
+use Rattle.mg_text.proofs.KeywordLaws.{named_is}
 use Rattle.mg_text.proofs.Complete.{Stops, at_comma, at_close, mark_read, after_read, after_other, word_read, named_read, worded_read, group_read, term_read, mark_shorter, span_shorter, worded_shorter, group_shorter, items_shorter, items_read, braced_read, braced_shorter, each_word_read, each_word_shorter}
 use Rattle.mg_text.proofs.CompleteCommands.{command_read, command_shorter}
 
-triple_read : (source : List ℕ) (ts : List Token) (x : Triple) (rest : List Token) → Stops rest →
+triple_read : (source : List ℕ) (ts : List Token) (x : NamedTriple) (rest : List Token) → Stops rest →
     IsTriple source x ts rest → triple_at source ts ≡ Ok (x, rest)
 unfolding triple_at
 triple_read source ts x rest stops m =
     rw (
-      term_read source x.first ts m.a m.first,
-      mark_read source Comma m.a m.b m.comma,
-      term_read source x.second m.b m.d m.second,
-      mark_read source Comma m.d m.e m.comma_after,
-      worded_read association_of source x.association m.e rest m.association,
+      term_read source x.first ts m.0 m.1,
+      mark_read source Comma m.0 m.2.0 m.2.1,
+      term_read source x.second m.2.0 m.2.2.0 m.2.2.1,
+      mark_read source Comma m.2.2.0 m.2.2.2.0 m.2.2.2.1,
+      worded_read (by_keyword association_named) source x.association m.2.2.2.0 rest m.2.2.2.2,
     ) refl
 
-triple_shorter : (source : List ℕ) (ts : List Token) (x : Triple) (rest : List Token) → IsTriple source x ts rest →
+triple_shorter : (source : List ℕ) (ts : List Token) (x : NamedTriple) (rest : List Token) → IsTriple source x ts rest →
     length rest ≤ length ts
 triple_shorter source ts x rest m =
     omega (
       arith,
-      span_shorter Word x.first ts m.a m.first.is,
-      mark_shorter Comma m.a m.b m.comma,
-      span_shorter Word x.second m.b m.d m.second.is,
-      mark_shorter Comma m.d m.e m.comma_after,
-      worded_shorter association_of source x.association m.e rest m.association,
+      span_shorter Word x.first ts m.0 m.1.1,
+      mark_shorter Comma m.0 m.2.0 m.2.1,
+      span_shorter Word x.second m.2.0 m.2.2.0 m.2.2.1.1,
+      mark_shorter Comma m.2.2.0 m.2.2.2.0 m.2.2.2.1,
+      worded_shorter (by_keyword association_named) source x.association m.2.2.2.0 rest m.2.2.2.2,
     )
 
 property_read : (source : List ℕ) (x : ContextProperty) (ts rest : List Token) → Stops rest →
@@ -61,29 +64,30 @@ property_read : (source : List ℕ) (x : ContextProperty) (ts rest : List Token)
 unfolding property_at priority_at emergency_at
 property_read source (properties.Topology xs) ts rest stops m =
     rw (
-      worded_read keyword_of source keywords.Topology ts m.a m.name,
-      braced_read source (triple_at source) (IsTriple source) (triple_read source) (triple_shorter source) xs m.a
-          rest m.is,
+      worded_read keyword_of source keywords.Topology ts m.0 m.1,
+      braced_read source (triple_at source) (IsTriple source) (triple_read source) (triple_shorter source) xs m.0
+          rest m.2,
     ) refl
 property_read source (properties.ContextAudit xs) ts rest stops m =
     rw (
-      worded_read keyword_of source keywords.ContextAudit ts m.a m.name,
-      braced_read source (meaning_at context_word_of source) (IsWorded context_word_of source)
-          (each_word_read context_word_of source) (each_word_shorter context_word_of source) xs m.a rest m.is,
+      worded_read keyword_of source keywords.ContextAudit ts m.0 m.1,
+      braced_read source (meaning_at (by_keyword context_word_named) source)
+          (IsWorded (by_keyword context_word_named) source) (each_word_read (by_keyword context_word_named) source)
+          (each_word_shorter (by_keyword context_word_named) source) xs m.0 rest m.2,
     ) refl
 property_read source (properties.Priority w) ts rest stops m =
     rw (
-      worded_read keyword_of source keywords.Priority ts m.a m.name,
-      mark_read source Equals m.a m.is.a m.is.equals,
-      word_read source w m.is.a rest m.is.is,
+      worded_read keyword_of source keywords.Priority ts m.0 m.1,
+      mark_read source Equals m.0 m.2.0 m.2.1,
+      word_read source w m.2.0 rest m.2.2,
     ) refl
 property_read source (properties.Emergency None) ts rest stops m =
-    rw (worded_read keyword_of source keywords.Emergency ts m.a m.name, m.is, stops.equals) refl
+    rw (worded_read keyword_of source keywords.Emergency ts m.0 m.1, m.2, stops.equals) refl
 property_read source (properties.Emergency (Some w)) ts rest stops m =
     rw (
-      worded_read keyword_of source keywords.Emergency ts m.a m.name,
-      after_read Equals m.a m.is.a m.is.equals,
-      word_read source w m.is.a rest m.is.is,
+      worded_read keyword_of source keywords.Emergency ts m.0 m.1,
+      after_read Equals m.0 m.2.0 m.2.1,
+      word_read source w m.2.0 rest m.2.2,
     ) refl
 
 property_shorter : (source : List ℕ) (x : ContextProperty) (ts rest : List Token) →
@@ -91,47 +95,48 @@ property_shorter : (source : List ℕ) (x : ContextProperty) (ts rest : List Tok
 property_shorter source (properties.Topology xs) ts rest m =
     omega (
       arith,
-      worded_shorter keyword_of source keywords.Topology ts m.a m.name,
-      braced_shorter source (triple_at source) (IsTriple source) (triple_read source) (triple_shorter source) xs m.a
-          rest m.is,
+      worded_shorter keyword_of source keywords.Topology ts m.0 m.1,
+      braced_shorter source (triple_at source) (IsTriple source) (triple_read source) (triple_shorter source) xs m.0
+          rest m.2,
     )
 property_shorter source (properties.ContextAudit xs) ts rest m =
     omega (
       arith,
-      worded_shorter keyword_of source keywords.ContextAudit ts m.a m.name,
-      braced_shorter source (meaning_at context_word_of source) (IsWorded context_word_of source)
-          (each_word_read context_word_of source) (each_word_shorter context_word_of source) xs m.a rest m.is,
+      worded_shorter keyword_of source keywords.ContextAudit ts m.0 m.1,
+      braced_shorter source (meaning_at (by_keyword context_word_named) source)
+          (IsWorded (by_keyword context_word_named) source) (each_word_read (by_keyword context_word_named) source)
+          (each_word_shorter (by_keyword context_word_named) source) xs m.0 rest m.2,
     )
 property_shorter source (properties.Priority w) ts rest m =
     omega (
       arith,
-      worded_shorter keyword_of source keywords.Priority ts m.a m.name,
-      mark_shorter Equals m.a m.is.a m.is.equals,
-      span_shorter Word w m.is.a rest m.is.is,
+      worded_shorter keyword_of source keywords.Priority ts m.0 m.1,
+      mark_shorter Equals m.0 m.2.0 m.2.1,
+      span_shorter Word w m.2.0 rest m.2.2,
     )
 property_shorter source (properties.Emergency None) ts rest m =
-    omega (arith, worded_shorter keyword_of source keywords.Emergency ts m.a m.name, ap length m.is)
+    omega (arith, worded_shorter keyword_of source keywords.Emergency ts m.0 m.1, ap length m.2)
 property_shorter source (properties.Emergency (Some w)) ts rest m =
     omega (
       arith,
-      worded_shorter keyword_of source keywords.Emergency ts m.a m.name,
-      mark_shorter Equals m.a m.is.a m.is.equals,
-      span_shorter Word w m.is.a rest m.is.is,
+      worded_shorter keyword_of source keywords.Emergency ts m.0 m.1,
+      mark_shorter Equals m.0 m.2.0 m.2.1,
+      span_shorter Word w m.2.0 rest m.2.2,
     )
 
 -- a property begins with a word of its own, and a command doesn't
 begins_with : (source : List ℕ) (k : Keyword) (ts rest : List Token) → is_property (Some k) ≡ true →
     IsWorded keyword_of source k ts rest → begins_property source ts ≡ true
 unfolding begins_property
-begins_with source k ts rest e m = rw (m.is.front, m.is.span_is, m.means) e
+begins_with source k ts rest e m = rw (m.2, m.1) e
 
 property_begins : (source : List ℕ) (x : ContextProperty) (ts rest : List Token) →
     IsContextProperty source x ts rest → begins_property source ts ≡ true
-property_begins source (properties.Topology xs) ts rest m = begins_with source keywords.Topology ts m.a refl m.name
+property_begins source (properties.Topology xs) ts rest m = begins_with source keywords.Topology ts m.0 refl m.1
 property_begins source (properties.ContextAudit xs) ts rest m =
-    begins_with source keywords.ContextAudit ts m.a refl m.name
-property_begins source (properties.Priority w) ts rest m = begins_with source keywords.Priority ts m.a refl m.name
-property_begins source (properties.Emergency o) ts rest m = begins_with source keywords.Emergency ts m.a refl m.name
+    begins_with source keywords.ContextAudit ts m.0 refl m.1
+property_begins source (properties.Priority w) ts rest m = begins_with source keywords.Priority ts m.0 refl m.1
+property_begins source (properties.Emergency o) ts rest m = begins_with source keywords.Emergency ts m.0 refl m.1
 
 no_property : (text : List ℕ) (k : Option Keyword) (head : CommandHead) → command_for text k ≡ Some head →
     is_property k ≡ false
@@ -144,13 +149,13 @@ no_property text _ head e = refl
 command_begins : (source : List ℕ) (head : CommandHead) (ts rest : List Token) →
     IsWorded command_of source head ts rest → begins_property source ts ≡ false
 unfolding begins_property command_of
-command_begins source head ts rest m = rw (m.is.front, m.is.span_is)
-    (no_property (text_of source m.word) (keyword_of (text_of source m.word)) head m.means)
+command_begins source head ts rest m = rw m.2
+    (no_property (text_of source m.0) (keyword_of (text_of source m.0)) head m.1)
 
 commands_begin : (source : List ℕ) (xs : List Command) (ts rest : List Token) →
     IsListed (IsCommand source) xs ts rest → begins_property source ts ≡ false
 commands_begin source [] ts rest h = absurd h
-commands_begin source (x ∷ xs) ts rest h = command_begins source (head_of x) ts h.1.a h.1.head
+commands_begin source (x ∷ xs) ts rest h = command_begins source (head_of x) ts h.1.0 h.1.1
 
 abbrev parts_of : List ContextProperty → List Command → ActionParts
 parts_of properties commands = record { properties = properties; commands = commands }
@@ -167,16 +172,16 @@ parts_shorter source (p ∷ []) [] ts rest m =
 parts_shorter source (p ∷ []) (x ∷ xs) ts rest m =
     omega (
       arith,
-      property_shorter source p ts m.0 m.2,
-      mark_shorter Comma m.0 m.1 m.3,
-      parts_shorter source [] (x ∷ xs) m.1 rest m.4,
+      property_shorter source p ts m.0 m.1,
+      mark_shorter Comma m.0 m.2.0 m.2.1,
+      parts_shorter source [] (x ∷ xs) m.2.0 rest m.2.2,
     )
 parts_shorter source (p ∷ q ∷ qs) xs ts rest m =
     omega (
       arith,
-      property_shorter source p ts m.0 m.2,
-      mark_shorter Comma m.0 m.1 m.3,
-      parts_shorter source (q ∷ qs) xs m.1 rest m.4,
+      property_shorter source p ts m.0 m.1,
+      mark_shorter Comma m.0 m.2.0 m.2.1,
+      parts_shorter source (q ∷ qs) xs m.2.0 rest m.2.2,
     )
 
 parts_read : (source : List ℕ) (n : ℕ) (ps : List ContextProperty) (xs : List Command) (ts rest : List Token) →
@@ -198,39 +203,39 @@ parts_read source (suc n) (p ∷ []) [] ts rest lt m =
     ) refl
 parts_read source (suc n) (p ∷ []) (x ∷ xs) ts rest lt m =
     rw (
-      property_begins source p ts m.0 m.2,
-      property_read source p ts m.0 (at_comma m.0 m.1 m.3) m.2,
-      after_read Comma m.0 m.1 m.3,
-      parts_read source n [] (x ∷ xs) m.1 rest (omega arith) m.4,
+      property_begins source p ts m.0 m.1,
+      property_read source p ts m.0 (at_comma m.0 m.2.0 m.2.1) m.1,
+      after_read Comma m.0 m.2.0 m.2.1,
+      parts_read source n [] (x ∷ xs) m.2.0 rest (omega arith) m.2.2,
     ) refl
 parts_read source (suc n) (p ∷ q ∷ qs) xs ts rest lt m =
     rw (
-      property_begins source p ts m.0 m.2,
-      property_read source p ts m.0 (at_comma m.0 m.1 m.3) m.2,
-      after_read Comma m.0 m.1 m.3,
-      parts_read source n (q ∷ qs) xs m.1 rest (omega arith) m.4,
+      property_begins source p ts m.0 m.1,
+      property_read source p ts m.0 (at_comma m.0 m.2.0 m.2.1) m.1,
+      after_read Comma m.0 m.2.0 m.2.1,
+      parts_read source n (q ∷ qs) xs m.2.0 rest (omega arith) m.2.2,
     ) refl
 
 -- an action has a part, which has a token
 parts_some : (source : List ℕ) (ps : List ContextProperty) (xs : List Command) (ts rest : List Token) →
     IsParts source ps xs ts rest → length ps < length ts
 parts_some source [] [] ts rest m = absurd m
-parts_some source [] (x ∷ xs) ts rest m = omega (arith, worded_shorter command_of source (head_of x) ts m.1.a m.1.head)
+parts_some source [] (x ∷ xs) ts rest m = omega (arith, worded_shorter command_of source (head_of x) ts m.1.0 m.1.1)
 parts_some source (p ∷ []) [] ts rest m = omega
     (arith, property_shorter source p ts m.0 m.1, mark_shorter Close m.0 rest m.2)
 parts_some source (p ∷ []) (x ∷ xs) ts rest m =
     omega (
       arith,
-      property_shorter source p ts m.0 m.2,
-      mark_shorter Comma m.0 m.1 m.3,
-      parts_some source [] (x ∷ xs) m.1 rest m.4,
+      property_shorter source p ts m.0 m.1,
+      mark_shorter Comma m.0 m.2.0 m.2.1,
+      parts_some source [] (x ∷ xs) m.2.0 rest m.2.2,
     )
 parts_some source (p ∷ q ∷ qs) xs ts rest m =
     omega (
       arith,
-      property_shorter source p ts m.0 m.2,
-      mark_shorter Comma m.0 m.1 m.3,
-      parts_some source (q ∷ qs) xs m.1 rest m.4,
+      property_shorter source p ts m.0 m.1,
+      mark_shorter Comma m.0 m.2.0 m.2.1,
+      parts_some source (q ∷ qs) xs m.2.0 rest m.2.2,
     )
 
 action_read : (source : List ℕ) (ts : List Token) (x : Action) (rest : List Token) → Stops rest →
@@ -238,12 +243,12 @@ action_read : (source : List ℕ) (ts : List Token) (x : Action) (rest : List To
 unfolding action_at
 action_read source ts x rest stops m =
     rw (
-      named_read source keywords.Context ts m.a m.name,
-      mark_read source Equals m.a m.b m.equals,
-      worded_read context_id_of source x.context m.b m.d m.context,
-      mark_read source Open m.d m.e m.«open»,
-      parts_read source (length m.e) x.properties x.commands m.e rest
-          (parts_some source x.properties x.commands m.e rest m.parts) m.parts,
+      named_read source keywords.Context m.1.0 ts m.0 (named_is (text_of source m.1.0) keywords.Context m.1.1) m.1.2,
+      mark_read source Equals m.0 m.2.0 m.2.1,
+      worded_read context_id_of source x.context m.2.0 m.2.2.0 m.2.2.1,
+      mark_read source Open m.2.2.0 m.2.2.2.0 m.2.2.2.1,
+      parts_read source (length m.2.2.2.0) x.properties x.commands m.2.2.2.0 rest
+          (parts_some source x.properties x.commands m.2.2.2.0 rest m.2.2.2.2) m.2.2.2.2,
     ) refl
 
 action_shorter : (source : List ℕ) (ts : List Token) (x : Action) (rest : List Token) → IsAction source x ts rest →
@@ -251,20 +256,20 @@ action_shorter : (source : List ℕ) (ts : List Token) (x : Action) (rest : List
 action_shorter source ts x rest m =
     omega (
       arith,
-      span_shorter Word m.name.word ts m.a m.name.is,
-      mark_shorter Equals m.a m.b m.equals,
-      worded_shorter context_id_of source x.context m.b m.d m.context,
-      mark_shorter Open m.d m.e m.«open»,
-      parts_shorter source x.properties x.commands m.e rest m.parts,
+      worded_shorter keyword_of source keywords.Context ts m.0 m.1,
+      mark_shorter Equals m.0 m.2.0 m.2.1,
+      worded_shorter context_id_of source x.context m.2.0 m.2.2.0 m.2.2.1,
+      mark_shorter Open m.2.2.0 m.2.2.2.0 m.2.2.2.1,
+      parts_shorter source x.properties x.commands m.2.2.2.0 rest m.2.2.2.2,
     )
 
 answer_read : (source : List ℕ) (ts rest : List Token) (m : IsAnswer source ts rest) →
-    answer_at source m.a ≡ Ok (None, rest)
+    answer_at source m.0 ≡ Ok (None, rest)
 unfolding answer_at
 answer_read source ts rest m = rw (
-  mark_read source Equals m.a m.b m.equals,
-  worded_read number_of source m.number m.b m.d m.number_is,
-  group_read source m.d rest m.group,
+  mark_read source Equals m.0 m.2.0 m.2.1,
+  worded_read number_of source m.2.2.1.0 m.2.0 m.2.2.0 m.2.2.1.1,
+  group_read source m.2.2.0 rest m.2.2.2,
 ) refl
 
 item_read : (source : List ℕ) (x : Option MessageItem) (ts rest : List Token) → IsItem source x ts rest →
@@ -272,26 +277,25 @@ item_read : (source : List ℕ) (x : Option MessageItem) (ts rest : List Token) 
 unfolding item_at request_at ranges_at
 item_read source (Some (items.Request x)) ts rest m =
     rw (
-      worded_read keyword_of source keywords.Transaction ts m.a m.name,
-      mark_read source Equals m.a m.b m.equals,
-      worded_read number_of source x.number m.b m.d m.number,
+      worded_read keyword_of source keywords.Transaction ts m.0 m.1,
+      mark_read source Equals m.0 m.2.0 m.2.1,
+      worded_read number_of source x.number m.2.0 m.2.2.0 m.2.2.1,
       braced_read source (action_at source) (IsAction source) (action_read source) (action_shorter source) x.actions
-          m.d rest m.actions,
+          m.2.2.0 rest m.2.2.2,
     ) refl
 item_read source (Some (items.Acknowledgement xs)) ts rest m =
     rw (
-      worded_read keyword_of source keywords.TransactionResponseAck ts m.a m.name,
+      worded_read keyword_of source keywords.TransactionResponseAck ts m.0 m.1,
       braced_read source (meaning_at range_of source) (IsWorded range_of source) (each_word_read range_of source)
-          (each_word_shorter range_of source) xs m.a rest m.is,
+          (each_word_shorter range_of source) xs m.0 rest m.2,
     ) refl
-item_read source None ts rest m = elim m.name [
-  | inl name ↦ rw (worded_read keyword_of source keywords.Reply ts m.a name) (answer_read source ts rest m)
-  | inr name ↦ rw (worded_read keyword_of source keywords.Pending ts m.a name) (answer_read source ts rest m)
+item_read source None ts rest m = elim m.1 [
+  | inl name ↦ rw (worded_read keyword_of source keywords.Reply ts m.0 name) (answer_read source ts rest m)
+  | inr name ↦ rw (worded_read keyword_of source keywords.Pending ts m.0 name) (answer_read source ts rest m)
 ]
 
 name_shorter : (source : List ℕ) (ts a : List Token) →
-    IsWorded keyword_of source keywords.Reply ts a ⊎ IsWorded keyword_of source keywords.Pending ts a →
-    length a < length ts
+    (IsName source keywords.Reply or IsName source keywords.Pending) ts a → length a < length ts
 name_shorter source ts a (inl name) = worded_shorter keyword_of source keywords.Reply ts a name
 name_shorter source ts a (inr name) = worded_shorter keyword_of source keywords.Pending ts a name
 
@@ -300,43 +304,43 @@ item_shorter : (source : List ℕ) (x : Option MessageItem) (ts rest : List Toke
 item_shorter source (Some (items.Request x)) ts rest m =
     omega (
       arith,
-      worded_shorter keyword_of source keywords.Transaction ts m.a m.name,
-      mark_shorter Equals m.a m.b m.equals,
-      worded_shorter number_of source x.number m.b m.d m.number,
+      worded_shorter keyword_of source keywords.Transaction ts m.0 m.1,
+      mark_shorter Equals m.0 m.2.0 m.2.1,
+      worded_shorter number_of source x.number m.2.0 m.2.2.0 m.2.2.1,
       braced_shorter source (action_at source) (IsAction source) (action_read source) (action_shorter source)
-          x.actions m.d rest m.actions,
+          x.actions m.2.2.0 rest m.2.2.2,
     )
 item_shorter source (Some (items.Acknowledgement xs)) ts rest m =
     omega (
       arith,
-      worded_shorter keyword_of source keywords.TransactionResponseAck ts m.a m.name,
+      worded_shorter keyword_of source keywords.TransactionResponseAck ts m.0 m.1,
       braced_shorter source (meaning_at range_of source) (IsWorded range_of source) (each_word_read range_of source)
-          (each_word_shorter range_of source) xs m.a rest m.is,
+          (each_word_shorter range_of source) xs m.0 rest m.2,
     )
 item_shorter source None ts rest m =
     omega (
       arith,
-      name_shorter source ts m.a m.name,
-      mark_shorter Equals m.a m.b m.equals,
-      worded_shorter number_of source m.number m.b m.d m.number_is,
-      group_shorter m.d rest m.group,
+      name_shorter source ts m.0 m.1,
+      mark_shorter Equals m.0 m.2.0 m.2.1,
+      worded_shorter number_of source m.2.2.1.0 m.2.0 m.2.2.0 m.2.2.1.1,
+      group_shorter m.2.2.0 rest m.2.2.2,
     )
 
-sequence_shorter : (source : List ℕ) (xs : List (Option MessageItem)) (ts : List Token) → IsSequence source xs ts →
+sequence_shorter : (source : List ℕ) (xs : List (Option MessageItem)) (ts : List Token) → IsSequence source xs ts [] →
     length xs ≤ length ts
 sequence_shorter source [] ts h = absurd h
 sequence_shorter source (x ∷ []) ts h = omega (arith, item_shorter source x ts [] h)
 sequence_shorter source (x ∷ y ∷ xs) ts h =
     omega (arith, item_shorter source x ts h.0 h.1, sequence_shorter source (y ∷ xs) h.0 h.2)
 
-sequence_some : (source : List ℕ) (xs : List (Option MessageItem)) (ts : List Token) → IsSequence source xs ts →
+sequence_some : (source : List ℕ) (xs : List (Option MessageItem)) (ts : List Token) → IsSequence source xs ts [] →
     eqb (length ts) 0 ≡ false
 sequence_some source [] ts h = absurd h
 sequence_some source (x ∷ xs) ts h = let some = sequence_shorter source (x ∷ xs) ts h in
     ne_eqb (length ts) 0 (λ e. absurd (omega arith))
 
 sequence_read : (source : List ℕ) (n : ℕ) (xs : List (Option MessageItem)) (ts : List Token) → length xs ≤ n →
-    IsSequence source xs ts → sequence_at source n ts ≡ Ok (kept xs)
+    IsSequence source xs ts [] → sequence_at source n ts ≡ Ok (kept xs)
 unfolding sequence_at
 sequence_read source n [] ts le h = absurd h
 sequence_read source zero (x ∷ xs) ts le h = absurd (omega arith)
@@ -356,47 +360,50 @@ item_first : (source : List ℕ) (x : Option MessageItem) (ts rest : List Token)
     body_at source ts ≡ items_body source ts
 unfolding body_at
 item_first source (Some (items.Request x)) ts rest m =
-    rw (worded_read keyword_of source keywords.Transaction ts m.a m.name) refl
+    rw (worded_read keyword_of source keywords.Transaction ts m.0 m.1) refl
 item_first source (Some (items.Acknowledgement xs)) ts rest m =
-    rw (worded_read keyword_of source keywords.TransactionResponseAck ts m.a m.name) refl
-item_first source None ts rest m = elim m.name [
-  | inl name ↦ rw (worded_read keyword_of source keywords.Reply ts m.a name) refl
-  | inr name ↦ rw (worded_read keyword_of source keywords.Pending ts m.a name) refl
+    rw (worded_read keyword_of source keywords.TransactionResponseAck ts m.0 m.1) refl
+item_first source None ts rest m = elim m.1 [
+  | inl name ↦ rw (worded_read keyword_of source keywords.Reply ts m.0 name) refl
+  | inr name ↦ rw (worded_read keyword_of source keywords.Pending ts m.0 name) refl
 ]
 
-sequence_first : (source : List ℕ) (xs : List (Option MessageItem)) (ts : List Token) → IsSequence source xs ts →
+sequence_first : (source : List ℕ) (xs : List (Option MessageItem)) (ts : List Token) → IsSequence source xs ts [] →
     body_at source ts ≡ items_body source ts
 sequence_first source [] ts h = absurd h
 sequence_first source (x ∷ []) ts h = item_first source x ts [] h
 sequence_first source (x ∷ y ∷ xs) ts h = item_first source x ts h.0 h.1
 
-items_body_read : (source : List ℕ) (x : Body) (ts : List Token) (m : IsItems source x ts) → items_body source ts ≡ Ok x
-items_body_read source x ts m = rw (sequence_read source (length ts) m.items ts
-    (sequence_shorter source m.items ts m.are) m.are) (ap (λ (b : Body). Ok b) (sym m.body))
+items_body_read : (source : List ℕ) (x : Body) (ts : List Token) (m : IsItems source x ts []) →
+    items_body source ts ≡ Ok x
+items_body_read source x ts m = rw (sequence_read source (length ts) m.0 ts
+    (sequence_shorter source m.0 ts m.2) m.2) (ap (λ (b : Body). Ok b) (sym m.1))
 
-body_read : (source : List ℕ) (x : Body) (ts : List Token) → IsBody source x ts → body_at source ts ≡ Ok x
+body_read : (source : List ℕ) (x : Body) (ts : List Token) → IsBody source x ts [] → body_at source ts ≡ Ok x
 unfolding body_at error_at
 body_read source x ts (inl m) =
     rw (
-      worded_read keyword_of source keywords.Error ts m.a m.name,
-      mark_read source Equals m.a m.b m.equals,
-      word_read source m.word m.b m.d m.word_is,
-      group_read source m.d [] m.group,
+      worded_read keyword_of source keywords.Error ts m.1.0 m.1.1,
+      mark_read source Equals m.1.0 m.1.2.0 m.1.2.1,
+      word_read source m.1.2.2.1.0 m.1.2.0 m.1.2.2.0 m.1.2.2.1.1,
+      group_read source m.1.2.2.0 [] m.1.2.2.2,
     )
-    (ap (λ (b : Body). Ok b) (sym m.body))
-body_read source x ts (inr m) = sequence_first source m.items ts m.are ∙ items_body_read source x ts m
+    (ap (λ (b : Body). Ok b) (sym m.0))
+body_read source x ts (inr m) = sequence_first source m.0 ts m.2 ∙ items_body_read source x ts m
 
-sender_read : (source : List ℕ) (s : Span) (ts rest : List Token) → IsSender source s ts rest →
+sender_read : (source : List ℕ) (s : Span) (ts rest : List Token) → IsWordThat is_sender source s ts rest →
     sender_at source ts ≡ Ok (s, rest)
 unfolding sender_at
-sender_read source s ts rest m = rw (word_read source s ts rest m.is, m.named) refl
+sender_read source s ts rest m = rw (word_read source s ts rest m.1, m.0) refl
 
 -- the head of a message, and the text after it
 pub head_read : (source : List ℕ) (n : ℕ) (ts rest : List Token) → IsWorded version_in_head source n ts rest →
     version_at source ts ≡ Ok (n, rest)
 head_read source n ts rest m = worded_read version_in_head source n ts rest m
 
-pub text_read : (source : List ℕ) (m : Message) (ts : List Token) (is : IsText source m ts) → text_at source is.a ≡ Ok m
+pub text_read : (source : List ℕ) (m : Message) (ts : List Token) (is : IsText source m ts) → text_at source is.0 ≡ Ok m
 unfolding text_at
-text_read source m ts is = rw (sender_read source m.sender is.a is.b is.sender, body_read source m.body is.b is.body)
-    refl
+text_read source m ts is = rw (
+  sender_read source m.sender is.0 is.2.0 is.2.1,
+  body_read source m.body is.2.0 is.2.2,
+) refl

@@ -1,5 +1,5 @@
 -- A Media descriptor and its parts that are in the grammar are read.
-use Rattle.std.proofs.Common.{◌≡◌, ℕ, ◌<◌, ◌≤◌, false, List, length, Option, Some, None, Ok, refl, ap, ◌∙◌, arith}
+use Rattle.std.proofs.Common.{◌≡◌, ℕ, ◌<◌, ◌≤◌, Bool, true, false, List, length, Option, Some, None, Ok, refl, ap, ◌∙◌, arith}
 use Rattle.mg_scan.specs.declared.kind.TokenKind.TheVariants.{Word, Equals, Quoted, Octets}
 use Rattle.mg_scan.specs.declared.span.Span.{Span}
 use Rattle.mg_scan.specs.declared.token.Token.{Token}
@@ -15,19 +15,21 @@ use Rattle.mg_text.specs.declared.media.StreamPart.{StreamPart}
 use Rattle.mg_text.specs.declared.media.StreamPart.TheVariants as streams
 use Rattle.mg_text.specs.declared.media.MediaPart.{MediaPart}
 use Rattle.mg_text.specs.declared.media.MediaPart.TheVariants as parts
-use Rattle.mg_text.specs.Keyword.{keyword_of}
-use Rattle.mg_text.specs.Words.{mode_word_of, switch_of}
+use Rattle.mg_text.specs.Keyword.{long_of, short_of, keyword_of}
+use Rattle.mg_text.specs.Words.{by_keyword, mode_named, switch_of}
 use Rattle.mg_text.specs.aids.Reading.{after_mark}
 use Rattle.mg_text.specs.aids.Media.{value_at, optional_value_at, switched_at, mode_part_at, package_part_at, control_named, control_at, stream_part_at, numbered_at, media_part_at}
-use Rattle.mg_text.specs.Grammar.{IsWorded, IsHeaded, IsAssigned, IsOptionalAssigned, IsValue, is_control, IsPackagePart, IsControlPart, IsStreamPart, IsMediaPart}
+use Rattle.mg_text.specs.Production.{◌▹◌}
+use Rattle.mg_text.specs.Grammar.{IsMark, IsWorded, IsName, IsOptionalAssigned, IsValue, has_slash, IsControlPart, IsStreamPart, IsMediaPart}
+use Rattle.mg_text.proofs.KeywordLaws.{no_slash}
 use Rattle.mg_text.proofs.Complete.{Stops, mark_read, after_read, span_read, word_read, worded_read, inside_read, filled_read, mark_shorter, span_shorter, worded_shorter, group_shorter, content_shorter, braced_read, braced_shorter}
 
 value_read : (source : List ℕ) (v : PropertyValue) (ts rest : List Token) → IsValue v ts rest →
     value_at source ts ≡ Ok (v, rest)
 unfolding value_at
-value_read source (values.Word w) ts rest m = rw (m.front, m.kind_is, m.span_is) refl
-value_read source (values.Quoted w) ts rest m = rw (m.front, m.kind_is, m.span_is) refl
-value_read source values.Group ts rest m = rw (m.«open».front, m.«open».kind_is, inside_read source ts rest m) refl
+value_read source (values.Word w) ts rest m = rw m refl
+value_read source (values.Quoted w) ts rest m = rw m refl
+value_read source values.Group ts rest m = rw (m.1.1, inside_read source ts rest m) refl
 
 value_shorter : (v : PropertyValue) (ts rest : List Token) → IsValue v ts rest → length rest < length ts
 value_shorter (values.Word w) ts rest m = span_shorter Word w ts rest m
@@ -39,13 +41,28 @@ optional_value_read : (source : List ℕ) (o : Option PropertyValue) (ts rest : 
 unfolding optional_value_at
 optional_value_read source None ts rest stops m = rw (m, stops) refl
 optional_value_read source (Some v) ts rest stops m =
-    rw (after_read Equals ts m.a m.equals, value_read source v m.a rest m.is) refl
+    rw (after_read Equals ts m.0 m.1, value_read source v m.0 rest m.2) refl
 
 optional_value_shorter : (o : Option PropertyValue) (ts rest : List Token) → IsOptionalAssigned IsValue o ts rest →
     length rest ≤ length ts
 optional_value_shorter None ts rest m = omega (arith, ap length m)
 optional_value_shorter (Some v) ts rest m =
-    omega (arith, mark_shorter Equals ts m.a m.equals, value_shorter v m.a rest m.is)
+    omega (arith, mark_shorter Equals ts m.0 m.1, value_shorter v m.0 rest m.2)
+
+-- one of the words MODE, RESERVEDVALUE and RESERVEDGROUP
+abbrev is_control : Option Keyword → Bool
+is_control (Some keywords.Mode) = true
+is_control (Some keywords.ReservedValue) = true
+is_control (Some keywords.ReservedGroup) = true
+is_control _ = false
+
+-- no slash stands in them
+slash_apart : (text : List ℕ) (k : Option Keyword) → keyword_of text ≡ k → has_slash text ≡ true → is_control k ≡ false
+unfolding long_of short_of
+slash_apart text (Some keywords.Mode) e h = absurd (no_slash text keywords.Mode e refl refl h)
+slash_apart text (Some keywords.ReservedValue) e h = absurd (no_slash text keywords.ReservedValue e refl refl h)
+slash_apart text (Some keywords.ReservedGroup) e h = absurd (no_slash text keywords.ReservedGroup e refl refl h)
+slash_apart text _ e h = refl
 
 package_named : (source : List ℕ) (k : Option Keyword) (w : Span) (ts : List Token) → is_control k ≡ false →
     control_named source k w ts ≡ package_part_at source w ts
@@ -54,88 +71,89 @@ package_named source (Some keywords.ReservedValue) w ts e = absurd cc
 package_named source (Some keywords.ReservedGroup) w ts e = absurd cc
 package_named source _ w ts e = refl
 
-package_read : (source : List ℕ) (w : Span) (o : Option PropertyValue) (ts rest : List Token)
-    (m : IsPackagePart source w o ts rest) → after_mark Equals rest ≡ None →
-    package_part_at source w m.a ≡ Ok (controls.Property w o, rest)
+package_read : (source : List ℕ) (w : Span) (o : Option PropertyValue) (ts rest : List Token) →
+    has_slash (text_of source w) ≡ true → after_mark Equals rest ≡ None → IsOptionalAssigned IsValue o ts rest →
+    package_part_at source w ts ≡ Ok (controls.Property w o, rest)
 unfolding package_part_at
-package_read source w o ts rest m stops = rw (m.slash, optional_value_read source o m.a rest stops m.value_is) refl
+package_read source w o ts rest slash stops m = rw (slash, optional_value_read source o ts rest stops m) refl
 
 control_read : (source : List ℕ) (ts : List Token) (x : ControlPart) (rest : List Token) → Stops rest →
     IsControlPart source x ts rest → control_at source ts ≡ Ok (x, rest)
 unfolding control_at mode_part_at switched_at
 control_read source ts (controls.Mode mode) rest stops m =
     rw (
-      word_read source m.name.word ts m.a m.name.is,
-      m.name.means,
-      mark_read source Equals m.a m.is.a m.is.equals,
-      worded_read mode_word_of source mode m.is.a rest m.is.is,
+      word_read source m.1.0 ts m.0 m.1.2,
+      m.1.1,
+      mark_read source Equals m.0 m.2.0 m.2.1,
+      worded_read (by_keyword mode_named) source mode m.2.0 rest m.2.2,
     ) refl
 control_read source ts (controls.ReservedValue on) rest stops m =
     rw (
-      word_read source m.name.word ts m.a m.name.is,
-      m.name.means,
-      mark_read source Equals m.a m.is.a m.is.equals,
-      worded_read switch_of source on m.is.a rest m.is.is,
+      word_read source m.1.0 ts m.0 m.1.2,
+      m.1.1,
+      mark_read source Equals m.0 m.2.0 m.2.1,
+      worded_read switch_of source on m.2.0 rest m.2.2,
     ) refl
 control_read source ts (controls.ReservedGroup on) rest stops m =
     rw (
-      word_read source m.name.word ts m.a m.name.is,
-      m.name.means,
-      mark_read source Equals m.a m.is.a m.is.equals,
-      worded_read switch_of source on m.is.a rest m.is.is,
+      word_read source m.1.0 ts m.0 m.1.2,
+      m.1.1,
+      mark_read source Equals m.0 m.2.0 m.2.1,
+      worded_read switch_of source on m.2.0 rest m.2.2,
     ) refl
 control_read source ts (controls.Property w o) rest stops m =
-    rw (word_read source w ts m.a m.is) (package_named source (keyword_of (text_of source w)) w m.a m.other ∙
-    package_read source w o ts rest m stops.equals)
+    let apart = slash_apart (text_of source w) (keyword_of (text_of source w)) refl m.1.0 in
+    rw (word_read source w ts m.0 m.1.1) (package_named source (keyword_of (text_of source w)) w m.0 apart ∙
+    package_read source w o m.0 rest m.1.0 stops.equals m.2)
 
 assigned_shorter : {X : Type 0} (meaning : List ℕ → Option X) (source : List ℕ) (keyword : Keyword) (x : X)
-    (ts rest : List Token) → IsHeaded source keyword (IsAssigned (IsWorded meaning source)) x ts rest →
+    (ts rest : List Token) → (IsName source keyword ▹ IsMark Equals ▹ IsWorded meaning source x) ts rest →
     length rest ≤ length ts
 assigned_shorter meaning source keyword x ts rest m =
     omega (
       arith,
-      worded_shorter keyword_of source keyword ts m.a m.name,
-      mark_shorter Equals m.a m.is.a m.is.equals,
-      worded_shorter meaning source x m.is.a rest m.is.is,
+      worded_shorter keyword_of source keyword ts m.0 m.1,
+      mark_shorter Equals m.0 m.2.0 m.2.1,
+      worded_shorter meaning source x m.2.0 rest m.2.2,
     )
 
 control_shorter : (source : List ℕ) (ts : List Token) (x : ControlPart) (rest : List Token) →
     IsControlPart source x ts rest → length rest ≤ length ts
 control_shorter source ts (controls.Mode mode) rest m =
-    assigned_shorter mode_word_of source keywords.Mode mode ts rest m
+    assigned_shorter (by_keyword mode_named) source keywords.Mode mode ts rest m
 control_shorter source ts (controls.ReservedValue on) rest m =
     assigned_shorter switch_of source keywords.ReservedValue on ts rest m
 control_shorter source ts (controls.ReservedGroup on) rest m =
     assigned_shorter switch_of source keywords.ReservedGroup on ts rest m
 control_shorter source ts (controls.Property w o) rest m =
-    omega (arith, span_shorter Word w ts m.a m.is, optional_value_shorter o m.a rest m.value_is)
+    omega (arith, span_shorter Word w ts m.0 m.1.1, optional_value_shorter o m.0 rest m.2)
 
 pub stream_part_read : (source : List ℕ) (ts : List Token) (x : StreamPart) (rest : List Token) → Stops rest →
     IsStreamPart source x ts rest → stream_part_at source ts ≡ Ok (x, rest)
 unfolding stream_part_at
 stream_part_read source ts (streams.Local w) rest stops m =
-    rw (worded_read keyword_of source keywords.Local ts m.a m.name, span_read source Octets w m.a rest m.is) refl
+    rw (worded_read keyword_of source keywords.Local ts m.0 m.1, span_read source Octets w m.0 rest m.2) refl
 stream_part_read source ts (streams.Remote w) rest stops m =
-    rw (worded_read keyword_of source keywords.Remote ts m.a m.name, span_read source Octets w m.a rest m.is) refl
+    rw (worded_read keyword_of source keywords.Remote ts m.0 m.1, span_read source Octets w m.0 rest m.2) refl
 stream_part_read source ts (streams.LocalControl xs) rest stops m =
     rw (
-      worded_read keyword_of source keywords.LocalControl ts m.a m.name,
+      worded_read keyword_of source keywords.LocalControl ts m.0 m.1,
       braced_read source (control_at source) (IsControlPart source) (control_read source) (control_shorter source)
-          xs m.a rest m.is,
+          xs m.0 rest m.2,
     ) refl
 
 pub stream_part_shorter : (source : List ℕ) (ts : List Token) (x : StreamPart) (rest : List Token) →
     IsStreamPart source x ts rest → length rest ≤ length ts
 stream_part_shorter source ts (streams.Local w) rest m =
-    omega (arith, worded_shorter keyword_of source keywords.Local ts m.a m.name, span_shorter Octets w m.a rest m.is)
+    omega (arith, worded_shorter keyword_of source keywords.Local ts m.0 m.1, span_shorter Octets w m.0 rest m.2)
 stream_part_shorter source ts (streams.Remote w) rest m =
-    omega (arith, worded_shorter keyword_of source keywords.Remote ts m.a m.name, span_shorter Octets w m.a rest m.is)
+    omega (arith, worded_shorter keyword_of source keywords.Remote ts m.0 m.1, span_shorter Octets w m.0 rest m.2)
 stream_part_shorter source ts (streams.LocalControl xs) rest m =
     omega (
       arith,
-      worded_shorter keyword_of source keywords.LocalControl ts m.a m.name,
+      worded_shorter keyword_of source keywords.LocalControl ts m.0 m.1,
       braced_shorter source (control_at source) (IsControlPart source) (control_read source)
-          (control_shorter source) xs m.a rest m.is,
+          (control_shorter source) xs m.0 rest m.2,
     )
 
 -- a part of a stream is a part of a Media descriptor
@@ -144,17 +162,17 @@ media_part_of : (source : List ℕ) (ts : List Token) (x : StreamPart) (rest : L
 unfolding media_part_at
 media_part_of source ts (streams.Local w) rest stops m =
     rw (
-      worded_read keyword_of source keywords.Local ts m.a m.name,
+      worded_read keyword_of source keywords.Local ts m.0 m.1,
       stream_part_read source ts (streams.Local w) rest stops m,
     ) refl
 media_part_of source ts (streams.Remote w) rest stops m =
     rw (
-      worded_read keyword_of source keywords.Remote ts m.a m.name,
+      worded_read keyword_of source keywords.Remote ts m.0 m.1,
       stream_part_read source ts (streams.Remote w) rest stops m,
     ) refl
 media_part_of source ts (streams.LocalControl xs) rest stops m =
     rw (
-      worded_read keyword_of source keywords.LocalControl ts m.a m.name,
+      worded_read keyword_of source keywords.LocalControl ts m.0 m.1,
       stream_part_read source ts (streams.LocalControl xs) rest stops m,
     ) refl
 
@@ -164,16 +182,16 @@ unfolding media_part_at numbered_at
 media_part_read source ts (parts.Part x) rest stops m = media_part_of source ts x rest stops m
 media_part_read source ts (parts.Stream number xs) rest stops m =
     rw (
-      worded_read keyword_of source keywords.Stream ts m.a m.name,
-      mark_read source Equals m.a m.b m.equals,
-      worded_read number_of source number m.b m.d m.number_is,
+      worded_read keyword_of source keywords.Stream ts m.0 m.1,
+      mark_read source Equals m.0 m.2.0 m.2.1,
+      worded_read number_of source number m.2.0 m.2.2.0 m.2.2.1,
       braced_read source (stream_part_at source) (IsStreamPart source) (stream_part_read source)
-          (stream_part_shorter source) xs m.d rest m.are,
+          (stream_part_shorter source) xs m.2.2.0 rest m.2.2.2,
     ) refl
 media_part_read source ts (parts.TerminationState b) rest stops m =
     rw (
-      worded_read keyword_of source keywords.TerminationState ts m.a m.name,
-      filled_read source b m.a rest stops.«open» m.is,
+      worded_read keyword_of source keywords.TerminationState ts m.0 m.1,
+      filled_read source b m.0 rest stops.«open» m.2,
     ) refl
 
 pub media_part_shorter : (source : List ℕ) (ts : List Token) (x : MediaPart) (rest : List Token) →
@@ -182,15 +200,15 @@ media_part_shorter source ts (parts.Part x) rest m = stream_part_shorter source 
 media_part_shorter source ts (parts.Stream number xs) rest m =
     omega (
       arith,
-      worded_shorter keyword_of source keywords.Stream ts m.a m.name,
-      mark_shorter Equals m.a m.b m.equals,
-      worded_shorter number_of source number m.b m.d m.number_is,
+      worded_shorter keyword_of source keywords.Stream ts m.0 m.1,
+      mark_shorter Equals m.0 m.2.0 m.2.1,
+      worded_shorter number_of source number m.2.0 m.2.2.0 m.2.2.1,
       braced_shorter source (stream_part_at source) (IsStreamPart source) (stream_part_read source)
-          (stream_part_shorter source) xs m.d rest m.are,
+          (stream_part_shorter source) xs m.2.2.0 rest m.2.2.2,
     )
 media_part_shorter source ts (parts.TerminationState b) rest m =
     omega (
       arith,
-      worded_shorter keyword_of source keywords.TerminationState ts m.a m.name,
-      content_shorter b m.a rest m.is,
+      worded_shorter keyword_of source keywords.TerminationState ts m.0 m.1,
+      content_shorter b m.0 rest m.2,
     )

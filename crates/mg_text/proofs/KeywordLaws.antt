@@ -1,12 +1,16 @@
 -- Looking a word of the encoding up among those that begin with its first letter.
-use Rattle.std.proofs.Common.{◌≡◌, ◌≢◌, ℕ, Bool, true, false, ◌||◌, ◌&&◌, ◌==◌, cond, List, [], ◌∷◌, length, get_or, ◌<◌, None, refl, arith}
-use Rattle.std.proofs.lemmas.Bool.{and_parts}
+use Rattle.std.proofs.Common.{◌≡◌, ◌≢◌, ℕ, Bool, true, false, ◌||◌, ◌&&◌, ◌==◌, cond, List, [], ◌∷◌, length, take, get_or, ◌<◌, Some, None, refl, sym, ap, ◌∙◌, arith}
+use Rattle.std.proofs.lemmas.Bool.{and_parts, true≢false}
+use Rattle.std.proofs.lemmas.Bool.Decides.{nat_tests}
+use Rattle.std.proofs.lemmas.List.{length-take}
 use Rattle.std.specs.Prelude.{find, filter}
 use Rattle.std.specs.Char.{to_ascii_lowercase}
 use Rattle.std.specs.Str.{bytes_eq, str_to_ascii_lowercase}
 use Rattle.std.proofs.lemmas.Slice.Eq.{bytes_eq-Decides}
 use Rattle.mg_text.specs.declared.keyword.Keyword.{Keyword}
+use Rattle.mg_text.specs.declared.keyword.Keyword.TheVariants.{Context}
 use Rattle.mg_text.specs.Keyword.{same_word, long_of, short_of, is_named, keywords, keyword_of}
+use Rattle.mg_text.specs.Grammar.{has_slash}
 use Rattle.mg_text.specs.aids.Keywords.{begins, can_begin, words_by}
 
 -- what passes one test is among what passes a wider one
@@ -66,3 +70,59 @@ same_len (x ∷ a) [] ne = refl
 same_len (x ∷ a) (y ∷ b) ne =
     let rest : same_word a b ≡ false = same_len a b (omega arith) in
     rw rest (and_false (to_ascii_lowercase x == to_ascii_lowercase y))
+
+-- a text that is shorter than a word doesn't begin with it
+pub too_short : (prefix text : List ℕ) → length text < length prefix →
+    same_word (take (length prefix) text) prefix ≡ false
+too_short prefix text lt = same_len (take (length prefix) text) prefix
+    (λ e. omega (arith, lt, e, length-take (length prefix) text))
+
+-- ## What the word of a text says of the text
+
+found_passes : {X : Type 0} (p : X → Bool) (xs : List X) (x : X) → find p xs ≡ Some x → p x ≡ true
+found_passes p [] x e = absurd cc
+found_passes p (y ∷ ys) x e = by_test (p y) refl e (found_passes p ys x)
+  where
+    by_test : (b : Bool) → p y ≡ b → cond b (Some y) (find p ys) ≡ Some x → (find p ys ≡ Some x → p x ≡ true) →
+        p x ≡ true
+    by_test true is e others = let same : y ≡ x = cc e in rw (sym same) is
+    by_test false is e others = others e
+
+-- a text is a form of the word that is found for it
+pub named_is : (text : List ℕ) (k : Keyword) → keyword_of text ≡ Some k → is_named text k ≡ true
+unfolding keyword_of
+named_is text k e = found_passes (is_named text) keywords k e
+
+same_letters : (a b : List ℕ) → same_word a b ≡ true → str_to_ascii_lowercase a ≡ str_to_ascii_lowercase b
+same_letters a b e = (bytes_eq-Decides (str_to_ascii_lowercase a) (str_to_ascii_lowercase b)).0 e
+
+either : {A : Type 0} (p q : Bool) → (p ≡ true → A) → (q ≡ true → A) → (p || q) ≡ true → A
+either true q f g e = f refl
+either false q f g e = g e
+
+-- a form of CONTEXT is a form of no word before it
+pub context_is : (text : List ℕ) → is_named text Context ≡ true → keyword_of text ≡ Some Context
+unfolding keyword_of is_named long_of short_of
+context_is text e =
+    either (same_word text (long_of Context)) (same_word text (short_of Context))
+    (λ long. let same = same_letters text (long_of Context) long in rw same (refl {a = Some Context}))
+    (λ short. let same = same_letters text (short_of Context) short in rw same (refl {a = Some Context})) e
+
+lower_slash : (b : ℕ) → (to_ascii_lowercase b == 47) ≡ (b == 47)
+lower_slash b = grind (arith, nat_tests)
+
+slash_in_lower : (text : List ℕ) → has_slash (str_to_ascii_lowercase text) ≡ has_slash text
+slash_in_lower [] = refl
+slash_in_lower (b ∷ bs) = rw (lower_slash b, slash_in_lower bs) refl
+
+same_slash : (a b : List ℕ) → same_word a b ≡ true → has_slash a ≡ has_slash b
+same_slash a b e = sym (slash_in_lower a) ∙ ap has_slash (same_letters a b e) ∙ slash_in_lower b
+
+-- no slash stands in a form of a word that has none in its forms
+pub no_slash : (text : List ℕ) (k : Keyword) → keyword_of text ≡ Some k → has_slash (long_of k) ≡ false →
+    has_slash (short_of k) ≡ false → has_slash text ≡ true → ⊥
+unfolding is_named
+no_slash text k e long short slash =
+    either (same_word text (long_of k)) (same_word text (short_of k))
+    (λ is. true≢false (sym slash ∙ same_slash text (long_of k) is ∙ long))
+    (λ is. true≢false (sym slash ∙ same_slash text (short_of k) is ∙ short)) (named_is text k e)

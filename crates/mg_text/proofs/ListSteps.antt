@@ -5,7 +5,7 @@ use Rattle.mg_scan.specs.declared.token.Token.{Token}
 use Rattle.mg_text.specs.declared.fault.ReadFault.{ReadFault}
 use Rattle.mg_text.specs.declared.fault.ReadFault.TheVariants.{NoMemory, Syntax, Version, TooMany}
 use Rattle.mg_words.specs.ResultSteps.{◌>>=◌}
-use Rattle.mg_text.specs.aids.Reading.{Fails, after_mark, mark_at, list_at, place_of}
+use Rattle.mg_text.specs.aids.Reading.{Fails, after_mark, mark_at, list_at, place_of_rest}
 
 -- what was read before, and what is still read
 abbrev pub with_front : {X : Type 0} → List X → Result (List X × List Token) ℕ → Result (List X × List Token) ℕ
@@ -60,9 +60,9 @@ module _ {X : Type 0} (source : List ℕ) (read : List Token → Result (X × Li
       let one : with_front front (list_at source read (count - i) ts) ≡ Err place = rw (k, h) refl in
       sym so_far ∙ one
 
-  pub runs_out : count ≤ i → total ≡ Err (place_of source ts)
+  pub runs_out : count ≤ i → total ≡ Err (place_of_rest source ts)
   unfolding list_at
   runs_out le =
       let k : count - i ≡ 0 = omega arith in
-      let one : with_front front (list_at source read (count - i) ts) ≡ Err (place_of source ts) = rw k refl in
+      let one : with_front front (list_at source read (count - i) ts) ≡ Err (place_of_rest source ts) = rw k refl in
       sym so_far ∙ one

@@ -8,7 +8,8 @@ use Rattle.mg_text.specs.declared.message.Message.{Message}
 use Rattle.mg_text.specs.Head.{version_in_head}
 use Rattle.mg_text.specs.aids.Text.{version_at, text_at, is_within}
 use Rattle.mg_text.specs.Message.{AreTokens, IsTree, IsMessage, AsksTooMuch, IsTooMany, HasOtherVersion, requests_in, commands_in, items_of}
-use Rattle.mg_text.specs.MessageReading.{MessageReading, Read, TooMany, OtherVersion, NoMessage, IsNoMessage, IsReading}
+use Rattle.mg_text.specs.MessageReading.{MessageReading, Read, TooMany, OtherVersion, NoMessage, IsNoMessage}
+use Rattle.mg_text.specs.MessageReading.{IsMessageReading}
 use Rattle.mg_text.proofs.ScanLaws.{one_scan}
 use Rattle.mg_text.proofs.Sound.{ok_is, worded_found}
 use Rattle.mg_text.proofs.SoundItems.{text_found}
@@ -25,9 +26,9 @@ version_is n k a b e = ap (λ (p : ℕ × List Token). p.0) (ok_is (n, a) (k, b)
 tree_or_version : (source : List ℕ) (m : Message) (n : ℕ) → IsTree source m → HasOtherVersion source n → ⊥
 tree_or_version source m n h k =
     let same = one_scan source h.tokens k.tokens None k.fault h.are k.are in
-    let one = head_read source 1 h.tokens h.is.a h.is.head in
+    let one = head_read source 1 h.tokens h.is.0 h.is.1 in
     let other = head_read source n k.tokens k.rest k.head in
-    k.other (version_is n 1 k.rest h.is.a (sym other ∙ ap (version_at source) (sym same.0) ∙ one))
+    k.other (version_is n 1 k.rest h.is.0 (sym other ∙ ap (version_at source) (sym same.0) ∙ one))
 
 one_version : (source : List ℕ) (n k : ℕ) → HasOtherVersion source n → HasOtherVersion source k → n ≡ k
 one_version source n k h g =
@@ -53,7 +54,8 @@ many_or_none : (source : List ℕ) → IsTooMany source → IsNoMessage source �
 many_or_none source (inl long) k = let short = k.short in omega (arith, short, long)
 many_or_none source (inr (m, tree, asks)) k = k.no_tree m tree
 
-pub same_reading : (source : List ℕ) (a b : MessageReading) → IsReading source a → IsReading source b → a ≡ b
+pub same_reading : (source : List ℕ) (a b : MessageReading) → IsMessageReading source a → IsMessageReading source b →
+    a ≡ b
 same_reading source (Read m) (Read n) h k = ap (λ (x : Message). Read x) (at_most_one source m n h.tree k.tree)
 same_reading source (Read m) TooMany h k = absurd (message_or_many source m h k)
 same_reading source (Read m) (OtherVersion n) h k = absurd (tree_or_version source m n h.tree k)
@@ -74,7 +76,7 @@ same_reading source NoMessage NoMessage h k = refl
 -- ## At least one
 
 abbrev pub Readable : List ℕ → Type 0
-Readable source = (reading : MessageReading) × IsReading source reading
+Readable source = (reading : MessageReading) × IsMessageReading source reading
 
 abbrev failed_at : ℕ → Result (ℕ × List Token) ℕ
 failed_at place = Err place
@@ -88,9 +90,9 @@ fault_in f = Some f
 module _ (source : List ℕ) (ts : List Token) (f : Option ScanFault) (short : length source ≤ 8192)
     (are : AreTokens source ts f) where
   -- a tree's tokens are these, and its head is read from them
-  tree_head : (m : Message) (h : IsTree source m) → version_at source ts ≡ headed 1 h.is.a
+  tree_head : (m : Message) (h : IsTree source m) → version_at source ts ≡ headed 1 h.is.0
   tree_head m h = ap (version_at source) (one_scan source ts h.tokens f None are h.are).0 ∙
-      head_read source 1 h.tokens h.is.a h.is.head
+      head_read source 1 h.tokens h.is.0 h.is.1
 
   other_head : (n : ℕ) (h : HasOtherVersion source n) → version_at source ts ≡ headed n h.rest
   other_head n h = ap (version_at source) (one_scan source ts h.tokens f h.fault are h.are).0 ∙
@@ -105,7 +107,7 @@ module _ (source : List ℕ) (ts : List Token) (f : Option ScanFault) (short : l
     record {
       short = short;
       no_version = λ n h. never_read place n h.rest (sym e ∙ other_head n h);
-      no_tree = λ m h. never_read place 1 h.is.a (sym e ∙ tree_head m h);
+      no_tree = λ m h. never_read place 1 h.is.0 (sym e ∙ tree_head m h);
     },
   )
 
@@ -142,8 +144,8 @@ module _ (source : List ℕ) (ts : List Token) (f : Option ScanFault) (short : l
       text_at source rest ≡ no_text place → (m : Message) → IsTree source m → ⊥
   no_tree_after rest place head none m h =
       let same = one_scan source ts h.tokens f None are h.are in
-      let rests : h.is.a ≡ rest = ap (λ (p : ℕ × List Token). p.1)
-      (ok_is (1, h.is.a) (1, rest) (sym (tree_head m h) ∙ head)) in
+      let rests : h.is.0 ≡ rest = ap (λ (p : ℕ × List Token). p.1)
+      (ok_is (1, h.is.0) (1, rest) (sym (tree_head m h) ∙ head)) in
       neither (sym (text_read source m h.tokens h.is) ∙ ap (text_at source) rests ∙ none) where
         neither : told m ≡ no_text place → ⊥
         neither e = cc e

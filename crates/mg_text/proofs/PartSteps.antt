@@ -9,7 +9,7 @@ use Rattle.mg_text.specs.declared.actions.ActionParts.{ActionParts}
 use Rattle.mg_text.specs.declared.context_property.ContextProperty.{ContextProperty}
 use Rattle.mg_text.specs.declared.command.Command.{Command}
 use Rattle.mg_words.specs.ResultSteps.{◌>>=◌}
-use Rattle.mg_text.specs.aids.Reading.{Fails, after_mark, mark_at, items_at, place_of}
+use Rattle.mg_text.specs.aids.Reading.{Fails, after_mark, mark_at, items_at, place_of_rest}
 use Rattle.mg_text.specs.aids.Commands.{command_at}
 use Rattle.mg_text.specs.aids.Requests.{begins_property, property_at, parts_at, with_property}
 
@@ -93,9 +93,9 @@ module _ (source : List ℕ) (front : List ContextProperty) (count i : ℕ) (ts 
         rw (k, b, h) refl in
         sym so_far ∙ one ∙ ap (λ (all : List ContextProperty). Ok (parts_of all xs, rest)) (append-nil front)
 
-    pub runs_out : count ≤ i → total ≡ Err (place_of source ts)
+    pub runs_out : count ≤ i → total ≡ Err (place_of_rest source ts)
     unfolding parts_at
     runs_out le =
         let k : count - i ≡ 0 = omega arith in
-        let one : with_front front (parts_at source (count - i) ts) ≡ Err (place_of source ts) = rw k refl in
+        let one : with_front front (parts_at source (count - i) ts) ≡ Err (place_of_rest source ts) = rw k refl in
         sym so_far ∙ one

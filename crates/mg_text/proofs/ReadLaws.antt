@@ -41,8 +41,8 @@ pub at_most_one : (source : List ℕ) (m n : Message) → IsTree source m → Is
 at_most_one source m n h k =
     let tokens = (one_scan source h.tokens k.tokens None None h.are k.are).0 in
     let is = subst (IsText source m) tokens h.is in
-    let rests = same_rest 1 is.a k.is.a (sym (head_read source 1 k.tokens is.a is.head) ∙
-    head_read source 1 k.tokens k.is.a k.is.head) in
+    let rests = same_rest 1 is.0 k.is.0 (sym (head_read source 1 k.tokens is.0 is.1) ∙
+    head_read source 1 k.tokens k.is.0 k.is.1) in
     same_message m n (sym (text_read source m k.tokens is) ∙ ap (text_at source) rests ∙
     text_read source n k.tokens k.is)
 
@@ -85,10 +85,10 @@ is_only : (source : List ℕ) (ts : List Token) (f : Option ScanFault) (r : Resu
     IsTree source m → IsAnswered r (Ok m)
 is_only source ts f r are g m h =
     let same = one_scan source ts h.tokens f None are h.are in
-    let version : version_at source ts ≡ headed 1 h.is.a = ap (version_at source) same.0 ∙
-    head_read source 1 h.tokens h.is.a h.is.head in
+    let version : version_at source ts ≡ headed 1 h.is.0 = ap (version_at source) same.0 ∙
+    head_read source 1 h.tokens h.is.0 h.is.1 in
     let one = subst (λ (v : Result (ℕ × List Token) ℕ). AgreesVersioned r v (is_some f) (text_at source)) version g in
-    let two = subst (λ (f : Option ScanFault). AgreesVersioned r (headed 1 h.is.a) (is_some f) (text_at source))
+    let two = subst (λ (f : Option ScanFault). AgreesVersioned r (headed 1 h.is.0) (is_some f) (text_at source))
     same.1 one in
     only_cases m r (subst (λ (t : Result Message ℕ). UnlessNoMemory r (Agrees (λ x. x) r t))
     (text_read source m h.tokens h.is) two)
@@ -190,12 +190,12 @@ message_found source false m is tree = tt
 
 message_is_proper : {source : List ℕ} (b : Bool) (m : Message) → IsTree source m →
     IfOk (on_message b m) (λ n. are_proper source (items_of n.body) ≡ true)
-message_is_proper {source} true m tree = message_proper source m.body tree.is.b tree.is.body
+message_is_proper {source} true m tree = message_proper source m.body tree.is.2.0 tree.is.2.2
 message_is_proper {source} false m tree = tt
 
 message_sender : {source : List ℕ} (b : Bool) (m : Message) → IsTree source m →
     IfOk (on_message b m) (λ n. length (text_of source n.sender) ≤ sender_limit)
-message_sender {source} true m tree = sender_short (text_of source m.sender) tree.is.sender.named
+message_sender {source} true m tree = sender_short (text_of source m.sender) tree.is.2.1.0
 message_sender {source} false m tree = tt
 
 many_found : (source : List ℕ) (b : Bool) (m : Message) → is_served m ≡ b → IsTree source m →

@@ -8,7 +8,7 @@ use Rattle.mg_scan.specs.Scanner.{Scanning, rest_of}
 use Rattle.mg_scan.specs.Tokens.{first_token, token_and_rest, TokenAndRest, closing_len, names_octets}
 use Rattle.mg_scan.specs.Scanner.{IsNext}
 use Rattle.mg_scan.specs.Span.{text_of}
-use Rattle.mg_text.specs.Message.{Reaches, ending, AreTokens, start_of}
+use Rattle.mg_text.specs.Message.{Reaches, ending, AreTokens, scanning_of}
 
 -- one token more
 pub Reaches-push : (ts : List Token) (old mid new : Scanning) (t : Token) → Reaches old ts mid →
@@ -104,4 +104,4 @@ one_way (t ∷ ts) (u ∷ us) old x y f g way end way' end' =
 
 pub one_scan : (source : List ℕ) (ts us : List Token) (f g : Option ScanFault) → AreTokens source ts f →
     AreTokens source us g → (ts ≡ us) × (f ≡ g)
-one_scan source ts us f g h k = one_way ts us (start_of source) h.last k.last f g h.way h.end k.way k.end
+one_scan source ts us f g h k = one_way ts us (scanning_of source) h.last k.last f g h.way h.end k.way k.end

@@ -6,13 +6,13 @@ use Rattle.std.proofs.lemmas.List.{length-take, length-drop}
 use Rattle.std.specs.List.{position_or_len}
 use Rattle.mg_words.specs.Limits.{sender_limit}
 use Rattle.mg_words.specs.OptionSteps.{◌>>=◌}
-use Rattle.mg_words.specs.Cut.{parts_at, cut}
+use Rattle.mg_words.specs.Cut.{cut_at, cut}
 use Rattle.mg_words.specs.Numbers.{decimal_of, address_part_of}
 use Rattle.mg_words.specs.Address.{address_of}
-use Rattle.mg_text.specs.Sender.{is_sender, is_domain, is_port_part, is_address_parts, is_domain_parts, is_address_host, is_domain_host}
+use Rattle.mg_text.specs.Sender.{is_sender, is_domain, is_address, is_port_part, is_host}
 
 -- a text is as long as its two parts and the byte between them
-parts_join : (text : List ℕ) (n : ℕ) (parts : List ℕ × List ℕ) → parts_at text n ≡ Some parts →
+parts_join : (text : List ℕ) (n : ℕ) (parts : List ℕ × List ℕ) → cut_at text n ≡ Some parts →
     length text ≡ length parts.0 + length parts.1 + 1
 parts_join text n parts e = grind (arith, nat_tests, length-take {A = ℕ}, length-drop {A = ℕ})
 
@@ -69,7 +69,7 @@ port_short (b ∷ port) h = omega (arith, decimal_short 5 65535 port (if_both (e
 
 -- two parts, of which each is short, with a mark between them
 address_parts_short : (rest : List ℕ) (parts : Option (List ℕ × List ℕ)) → cut 93 rest ≡ parts →
-    is_address_parts parts ≡ true → length rest ≤ 22
+    is_host is_address parts ≡ true → length rest ≤ 22
 address_parts_short rest None e h = absurd (false≢true h)
 address_parts_short rest (Some parts) e h =
     let two = both (is_some (address_of parts.0)) (is_port_part parts.1) h in
@@ -79,7 +79,7 @@ domain_short : (text : List ℕ) → is_domain text ≡ true → length text ≤
 domain_short text h = grind (arith, nat_tests)
 
 domain_parts_short : (rest : List ℕ) (parts : Option (List ℕ × List ℕ)) → cut 62 rest ≡ parts →
-    is_domain_parts parts ≡ true → length rest ≤ 71
+    is_host is_domain parts ≡ true → length rest ≤ 71
 domain_parts_short rest None e h = absurd (false≢true h)
 domain_parts_short rest (Some parts) e h =
     let two = both (is_domain parts.0) (is_port_part parts.1) h in
@@ -100,7 +100,7 @@ pub sender_short : (text : List ℕ) → is_sender text ≡ true → length text
 sender_short [] h = omega arith
 sender_short (b ∷ rest) h =
     let short : length rest + 1 ≤ 72 =
-    kind_short (length rest) (eqb b 91) (eqb b 60) (is_address_host rest) (is_domain_host rest)
+    kind_short (length rest) (eqb b 91) (eqb b 60) (is_host is_address (cut 93 rest)) (is_host is_domain (cut 62 rest))
     (leb (length (b ∷ rest)) 64)
     (λ a. address_parts_short rest (cut 93 rest) refl a) (λ d. domain_parts_short rest (cut 62 rest) refl d)
     (λ d. device_short (length rest) (rw add-one d)) h in

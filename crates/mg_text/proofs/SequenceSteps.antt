@@ -6,9 +6,8 @@ use Rattle.mg_text.specs.declared.body.MessageItem.{MessageItem}
 use Rattle.mg_text.specs.declared.fault.ReadFault.{ReadFault}
 use Rattle.mg_text.specs.declared.fault.ReadFault.TheVariants.{NoMemory, Syntax, Version, TooMany}
 use Rattle.mg_words.specs.ResultSteps.{◌>>=◌}
-use Rattle.mg_text.specs.aids.Reading.{Fails, place_of}
-use Rattle.mg_text.specs.Grammar.{kept_before}
-use Rattle.mg_text.specs.aids.Requests.{item_at, sequence_at}
+use Rattle.mg_text.specs.aids.Reading.{Fails, place_of_rest}
+use Rattle.mg_text.specs.aids.Requests.{kept_before, item_at, sequence_at}
 
 -- what was read before, and what is still read
 abbrev pub with_front : List MessageItem → Result (List MessageItem) ℕ → Result (List MessageItem) ℕ
@@ -61,9 +60,9 @@ module _ (source : List ℕ) (front : List MessageItem) (count i : ℕ) (ts : Li
       let one : with_front front (sequence_at source (count - i) ts) ≡ Err place = rw (k, h) refl in
       sym so_far ∙ one
 
-  pub runs_out : count ≤ i → total ≡ Err (place_of source ts)
+  pub runs_out : count ≤ i → total ≡ Err (place_of_rest source ts)
   unfolding sequence_at
   runs_out le =
       let k : count - i ≡ 0 = omega arith in
-      let one : with_front front (sequence_at source (count - i) ts) ≡ Err (place_of source ts) = rw k refl in
+      let one : with_front front (sequence_at source (count - i) ts) ≡ Err (place_of_rest source ts) = rw k refl in
       sym so_far ∙ one

@@ -1,6 +1,6 @@
 -- What is read is in the grammar: tools, marks, words, groups and lists.
-use Rattle.std.proofs.Common.{◌≡◌, ℕ, zero, suc, ◌-◌, ◌<◌, ◌≤◌, eqb, Bool, true, false, cond, List, [], ◌∷◌, length, Option, Some, None, Result, Ok, Err, refl, inl, inr, ◌⊎◌, sym, ap, subst, ◌∙◌, arith}
-use Rattle.std.proofs.lemmas.Bool.{ne_eqb}
+use Rattle.std.proofs.Common.{◌≡◌, ℕ, zero, suc, ◌-◌, ◌≢◌, ◌≤◌, eqb, Bool, true, false, cond, List, [], ◌∷◌, length, Option, Some, None, Result, Ok, Err, refl, inl, inr, ◌⊎◌, sym, ap, subst, ◌∙◌, arith}
+use Rattle.std.proofs.lemmas.Bool.{ne_eqb, false≢true}
 use Rattle.mg_scan.specs.declared.kind.TokenKind.{TokenKind}
 use Rattle.mg_scan.specs.declared.kind.TokenKind.TheVariants.{Word, Open, Close, Comma, Equals, Quoted, Octets}
 use Rattle.mg_scan.specs.declared.span.Span.{Span}
@@ -11,7 +11,8 @@ use Rattle.mg_words.specs.Term.{is_term}
 use Rattle.mg_text.specs.Keyword.{is_named}
 use Rattle.mg_words.specs.ResultSteps.{◌>>=◌}
 use Rattle.mg_text.specs.aids.Reading.{if_some, is_kind, mark_at, after_mark, span_at, word_at, named_at, meaning_at, term_at, after_group, group_at, filled_at, list_at, items_at, braced_at, any_braced_at, optional_braced_at}
-use Rattle.mg_text.specs.Grammar.{IsMark, IsSpan, IsWord, IsNamed, IsWorded, IsMore, IsListed, IsBraced, IsOptionalBraced, IsAnyBraced, IsPlain, IsBalanced, nothing, plain, nested, IsGroup, IsContent, IsTermName}
+use Rattle.mg_text.specs.Production.{Production}
+use Rattle.mg_text.specs.Grammar.{IsMark, IsSpan, IsWord, IsWordThat, IsWorded, IsMore, IsListed, IsBraced, IsOptionalBraced, IsEmptyBraces, IsAnyBraced, IsBalanced, nothing, plain, nested, IsGroup, IsContent}
 
 -- the value of a step that did not fail
 pub bind_ok : {A B : Type 0} (r : Result A ℕ) (f : A → Result B ℕ) (y : B) → (r >>= f) ≡ Ok y → (x : A) × (r ≡ Ok x) ×
@@ -22,6 +23,9 @@ bind_ok (Err d) f y e = absurd cc
 pub guard_ok : {A : Type 0} (b : Bool) (d : ℕ) (x y : A) → cond b (Ok x) (Err d) ≡ Ok y → (b ≡ true) × (x ≡ y)
 guard_ok true d x y e = (refl, cc)
 guard_ok false d x y e = absurd cc
+
+abbrev pub IsSpelled : {X : Type 0} → (X → Production) → List Token → X × List Token → Type 0
+IsSpelled P ts x = P x.0 ts x.1
 
 abbrev done : {A : Type 0} → A → Result A ℕ
 done x = Ok x
@@ -39,13 +43,34 @@ is_kind-true Quoted Quoted e = refl
 is_kind-true Octets Octets e = refl
 is_kind-true _ _ e = absurd cc
 
+pub is_kind-same : (k : TokenKind) → is_kind k k ≡ true
+is_kind-same Word = refl
+is_kind-same Open = refl
+is_kind-same Close = refl
+is_kind-same Comma = refl
+is_kind-same Equals = refl
+is_kind-same Quoted = refl
+is_kind-same Octets = refl
+
+is_kind-apart : (a b : TokenKind) → is_kind a b ≡ false → a ≢ b
+is_kind-apart a b e same = false≢true (sym e ∙ ap (is_kind a) (sym same) ∙ is_kind-same a)
+
+abbrev token_of : TokenKind → Span → Token
+token_of kind span = record { kind = kind; span = span }
+
+-- a token that stands in front is one of its kind, with its text
+pub token_is : (kind : TokenKind) (t : Token) (ts rest : List Token) → t.kind ≡ kind → ts ≡ rest →
+    IsSpan kind t.span (t ∷ ts) rest
+token_is kind t ts rest k e = ap (λ (j : TokenKind). token_of j t.span ∷ ts) k ∙
+    ap (λ (r : List Token). token_of kind t.span ∷ r) e
+
 pub mark_found : (source : List ℕ) (kind : TokenKind) (ts rest : List Token) → mark_at source kind ts ≡ Ok rest →
     IsMark kind ts rest
 unfolding mark_at
 mark_found source kind [] rest e = absurd cc
 mark_found source kind (t ∷ ts) rest e =
     let g = guard_ok (is_kind t.kind kind) t.span.start ts rest e in
-    record { token = t; kind_is = is_kind-true t.kind kind g.0; front = ap (λ (r : List Token). t ∷ r) g.1 }
+    (t.span, token_is kind t ts rest (is_kind-true t.kind kind g.0) g.1)
 
 some_guard : {A : Type 0} (b : Bool) (x y : A) → cond b (Some x) None ≡ Some y → (b ≡ true) × (x ≡ y)
 some_guard true x y e = (refl, cc)
@@ -56,7 +81,7 @@ unfolding after_mark
 after_found kind [] rest e = absurd cc
 after_found kind (t ∷ ts) rest e =
     let g = some_guard (is_kind t.kind kind) ts rest e in
-    record { token = t; kind_is = is_kind-true t.kind kind g.0; front = ap (λ (r : List Token). t ∷ r) g.1 }
+    (t.span, token_is kind t ts rest (is_kind-true t.kind kind g.0) g.1)
 
 pub span_found : (source : List ℕ) (kind : TokenKind) (ts : List Token) (x : Span × List Token) →
     span_at source kind ts ≡ Ok x → IsSpan kind x.0 ts x.1
@@ -64,29 +89,20 @@ unfolding span_at
 span_found source kind [] x e = absurd cc
 span_found source kind (t ∷ ts) x e =
     let g = guard_ok (is_kind t.kind kind) t.span.start (t.span, ts) x e in
-    record {
-      token = t;
-      kind_is = is_kind-true t.kind kind g.0;
-      span_is = ap (λ (p : Span × List Token). p.0) g.1;
-      front = ap (λ (p : Span × List Token). t ∷ p.1) g.1;
-    }
+    subst (IsSpelled (IsSpan kind) (t ∷ ts)) g.1 (token_is kind t ts ts (is_kind-true t.kind kind g.0) refl)
 
 pub word_found : (source : List ℕ) (ts : List Token) (x : Span × List Token) → word_at source ts ≡ Ok x →
     IsWord x.0 ts x.1
 word_found source ts x e = span_found source Word ts x e
 
 pub named_found : (source : List ℕ) (keyword : Keyword) (ts rest : List Token) →
-    named_at source keyword ts ≡ Ok rest → IsNamed source keyword ts rest
+    named_at source keyword ts ≡ Ok rest →
+    (w : Span) × (is_named (text_of source w) keyword ≡ true) × IsWord w ts rest
 unfolding named_at
 named_found source keyword ts rest e =
     let w = bind_ok (word_at source ts) _ rest e in
     let g = guard_ok (is_named (text_of source w.0.0) keyword) w.0.0.start w.0.1 rest w.2 in
-    record {
-      word = w.0.0;
-      named = g.0;
-      is = subst (λ (r : List Token). IsWord w.0.0 ts r) g.1
-          (word_found source ts w.0 w.1);
-    }
+    (w.0.0, g.0, subst (λ (r : List Token). IsWord w.0.0 ts r) g.1 (word_found source ts w.0 w.1))
 
 -- one reading or another
 pub if_some_ok : {A B : Type 0} (o : Option A) (f : A → Result B ℕ) (b : Result B ℕ) (y : B) → if_some o f b ≡ Ok y →
@@ -108,47 +124,27 @@ unfolding meaning_at
 worded_found meaning source ts x e =
     let w = bind_ok (word_at source ts) _ x e in
     let g = worded-cases (meaning (text_of source w.0.0)) w.0.1 w.0.0.start x w.2 in
-    record {
-      word = w.0.0;
-      means = g.0;
-      is = subst (λ (r : List Token). IsWord w.0.0 ts r) g.1
-          (word_found source ts w.0 w.1);
-    }
-
-abbrev pub IsSpelled : {X : Type 0} → (X → List Token → List Token → Type 0) → List Token → X × List Token → Type 0
-IsSpelled P ts x = P x.0 ts x.1
+    (w.0.0, g.0, subst (λ (r : List Token). IsWord w.0.0 ts r) g.1 (word_found source ts w.0 w.1))
 
 -- one side or the other of a test
 pub chosen : {A : Type 0} (b : Bool) (x y z : A) → cond b x y ≡ z → ((b ≡ true) × (x ≡ z)) ⊎ ((b ≡ false) × (y ≡ z))
 chosen true x y z e = inl (refl, e)
 chosen false x y z e = inr (refl, e)
 
-plain_kind : (k : TokenKind) → is_kind k Open ≡ false → is_kind k Close ≡ false → IsPlain k
-plain_kind Open e f = absurd cc
-plain_kind Close e f = absurd cc
-plain_kind Word e f = tt
-plain_kind Comma e f = tt
-plain_kind Equals e f = tt
-plain_kind Quoted e f = tt
-plain_kind Octets e f = tt
-
 -- balanced tokens and a closing brace, once for each open brace and once more
 abbrev Closes : ℕ → List Token → List Token → Type 0
 Closes zero ts rest = (b : List Token) × IsBalanced ts b × IsMark Close b rest
 Closes (suc n) ts rest = (b : List Token) × (a : List Token) × IsBalanced ts b × IsMark Close b a × Closes n a rest
 
-closes_plain : (n : ℕ) (t : Token) (ts rest : List Token) → IsPlain t.kind → Closes n ts rest → Closes n (t ∷ ts) rest
-closes_plain zero t ts rest p h = (h.0, plain t ts h.0 p h.1, h.2)
-closes_plain (suc n) t ts rest p h = (h.0, h.1, plain t ts h.0 p h.2, h.3, h.4)
-
-nest : (o : Token) (ts a b rest : List Token) → o.kind ≡ Open → IsMark Close b a → IsBalanced ts b →
-    IsBalanced a rest → IsBalanced (o ∷ ts) rest
-nest o ts a b rest opens m x y = nested o m.token ts a rest opens m.kind_is (subst (IsBalanced ts) m.front x) y
-
-closes_nested : (n : ℕ) (t : Token) (ts rest : List Token) → t.kind ≡ Open → Closes (suc n) ts rest →
+closes_plain : (n : ℕ) (t : Token) (ts rest : List Token) → t.kind ≢ Open → t.kind ≢ Close → Closes n ts rest →
     Closes n (t ∷ ts) rest
-closes_nested zero t ts rest opens h = (h.4.0, nest t ts h.1 h.0 h.4.0 opens h.3 h.2 h.4.1, h.4.2)
-closes_nested (suc n) t ts rest opens h = (h.4.0, h.4.1, nest t ts h.1 h.0 h.4.0 opens h.3 h.2 h.4.2, h.4.3, h.4.4)
+closes_plain zero t ts rest p q h = (h.0, plain t ts h.0 p q h.1, h.2)
+closes_plain (suc n) t ts rest p q h = (h.0, h.1, plain t ts h.0 p q h.2, h.3, h.4)
+
+closes_nested : (n : ℕ) (ts a rest : List Token) → IsMark Open ts a → Closes (suc n) a rest → Closes n ts rest
+closes_nested zero ts a rest opens h = (h.4.0, nested ts a h.0 h.1 h.4.0 opens h.2 h.3 h.4.1, h.4.2)
+closes_nested (suc n) ts a rest opens h =
+    (h.4.0, h.4.1, nested ts a h.0 h.1 h.4.0 opens h.2 h.3 h.4.2, h.4.3, h.4.4)
 
 close_found : (source : List ℕ) (n : ℕ) (t : Token) (ts rest : List Token) → t.kind ≡ Close →
     cond (eqb n 0) (Ok ts) (after_group source (n - 1) ts) ≡ Ok rest →
@@ -156,11 +152,7 @@ close_found : (source : List ℕ) (n : ℕ) (t : Token) (ts rest : List Token) �
 close_found source zero t ts rest closes e others = (
   t ∷ ts,
   nothing (t ∷ ts),
-  record {
-    token = t;
-    kind_is = closes;
-    front = ap (λ (r : List Token). t ∷ r) (ok_is ts rest e);
-  },
+  (t.span, token_is Close t ts rest closes (ok_is ts rest e)),
 )
 close_found source (suc n) t ts rest closes e others =
     let one : suc n - 1 ≡ n = omega arith in
@@ -168,7 +160,7 @@ close_found source (suc n) t ts rest closes e others =
       t ∷ ts,
       ts,
       nothing (t ∷ ts),
-      record { token = t; kind_is = closes; front = refl },
+      (t.span, token_is Close t ts ts closes refl),
       others n (ap (λ (m : ℕ). after_group source m ts) (sym one) ∙ (rw more at e)),
     )
 
@@ -178,14 +170,15 @@ unfolding after_group
 group_found source n [] rest e = absurd cc
 group_found source n (t ∷ ts) rest e =
     elim (chosen (is_kind t.kind Open) _ _ _ e) [
-      | inl opens ↦ closes_nested n t ts rest (is_kind-true t.kind Open opens.0)
+      | inl opens ↦ closes_nested n (t ∷ ts) ts rest
+          (t.span, token_is Open t ts ts (is_kind-true t.kind Open opens.0) refl)
           (group_found source (suc n) ts rest opens.1)
       | inr other ↦
           elim (chosen (is_kind t.kind Close) _ _ _ other.1) [
             | inl closes ↦ close_found source n t ts rest (is_kind-true t.kind Close closes.0) closes.1
                 (λ m. group_found source m ts rest)
-            | inr passes ↦ closes_plain n t ts rest (plain_kind t.kind other.0 passes.0)
-                (group_found source n ts rest passes.1)
+            | inr passes ↦ closes_plain n t ts rest (is_kind-apart t.kind Open other.0)
+                (is_kind-apart t.kind Close passes.0) (group_found source n ts rest passes.1)
           ]
     ]
 
@@ -194,37 +187,44 @@ unfolding group_at
 group_at_found source ts rest e =
     let a = bind_ok (mark_at source Open ts) _ rest e in
     let g = group_found source 0 a.0 rest a.2 in
-    record { a = a.0; b = g.0; «open» = mark_found source Open ts a.0 a.1; inside = g.1; close = g.2 }
+    (a.0, mark_found source Open ts a.0 a.1, (g.0, g.1, g.2))
 
 pub term_found : (source : List ℕ) (ts : List Token) (x : Span × List Token) → term_at source ts ≡ Ok x →
-    IsTermName source x.0 ts x.1
+    IsWordThat is_term source x.0 ts x.1
 unfolding term_at
 term_found source ts x e =
     let w = bind_ok (word_at source ts) _ x e in
     let g = guard_ok (is_term (text_of source w.0.0)) w.0.0.start w.0 x w.2 in
-    subst (IsSpelled (IsTermName source) ts) g.1 (record { named = g.0; is = word_found source ts w.0 w.1 })
+    subst (IsSpelled (IsWordThat is_term source) ts) g.1 (g.0, word_found source ts w.0 w.1)
 
 pub balanced_shorter : (ts rest : List Token) → IsBalanced ts rest → length rest ≤ length ts
 balanced_shorter _ _ (nothing ts) = omega arith
-balanced_shorter _ _ (plain t ts rest p inside) = omega (arith, balanced_shorter ts rest inside)
-balanced_shorter _ _ (nested o c ts a rest opens closes inside after) =
-    omega (arith, balanced_shorter ts (c ∷ a) inside, balanced_shorter a rest after)
+balanced_shorter _ _ (plain t ts rest p q inside) = omega (arith, balanced_shorter ts rest inside)
+balanced_shorter _ _ (nested ts a b c rest opens inside closes after) =
+    omega (
+      arith,
+      ap length opens.1,
+      balanced_shorter a b inside,
+      ap length closes.1,
+      balanced_shorter c rest after,
+    )
 
 closes_there : (ts rest : List Token) → IsMark Close ts rest → after_mark Close ts ≡ Some rest
 unfolding after_mark
-closes_there ts rest m = rw (m.front, m.kind_is) refl
+closes_there ts rest m = rw m.1 refl
 
 never : (ts rest : List Token) → after_mark Close ts ≡ None → after_mark Close ts ≡ Some rest → ⊥
 never ts rest e h = cc
 
+abbrev after_first : List Token → List Token
+after_first [] = []
+after_first (t ∷ ts) = ts
+
 -- a group whose first token doesn't close it has a token in it
-not_close : (ts b rest : List Token) → after_mark Close ts ≡ None → IsBalanced ts b → IsMark Close b rest →
-    length b < length ts
-unfolding after_mark
-not_close _ _ rest none (nothing ts) close = absurd (never ts rest none (closes_there ts rest close))
-not_close _ b rest none (plain t ts b' p inside) close = omega (arith, balanced_shorter ts b inside)
-not_close _ b rest none (nested o c ts a b' opens closes inside after) close =
-    omega (arith, balanced_shorter ts (c ∷ a) inside, balanced_shorter a b after)
+not_empty : (ts a rest : List Token) → IsMark Open ts a → after_mark Close a ≡ None → IsEmptyBraces ts rest → ⊥
+not_empty ts a rest opens none h =
+    let same : a ≡ h.0 = ap after_first (sym opens.1 ∙ h.1.1) in
+    never h.0 rest (subst (λ (r : List Token). after_mark Close r ≡ None) same none) (closes_there h.0 rest h.2)
 
 pub filled_found : (source : List ℕ) (ts : List Token) (x : Bool × List Token) → filled_at source ts ≡ Ok x →
     IsContent x.0 ts x.1
@@ -235,21 +235,18 @@ filled_found source ts x e =
           let opens = after_found Open ts some.0 some.1 in
           elim (if_some_ok (after_mark Close some.0) _ _ x some.2) [
             | inl empty ↦ subst (IsSpelled IsContent ts) (ok_is _ x empty.2)
-                (inr (record { a = some.0; «open» = opens; close = after_found Close some.0 empty.0 empty.1 }))
+                (inr (some.0, opens, after_found Close some.0 empty.0 empty.1))
             | inr full ↦
                 let rest = bind_ok (after_group source 0 some.0) _ x full.1 in
                 let g = group_found source 0 some.0 rest.0 rest.1 in
                 subst (IsSpelled IsContent ts) (ok_is _ x rest.2)
-                (record {
-                  group = record { a = some.0; b = g.0; «open» = opens; inside = g.1; close = g.2 };
-                  filled = not_close some.0 g.0 rest.0 full.0 g.1 g.2;
-                })
+                ((some.0, opens, (g.0, g.1, g.2)), not_empty ts some.0 rest.0 opens full.0)
           ]
       | inr none ↦ subst (IsSpelled IsContent ts) (ok_is _ x none.1) (inl refl)
     ]
 
 module _ {X : Type 0} (source : List ℕ) (read : List Token → Result (X × List Token) ℕ)
-    (P : X → List Token → List Token → Type 0)
+    (P : X → Production)
     (sound : (ts : List Token) (x : X × List Token) → read ts ≡ Ok x → P x.0 ts x.1) where
   -- a list that was read is not empty: its first item, and more
   list_found : (n : ℕ) (ts : List Token) (xs : List X × List Token) → list_at source read n ts ≡ Ok xs →
@@ -278,7 +275,7 @@ module _ {X : Type 0} (source : List ℕ) (read : List Token → Result (X × Li
       after_comma : (xs : List X) (ts a rest : List Token) → IsMark Comma ts a → IsListed P xs a rest →
           IsMore P xs ts rest
       after_comma [] ts a rest comma h = absurd h
-      after_comma (x ∷ xs) ts a rest comma h = (a, h.0, comma, h.1, h.2)
+      after_comma (x ∷ xs) ts a rest comma h = (a, comma, h)
 
   pub items_found : (ts : List Token) (xs : List X × List Token) → items_at source read ts ≡ Ok xs →
       IsListed P xs.0 ts xs.1
@@ -289,16 +286,16 @@ module _ {X : Type 0} (source : List ℕ) (read : List Token → Result (X × Li
   unfolding braced_at
   braced_found ts xs e =
       let a = bind_ok (mark_at source Open ts) _ xs e in
-      record { a = a.0; «open» = mark_found source Open ts a.0 a.1; are = items_found a.0 xs a.2 }
+      (a.0, mark_found source Open ts a.0 a.1, items_found a.0 xs a.2)
 
   some_optional : (xs : List X) (ts a rest : List Token) → IsMark Open ts a → IsListed P xs a rest →
       IsOptionalBraced P xs ts rest
   some_optional [] ts a rest opens h = absurd h
-  some_optional (x ∷ xs) ts a rest opens h = record { a = a; «open» = opens; are = h }
+  some_optional (x ∷ xs) ts a rest opens h = (a, opens, h)
 
   some_any : (xs : List X) (ts a rest : List Token) → IsMark Open ts a → IsListed P xs a rest → IsAnyBraced P xs ts rest
   some_any [] ts a rest opens h = absurd h
-  some_any (x ∷ xs) ts a rest opens h = record { a = a; «open» = opens; are = h }
+  some_any (x ∷ xs) ts a rest opens h = (a, opens, h)
 
   pub any_braced_found : (ts : List Token) (xs : List X × List Token) → any_braced_at source read ts ≡ Ok xs →
       IsAnyBraced P xs.0 ts xs.1
@@ -308,7 +305,7 @@ module _ {X : Type 0} (source : List ℕ) (read : List Token → Result (X × Li
       let opens = mark_found source Open ts a.0 a.1 in
       elim (if_some_ok (after_mark Close a.0) _ _ xs a.2) [
         | inl none ↦ subst (λ (y : List X × List Token). IsAnyBraced P y.0 ts y.1) (ok_is _ xs none.2)
-            (record { a = a.0; «open» = opens; close = after_found Close a.0 none.0 none.1 })
+            (a.0, opens, after_found Close a.0 none.0 none.1)
         | inr some ↦ some_any xs.0 ts a.0 xs.1 opens (items_found a.0 xs some.1)
       ]
 

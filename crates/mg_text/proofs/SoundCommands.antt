@@ -1,6 +1,6 @@
 -- Commands and their descriptors that are read are in the grammar.
-use Rattle.std.proofs.Common.{◌≡◌, ℕ, Bool, true, false, List, Ok, refl, inl, inr, ◌⊎◌, subst}
-use Rattle.mg_scan.specs.declared.kind.TokenKind.TheVariants.{Open, Close, Equals}
+use Rattle.std.proofs.Common.{◌≡◌, ℕ, Bool, true, false, List, Ok, refl, inl, inr, subst}
+use Rattle.mg_scan.specs.declared.kind.TokenKind.TheVariants.{Word, Open, Close, Equals}
 use Rattle.mg_scan.specs.declared.token.Token.{Token}
 use Rattle.mg_text.specs.declared.keyword.Keyword.{Keyword}
 use Rattle.mg_text.specs.declared.keyword.Keyword.TheVariants as keywords
@@ -12,21 +12,23 @@ use Rattle.mg_words.specs.declared.command_word.CommandWord.{CommandWord}
 use Rattle.mg_words.specs.declared.command_word.CommandWord.TheVariants as commands
 use Rattle.mg_text.specs.declared.command.Command.{Command}
 use Rattle.mg_text.specs.Keyword.{keyword_of}
-use Rattle.mg_text.specs.Words.{audit_word_of, command_of}
-use Rattle.mg_text.specs.aids.Reading.{mark_at, after_mark, word_at, meaning_at, keyword_at, term_at, filled_at, braced_at, place_of}
+use Rattle.mg_text.specs.Words.{by_keyword, audit_word_named, command_of}
+use Rattle.mg_text.specs.aids.Reading.{mark_at, after_mark, word_at, meaning_at, keyword_at, term_at, filled_at}
+use Rattle.mg_text.specs.aids.Reading.{braced_at, place_of_rest}
 use Rattle.mg_text.specs.aids.Media.{media_part_at}
 use Rattle.mg_text.specs.aids.Commands.{audit_words_at, assigned_at, content_at, other_at, descriptor_named, descriptor_at, audit_named, audit_at, optional_audit_at, skipped_at, descriptors_at, command_at}
-use Rattle.mg_text.specs.Grammar.{IsMark, IsWorded, IsAnyBraced, IsGroup, IsContent, IsWordAndGroup, IsOtherContent, keyword_for, IsMediaPart, IsAudit, IsDescriptor, IsOptionalAudit, IsSkipped, IsDescribed, IsCommand}
+use Rattle.mg_text.specs.Production.{Production, ◌▹◌, ◌or◌}
+use Rattle.mg_text.specs.Grammar.{IsMark, IsWorded, IsAnyBraced, IsGroup, IsContent, IsOptionalGroup, IsOtherContent, keyword_for, IsMediaPart, IsAudit, IsDescriptor, IsOptionalAudit, IsSkipped, IsDescribed, IsCommand}
 use Rattle.mg_text.proofs.Sound.{bind_ok, ok_is, mark_found, after_found, if_some_ok, word_found, worded_found, term_found, group_found, filled_found, braced_found, any_braced_found, optional_braced_found, IsSpelled}
 use Rattle.mg_text.proofs.SoundMedia.{media_part_found}
 
 audit_words_found : (source : List ℕ) (ts : List Token) (x : List AuditWord × List Token) →
-    audit_words_at source ts ≡ Ok x → IsAnyBraced (IsWorded audit_word_of source) x.0 ts x.1
-audit_words_found source ts x e = any_braced_found source (meaning_at audit_word_of source)
-    (IsWorded audit_word_of source) (worded_found audit_word_of source) ts x e
+    audit_words_at source ts ≡ Ok x → IsAnyBraced (IsWorded (by_keyword audit_word_named) source) x.0 ts x.1
+audit_words_found source ts x e = any_braced_found source (meaning_at (by_keyword audit_word_named) source)
+    (IsWorded (by_keyword audit_word_named) source) (worded_found (by_keyword audit_word_named) source) ts x e
 
-abbrev IsAssignedContent : List Token → List Token → Type 0
-IsAssignedContent ts rest = IsGroup ts rest ⊎ IsWordAndGroup ts rest
+abbrev pub IsAssignedContent : Production
+IsAssignedContent = IsGroup or IsMark Word ▹ IsOptionalGroup
 
 assigned_found : (source : List ℕ) (ts a rest : List Token) → IsMark Equals ts a → assigned_at source a ≡ Ok rest →
     IsAssignedContent a rest
@@ -35,18 +37,16 @@ assigned_found source ts a rest equals e =
     elim (if_some_ok (after_mark Open a) _ _ rest e) [
       | inl some ↦
           let g = group_found source 0 some.0 rest some.2 in
-          inl (record { a = some.0; b = g.0; «open» = after_found Open a some.0 some.1; inside = g.1; close = g.2 })
+          inl (some.0, after_found Open a some.0 some.1, (g.0, g.1, g.2))
       | inr none ↦
           let word = bind_ok (word_at source a) _ rest none.1 in
           let group = bind_ok (filled_at source word.0.1) _ rest word.2 in
           let after = filled_found source word.0.1 group.0 group.1 in
-          inr (record {
-            a = word.0.1;
-            word = word.0.0;
-            is = word_found source a word.0 word.1;
-            group =
-                (group.0.0, subst (λ (r : List Token). IsContent group.0.0 word.0.1 r) (ok_is _ rest group.2) after);
-          })
+          inr (
+            word.0.1,
+            (word.0.0, word_found source a word.0 word.1),
+            (group.0.0, subst (λ (r : List Token). IsContent group.0.0 word.0.1 r) (ok_is _ rest group.2) after),
+          )
     ]
 
 plain_content : (b : Bool) (ts rest : List Token) → IsContent b ts rest → IsOtherContent b ts rest
@@ -72,23 +72,18 @@ unfolding other_at
 other_found source word ts a x name e =
     let content = bind_ok (content_at source a) _ x e in
     subst (IsSpelled (IsDescriptor source) ts) (ok_is _ x content.2)
-    (record { a = a; name = name; is = content_found source a content.0 content.1 })
+    (a, name, content_found source a content.0 content.1)
 
 descriptor_named_found : (source : List ℕ) (k : Keyword) (place : ℕ) (ts a : List Token) (x : Descriptor × List Token)
     → IsWorded keyword_of source k ts a → descriptor_named source k place a ≡ Ok x → IsDescriptor source x.0 ts x.1
 descriptor_named_found source keywords.Media place ts a x name e =
     let xs = bind_ok (braced_at source _ a) _ x e in
     subst (IsSpelled (IsDescriptor source) ts) (ok_is _ x xs.2)
-    (record {
-      a = a;
-      name = name;
-      is = braced_found source (media_part_at source) (IsMediaPart source)
-          (media_part_found source) a xs.0 xs.1;
-    })
+    (a, name, braced_found source (media_part_at source) (IsMediaPart source) (media_part_found source) a xs.0 xs.1)
 descriptor_named_found source keywords.Audit place ts a x name e =
     let words = bind_ok (audit_words_at source a) _ x e in
     subst (IsSpelled (IsDescriptor source) ts) (ok_is _ x words.2)
-    (record { a = a; name = name; is = audit_words_found source a words.0 words.1 })
+    (a, name, audit_words_found source a words.0 words.1)
 descriptor_named_found source keywords.Signals place ts a x name e = other_found source others.Signals ts a x name e
 descriptor_named_found source keywords.Events place ts a x name e = other_found source others.Events ts a x name e
 descriptor_named_found source keywords.Modem place ts a x name e = other_found source others.Modem ts a x name e
@@ -103,13 +98,13 @@ descriptor_found : (source : List ℕ) (ts : List Token) (x : Descriptor × List
 unfolding descriptor_at
 descriptor_found source ts x e =
     let name = bind_ok (keyword_at source ts) _ x e in
-    descriptor_named_found source name.0.0 (place_of source ts) ts name.0.1 x
+    descriptor_named_found source name.0.0 (place_of_rest source ts) ts name.0.1 x
     (worded_found keyword_of source ts name.0 name.1) name.2
 
 audit_named_found : (source : List ℕ) (k : Keyword) (place : ℕ) (ts a : List Token) (x : List AuditWord × List Token)
     → IsWorded keyword_of source k ts a → audit_named source k place a ≡ Ok x → IsAudit source x.0 ts x.1
 audit_named_found source keywords.Audit place ts a x name e =
-    record { a = a; name = name; is = audit_words_found source a x e }
+    (a, name, audit_words_found source a x e)
 audit_named_found source _ place ts a x name e = absurd cc
 
 audit_found : (source : List ℕ) (ts : List Token) (x : List AuditWord × List Token) → audit_at source ts ≡ Ok x →
@@ -117,7 +112,7 @@ audit_found : (source : List ℕ) (ts : List Token) (x : List AuditWord × List 
 unfolding audit_at
 audit_found source ts x e =
     let name = bind_ok (keyword_at source ts) _ x e in
-    audit_named_found source name.0.0 (place_of source ts) ts name.0.1 x
+    audit_named_found source name.0.0 (place_of_rest source ts) ts name.0.1 x
     (worded_found keyword_of source ts name.0 name.1) name.2
 
 optional_audit_found : (source : List ℕ) (ts : List Token) (x : List Descriptor × List Token) →
@@ -128,14 +123,15 @@ optional_audit_found source ts x e =
       | inl some ↦
           let words = bind_ok (audit_at source some.0) _ x some.2 in
           let close = bind_ok (mark_at source Close words.0.1) _ x words.2 in
-          subst (IsSpelled (IsOptionalAudit source) ts) (ok_is _ x close.2)
-          (record {
-            a = some.0;
-            b = words.0.1;
-            «open» = after_found Open ts some.0 some.1;
-            audit = audit_found source some.0 words.0 words.1;
-            close = mark_found source Close words.0.1 close.0 close.1;
-          })
+          subst (IsSpelled (IsOptionalAudit source) ts) (ok_is _ x close.2) (
+            some.0,
+            after_found Open ts some.0 some.1,
+            (
+              words.0.1,
+              audit_found source some.0 words.0 words.1,
+              mark_found source Close words.0.1 close.0 close.1,
+            ),
+          )
       | inr none ↦ subst (IsSpelled (IsOptionalAudit source) ts) (ok_is _ x none.1) refl
     ]
 
@@ -168,12 +164,16 @@ command_found source ts x e =
     let b = bind_ok (mark_at source Equals head.0.1) _ x head.2 in
     let term = bind_ok (term_at source b.0) _ x b.2 in
     let items = bind_ok (descriptors_at source head.0.0.word term.0.1) _ x term.2 in
-    subst (IsSpelled (IsCommand source) ts) (ok_is _ x items.2) (record {
-      a = head.0.1;
-      b = b.0;
-      d = term.0.1;
-      head = worded_found command_of source ts head.0 head.1;
-      equals = mark_found source Equals head.0.1 b.0 b.1;
-      term = term_found source b.0 term.0 term.1;
-      descriptors = described_found source head.0.0.word term.0.1 items.0 items.1;
-    })
+    subst (IsSpelled (IsCommand source) ts) (ok_is _ x items.2) (
+      head.0.1,
+      worded_found command_of source ts head.0 head.1,
+      (
+        b.0,
+        mark_found source Equals head.0.1 b.0 b.1,
+        (
+          term.0.1,
+          term_found source b.0 term.0 term.1,
+          described_found source head.0.0.word term.0.1 items.0 items.1,
+        ),
+      ),
+    )

@@ -1,16 +1,12 @@
 -- The head of a message (RFC 3525, Annex B.2: MEGACOP, with its version).
-use Rattle.std.specs.Prelude.{ℕ, List, length, take, drop, Option, None, nat_lt, codes}
-use Rattle.std.specs.Prelude.{if◌then◌else◌}
-use Rattle.std.specs.Option.{option_or}
+use Rattle.std.specs.Prelude.{ℕ, List, Option, codes}
+use Rattle.std.specs.Option.{option_and_then, option_or}
 use Rattle.mg_words.specs.Numbers.{version_in_digits}
-use Rattle.mg_text.specs.Keyword.{same_word}
+use Rattle.mg_text.specs.Words.{after_prefix}
 
 -- the version that stands after a name of the protocol, in any case
 unfoldable pub version_after : List ℕ → List ℕ → Option ℕ
-version_after name text =
-    if nat_lt (length text) (length name) then None
-    else (if same_word (take (length name) text) name
-    then version_in_digits (drop (length name) text) else None)
+version_after name text = option_and_then version_in_digits (after_prefix name text)
 
 -- the version after MEGACO/ or its short form
 unfoldable pub version_in_head : List ℕ → Option ℕ

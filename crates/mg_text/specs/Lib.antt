@@ -2,6 +2,7 @@ pub mod Keyword
 pub mod Words
 pub mod Head
 pub mod Sender
+pub mod Production
 pub mod Grammar
 pub mod Message
 pub mod MessageReading

@@ -26,13 +26,13 @@ abbrev pub ending : Option ScanFault → Option (Result TokenAndRest ScanFault)
 ending None = None
 ending (Some f) = Some (Err f)
 
-abbrev pub start_of : List ℕ → Scanning
-start_of source = record { source = source; at = 0; named = false }
+abbrev pub scanning_of : List ℕ → Scanning
+scanning_of source = record { source = source; at = 0; named = false }
 
 -- the bytes are these tokens, and then a fault or the end
 pub record AreTokens (source : List ℕ) (ts : List Token) (fault : Option ScanFault) : Type 0 where
   pub last : Scanning
-  pub way : Reaches (start_of source) ts last
+  pub way : Reaches (scanning_of source) ts last
   pub end : first_token last.named (rest_of last) ≡ ending fault
 
 -- a datagram is read up to 8,192 bytes

@@ -17,8 +17,8 @@ pub record IsNoMessage (bytes : List ℕ) : Type 0 where
   pub no_version : (n : ℕ) → HasOtherVersion bytes n → ⊥
   pub no_tree : (m : Message) → IsTree bytes m → ⊥
 
-abbrev pub IsReading : List ℕ → MessageReading → Type 0
-IsReading bytes (Read m) = IsMessage bytes m
-IsReading bytes TooMany = IsTooMany bytes
-IsReading bytes (OtherVersion n) = HasOtherVersion bytes n
-IsReading bytes NoMessage = IsNoMessage bytes
+abbrev pub IsMessageReading : List ℕ → MessageReading → Type 0
+IsMessageReading bytes (Read m) = IsMessage bytes m
+IsMessageReading bytes TooMany = IsTooMany bytes
+IsMessageReading bytes (OtherVersion n) = HasOtherVersion bytes n
+IsMessageReading bytes NoMessage = IsNoMessage bytes

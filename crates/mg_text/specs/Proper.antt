@@ -5,7 +5,7 @@ use Rattle.std.specs.List.{list_all}
 use Rattle.mg_scan.specs.Span.{text_of}
 use Rattle.mg_words.specs.Term.{is_term}
 use Rattle.mg_text.specs.declared.command.Command.{Command}
-use Rattle.mg_text.specs.declared.context_property.Triple.{Triple}
+use Rattle.mg_text.specs.declared.context_property.NamedTriple.{NamedTriple}
 use Rattle.mg_text.specs.declared.context_property.ContextProperty.{ContextProperty}
 use Rattle.mg_text.specs.declared.context_property.ContextProperty.TheVariants.{Topology}
 use Rattle.mg_text.specs.declared.context_property.ContextProperty.TheVariants.{ContextAudit}
@@ -18,7 +18,7 @@ use Rattle.mg_text.specs.declared.body.MessageItem.TheVariants as items
 abbrev pub command_is_proper : List ℕ → Command → Bool
 command_is_proper source x = is_term (text_of source x.term)
 
-abbrev pub triple_is_proper : List ℕ → Triple → Bool
+abbrev pub triple_is_proper : List ℕ → NamedTriple → Bool
 triple_is_proper source x = is_term (text_of source x.first) && is_term (text_of source x.second)
 
 abbrev pub property_is_proper : List ℕ → ContextProperty → Bool

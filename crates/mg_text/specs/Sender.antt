@@ -17,30 +17,23 @@ abbrev pub is_domain : List ℕ → Bool
 is_domain text =
     not (length text == 0) && nat_le (length text) name_limit && list_all is_domain_byte text
 
+abbrev pub is_address : List ℕ → Bool
+is_address text = is_some (address_of text)
+
 -- nothing, or a colon and a port
 abbrev pub is_port_part : List ℕ → Bool
 is_port_part [] = true
 is_port_part (b ∷ port) = if b == 58 then is_some (port_of port) else false
 
--- an address and a domain name, each after its opening mark
-abbrev pub is_address_parts : Option (List ℕ × List ℕ) → Bool
-is_address_parts None = false
-is_address_parts (Some parts) = is_some (address_of parts.0) && is_port_part parts.1
-
-abbrev pub is_domain_parts : Option (List ℕ × List ℕ) → Bool
-is_domain_parts None = false
-is_domain_parts (Some parts) = is_domain parts.0 && is_port_part parts.1
-
-abbrev pub is_address_host : List ℕ → Bool
-is_address_host text = is_address_parts (cut 93 text)
-
-abbrev pub is_domain_host : List ℕ → Bool
-is_domain_host text = is_domain_parts (cut 62 text)
+-- what stands before the closing mark passes a test, and after the mark stands perhaps a port
+abbrev pub is_host : (List ℕ → Bool) → Option (List ℕ × List ℕ) → Bool
+is_host test None = false
+is_host test (Some parts) = test parts.0 && is_port_part parts.1
 
 -- [address], <domain name>, each perhaps with a port, or a device name of 1 to 64 bytes
 abbrev pub is_sender : List ℕ → Bool
 is_sender [] = false
 is_sender (b ∷ rest) =
-    if b == 91 then is_address_host rest
-    else (if b == 60 then is_domain_host rest
+    if b == 91 then is_host is_address (cut 93 rest)
+    else (if b == 60 then is_host is_domain (cut 62 rest)
     else nat_le (length (b ∷ rest)) name_limit)

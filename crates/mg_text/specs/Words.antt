@@ -1,6 +1,6 @@
 -- What single words stand for (RFC 3525, Annex B.2).
 use Rattle.std.specs.Prelude.{ℕ, Bool, true, false, List, length, take, drop, Option, Some, None}
-use Rattle.std.specs.Prelude.{codes, nat_lt, if◌then◌else◌}
+use Rattle.std.specs.Prelude.{codes, if◌then◌else◌}
 use Rattle.std.specs.Option.{option_map, option_and_then}
 use Rattle.mg_words.specs.Numbers.{number_of}
 use Rattle.mg_words.specs.Cut.{cut}
@@ -20,6 +20,10 @@ use Rattle.mg_words.specs.declared.command_word.CommandWord.TheVariants as comma
 use Rattle.mg_text.specs.declared.command_head.CommandHead.{CommandHead}
 use Rattle.mg_text.specs.Keyword.{same_word, keyword_of}
 
+-- what a text stands for, as a word of the encoding with a meaning
+abbrev pub by_keyword : {X : Type 0} → (Keyword → Option X) → List ℕ → Option X
+by_keyword meaning text = option_and_then meaning (keyword_of text)
+
 -- associations: Isolate, Oneway, Bothway
 abbrev pub association_named : Keyword → Option Association
 association_named keywords.Isolate = Some associations.Isolate
@@ -27,18 +31,12 @@ association_named keywords.Oneway = Some associations.Oneway
 association_named keywords.Bothway = Some associations.Bothway
 association_named _ = None
 
-abbrev pub association_of : List ℕ → Option Association
-association_of text = option_and_then association_named (keyword_of text)
-
 -- properties of a context that are audited: Topology, Priority, Emergency
 abbrev pub context_word_named : Keyword → Option ContextWord
 context_word_named keywords.Topology = Some contexts.Topology
 context_word_named keywords.Priority = Some contexts.Priority
 context_word_named keywords.Emergency = Some contexts.Emergency
 context_word_named _ = None
-
-abbrev pub context_word_of : List ℕ → Option ContextWord
-context_word_of text = option_and_then context_word_named (keyword_of text)
 
 -- descriptors that are audited
 abbrev pub audit_word_named : Keyword → Option AuditWord
@@ -54,9 +52,6 @@ audit_word_named keywords.ObservedEvents = Some audits.ObservedEvents
 audit_word_named keywords.Packages = Some audits.Packages
 audit_word_named _ = None
 
-abbrev pub audit_word_of : List ℕ → Option AuditWord
-audit_word_of text = option_and_then audit_word_named (keyword_of text)
-
 -- modes of a stream
 abbrev pub mode_named : Keyword → Option Mode
 mode_named keywords.SendOnly = Some modes.SendOnly
@@ -65,9 +60,6 @@ mode_named keywords.SendReceive = Some modes.SendReceive
 mode_named keywords.Inactive = Some modes.Inactive
 mode_named keywords.Loopback = Some modes.Loopback
 mode_named _ = None
-
-abbrev pub mode_word_of : List ℕ → Option Mode
-mode_word_of text = option_and_then mode_named (keyword_of text)
 
 -- ON or OFF
 abbrev pub switch_of : List ℕ → Option Bool
@@ -102,9 +94,7 @@ command_named _ = None
 -- what stands after a prefix, in letters of any case
 unfoldable pub after_prefix : List ℕ → List ℕ → Option (List ℕ)
 after_prefix prefix text =
-    if nat_lt (length text) (length prefix) then None
-    else (if same_word (take (length prefix) text) prefix then Some (drop (length prefix) text)
-    else None)
+    if same_word (take (length prefix) text) prefix then Some (drop (length prefix) text) else None
 
 -- a command's word, and whether O- and W- stand before it
 abbrev pub headed : Bool → Bool → Keyword → Option CommandHead
@@ -113,10 +103,8 @@ headed optional wildcard keyword =
     (command_named keyword)
 
 -- the command after a prefix, or else another reading
-abbrev pub prefixed : (optional wildcard : Bool) → Option (List ℕ) → Option CommandHead
-    → Option CommandHead
-prefixed optional wildcard (Some rest) other =
-    option_and_then (headed optional wildcard) (keyword_of rest)
+abbrev pub prefixed : Bool → Bool → Option (List ℕ) → Option CommandHead → Option CommandHead
+prefixed optional wildcard (Some rest) other = by_keyword (headed optional wildcard) rest
 prefixed optional wildcard None other = other
 
 abbrev pub command_for : List ℕ → Option Keyword → Option CommandHead

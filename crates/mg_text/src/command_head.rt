@@ -14,7 +14,7 @@ pub struct CommandHead {
 }
 
 /// What stands after a prefix, in letters of any case, or `None` where the text has another front.
-#[tactic(auto, unfolding(crate::specs::Words::after_prefix))]
+#[tactic(auto, unfolding(crate::specs::Words::after_prefix), using(crate::proofs::KeywordLaws::too_short))]
 fn after_prefix<'a>(prefix: &[u8], text: &'a [u8]) -> Option<&'a [u8]>
     ensures { MatchOption result (after_prefix prefix.now text.now ≡ None)
         (λ rest. after_prefix prefix.now text.now ≡ Some rest.now) }

@@ -2,7 +2,7 @@ ghost use Rattle.std.specs.Prelude.{◌≡◌};
 ghost use Rattle.mg_text.specs.aids.Reading.{Agrees};
 ghost use Rattle.mg_text.specs.aids.Requests.{triple_at, priority_at, emergency_at, property_at, begins_property};
 
-use crate::context_property::{ContextProperty, ContextWord, Triple};
+use crate::context_property::{ContextProperty, ContextWord, NamedTriple};
 use crate::fault::ReadFault;
 use crate::from_word::meaning_at;
 use crate::keyword::{Keyword, keyword_of};
@@ -13,7 +13,7 @@ use mg_words::Association;
 use std::alloc::Global;
 
 /// A triple of a topology.
-impl FromTokens for Triple {
+impl FromTokens for NamedTriple {
     ghost reading = { triple_at };
 
     #[tactic(auto, unfolding(crate::specs::aids::Requests::triple_at))]
@@ -21,14 +21,14 @@ impl FromTokens for Triple {
         alloc: Global,
         source: &[u8],
         tokens: &'t [Token],
-    ) -> Result<(Triple, &'t [Token]), ReadFault> {
+    ) -> Result<(NamedTriple, &'t [Token]), ReadFault> {
         let _ = alloc;
         let (first, rest) = term_at(source, tokens)?;
         let rest = mark_at(source, TokenKind::Comma, rest)?;
         let (second, rest) = term_at(source, rest)?;
         let rest = mark_at(source, TokenKind::Comma, rest)?;
         let (association, rest) = meaning_at::<Association>(source, rest)?;
-        let triple = Triple {
+        let triple = NamedTriple {
             first,
             second,
             association,
@@ -77,7 +77,7 @@ pub fn property_at<'t>(
     let (keyword, rest) = meaning_at::<Keyword>(source, tokens)?;
     match keyword {
         Keyword::Topology => {
-            let (triples, rest) = braced_at::<Triple>(alloc, source, rest)?;
+            let (triples, rest) = braced_at::<NamedTriple>(alloc, source, rest)?;
             Ok((ContextProperty::Topology(triples), rest))
         }
         Keyword::ContextAudit => {

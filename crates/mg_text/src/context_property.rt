@@ -4,7 +4,7 @@ use mg_words::Association;
 
 /// Two terminations by their names' places, and who hears whom between them.
 #[derive(Clone, Copy, Debug, PartialEq, Eq)]
-pub struct Triple {
+pub struct NamedTriple {
     pub first: Span,
     pub second: Span,
     pub association: Association,
@@ -22,7 +22,7 @@ pub enum ContextWord {
 /// contextRequest).
 #[derive(Drop)]
 pub enum ContextProperty {
-    Topology(TreeList<Triple>),
+    Topology(TreeList<NamedTriple>),
     ContextAudit(TreeList<ContextWord>),
     /// The priority's word.
     Priority(Span),

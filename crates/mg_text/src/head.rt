@@ -6,7 +6,7 @@ use crate::keyword::same_word;
 use mg_words::version_in_digits;
 
 /// The version that a word names after one form of the protocol's name.
-#[tactic(auto, unfolding(crate::specs::Head::version_after))]
+#[tactic(auto, unfolding(crate::specs::Head::version_after, crate::specs::Words::after_prefix), using(crate::proofs::KeywordLaws::too_short))]
 fn version_after(name: &[u8], text: &[u8]) -> Option<u8>
     ensures value { result ≡ version_after name.now text.now }
 {

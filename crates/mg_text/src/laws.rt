@@ -5,7 +5,7 @@ ghost use Rattle.mg_scan.specs.declared.fault.ScanFault.{ScanFault};
 ghost use Rattle.mg_scan.specs.declared.token.Token.{Token};
 ghost use Rattle.mg_text.specs.declared.message.Message.{Message};
 ghost use Rattle.mg_text.specs.Message.{AreTokens, IsTree};
-ghost use Rattle.mg_text.specs.MessageReading.{MessageReading, IsReading};
+ghost use Rattle.mg_text.specs.MessageReading.{MessageReading, IsMessageReading};
 
 use mg_scan::Scanner;
 
@@ -31,9 +31,9 @@ fn bytes_are_tokens(source: &[u8])
 /// Each datagram is exactly one of these: a message with its tree, one that is too long or asks for too much, one of
 /// another version, or none.
 pub fn one_reading(source: &[u8])
-    ensures some { (reading : MessageReading) × IsReading source.now reading }
+    ensures some { (reading : MessageReading) × IsMessageReading source.now reading }
     ensures at_most_one { (bytes : List ℕ) (a b : MessageReading) →
-        IsReading bytes a → IsReading bytes b → a ≡ b }
+        IsMessageReading bytes a → IsMessageReading bytes b → a ≡ b }
 {
     bytes_are_tokens(source);
 }

@@ -44,7 +44,7 @@ mod words;
 
 pub use crate::body::{Body, MessageItem, Range};
 pub use crate::command::Command;
-pub use crate::context_property::{ContextProperty, ContextWord, Triple};
+pub use crate::context_property::{ContextProperty, ContextWord, NamedTriple};
 pub use crate::descriptor::{AuditWord, Descriptor, OtherWord};
 pub use crate::fault::ReadFault;
 pub use crate::media::{ControlPart, MediaPart, PropertyValue, StreamPart};

@@ -1,5 +1,5 @@
 ghost use Rattle.std.specs.Prelude.{◌≡◌, Some, None, MatchOption};
-ghost use Rattle.mg_text.specs.aids.Reading.{Agrees, mark_at, after_mark, span_at, word_at, named_at, term_at, is_kind, place_of};
+ghost use Rattle.mg_text.specs.aids.Reading.{Agrees, mark_at, after_mark, span_at, word_at, named_at, term_at, is_kind, place_of_rest};
 
 use crate::fault::ReadFault;
 use crate::keyword::{Keyword, is_named};
@@ -8,7 +8,7 @@ use mg_words::is_term;
 
 /// Where the first of the tokens stands, or the source ends.
 pub fn place_of(source: &[u8], tokens: &[Token]) -> usize
-    ensures value { result ≡ place_of source.now tokens.now }
+    ensures value { result ≡ place_of_rest source.now tokens.now }
 {
     match tokens {
         [] => source.len(),

@@ -1,6 +1,7 @@
 ghost use Rattle.std.specs.Prelude.{◌≡◌, ◌<◌, ◌≤◌, length};
 ghost use Rattle.std.specs.List.{list_all};
-ghost use Rattle.mg_text.specs.Sender.{is_sender, is_domain_byte, is_domain, is_port_part, is_address_host, is_domain_host};
+ghost use Rattle.mg_words.specs.Cut.{cut};
+ghost use Rattle.mg_text.specs.Sender.{is_sender, is_domain_byte, is_domain, is_address, is_port_part, is_host};
 
 use mg_words::{address_of, cut, port_of};
 
@@ -38,7 +39,7 @@ fn is_port_part(text: &[u8]) -> bool
 
 /// Whether a text, after its opening bracket, is an IPv4 address, the closing bracket, and perhaps a port.
 fn is_address_host(text: &[u8]) -> bool
-    ensures value { result ≡ is_address_host text.now }
+    ensures value { result ≡ is_host is_address (cut 93 text.now) }
 {
     match cut(b']', text) {
         Some((address, port)) => address_of(address).is_some() && is_port_part(port),
@@ -48,7 +49,7 @@ fn is_address_host(text: &[u8]) -> bool
 
 /// Whether a text, after its opening mark, is a domain name, the closing mark, and perhaps a port.
 fn is_domain_host(text: &[u8]) -> bool
-    ensures value { result ≡ is_domain_host text.now }
+    ensures value { result ≡ is_host is_domain (cut 62 text.now) }
 {
     match cut(b'>', text) {
         Some((domain, port)) => is_domain(domain) && is_port_part(port),

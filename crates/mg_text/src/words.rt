@@ -2,7 +2,7 @@ ghost use Rattle.std.specs.Prelude.{◌≡◌};
 ghost use Rattle.mg_words.specs.Numbers.{number_of};
 ghost use Rattle.mg_words.specs.ContextId.{context_id_of};
 ghost use Rattle.mg_text.specs.Keyword.{keyword_of};
-ghost use Rattle.mg_text.specs.Words.{association_of, context_word_of, audit_word_of, mode_word_of, switch_of, range_of};
+ghost use Rattle.mg_text.specs.Words.{by_keyword, association_named, context_word_named, audit_word_named, mode_named, switch_of, range_of};
 
 use crate::body::Range;
 use crate::context_property::ContextWord;
@@ -36,7 +36,7 @@ impl FromWord for ContextId {
 }
 
 impl FromWord for Association {
-    ghost meaning = { association_of };
+    ghost meaning = { by_keyword association_named };
 
     fn from_word(text: &[u8]) -> Option<Association> {
         match keyword_of(text) {
@@ -49,7 +49,7 @@ impl FromWord for Association {
 }
 
 impl FromWord for ContextWord {
-    ghost meaning = { context_word_of };
+    ghost meaning = { by_keyword context_word_named };
 
     fn from_word(text: &[u8]) -> Option<ContextWord> {
         match keyword_of(text) {
@@ -62,7 +62,7 @@ impl FromWord for ContextWord {
 }
 
 impl FromWord for AuditWord {
-    ghost meaning = { audit_word_of };
+    ghost meaning = { by_keyword audit_word_named };
 
     fn from_word(text: &[u8]) -> Option<AuditWord> {
         match keyword_of(text) {
@@ -82,7 +82,7 @@ impl FromWord for AuditWord {
 }
 
 impl FromWord for Mode {
-    ghost meaning = { mode_word_of };
+    ghost meaning = { by_keyword mode_named };
 
     fn from_word(text: &[u8]) -> Option<Mode> {
         match keyword_of(text) {

@@ -5,11 +5,11 @@ use Rattle.std.proofs.lemmas.Bool.{false≢true, and_parts, cases_Bool}
 use Rattle.mg_topology.specs.declared.triple.Triple.{Triple}
 use Rattle.mg_words.specs.declared.association.Association.TheVariants.{Oneway}
 use Rattle.mg_topology.specs.Triple.{leads, speaks_of, overlaps}
-use Rattle.mg_topology.specs.Edits.{Edit, Enter, Leave, Apply, last_word, touches}
+use Rattle.mg_topology.specs.Edits.{TopologyEdit, Enter, Leave, Apply, last_word, touches}
 use Rattle.mg_topology.proofs.TripleLemmas.{overlaps-is}
 
 -- newer edits that don't touch a pair leave its last word
-pub last_word-append : (newer older : List Edit) (a b : ℕ) → list_any (λ edit. touches edit a b) newer ≡ false →
+pub last_word-append : (newer older : List TopologyEdit) (a b : ℕ) → list_any (λ edit. touches edit a b) newer ≡ false →
     last_word (newer ++ older) a b ≡ last_word older a b
 last_word-append [] older a b p = refl
 last_word-append (Enter n ∷ es) older a b p = grind (arith, last_word-append es older a b)
@@ -17,13 +17,13 @@ last_word-append (Leave n ∷ es) older a b p = last_word-append es older a b p
 last_word-append (Apply triple ∷ es) older a b p = grind (arith, last_word-append es older a b)
 
 -- after an Enter of one of the two, there is no word until a newer edit touches them
-pub last_word-entered : (newer older : List Edit) (n a b : ℕ) → ((a == n) || (b == n)) ≡ true →
+pub last_word-entered : (newer older : List TopologyEdit) (n a b : ℕ) → ((a == n) || (b == n)) ≡ true →
     list_any (λ edit. touches edit a b) newer ≡ false → last_word (newer ++ Enter n ∷ older) a b ≡ None
 last_word-entered newer older n a b p q = last_word-append newer (Enter n ∷ older) a b q ∙
     ap (λ x. if x then None else last_word older a b) p
 
 -- a triple that speaks of a pair has its last word until a newer edit touches them
-pub last_word-applied : (newer older : List Edit) (triple : Triple) (a b : ℕ) → speaks_of triple a b ≡ true →
+pub last_word-applied : (newer older : List TopologyEdit) (triple : Triple) (a b : ℕ) → speaks_of triple a b ≡ true →
     list_any (λ edit. touches edit a b) newer ≡ false → last_word (newer ++ Apply triple ∷ older) a b ≡ Some triple
 last_word-applied newer older triple a b p q = last_word-append newer (Apply triple ∷ older) a b q ∙
     ap (λ x. if x then Some triple else last_word older a b) p

@@ -7,7 +7,7 @@ use Rattle.mg_topology.specs.declared.triple.Triple.{Triple}
 use Rattle.mg_topology.specs.Mask.{has_seat}
 use Rattle.mg_topology.specs.Triple.{speaks_of, word_of}
 use Rattle.mg_topology.specs.aids.Word.{word_after}
-use Rattle.mg_topology.specs.Edits.{Edit, Enter, Leave, Apply, is_held, last_word, allows, lets_hear, apply_all}
+use Rattle.mg_topology.specs.Edits.{TopologyEdit, Enter, Leave, Apply, is_held, last_word, allows, lets_hear, apply_all}
 use Rattle.mg_topology.specs.Topology.{TopologyState, holds, hears, StandsFor}
 use Rattle.mg_topology.proofs.MaskLemmas.{has_seat-inside}
 
@@ -26,7 +26,7 @@ row_of_pair : (x y d b b' : Bool) → x ≡ true → y ≡ true → d ≡ false 
 row_of_pair x y d b b' p q r e = grind arith
 
 -- to stand for a list of edits is to hold its seats, and to have its words in the rows of held seats
-pub stands_from : (k : TopologyState) (es : List Edit) → ((s : ℕ) → holds k s ≡ is_held es s)
+pub stands_from : (k : TopologyState) (es : List TopologyEdit) → ((s : ℕ) → holds k s ≡ is_held es s)
     → ((t l : ℕ) → is_held es t ≡ true → is_held es l ≡ true → (t == l) ≡ false →
     has_seat (slice_index k.rows l) t ≡ lets_hear es t l)
     → StandsFor k es
@@ -35,14 +35,14 @@ stands_from k es held row = record {
   pairs = λ t l. same_pair _ _ _ _ (t == l) _ _ (held t) (held l) (row t l);
 }
 
-pub row_from : (k : TopologyState) (es : List Edit) (t l : ℕ) → StandsFor k es → is_held es t ≡ true →
+pub row_from : (k : TopologyState) (es : List TopologyEdit) (t l : ℕ) → StandsFor k es → is_held es t ≡ true →
     is_held es l ≡ true → (t == l) ≡ false → has_seat (slice_index k.rows l) t ≡ lets_hear es t l
 row_from k es t l h p q d =
     row_of_pair (is_held es t) (is_held es l) (t == l) _ _ p q d
     (sym (same_pair (holds k t) (holds k l) _ _ (t == l) _ (has_seat (slice_index k.rows l) t) (h.seats t) (h.seats l)
     (λ _ _ _. refl)) ∙ h.pairs t l)
 
-pub held_below : (k : TopologyState) (es : List Edit) (s : ℕ) → StandsFor k es → is_held es s ≡ true → s < SEATS
+pub held_below : (k : TopologyState) (es : List TopologyEdit) (s : ℕ) → StandsFor k es → is_held es s ≡ true → s < SEATS
 held_below k es s h p = grind (arith, nat_tests, h.seats s)
 
 -- ---- the edits, one by one
@@ -51,7 +51,7 @@ entered_seat : (k k' : TopologyState) (n s : ℕ) (b : Bool) → n < SEATS →
     has_seat k'.held s ≡ cond (s == n) true (has_seat k.held s) → holds k s ≡ b → holds k' s ≡ cond (s == n) true b
 entered_seat k k' n s b p e h = grind (arith, nat_tests)
 
-entered_pair : (k k' : TopologyState) (n : ℕ) (es : List Edit) (t l : ℕ) →
+entered_pair : (k k' : TopologyState) (n : ℕ) (es : List TopologyEdit) (t l : ℕ) →
     (l ≡ n → has_seat (slice_index k'.rows l) t ≡ true)
     → (l ≢ n → has_seat (slice_index k'.rows l) t ≡ cond (t == n) true (has_seat (slice_index k.rows l) t))
     → (is_held es t ≡ true → is_held es l ≡ true → has_seat (slice_index k.rows l) t ≡ lets_hear es t l)
@@ -59,11 +59,11 @@ entered_pair : (k k' : TopologyState) (n : ℕ) (es : List Edit) (t l : ℕ) →
     has_seat (slice_index k'.rows l) t ≡ lets_hear (Enter n ∷ es) t l
 entered_pair k k' n es t l own row h p q = grind (arith, nat_tests)
 
-entered_below : (k : TopologyState) (n : ℕ) (es : List Edit) (s : ℕ) → n < SEATS → StandsFor k es →
+entered_below : (k : TopologyState) (n : ℕ) (es : List TopologyEdit) (s : ℕ) → n < SEATS → StandsFor k es →
     is_held (Enter n ∷ es) s ≡ true → s < SEATS
 entered_below k n es s p h q = grind (arith, nat_tests, h.seats s)
 
-pub enter_stands : (k k' : TopologyState) (n : ℕ) (es : List Edit) → n < SEATS
+pub enter_stands : (k k' : TopologyState) (n : ℕ) (es : List TopologyEdit) → n < SEATS
     → ((s : ℕ) → has_seat k'.held s ≡ cond (s == n) true (has_seat k.held s))
     → ((t : ℕ) → t < SEATS → has_seat (slice_index k'.rows n) t ≡ true)
     → ((t l : ℕ) → l < SEATS → l ≢ n → has_seat (slice_index k'.rows l) t ≡
@@ -81,10 +81,10 @@ left_seat : (k k' : TopologyState) (n s : ℕ) (b : Bool) →
     has_seat k'.held s ≡ cond (s == n) false (has_seat k.held s) → holds k s ≡ b → holds k' s ≡ cond (s == n) false b
 left_seat k k' n s b e h = grind (arith, nat_tests)
 
-still_held : (n : ℕ) (es : List Edit) (s : ℕ) → is_held (Leave n ∷ es) s ≡ true → is_held es s ≡ true
+still_held : (n : ℕ) (es : List TopologyEdit) (s : ℕ) → is_held (Leave n ∷ es) s ≡ true → is_held es s ≡ true
 still_held n es s p = grind (arith, nat_tests)
 
-pub leave_stands : (k k' : TopologyState) (n : ℕ) (es : List Edit)
+pub leave_stands : (k k' : TopologyState) (n : ℕ) (es : List TopologyEdit)
     → ((s : ℕ) → has_seat k'.held s ≡ cond (s == n) false (has_seat k.held s)) → k'.rows ≡ k.rows
     → StandsFor k es → StandsFor k' (Leave n ∷ es)
 leave_stands k k' n es held rows h =
@@ -98,7 +98,7 @@ applied_word : (triple : Triple) (o : Option Triple) (t l : ℕ) (b : Bool) →
 applied_word triple o t l true = refl
 applied_word triple o t l false = refl
 
-pub apply_stands : (k k' : TopologyState) (triple : Triple) (es : List Edit) → k'.held ≡ k.held
+pub apply_stands : (k k' : TopologyState) (triple : Triple) (es : List TopologyEdit) → k'.held ≡ k.held
     → ((t l : ℕ) → l < SEATS → has_seat (slice_index k'.rows l) t ≡
     word_after triple t l (has_seat (slice_index k.rows l) t))
     → StandsFor k es → StandsFor k' (Apply triple ∷ es)
@@ -110,13 +110,13 @@ apply_stands k k' triple es held row h =
 
 -- ---- triples in order
 
-apply_all-push : (triples : List Triple) (triple : Triple) (es : List Edit) →
+apply_all-push : (triples : List Triple) (triple : Triple) (es : List TopologyEdit) →
     apply_all (triples ++ triple ∷ []) es ≡ Apply triple ∷ apply_all triples es
 apply_all-push [] triple es = refl
 apply_all-push (t ∷ ts) triple es = apply_all-push ts triple (Apply t ∷ es)
 
 -- the triples so far, and one more
-pub apply_all-more : (triples : List Triple) (i : ℕ) (triple : Triple) (es : List Edit) → i < length triples →
+pub apply_all-more : (triples : List Triple) (i : ℕ) (triple : Triple) (es : List TopologyEdit) → i < length triples →
     triple ≡ get_or triples i triple
     → apply_all (take (i + 1) triples) es ≡ Apply triple ∷ apply_all (take i triples) es
 apply_all-more triples i triple es p e =

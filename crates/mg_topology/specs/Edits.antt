@@ -6,20 +6,20 @@ use Rattle.mg_topology.specs.Triple.{speaks_of, word_of}
 use Rattle.mg_topology.specs.declared.triple.Triple.{Triple}
 
 -- a seat is taken or left, or a triple is applied
-pub data Edit : Type 0 where
-  Enter : (seat : ℕ) → Edit
-  Leave : (seat : ℕ) → Edit
-  Apply : (triple : Triple) → Edit
+pub data TopologyEdit : Type 0 where
+  Enter : (seat : ℕ) → TopologyEdit
+  Leave : (seat : ℕ) → TopologyEdit
+  Apply : (triple : Triple) → TopologyEdit
 
 -- whether the seat is held: the last of its Enters and Leaves is an Enter
-abbrev pub is_held : List Edit → ℕ → Bool
+abbrev pub is_held : List TopologyEdit → ℕ → Bool
 is_held [] seat = false
 is_held (Enter n ∷ es) seat = if seat == n then true else is_held es seat
 is_held (Leave n ∷ es) seat = if seat == n then false else is_held es seat
 is_held (Apply triple ∷ es) seat = is_held es seat
 
 -- the last word on a pair: the last triple that speaks of it after the latest Enter of each
-abbrev pub last_word : List Edit → ℕ → ℕ → Option Triple
+abbrev pub last_word : List TopologyEdit → ℕ → ℕ → Option Triple
 last_word [] a b = None
 last_word (Enter n ∷ es) a b = if (a == n) || (b == n) then None else last_word es a b
 last_word (Leave n ∷ es) a b = last_word es a b
@@ -31,22 +31,22 @@ allows None talker listener = true
 allows (Some triple) talker listener = word_of triple talker listener
 
 -- whether the last word on the two lets the listener hear the talker
-abbrev pub lets_hear : List Edit → ℕ → ℕ → Bool
+abbrev pub lets_hear : List TopologyEdit → ℕ → ℕ → Bool
 lets_hear es talker listener = allows (last_word es talker listener) talker listener
 
 -- whether the listener hears the talker: both are held, they differ, and the last word lets it
-abbrev pub hears_in : List Edit → ℕ → ℕ → Bool
+abbrev pub hears_in : List TopologyEdit → ℕ → ℕ → Bool
 hears_in es talker listener =
     is_held es talker
     && (is_held es listener && (not (talker == listener) && lets_hear es talker listener))
 
 -- the edits, and then the triples in order
-abbrev pub apply_all : List Triple → List Edit → List Edit
+abbrev pub apply_all : List Triple → List TopologyEdit → List TopologyEdit
 apply_all [] es = es
 apply_all (triple ∷ triples) es = apply_all triples (Apply triple ∷ es)
 
 -- whether the edit can change the last word on the pair
-abbrev pub touches : Edit → ℕ → ℕ → Bool
+abbrev pub touches : TopologyEdit → ℕ → ℕ → Bool
 touches (Enter n) a b = (a == n) || (b == n)
 touches (Leave n) a b = false
 touches (Apply triple) a b = speaks_of triple a b

@@ -1,7 +1,7 @@
 -- What a topology is seen as, and which lists of edits it stands for (this project's own).
 use Rattle.std.specs.Prelude.{◌≡◌, ℕ, Bool, not, ◌&&◌, ◌==◌, nat_lt, List, slice_index}
 use Rattle.mg_topology.specs.Mask.{seat_limit, has_seat}
-use Rattle.mg_topology.specs.Edits.{Edit, is_held, hears_in}
+use Rattle.mg_topology.specs.Edits.{TopologyEdit, is_held, hears_in}
 
 -- what is kept: the held seats as a mask, and for each listener a row, the mask of those that its
 -- last words let it hear. What a row says of itself or of a seat that is not held means nothing.
@@ -21,6 +21,6 @@ hears kept talker listener =
     && (not (talker == listener) && has_seat (slice_index kept.rows listener) talker))
 
 -- what is kept agrees with the edits, for each seat and for each pair
-pub record StandsFor (kept : TopologyState) (es : List Edit) : Type 0 where
+pub record StandsFor (kept : TopologyState) (es : List TopologyEdit) : Type 0 where
   pub seats : (seat : ℕ) → holds kept seat ≡ is_held es seat
   pub pairs : (talker listener : ℕ) → hears kept talker listener ≡ hears_in es talker listener

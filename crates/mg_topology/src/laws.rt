@@ -12,21 +12,21 @@ ghost use Rattle.mg_words.specs.declared.association.Association.TheVariants.{Is
 ghost use Rattle.mg_topology.specs.declared.mask.TheConstants.{EMPTY, FULL, SEATS};
 ghost use Rattle.mg_topology.specs.Mask.{seat_limit, has_seat, seats_of, seat_count, IsEmpty};
 ghost use Rattle.mg_topology.specs.Triple.{leads, speaks_of, overlaps, Overlaps};
-ghost use Rattle.mg_topology.specs.Edits.{Edit, Enter, Leave, Apply, is_held, last_word, lets_hear, hears_in, touches};
+ghost use Rattle.mg_topology.specs.Edits.{TopologyEdit, Enter, Leave, Apply, is_held, last_word, lets_hear, hears_in, touches};
 
 /// A newcomer and each member hear each other, whatever was said of its seat before.
 pub fn newcomer_hears_and_is_heard()
-    ensures hears { (es : List Edit) (newcomer member : ℕ) →
+    ensures hears { (es : List TopologyEdit) (newcomer member : ℕ) →
         newcomer ≢ member → IsTrue (is_held es member) →
         IsTrue (hears_in (Enter newcomer ∷ es) member newcomer) }
-    ensures is_heard { (es : List Edit) (newcomer member : ℕ) →
+    ensures is_heard { (es : List TopologyEdit) (newcomer member : ℕ) →
         newcomer ≢ member → IsTrue (is_held es member) →
         IsTrue (hears_in (Enter newcomer ∷ es) newcomer member) }
 {}
 
 /// Two hear each other where no triple has spoken of them since both entered.
 pub fn unspoken_pair_hears()
-    ensures { (newer older : List Edit) (newcomer a b : ℕ) →
+    ensures { (newer older : List TopologyEdit) (newcomer a b : ℕ) →
         IsTrue ((a == newcomer) || (b == newcomer)) →
         IsFalse (list_any (λ edit. touches edit a b) newer) →
         IsTrue (lets_hear (newer ++ Enter newcomer ∷ older) a b) }
@@ -34,7 +34,7 @@ pub fn unspoken_pair_hears()
 
 /// Of the triples that speak of a pair, the last one has the last word.
 pub fn last_triple_wins()
-    ensures { (newer older : List Edit) (triple : Triple) (a b : ℕ) →
+    ensures { (newer older : List TopologyEdit) (triple : Triple) (a b : ℕ) →
         IsTrue (speaks_of triple a b) →
         IsFalse (list_any (λ edit. touches edit a b) newer) →
         last_word (newer ++ Apply triple ∷ older) a b ≡ Some triple }
@@ -42,17 +42,17 @@ pub fn last_triple_wins()
 
 /// What each association says of a seat of the first set and a seat of the second.
 pub fn associations()
-    ensures isolate { (es : List Edit) (triple : Triple) (first second : ℕ) →
+    ensures isolate { (es : List TopologyEdit) (triple : Triple) (first second : ℕ) →
         IsTrue (leads triple first second) → triple.association ≡ Isolate →
         IsFalse (lets_hear (Apply triple ∷ es) first second)
         × IsFalse (lets_hear (Apply triple ∷ es) second first) }
 
     // A Oneway triple that overlaps is refused.
-    ensures oneway { (es : List Edit) (triple : Triple) (first second : ℕ) →
+    ensures oneway { (es : List TopologyEdit) (triple : Triple) (first second : ℕ) →
         IsTrue (leads triple first second) → triple.association ≡ Oneway → IsFalse (overlaps triple) →
         IsTrue (lets_hear (Apply triple ∷ es) first second)
         × IsFalse (lets_hear (Apply triple ∷ es) second first) }
-    ensures bothway { (es : List Edit) (triple : Triple) (first second : ℕ) →
+    ensures bothway { (es : List TopologyEdit) (triple : Triple) (first second : ℕ) →
         IsTrue (leads triple first second) → triple.association ≡ Bothway →
         IsTrue (lets_hear (Apply triple ∷ es) first second)
         × IsTrue (lets_hear (Apply triple ∷ es) second first) }
@@ -60,18 +60,18 @@ pub fn associations()
 
 /// No edit changes what is heard between two others.
 pub fn others_are_left_alone()
-    ensures enter { (es : List Edit) (newcomer a b : ℕ) → newcomer ≢ a → newcomer ≢ b →
+    ensures enter { (es : List TopologyEdit) (newcomer a b : ℕ) → newcomer ≢ a → newcomer ≢ b →
         hears_in (Enter newcomer ∷ es) a b ≡ hears_in es a b }
-    ensures leave { (es : List Edit) (leaver a b : ℕ) → leaver ≢ a → leaver ≢ b →
+    ensures leave { (es : List TopologyEdit) (leaver a b : ℕ) → leaver ≢ a → leaver ≢ b →
         hears_in (Leave leaver ∷ es) a b ≡ hears_in es a b }
-    ensures apply { (es : List Edit) (triple : Triple) (a b : ℕ) → IsFalse (speaks_of triple a b) →
+    ensures apply { (es : List TopologyEdit) (triple : Triple) (a b : ℕ) → IsFalse (speaks_of triple a b) →
         hears_in (Apply triple ∷ es) a b ≡ hears_in es a b }
 {}
 
 /// Nobody hears itself, and who has left hears nobody and is heard by nobody.
 pub fn absent_pairs_are_silent()
-    ensures itself { (es : List Edit) (member : ℕ) → IsFalse (hears_in es member member) }
-    ensures left { (es : List Edit) (leaver other : ℕ) →
+    ensures itself { (es : List TopologyEdit) (member : ℕ) → IsFalse (hears_in es member member) }
+    ensures left { (es : List TopologyEdit) (leaver other : ℕ) →
         IsFalse (hears_in (Leave leaver ∷ es) leaver other)
         × IsFalse (hears_in (Leave leaver ∷ es) other leaver) }
 {}

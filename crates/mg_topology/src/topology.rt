@@ -28,7 +28,7 @@ impl Model for Topology {
 }
 
 impl Topology {
-    ghost use Rattle.mg_topology.specs.Edits.{Edit, Enter, Leave, Apply, is_held, hears_in, apply_all};
+    ghost use Rattle.mg_topology.specs.Edits.{TopologyEdit, Enter, Leave, Apply, is_held, hears_in, apply_all};
     ghost use Rattle.mg_topology.specs.Topology.{holds, hears, StandsFor};
 
     /// The topology of a context that nobody has entered.
@@ -44,7 +44,7 @@ impl Topology {
     /// Whether the seat is held, which no seat from [`SEATS`] on is.
     pub fn holds(&self, seat: usize) -> bool
         ensures kept { result ≡ holds self.now seat }
-        ensures edits { (es : List Edit) → StandsFor self.now es → result ≡ is_held es seat }
+        ensures edits { (es : List TopologyEdit) → StandsFor self.now es → result ≡ is_held es seat }
     {
         seat < SEATS && mask::has_seat(self.held, seat)
     }
@@ -52,7 +52,7 @@ impl Topology {
     /// The seats that are held.
     pub fn held(&self) -> Mask
         ensures kept { (seat : ℕ) → has_seat result seat ≡ holds self.now seat }
-        ensures edits { (es : List Edit) → StandsFor self.now es → (seat : ℕ) →
+        ensures edits { (es : List TopologyEdit) → StandsFor self.now es → (seat : ℕ) →
             has_seat result seat ≡ is_held es seat }
     {
         self.held
@@ -62,7 +62,7 @@ impl Topology {
     pub fn enter(&mut self, seat: usize)
         requires below_limit { seat < SEATS }
         requires free { IsFalse (holds self.old seat) }
-        ensures edits { (es : List Edit) → StandsFor self.old es →
+        ensures edits { (es : List TopologyEdit) → StandsFor self.old es →
             StandsFor self.new (Enter seat ∷ es) }
         ensures seats { (s : ℕ) →
             holds self.new s ≡ (if s == seat then true else holds self.old s) }
@@ -75,7 +75,7 @@ impl Topology {
     /// The member on the seat leaves. Nothing changes between the others.
     pub fn leave(&mut self, seat: usize)
         requires held { IsTrue (holds self.old seat) }
-        ensures edits { (es : List Edit) → StandsFor self.old es →
+        ensures edits { (es : List TopologyEdit) → StandsFor self.old es →
             StandsFor self.new (Leave seat ∷ es) }
         ensures seats { (s : ℕ) →
             holds self.new s ≡ (if s == seat then false else holds self.old s) }
@@ -87,7 +87,7 @@ impl Topology {
     /// none of them, where a Oneway triple has a seat in both of its sets.
     pub fn apply(&mut self, triples: &[Triple]) -> Result<(), Overlap>
         ensures overlap { IsErr result ↔ Any Overlaps triples.now }
-        ensures ok { OnOk result ((es : List Edit) → StandsFor self.old es →
+        ensures ok { OnOk result ((es : List TopologyEdit) → StandsFor self.old es →
             StandsFor self.new (apply_all triples.now es)) }
         ensures seats { (seat : ℕ) → holds self.new seat ≡ holds self.old seat }
         ensures err { OnErr result (self.new ≡ self.old) }
@@ -103,7 +103,7 @@ impl Topology {
 
     #[tactic(auto, using(crate::proofs::TopologyLemmas::apply_stands))]
     fn apply_one(&mut self, triple: &Triple)
-        ensures edits { (es : List Edit) → StandsFor self.old es →
+        ensures edits { (es : List TopologyEdit) → StandsFor self.old es →
             StandsFor self.new (Apply triple.now ∷ es) }
         ensures held { self.new.held ≡ self.old.held }
     {
@@ -114,7 +114,7 @@ impl Topology {
     #[tactic(auto, using(crate::proofs::MaskLemmas::seat_rules))]
     pub fn talkers(&self, listener: usize) -> Mask
         ensures kept { (talker : ℕ) → has_seat result talker ≡ hears self.now talker listener }
-        ensures edits { (es : List Edit) → StandsFor self.now es → (talker : ℕ) →
+        ensures edits { (es : List TopologyEdit) → StandsFor self.now es → (talker : ℕ) →
             has_seat result talker ≡ hears_in es talker listener }
     {
         if !self.holds(listener) {
@@ -127,7 +127,7 @@ impl Topology {
     /// the pair lets it. The listener comes first, as in the sentence.
     pub fn hears(&self, listener: usize, talker: usize) -> bool
         ensures kept { result ≡ hears self.now talker listener }
-        ensures edits { (es : List Edit) → StandsFor self.now es →
+        ensures edits { (es : List TopologyEdit) → StandsFor self.now es →
             result ≡ hears_in es talker listener }
     {
         talker < SEATS && mask::has_seat(self.talkers(listener), talker)

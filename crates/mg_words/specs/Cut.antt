@@ -4,9 +4,9 @@ use Rattle.std.specs.Prelude.{if◌then◌else◌}
 use Rattle.std.specs.List.{position_or_len}
 
 -- the two parts at a place, if the text goes beyond it
-abbrev pub parts_at : List ℕ → ℕ → Option (List ℕ × List ℕ)
-parts_at text n = if nat_lt n (length text) then Some (take n text, drop (n + 1) text) else None
+abbrev pub cut_at : List ℕ → ℕ → Option (List ℕ × List ℕ)
+cut_at text n = if nat_lt n (length text) then Some (take n text, drop (n + 1) text) else None
 
 -- what stands before the first such byte of a text, and what stands after it
 abbrev pub cut : ℕ → List ℕ → Option (List ℕ × List ℕ)
-cut byte text = parts_at text (position_or_len (λ b. b == byte) text)
+cut byte text = cut_at text (position_or_len (λ b. b == byte) text)

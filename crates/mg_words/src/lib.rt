@@ -21,6 +21,7 @@ mod limits;
 mod mode;
 mod number;
 mod parts;
+mod peer;
 mod stats;
 mod term;
 #[cfg(test)]
@@ -40,6 +41,7 @@ pub use crate::limits::{
 pub use crate::mode::{Mode, mode_listens, mode_talks};
 pub use crate::number::{number_of, port_of, uint16_of, version_in_digits};
 pub use crate::parts::cut;
+pub use crate::peer::Peer;
 pub use crate::stats::Stats;
 pub use crate::term::{Term, is_term};
 pub use crate::word_byte::is_word_byte;

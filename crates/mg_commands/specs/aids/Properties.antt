@@ -1,21 +1,21 @@
 -- The faults of the two properties that are served, each by itself.
 use Rattle.std.specs.Prelude.{nat_lt, not, List, length, Option, Some, if◌then◌else◌}
+use Rattle.std.specs.Bool.{then_some}
 use Rattle.std.specs.List.{list_any}
 use Rattle.mg_words.specs.declared.error_number.ErrorNumber.{ErrorNumber}
 use Rattle.mg_words.specs.declared.error_number.ErrorNumber.TheVariants as errors
 use Rattle.mg_engine.specs.Triples.{triple_limit}
 use Rattle.mg_text.specs.declared.context_property.ContextProperty.{ContextProperty}
 use Rattle.mg_text.specs.declared.context_property.ContextWord.{ContextWord}
-use Rattle.mg_text.specs.declared.context_property.Triple.{Triple}
+use Rattle.mg_text.specs.declared.context_property.NamedTriple.{NamedTriple}
 use Rattle.mg_commands.specs.ContextProperties.{is_topology, is_context_audit, is_topology_word}
-use Rattle.mg_commands.specs.ContextProperties.{refused_if}
 
-abbrev pub topology_fault : List ContextProperty → List Triple → Option ErrorNumber
+abbrev pub topology_fault : List ContextProperty → List NamedTriple → Option ErrorNumber
 topology_fault before xs =
     if list_any is_topology before then Some errors.DescriptorTwice
-    else refused_if (nat_lt triple_limit (length xs)) errors.NotServed
+    else then_some (nat_lt triple_limit (length xs)) errors.NotServed
 
 abbrev pub audit_fault : List ContextProperty → List ContextWord → Option ErrorNumber
 audit_fault before ws =
     if list_any is_context_audit before then Some errors.DescriptorTwice
-    else refused_if (list_any (λ w. not (is_topology_word w)) ws) errors.DescriptorNotServed
+    else then_some (list_any (λ w. not (is_topology_word w)) ws) errors.DescriptorNotServed

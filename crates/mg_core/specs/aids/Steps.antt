@@ -36,8 +36,8 @@ use Rattle.mg_core.specs.Run.{Ran, RanInPart, HasRead, HasBadAfter, RanToBadLine
 use Rattle.mg_core.specs.Run.{RanToCutLine, RanToUnrunLine, lines_for}
 
 -- a text grew by what was written
-abbrev pub Puts : CoreState → CoreState → List ℕ → List ℕ → (World → List ℕ × World) → Type 0
-Puts old new before text f =
+abbrev pub TextGrows : CoreState → CoreState → List ℕ → List ℕ → (World → List ℕ × World) → Type 0
+TextGrows old new before text f =
     Leads StandsFor old new (λ w next. (out : List ℕ) × (f w ≡ (out, next))
     × (text ≡ before ++ out))
 
@@ -96,15 +96,15 @@ ChangesWritten shows.SentAndFlows w next old new (Err events.Write) =
 ChangesWritten shows.SentAndFlows w next old new (Err events.NoMemory) = ⊥
 
 -- the terminations that are kept, where changes are shown, are those of the world
-abbrev pub AreKept : Shown → Option (List Listener) → World → Type 0
-AreKept shows.Sent kept w = kept ≡ None
-AreKept shows.SentAndFlows kept w = kept ≡ Some (listeners_of w.gateway)
+abbrev pub AreKeptListeners : Shown → Option (List Listener) → World → Type 0
+AreKeptListeners shows.Sent kept w = kept ≡ None
+AreKeptListeners shows.SentAndFlows kept w = kept ≡ Some (listeners_of w.gateway)
 
 -- a state stands for the world, whose terminations are kept
 pub record Follows (shown : Shown) (state : CoreState) (kept : Option (List Listener)) (w : World)
     : Type 0 where
   pub stands : StandsFor state w
-  pub same : AreKept shown kept w
+  pub same : AreKeptListeners shown kept w
 
 -- from each world that was followed it led to one, and where all was done that one is followed
 abbrev pub LeadsOn : {E : Type 0} → (World → Type 0) → (World → Type 0) → Result (Unit {0}) E

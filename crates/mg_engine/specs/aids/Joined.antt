@@ -9,8 +9,8 @@ use Rattle.mg_flow.specs.declared.place.Place.{Place}
 use Rattle.mg_engine.specs.Place.{IsOnPlace}
 
 -- the room that a row is joined to
-abbrev pub room_at : List (Option ℕ) → ℕ → Option ℕ
-room_at joined row = slice_index_or joined row None
+abbrev pub room_of_row : List (Option ℕ) → ℕ → Option ℕ
+room_of_row joined row = slice_index_or joined row None
 
 -- the room that the row of one who is in a room with a mode is joined to: that one, if it talks
 abbrev pub room_for : Mode → ℕ → Option ℕ
@@ -19,11 +19,11 @@ room_for mode room = if talks mode then Some room else None
 -- the row of each member is joined where it talks, and no other row is joined
 pub record AreJoined (w : Registry) (joined : List (Option ℕ)) : Type 0 where
   pub each : (n : ℕ) (r : Record) (p : Place) → IsOnPlace w n r p
-      → room_at joined r.slot ≡ room_for r.mode p.room
-  pub nobody : (row room : ℕ) → room_at joined row ≡ Some room
+      → room_of_row joined r.slot ≡ room_for r.mode p.room
+  pub nobody : (row room : ℕ) → room_of_row joined row ≡ Some room
       → (n : ℕ) × (r : Record) × (p : Place) × IsOnPlace w n r p × (r.slot ≡ row)
 
 -- one row is joined to a room from then on, or to none, and each other as before
 abbrev pub SetsRow : List (Option ℕ) → List (Option ℕ) → ℕ → Option ℕ → Type 0
 SetsRow old new row room =
-    (other : ℕ) → room_at new other ≡ (if other == row then room else room_at old other)
+    (other : ℕ) → room_of_row new other ≡ (if other == row then room else room_of_row old other)

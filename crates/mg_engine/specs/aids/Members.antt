@@ -6,7 +6,7 @@ use Rattle.mg_rooms.specs.declared.record.Record.{Record}
 use Rattle.mg_rooms.specs.Registry.{Registry}
 use Rattle.mg_flow.specs.declared.place.Place.{Place}
 use Rattle.mg_flow.specs.Place.{is_same_place, are_together}
-use Rattle.mg_flow.specs.Table.{Room, holds, talks, listens, hears, SetsPlace}
+use Rattle.mg_flow.specs.Table.{Room, holds, talks_at, listens_at, hears, SetsPlace}
 use Rattle.mg_engine.specs.Place.{IsOnPlace}
 
 -- one enters on a place with a mode, and it and each other member of the room hear each other
@@ -30,8 +30,8 @@ pub record TakesMode (old new : List Room) (at : Place) (m : Mode) : Type 0 wher
 -- what a table says of the place of one with this record
 pub record SaysOf (table : List Room) (r : Record) (p : Place) : Type 0 where
   pub held : IsTrue (holds table p)
-  pub talks : talks table p ≡ mode.talks r.mode
-  pub listens : listens table p ≡ mode.listens r.mode
+  pub talks : talks_at table p ≡ mode.talks r.mode
+  pub listens : listens_at table p ≡ mode.listens r.mode
 
 -- each termination's place is held by it, with its mode, and no other place is held
 pub record HasMembers (w : Registry) (table : List Room) : Type 0 where

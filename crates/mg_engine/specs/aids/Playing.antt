@@ -2,6 +2,7 @@
 use Rattle.std.specs.Prelude.{◌≡◌, ℕ, ℤ, ◌<◌, ◌≤◌, Some, List, [], length, slice_index_or}
 use Rattle.mg_engine.specs.Gateway.{Gateway, TerminationMedia, media_of}
 use Rattle.mg_engine.specs.Media as media
+use Rattle.mg_engine.specs.aids.MediaSteps as media_steps
 use Rattle.mg_engine.specs.Stands.{media_at}
 
 -- each termination has lived a tick at least
@@ -17,5 +18,5 @@ AreApart slots =
 -- the play list of a slot has ticked, and what it gave is in the slot's row
 pub record IsPlayed (old new : List media.SlotMedia) (frames : List (List ℤ)) (slot : ℕ)
     : Type 0 where
-  pub ticked : media_at new slot ≡ media.played (media_at old slot)
-  pub frame : slice_index_or frames slot [] ≡ media.frame_played (media_at old slot)
+  pub ticked : media_at new slot ≡ media_steps.slot_played (media_at old slot)
+  pub frame : slice_index_or frames slot [] ≡ media_steps.frame_played (media_at old slot)

@@ -16,12 +16,13 @@ use Rattle.mg_flow.specs.Table as flow
 use Rattle.mg_sums.specs.Sums.{sample_in}
 use Rattle.mg_sums.specs.Samples.{sum_of, nearest_sample}
 use Rattle.mg_engine.specs.declared.datagram.Datagram.{Datagram}
-use Rattle.mg_engine.specs.declared.peer.Peer.{Peer}
+use Rattle.mg_words.specs.declared.peer.Peer.{Peer}
 use Rattle.mg_engine.specs.declared.share.Share.{Share}
 use Rattle.mg_engine.specs.declared.taken.Taken.{Taken}
 use Rattle.mg_engine.specs.declared.taken.Taken.TheVariants.{Placed, Dropped}
 use Rattle.mg_engine.specs.Arrival.{Arrived}
 use Rattle.mg_engine.specs.Media as media
+use Rattle.mg_engine.specs.aids.MediaSteps as media_steps
 use Rattle.mg_engine.specs.Place.{place_of}
 use Rattle.mg_engine.specs.Mix.{is_loopback}
 use Rattle.mg_engine.specs.Stands.{EngineState, media_at}
@@ -64,7 +65,7 @@ abbrev pub packet_now : EngineState → Record → Chosen → Datagram
 packet_now k r to = record {
   from = slot_port k.rooms.limits r.slot;
   to = record { address = to.address; port = to.port };
-  bytes = header_bytes plain (media.header (media_at k.media r.slot) (type_of to.law)
+  bytes = header_bytes plain (media_steps.header (media_at k.media r.slot) (type_of to.law)
       ((k.config.ssrc + r.number) % 2 ^ 32))
       ++ map (byte_of to.law) (mixed_now k r);
 }
@@ -96,7 +97,8 @@ slot_sends w slot = has_destination (rooms.holder_of w slot)
 
 -- the media of a slot are those after a tick in which who holds it has sent a packet if it sends
 abbrev pub IsEnded : rooms.Registry → List media.SlotMedia → List media.SlotMedia → ℕ → Type 0
-IsEnded w old new slot = media_at new slot ≡ media.ended (slot_sends w slot) (media_at old slot)
+IsEnded w old new slot = media_at new slot
+    ≡ media_steps.slot_ended (slot_sends w slot) (media_at old slot)
 
 -- the same state after mixes, which count their rows, and after packets that lend their payloads
 abbrev pub with_mixes : EngineState → ℕ → List (List Share) → EngineState
@@ -105,6 +107,6 @@ with_mixes k work shares = record k { sums = record k.sums { work = work }; shar
 -- what became of what came to a slot: a frame was placed, or the media stayed as they were
 abbrev pub PlacedAt : List media.SlotMedia → List media.SlotMedia → ℕ → Arrived → Taken → Type 0
 PlacedAt old new slot (Ok p) result =
-    (new ≡ slice_set old slot (media.placed (media_at old slot) p.0 p.1).0)
-    × (result ≡ Placed ((media.placed (media_at old slot) p.0 p.1).1))
+    (new ≡ slice_set old slot (media_steps.slot_placed (media_at old slot) p.0 p.1).0)
+    × (result ≡ Placed ((media_steps.slot_placed (media_at old slot) p.0 p.1).1))
 PlacedAt old new slot (Err cause) result = (new ≡ old) × (result ≡ Dropped cause)

@@ -16,7 +16,7 @@ use Rattle.mg_engine.specs.aids.Seating.{AreSeated, place_count}
 -- each slot has its media, the slots that are held are in the order of their terminations' numbers,
 -- each member is on its place, there is a row for each termination that there can be, and the rows
 -- of those who talk are joined to their rooms
-pub record IsWhole (config : Config) (rooms : rooms.Registry) (pool : Limits)
+pub record IsWholeEngine (config : Config) (rooms : rooms.Registry) (pool : Limits)
     (kept : List media.SlotMedia) (slots : List ℕ) (flows : List flow.Room)
     (seating : List ℕ) (rows : List (Option ℕ)) : Type 0 where
   pub sound : IsSound rooms

@@ -10,9 +10,9 @@ pub record Drafted : Type 0 where
   pub room : ℕ
   pub text : Option (List ℕ)
 
-abbrev pub text_of : Bool → List ℕ → Option (List ℕ)
-text_of true text = None
-text_of false text = Some text
+abbrev pub text_unless : Bool → List ℕ → Option (List ℕ)
+text_unless true text = None
+text_unless false text = Some text
 
 -- a text if it is no longer than a reply may be
 abbrev pub limited : List ℕ → Option (List ℕ)

@@ -2,9 +2,9 @@
 use Rattle.std.specs.Prelude.{ℕ, Bool, true, false, List, [], ◌∷◌, codes, if◌then◌else◌}
 
 -- whether there is no part
-abbrev pub is_empty : List (List ℕ) → Bool
-is_empty [] = true
-is_empty (x ∷ xs) = false
+abbrev pub has_no_part : List (List ℕ) → Bool
+has_no_part [] = true
+has_no_part (x ∷ xs) = false
 
 -- the mark before the next part
 abbrev pub mark_of : List ℕ → Bool → List ℕ

@@ -2,7 +2,7 @@
 use Rattle.std.specs.Prelude.{◌≡◌, ℕ, ◌<◌, ◌≤◌, List, length, Option, Some, None, not, ◌==◌, find}
 use Rattle.std.specs.List.{list_any}
 use Rattle.mg_rooms.specs.declared.context.Context.{Context}
-use Rattle.mg_rooms.specs.declared.place.Place.{Place}
+use Rattle.mg_rooms.specs.declared.place.EntryPlace.{EntryPlace}
 use Rattle.mg_words.specs.Limits.{context_limit, member_limit, last_context}
 use Rattle.mg_rooms.specs.Registry.{Registry, least_below, members_of}
 
@@ -14,5 +14,5 @@ CanEnterAt contexts next c (Some room) =
 CanEnterAt contexts next c None =
     length (members_of (find (λ x. x.number == c) contexts)) < member_limit
 
-abbrev pub CanEnter : Registry → Place → Type 0
+abbrev pub CanEnter : Registry → EntryPlace → Type 0
 CanEnter w place = CanEnterAt w.contexts w.next_context place.context place.made

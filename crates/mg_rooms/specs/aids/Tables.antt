@@ -30,7 +30,7 @@ pub record IsTable {A : Type 0} (key spot : A → ℕ) (next size : ℕ)
   pub below : (i : ℕ) (x : A) → slice_get t i ≡ Some (Some x) → key x < next
   pub once : HoldsOnce key t
 
-pub record IsKept (a : Inside) : Type 0 where
+pub record HasTables (a : Inside) : Type 0 where
   pub limits : AreValidLimits a.limits
   pub slots : IsTable (λ r. r.number) (λ r. r.slot) a.next_termination a.limits.slots a.slots.items
   pub rooms : IsTable (λ x. x.number) (λ x. x.room) a.next_context context_limit a.rooms.items

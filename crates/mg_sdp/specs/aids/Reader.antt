@@ -4,9 +4,9 @@ use Rattle.std.specs.Prelude.{ℕ, ◌==◌, ◌&&◌, Bool, true, false, nat_lt
 use Rattle.std.specs.Prelude.{Some, None, Result, Ok, Err, length, unwrap_or, if◌then◌else◌}
 use Rattle.std.specs.Str.{byte}
 use Rattle.mg_words.specs.Limits.{alternative_limit}
-use Rattle.mg_sdp.specs.declared.media.Media.{Media}
-use Rattle.mg_sdp.specs.declared.part.Part.{Part}
-use Rattle.mg_sdp.specs.declared.part.Part.TheVariants.{Missing, Given, Faulty}
+use Rattle.mg_sdp.specs.declared.media.MediaLine.{MediaLine}
+use Rattle.mg_sdp.specs.declared.part.AlternativePart.{AlternativePart}
+use Rattle.mg_sdp.specs.declared.part.AlternativePart.TheVariants.{Missing, Given, Faulty}
 use Rattle.mg_sdp.specs.declared.offer.Offer.{Offer}
 use Rattle.mg_sdp.specs.declared.fault.SdpFault.{SdpFault}
 use Rattle.mg_sdp.specs.declared.fault.SdpFault.TheVariants.{TooMany}
@@ -18,16 +18,16 @@ use Rattle.mg_sdp.specs.Connection.{connection_in}
 use Rattle.mg_sdp.specs.Offer.{is_served_version, is_served_attribute, offer_with}
 use Rattle.mg_sdp.specs.aids.Progress.{Progress}
 
-abbrev pub part_of : {X : Type 0} → Option X → Part X
+abbrev pub part_of : {X : Type 0} → Option X → AlternativePart X
 part_of None = Faulty
 part_of (Some x) = Given x
 
-abbrev pub media_with_line : Part Media → List ℕ → Part Media
+abbrev pub media_with_line : AlternativePart MediaLine → List ℕ → AlternativePart MediaLine
 media_with_line Missing value = part_of (media_in (fields_of value))
 media_with_line (Given media) value = Faulty
 media_with_line Faulty value = Faulty
 
-abbrev pub connection_with_line : List ℕ → Part (Option (List ℕ))
+abbrev pub connection_with_line : List ℕ → AlternativePart (Option (List ℕ))
 connection_with_line value = part_of (connection_in (fields_of value))
 
 abbrev pub no_lines : Alternative
@@ -57,12 +57,13 @@ with_line old letter value =
     }
     else old)))
 
-abbrev pub offer_at : Bool → Part Media → Option (List ℕ) → Option Offer
+abbrev pub offer_at : Bool → AlternativePart MediaLine → Option (List ℕ) → Option Offer
 offer_at holds Missing address = None
 offer_at holds (Given media) address = if holds then Some (offer_with media address) else None
 offer_at holds Faulty address = None
 
-abbrev pub offer_from : Bool → Part Media → Part (Option (List ℕ)) → Option Offer
+abbrev pub offer_from : Bool → AlternativePart MediaLine → AlternativePart (Option (List ℕ))
+    → Option Offer
 offer_from holds media Missing = offer_at holds media None
 offer_from holds media (Given address) = offer_at holds media address
 offer_from holds media Faulty = None
@@ -70,8 +71,8 @@ offer_from holds media Faulty = None
 abbrev pub offer_by : Alternative → Option Offer
 offer_by alternative = offer_from alternative.holds alternative.media alternative.connection
 
-abbrev pub start : Progress
-start = record { offers = []; current = None; over = false }
+abbrev pub progress_at_start : Progress
+progress_at_start = record { offers = []; current = None; over = false }
 
 abbrev pub ended_at : Progress → Option Alternative → Progress
 ended_at old None = old
@@ -104,8 +105,8 @@ line_read_at old (Some parts) =
 unfoldable pub line_read : Progress → List ℕ → Progress
 line_read old line = line_read_at old (letter_and_value line)
 
-abbrev pub closed : Progress → Result (List (Option Offer)) SdpFault
-closed old = if old.over then Err TooMany else Ok old.offers
+abbrev pub offers_at_end : Progress → Result (List (Option Offer)) SdpFault
+offers_at_end old = if old.over then Err TooMany else Ok old.offers
 
 unfoldable pub finished : Progress → Result (List (Option Offer)) SdpFault
-finished old = closed (ended old)
+finished old = offers_at_end (ended old)

@@ -1,7 +1,7 @@
 -- What the steps of a server do: a receive, some bytes of its input, and the last line.
 use Rattle.std.specs.Prelude.{◌≡◌, ℕ, Bool, true, false, List, [], ◌∷◌, ◌++◌, take, Result, Ok, Err}
 use Rattle.mg_engine.specs.declared.config.Config.{Config}
-use Rattle.mg_engine.specs.declared.peer.Peer.{Peer}
+use Rattle.mg_words.specs.declared.peer.Peer.{Peer}
 use Rattle.mg_core.specs.declared.fault.RunFault.{RunFault}
 use Rattle.mg_core.specs.declared.fault.RunFault.TheVariants as faults
 use Rattle.mg_core.specs.World.{World}

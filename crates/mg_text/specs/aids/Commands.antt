@@ -14,16 +14,16 @@ use Rattle.mg_words.specs.declared.command_word.CommandWord.{CommandWord}
 use Rattle.mg_words.specs.declared.command_word.CommandWord.TheVariants as commands
 use Rattle.mg_text.specs.declared.command_head.CommandHead.{CommandHead}
 use Rattle.mg_text.specs.declared.command.Command.{Command}
-use Rattle.mg_text.specs.Words.{audit_word_of, command_of}
+use Rattle.mg_text.specs.Words.{by_keyword, audit_word_named, command_of}
 use Rattle.mg_words.specs.ResultSteps.{◌>>=◌}
 use Rattle.mg_text.specs.aids.Reading.{mark_at, after_mark, if_some, word_at, meaning_at}
 use Rattle.mg_text.specs.aids.Reading.{keyword_at, term_at, after_group, filled_at, braced_at}
-use Rattle.mg_text.specs.aids.Reading.{any_braced_at, optional_braced_at, place_of}
+use Rattle.mg_text.specs.aids.Reading.{any_braced_at, optional_braced_at, place_of_rest}
 use Rattle.mg_text.specs.aids.Media.{media_part_at}
 
 -- the words of an Audit after its first word
 abbrev pub audit_words_at : List ℕ → List Token → Result (List AuditWord × List Token) ℕ
-audit_words_at source ts = any_braced_at source (meaning_at audit_word_of source) ts
+audit_words_at source ts = any_braced_at source (meaning_at (by_keyword audit_word_named) source) ts
 
 -- the value of a descriptor after its equals sign: a group, or a word and perhaps a group
 unfoldable pub assigned_at : List ℕ → List Token → Result (List Token) ℕ
@@ -62,7 +62,7 @@ descriptor_named source _ place ts = Err place
 unfoldable pub descriptor_at : List ℕ → List Token → Result (Descriptor × List Token) ℕ
 descriptor_at source ts = do
   keyword ← keyword_at source ts
-  descriptor_named source keyword.0 (place_of source ts) keyword.1
+  descriptor_named source keyword.0 (place_of_rest source ts) keyword.1
 
 -- an Audit, by its first word
 abbrev pub audit_named : List ℕ → Keyword → ℕ → List Token → Result (List AuditWord × List Token) ℕ
@@ -72,7 +72,7 @@ audit_named source _ place ts = Err place
 unfoldable pub audit_at : List ℕ → List Token → Result (List AuditWord × List Token) ℕ
 audit_at source ts = do
   keyword ← keyword_at source ts
-  audit_named source keyword.0 (place_of source ts) keyword.1
+  audit_named source keyword.0 (place_of_rest source ts) keyword.1
 
 -- an Audit in braces, or no braces
 unfoldable pub optional_audit_at : List ℕ → List Token → Result (List Descriptor × List Token) ℕ

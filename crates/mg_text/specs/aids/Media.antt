@@ -17,12 +17,12 @@ use Rattle.mg_text.specs.declared.media.StreamPart.TheVariants as streams
 use Rattle.mg_text.specs.declared.media.MediaPart.{MediaPart}
 use Rattle.mg_text.specs.declared.media.MediaPart.TheVariants as parts
 use Rattle.mg_text.specs.Keyword.{keyword_of}
-use Rattle.mg_text.specs.Words.{mode_word_of, switch_of}
+use Rattle.mg_text.specs.Words.{by_keyword, mode_named, switch_of}
 use Rattle.mg_text.specs.Grammar.{has_slash}
 use Rattle.mg_words.specs.ResultSteps.{◌>>=◌}
 use Rattle.mg_text.specs.aids.Reading.{mark_at, after_mark, if_some, span_at, word_at, meaning_at}
 use Rattle.mg_text.specs.aids.Reading.{keyword_at, number_at, after_group, filled_at, braced_at}
-use Rattle.mg_text.specs.aids.Reading.{place_of}
+use Rattle.mg_text.specs.aids.Reading.{place_of_rest}
 
 -- the value of a property, by the kind and text of its first token
 abbrev pub value_kinded : List ℕ → TokenKind → Span → List Token
@@ -54,7 +54,7 @@ switched_at source part ts = do
 unfoldable pub mode_part_at : List ℕ → List Token → Result (ControlPart × List Token) ℕ
 mode_part_at source ts = do
   ts ← mark_at source Equals ts
-  mode ← meaning_at mode_word_of source ts
+  mode ← meaning_at (by_keyword mode_named) source ts
   Ok (controls.Mode mode.0, mode.1)
 
 unfoldable pub package_part_at : List ℕ → Span → List Token → Result (ControlPart × List Token) ℕ
@@ -91,7 +91,7 @@ stream_named source _ place ts = Err place
 unfoldable pub stream_part_at : List ℕ → List Token → Result (StreamPart × List Token) ℕ
 stream_part_at source ts = do
   keyword ← keyword_at source ts
-  stream_named source keyword.0 (place_of source ts) keyword.1
+  stream_named source keyword.0 (place_of_rest source ts) keyword.1
 
 unfoldable pub numbered_at : List ℕ → List Token → Result (MediaPart × List Token) ℕ
 numbered_at source ts = do

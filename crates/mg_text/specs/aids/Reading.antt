@@ -30,9 +30,9 @@ abbrev pub Agrees : {X Y : Type 0} → (X → Y) → Result X ReadFault → Resu
 Agrees view (Ok x) read = read ≡ Ok (view x)
 Agrees view (Err e) read = Fails e read
 
-abbrev pub place_of : List ℕ → List Token → ℕ
-place_of source [] = length source
-place_of source (t ∷ ts) = t.span.start
+abbrev pub place_of_rest : List ℕ → List Token → ℕ
+place_of_rest source [] = length source
+place_of_rest source (t ∷ ts) = t.span.start
 
 abbrev pub is_kind : TokenKind → TokenKind → Bool
 is_kind Word Word = true
@@ -83,8 +83,8 @@ keyword_at = meaning_at keyword_of
 abbrev pub number_at : List ℕ → List Token → Result (ℕ × List Token) ℕ
 number_at = meaning_at number_of
 
-abbrev pub context_at : List ℕ → List Token → Result (ContextId × List Token) ℕ
-context_at = meaning_at context_id_of
+abbrev pub context_id_at : List ℕ → List Token → Result (ContextId × List Token) ℕ
+context_id_at = meaning_at context_id_of
 
 -- the name of a termination
 unfoldable pub term_at : List ℕ → List Token → Result (Span × List Token) ℕ
@@ -117,7 +117,7 @@ filled_at source ts =
 -- items parted by commas, up to the brace that closes them; at most n
 unfoldable pub list_at : {X : Type 0} → List ℕ → (List Token → Result (X × List Token) ℕ) → ℕ
     → List Token → Result (List X × List Token) ℕ
-list_at source read zero ts = Err (place_of source ts)
+list_at source read zero ts = Err (place_of_rest source ts)
 list_at source read (suc n) ts = do
   x ← read ts
   if_some (after_mark Comma x.1)

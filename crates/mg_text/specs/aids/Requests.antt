@@ -1,6 +1,7 @@
 -- Reading properties, actions and the items of a message.
 use Rattle.std.specs.Prelude.{ℕ, zero, suc, ◌==◌, Bool, true, false, List, [], ◌∷◌, length, Option}
 use Rattle.std.specs.Prelude.{Some, None, Result, Ok, Err, if◌then◌else◌}
+use Rattle.std.specs.List.{cons_option}
 use Rattle.mg_scan.specs.declared.kind.TokenKind.TheVariants.{Open, Close, Comma, Equals}
 use Rattle.mg_scan.specs.declared.span.Span.{Span}
 use Rattle.mg_scan.specs.declared.token.Token.{Token}
@@ -8,7 +9,7 @@ use Rattle.mg_text.specs.declared.keyword.Keyword.{Keyword}
 use Rattle.mg_text.specs.declared.keyword.Keyword.TheVariants as keywords
 use Rattle.mg_words.specs.declared.context_id.ContextId.{ContextId}
 use Rattle.mg_words.specs.declared.association.Association.{Association}
-use Rattle.mg_text.specs.declared.context_property.Triple.{Triple}
+use Rattle.mg_text.specs.declared.context_property.NamedTriple.{NamedTriple}
 use Rattle.mg_text.specs.declared.context_property.ContextProperty.{ContextProperty}
 use Rattle.mg_text.specs.declared.context_property.ContextProperty.TheVariants as properties
 use Rattle.mg_text.specs.declared.command.Command.{Command}
@@ -20,25 +21,25 @@ use Rattle.mg_text.specs.declared.body.MessageItem.{MessageItem}
 use Rattle.mg_text.specs.declared.body.MessageItem.TheVariants as items
 use Rattle.mg_scan.specs.Span.{text_of}
 use Rattle.mg_text.specs.Keyword.{keyword_of}
-use Rattle.mg_text.specs.Words.{association_of, context_word_of, range_of}
+use Rattle.mg_text.specs.Words.{by_keyword, association_named, context_word_named, range_of}
 use Rattle.mg_words.specs.ResultSteps.{◌>>=◌}
 use Rattle.mg_text.specs.aids.Reading.{mark_at, after_mark, if_some, word_at, named_at, meaning_at}
-use Rattle.mg_text.specs.aids.Reading.{keyword_at, number_at, context_at, term_at, group_at}
-use Rattle.mg_text.specs.aids.Reading.{items_at, braced_at, place_of}
-use Rattle.mg_text.specs.Grammar.{kept_before, body_of}
+use Rattle.mg_text.specs.aids.Reading.{keyword_at, number_at, context_id_at, term_at, group_at}
+use Rattle.mg_text.specs.aids.Reading.{items_at, braced_at, place_of_rest}
+use Rattle.mg_text.specs.Grammar.{body_of}
 use Rattle.mg_text.specs.aids.Commands.{command_at}
 
-abbrev pub triple_of : Span → Span → Association → Triple
+abbrev pub triple_of : Span → Span → Association → NamedTriple
 triple_of first second association =
     record { first = first; second = second; association = association }
 
-unfoldable pub triple_at : List ℕ → List Token → Result (Triple × List Token) ℕ
+unfoldable pub triple_at : List ℕ → List Token → Result (NamedTriple × List Token) ℕ
 triple_at source ts = do
   first ← term_at source ts
   ts ← mark_at source Comma first.1
   second ← term_at source ts
   ts ← mark_at source Comma second.1
-  association ← meaning_at association_of source ts
+  association ← meaning_at (by_keyword association_named) source ts
   Ok (triple_of first.0 second.0 association.0, association.1)
 
 unfoldable pub priority_at : List ℕ → List Token → Result (ContextProperty × List Token) ℕ
@@ -59,7 +60,7 @@ abbrev pub property_named : List ℕ → Keyword → ℕ → List Token
 property_named source keywords.Topology place ts =
     braced_at source (triple_at source) ts >>= λ xs. Ok (properties.Topology xs.0, xs.1)
 property_named source keywords.ContextAudit place ts =
-    braced_at source (meaning_at context_word_of source) ts >>= λ xs. Ok
+    braced_at source (meaning_at (by_keyword context_word_named) source) ts >>= λ xs. Ok
     (properties.ContextAudit xs.0, xs.1)
 property_named source keywords.Priority place ts = priority_at source ts
 property_named source keywords.Emergency place ts = emergency_at source ts
@@ -68,7 +69,7 @@ property_named source _ place ts = Err place
 unfoldable pub property_at : List ℕ → List Token → Result (ContextProperty × List Token) ℕ
 property_at source ts = do
   keyword ← keyword_at source ts
-  property_named source keyword.0 (place_of source ts) keyword.1
+  property_named source keyword.0 (place_of_rest source ts) keyword.1
 
 -- the word that a property begins with
 abbrev pub is_property : Option Keyword → Bool
@@ -91,7 +92,7 @@ just_commands xs = record { properties = []; commands = xs }
 
 -- properties, then commands, up to the brace that closes them; at most n properties
 unfoldable pub parts_at : List ℕ → ℕ → List Token → Result (ActionParts × List Token) ℕ
-parts_at source zero ts = Err (place_of source ts)
+parts_at source zero ts = Err (place_of_rest source ts)
 parts_at source (suc n) ts =
     if begins_property source ts
     then (property_at source ts >>= λ x.
@@ -108,7 +109,7 @@ unfoldable pub action_at : List ℕ → List Token → Result (Action × List To
 action_at source ts = do
   ts ← named_at source keywords.Context ts
   ts ← mark_at source Equals ts
-  context ← context_at source ts
+  context ← context_id_at source ts
   ts ← mark_at source Open context.1
   parts ← parts_at source (length ts) ts
   Ok (action_of context.0 parts.0, parts.1)
@@ -148,11 +149,15 @@ item_named source _ place ts = Err place
 unfoldable pub item_at : List ℕ → List Token → Result (Option MessageItem × List Token) ℕ
 item_at source ts = do
   keyword ← keyword_at source ts
-  item_named source keyword.0 (place_of source ts) keyword.1
+  item_named source keyword.0 (place_of_rest source ts) keyword.1
+
+-- an item before others, if it is kept
+abbrev pub kept_before : Option MessageItem → List MessageItem → List MessageItem
+kept_before item items = cons_option item items
 
 -- the items that are kept, up to the end of the tokens; at most n items
 unfoldable pub sequence_at : List ℕ → ℕ → List Token → Result (List MessageItem) ℕ
-sequence_at source zero ts = Err (place_of source ts)
+sequence_at source zero ts = Err (place_of_rest source ts)
 sequence_at source (suc n) ts = do
   x ← item_at source ts
   if length x.1 == 0 then Ok (kept_before x.0 [])
@@ -164,7 +169,7 @@ error_at source ts = do
   ts ← mark_at source Equals ts
   word ← word_at source ts
   rest ← group_at source word.1
-  if length rest == 0 then Ok bodies.Ignored else Err (place_of source rest)
+  if length rest == 0 then Ok bodies.Ignored else Err (place_of_rest source rest)
 
 -- a body, by its first word; ts stands before that word
 abbrev pub body_named : List ℕ → Keyword → List Token → List Token → Result Body ℕ

@@ -1,16 +1,20 @@
 use Rattle.std.proofs.Common.{◌∙◌, map, sym, true≢false}
 use Rattle.clap.specs.Words.{found_of, kind_of, rows_of}
-use Rattle.mg_bridge.specs.Options.{IsRefused, asked}
-use Rattle.mg_bridge.proofs.InvocationLaws.{asks_none, asks_run, at_address, meets_subcommand, memory_passed_on, passed_on, refuses_address, refuses_control, refuses_controllers, run_is}
+use Rattle.mg_options.specs.Asked.{IsRefused}
+use Rattle.mg_options.proofs.AskedLaws.{asks_none, passed_on}
+use Rattle.mg_bridge.specs.Options.{asked, command_line}
+use Rattle.mg_bridge.proofs.InvocationLaws.{asks_run, is_simple_line, meets_subcommand, memory_passed_on, named_or_standard, refuses_address, refuses_control, refuses_controllers, run_is}
 use Rattle.mg_bridge.proofs.options.asked_run.Goals as goal
 
 pub returns-in_err-matches-clause-refused : goal.returns-in_err-matches-clause-refused
+unfolding asked
 returns-in_err-matches-clause-refused g c =
     let words = map g.S.AsStr.text c.args.words.now in
     let error = c.in_err-matches.field-0.0 in
     passed_on c.from_residual-in_err-matches.result error (IsRefused (asked words))
     c.from_residual-in_err-matches.ensures.1
-    (asks_none _ words c.in_ok-command.ensures.app (kind_of error) c.in_err-matches.ensures.kinds)
+    (asks_none _ command_line words c.in_ok-command.ensures.app is_simple_line _ (kind_of error)
+    c.in_err-matches.ensures.kinds)
 
 pub unreachable-requires : goal.unreachable-requires
 unreachable-requires g c =
@@ -32,8 +36,8 @@ returns-in-Err-clause-refused g c =
     let asks = asks_run _ words c.in_ok-command.ensures.app c.in_ok-matches.matches name rows
     c.in_ok-matches.ensures.kinds c.in_ok-matches.ensures.ok.2
     c.in-Some.ensures.name c.in-Some.ensures.rows in
-    refuses_address _ name rows c.in-Err.fault _
-    (asks ∙ at_address name rows c.default.result _ c.default.ensures c.in-Err.ensures.value)
+    refuses_address _ name rows c.in-Err.fault _ asks
+    (named_or_standard rows c.default.result _ c.default.ensures c.in-Err.ensures.value)
     c.in_ok-error-in-Err.ensures.kind
 
 pub returns-in_err-error-in-Err-address_of-clause-refused : goal.returns-in_err-error-in-Err-address_of-clause-refused
@@ -49,8 +53,8 @@ returns-in-Err-address_of-clause-refused g c =
     let asks = asks_run _ words c.in_ok-command.ensures.app c.in_ok-matches.matches name rows
     c.in_ok-matches.ensures.kinds c.in_ok-matches.ensures.ok.2
     c.in-Some.ensures.name c.in-Some.ensures.rows in
-    refuses_control _ name rows c.in-Ok.address c.in-Err-address_of.fault _
-    (asks ∙ at_address name rows c.default.result _ c.default.ensures c.in-Ok.ensures.value)
+    refuses_control _ name rows c.in-Ok.address c.in-Err-address_of.fault _ asks
+    (named_or_standard rows c.default.result _ c.default.ensures c.in-Ok.ensures.value)
     c.in-Err-address_of.ensures.value c.in_ok-error-in-Err-address_of.ensures.kind
 
 pub returns-in-Ok-controllers_of-clause-run : goal.returns-in-Ok-controllers_of-clause-run
@@ -61,11 +65,10 @@ returns-in-Ok-controllers_of-clause-run g c =
     let asks = asks_run _ words c.in_ok-command.ensures.app c.in_ok-matches.matches name rows
     c.in_ok-matches.ensures.kinds c.in_ok-matches.ensures.ok.2
     c.in-Some.ensures.name c.in-Some.ensures.rows in
-    asks ∙ (at_address name rows c.default.result _ c.default.ensures c.in-Ok.ensures.value
-    ∙ run_is name rows c.in-Ok.address c.in-Ok-address_of.control _ _ _ _ _ _ _ c.in-Ok-address_of.ensures.value
-    c.config_at.ensures.value c.in-Ok-controllers_of.ensures.value
-    c.late_of.ensures.value c.report_of.ensures.value c.is_set.ensures.value c.shown_of.ensures.value
-    c.run_of.ensures.value)
+    asks ∙ run_is name rows c.in-Ok.address c.in-Ok-address_of.control _ _ _
+    (named_or_standard rows c.default.result _ c.default.ensures c.in-Ok.ensures.value)
+    c.in-Ok-address_of.ensures.value c.in-Ok-controllers_of.ensures.value c.config_at.ensures.value
+    c.run_of.ensures.value
 
 pub returns-in_err-error-in-Err-controllers_of-clause-refused :
     goal.returns-in_err-error-in-Err-controllers_of-clause-refused
@@ -81,7 +84,7 @@ returns-clause-refused g c =
     let asks = asks_run _ words c.in_ok-command.ensures.app c.in_ok-matches.matches name rows
     c.in_ok-matches.ensures.kinds c.in_ok-matches.ensures.ok.2
     c.in-Some.ensures.name c.in-Some.ensures.rows in
-    refuses_controllers _ name rows c.in-Ok.address c.in-Ok-address_of.control c.in-Err-controllers_of.fault _
-    (asks ∙ at_address name rows c.default.result _ c.default.ensures c.in-Ok.ensures.value)
+    refuses_controllers _ name rows c.in-Ok.address c.in-Ok-address_of.control c.in-Err-controllers_of.fault _ asks
+    (named_or_standard rows c.default.result _ c.default.ensures c.in-Ok.ensures.value)
     c.in-Ok-address_of.ensures.value c.in-Err-controllers_of.ensures.value
     c.in_ok-error-in-Err-controllers_of.ensures.kind

@@ -1,6 +1,6 @@
 use Rattle.std.proofs.Common.{◌≡◌, map, take}
-use Rattle.mg_commands.specs.ContextProperties.{triple_of}
+use Rattle.mg_commands.specs.ContextProperties.{topology_triple_of}
 use Rattle.mg_commands.proofs.context_properties.triples_of.Given as goal
 
 abbrev pub invariant-loop-triple : goal.invariant-loop-triple
-invariant-loop-triple l = l.topology.items ≡ map (triple_of l.source l.made) (take l.triple-index l.triples)
+invariant-loop-triple l = l.topology.items ≡ map (topology_triple_of l.source l.made) (take l.triple-index l.triples)

@@ -1,11 +1,12 @@
 use Rattle.std.proofs.Common.{refl, map, []}
 use Rattle.mg_core.specs.Answer.{answered}
 use Rattle.mg_core.specs.Step.{Packet, answer_to}
-use Rattle.mg_core.specs.World.{packets_of, ticked, with_control, with_taken}
+use Rattle.mg_core.specs.World.{packets_of, world_after_tick, with_control, with_taken}
 use Rattle.mg_core.proofs.laws.each_event_has_an_outcome.Goals as goal
 
 pub returns-in-Tick : goal.returns-in-Tick
-returns-in-Tick c = rw c.in-Tick.is (record { some = λ w. (map Packet (packets_of w), ticked w, (refl, refl)) })
+returns-in-Tick c = rw c.in-Tick.is
+    (record { some = λ w. (map Packet (packets_of w), world_after_tick w, (refl, refl)) })
 
 pub returns-in-Media : goal.returns-in-Media
 returns-in-Media c = rw c.in-Media.is (record {

@@ -2,19 +2,19 @@ use Rattle.std.proofs.Common.{◌≡◌, ℕ, List, [], ◌∷◌, ◌++◌, Opt
 use Rattle.mg_engine.specs.declared.taken.Taken.{Taken}
 use Rattle.mg_engine.specs.Arrival.{Takes}
 use Rattle.mg_engine.specs.Gateway as engine
-use Rattle.mg_text.specs.MessageReading.{MessageReading, IsReading}
+use Rattle.mg_text.specs.MessageReading.{MessageReading, IsMessageReading}
 use Rattle.mg_core.specs.declared.event.Event.{Event}
 use Rattle.mg_core.specs.declared.event.Event.TheVariants.{Control, Media, Tick}
 use Rattle.mg_core.specs.declared.shown.Shown.TheVariants as shows
 use Rattle.mg_core.specs.Answer.{answered}
 use Rattle.mg_core.specs.Flows.{changes_by}
-use Rattle.mg_core.specs.Run.{Tells, TextsAreOne, lines_for}
+use Rattle.mg_core.specs.Run.{TellsChanges, TextsAreOne, lines_for}
 use Rattle.mg_core.specs.Step.{Sent, Step, Run, answer_to}
 use Rattle.mg_core.specs.World.{World, with_control, with_taken}
 use Rattle.mg_core.proofs.laws.outcomes_are_one.Goals as goal
 
 abbrev OneReading : Type 0
-OneReading = (bytes : List ℕ) (a b : MessageReading) → IsReading bytes a → IsReading bytes b → a ≡ b
+OneReading = (bytes : List ℕ) (a b : MessageReading) → IsMessageReading bytes a → IsMessageReading bytes b → a ≡ b
 
 abbrev OneArrival : Type 0
 OneArrival = (w : engine.Gateway) (port : ℕ) (source list : List ℕ) (x y : engine.Gateway) (a b : Taken) →
@@ -49,12 +49,13 @@ same_run reads arrives w (e ∷ es) a b x y (first, others, next, step, run, is)
     (is ∙ ap (λ (l : List Sent). l ++ others) same.0 ∙ ap (λ (l : List Sent). second ++ l) later.0 ∙ sym its, later.1)
 
 same_tells : OneReading → OneArrival → (w : World) (events : List Event) (a b : List ℕ) (x y : World) →
-    Tells w events a x → Tells w events b y → a ≡ b
+    TellsChanges w events a x → TellsChanges w events b y → a ≡ b
 same_tells reads arrives w [] a b x y h k = h.0 ∙ sym k.0
 same_tells reads arrives w (e ∷ es) a b x y (first, others, next, step, told, is)
     (second, rest, also, too, tells, its) =
     let same = same_outcome reads arrives w e first second next also step too in
-    let later = same_tells reads arrives also es others rest x y (subst (λ (v : World). Tells v es others x) same.1 told)
+    let later = same_tells reads arrives also es others rest x y
+    (subst (λ (v : World). TellsChanges v es others x) same.1 told)
     tells in
     is ∙ ap (λ (l : List Sent). lines_for l ++ (changes_by w next ++ others)) same.0
     ∙ ap (λ (v : World). lines_for second ++ (changes_by w v ++ others)) same.1

@@ -1,5 +1,6 @@
 use Rattle.std.proofs.Common.{◌<◌, ◌≤◌, ◌∙◌, ℕ, Bool, length, map, filter, sym, subst, arith}
 use Rattle.std.proofs.lemmas.Option.{get_or_from_slice_get}
+use Rattle.mg_words.specs.Limits.{member_limit}
 use Rattle.mg_rooms.specs.Registry.{Registry}
 use Rattle.mg_rooms.specs.Sound.{IsSound}
 use Rattle.mg_engine.specs.Flow.{flow}
@@ -25,8 +26,8 @@ loop-place-preserved c w stands =
     let p : ℕ → Bool = λ n. flow w.gateway n c.args.listener in
     let there : i < length rs = omega (arith, c.loop-place-test.true, c.terminations-place-end.ensures.value) in
     let same = stands.gateway.rooms in
-    let few : length (filter p (map (λ r. r.number) rs)) ≤ 64 =
-    subst (λ (x : Registry). length (filter p (map (λ r. r.number) x.terminations)) ≤ 64) same
+    let few : length (filter p (map (λ r. r.number) rs)) ≤ member_limit =
+    subst (λ (x : Registry). length (filter p (map (λ r. r.number) x.terminations)) ≤ member_limit) same
     (talkers_few w.gateway c.args.listener (subst IsSound (sym same) c.terminations-place-end.ensures.sound)) in
     is_taken p rs i r c.loop-place.talkers.items c.try_push.new.self.items c.try_push.result there
     (get_or_from_slice_get rs i r r c.termination-talker.ensures.value)

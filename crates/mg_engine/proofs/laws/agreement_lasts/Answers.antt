@@ -1,5 +1,5 @@
 use Rattle.std.proofs.Common.{◌≡◌, ℕ, List, ap, subst, ◌∙◌}
-use Rattle.mg_rtp.specs.Reading.{Reading, IsReading}
+use Rattle.mg_rtp.specs.Reading.{Reading, IsPacketReading}
 use Rattle.mg_engine.specs.declared.taken.Taken.{Taken}
 use Rattle.mg_engine.specs.Apart.{AgreeOutside, SameArrivalKeepsAgreement, OneArrivalKeepsAgreement}
 use Rattle.mg_engine.specs.Arrival.{taken}
@@ -7,7 +7,7 @@ use Rattle.mg_engine.specs.Gateway.{Gateway}
 use Rattle.mg_engine.proofs.ApartLaws as apart
 use Rattle.mg_engine.proofs.laws.agreement_lasts.Goals as goal
 
-same_arrival : ((list : List ℕ) (a b : Reading) → IsReading list a → IsReading list b → a ≡ b) →
+same_arrival : ((list : List ℕ) (a b : Reading) → IsPacketReading list a → IsPacketReading list b → a ≡ b) →
     SameArrivalKeepsAgreement
 same_arrival one some a b x y port source bytes t u h (first, is, came) (second, too, comes) =
     let in_both = apart.taken_alike some a b port source first h in

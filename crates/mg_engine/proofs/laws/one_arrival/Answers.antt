@@ -1,11 +1,11 @@
 use Rattle.std.proofs.Common.{◌≡◌, ℕ, List, refl, sym, ap, ◌∙◌}
-use Rattle.mg_rtp.specs.Reading.{Reading, IsReading}
+use Rattle.mg_rtp.specs.Reading.{Reading, IsPacketReading}
 use Rattle.mg_engine.specs.declared.taken.Taken.{Taken}
 use Rattle.mg_engine.specs.Arrival.{taken, Takes}
 use Rattle.mg_engine.specs.Gateway.{Gateway}
 use Rattle.mg_engine.proofs.laws.one_arrival.Goals as goal
 
-one_way : ((list : List ℕ) (a b : Reading) → IsReading list a → IsReading list b → a ≡ b) →
+one_way : ((list : List ℕ) (a b : Reading) → IsPacketReading list a → IsPacketReading list b → a ≡ b) →
     (w : Gateway) (port : ℕ) (source list : List ℕ) (x y : Gateway) (a b : Taken) → Takes w port source list x a →
     Takes w port source list y b → (x ≡ y) × (a ≡ b)
 one_way same w port source list x y a b h k =

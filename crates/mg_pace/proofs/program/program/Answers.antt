@@ -1,29 +1,41 @@
-use Rattle.std.proofs.Common.{inl, map}
+use Rattle.std.proofs.Common.{inl, inr}
 use Rattle.clap.specs.Words.{kind_of}
-use Rattle.mg_pace.specs.Options.{asked}
-use Rattle.mg_pace.specs.Run.{seen}
-use Rattle.mg_pace.proofs.ProgramLaws.{ends_told}
+use Rattle.mg_options.proofs.EndLaws.{told_is_small}
+use Rattle.mg_options.specs.declared.status.Status.TheVariants.{Done}
+use Rattle.mg_pace.proofs.ProgramLaws.{done_is_small, run_is_small}
 use Rattle.mg_pace.proofs.program.program.Goals.{in-Ok, in-Err+in-Some-1, in-Err+in-None-1}
 use Rattle.mg_pace.proofs.program.program.Goals as goal
 
+pub returns-clause-status : goal.returns-clause-status
+returns-clause-status g c = rw c.code.ensures.value (elim c.match-asked_options.branch [
+  | in-Ok w ↦ rw w.status-is (run_is_small w.run-status.ensures.value.outcome _ w.run-status.ensures.value.is)
+  | in-Err+in-Some-1 w ↦ rw w.status-is
+      (told_is_small (kind_of w.in-Err.error) Done _ _ _ done_is_small w.tell-status.ensures.told)
+  | in-Err+in-None-1 w ↦ rw w.status-is
+      (told_is_small (kind_of w.in-Err.error) Done _ _ _ done_is_small w.tell-status.ensures.told)
+])
+
 pub returns-clause-ends : goal.returns-clause-ends
 returns-clause-ends g c =
-    let words = map g.S.AsStr.text c.args.words.now in
     record {
       status = c.match-asked_options.status;
       told = c.code.ensures.value;
       ends = elim c.match-asked_options.branch [
         | in-Ok w ↦ rw (w.status-is, w.watch-is, w.output-is, w.errors-is, w.in-Ok.ensures.asked)
             (inl w.run-status.ensures.value)
-        | in-Err+in-Some-1 w ↦ rw (w.status-is, w.output-is, w.errors-is)
-            (ends_told (λ k w. seen (g.K.Watch.readings k) (g.K.Watch.waits k) (g.W.Write.contents w)) g.K.Watch.Fails
-            _ (asked words) (kind_of w.in-Err.error) c.args.watch.now _
-            c.args.output.now w.tell-status.new.output w.tell-status.result w.in-Err.ensures.refused
-            w.tell-status.ensures.told w.tell-status.ensures.quiet w.watch-is)
-        | in-Err+in-None-1 w ↦ rw (w.status-is, w.output-is, w.errors-is)
-            (ends_told (λ k w. seen (g.K.Watch.readings k) (g.K.Watch.waits k) (g.W.Write.contents w)) g.K.Watch.Fails
-            _ (asked words) (kind_of w.in-Err.error) c.args.watch.now _
-            c.args.output.now w.tell-status.new.output w.tell-status.result w.in-Err.ensures.refused
-            w.tell-status.ensures.told w.tell-status.ensures.quiet w.watch-is)
+        | in-Err+in-Some-1 w ↦ rw (w.status-is, w.output-is, w.errors-is) (inr (record {
+          kind = kind_of w.in-Err.error;
+          refused = w.in-Err.ensures.refused;
+          is_left = w.watch-is;
+          told = w.tell-status.ensures.told;
+          quiet = w.tell-status.ensures.quiet;
+        }))
+        | in-Err+in-None-1 w ↦ rw (w.status-is, w.output-is, w.errors-is) (inr (record {
+          kind = kind_of w.in-Err.error;
+          refused = w.in-Err.ensures.refused;
+          is_left = w.watch-is;
+          told = w.tell-status.ensures.told;
+          quiet = w.tell-status.ensures.quiet;
+        }))
       ];
     }

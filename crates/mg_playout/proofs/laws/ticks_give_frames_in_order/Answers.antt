@@ -1,4 +1,5 @@
-use Rattle.mg_playout.proofs.TickLemmas.{given_after-running, given_after-waiting, given_after-started, frame_of-given_at}
+use Rattle.mg_playout.proofs.TickLemmas.{given_after-running, given_after-waiting, given_after-started}
+use Rattle.mg_playout.proofs.TickLemmas.{frame_from_packet-given_at}
 use Rattle.mg_playout.proofs.laws.ticks_give_frames_in_order.Goals as goal
 
 pub returns-clause-run : goal.returns-clause-run
@@ -11,4 +12,4 @@ pub returns-clause-wait : goal.returns-clause-wait
 returns-clause-wait c = given_after-started
 
 pub returns-clause-frames : goal.returns-clause-frames
-returns-clause-frames c = frame_of-given_at
+returns-clause-frames c = frame_from_packet-given_at

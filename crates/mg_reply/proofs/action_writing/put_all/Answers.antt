@@ -1,7 +1,7 @@
 use Rattle.std.proofs.Common.{◌&&◌, ◌+◌, ◌∷◌, [], ◌∙◌, ap, sym, drop, get_or}
 use Rattle.mg_reply.specs.aids.Draft.{drafted}
 use Rattle.mg_reply.specs.Listed.{listed}
-use Rattle.mg_reply.specs.aids.Marks.{is_empty, mark_of}
+use Rattle.mg_reply.specs.aids.Marks.{has_no_part, mark_of}
 use Rattle.mg_reply.specs.Entries.{texts_of}
 use Rattle.mg_reply.proofs.ListedLaws.{all_step, first_step, all_end}
 use Rattle.mg_reply.proofs.action_writing.put_all.Goals as goal
@@ -18,15 +18,15 @@ loop-item-preserved c =
     let is = c.item-item.is in
     let put = c.put_if_of-is_next_first.ensures.value ∙
     ap (λ y. drafted c.loop-item.draft (listed (mark_of opening first) (texts_of kind (y ∷ [])))) is in
-    let next = c.put_if_of-is_next_first.ensures.first ∙ ap (λ y. first && is_empty (texts_of kind (y ∷ []))) is in
+    let next = c.put_if_of-is_next_first.ensures.first ∙ ap (λ y. first && has_no_part (texts_of kind (y ∷ []))) is in
     record {
       same =
           ap (λ b. drafted c.put_if_of-is_next_first.new.draft (listed (mark_of opening b) rest)) next
-          ∙ ap (λ d. drafted d (listed (mark_of opening (first && is_empty (texts_of kind (get_or xs i x ∷ []))))
+          ∙ ap (λ d. drafted d (listed (mark_of opening (first && has_no_part (texts_of kind (get_or xs i x ∷ []))))
           rest)) put
           ∙ all_step c.loop-item.draft opening first kind xs i x c.loop-item-test.true
           ∙ c.loop-item.invariant.same;
-      first = ap (λ b. b && is_empty rest) next ∙ first_step first kind xs i x c.loop-item-test.true ∙
+      first = ap (λ b. b && has_no_part rest) next ∙ first_step first kind xs i x c.loop-item-test.true ∙
           c.loop-item.invariant.first;
     }
 

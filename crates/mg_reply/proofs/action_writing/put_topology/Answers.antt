@@ -2,7 +2,7 @@ use Rattle.std.proofs.Common.{◌∙◌, ap, codes}
 use Rattle.mg_reply.specs.declared.entry_kind.EntryKind.TheVariants.{Triples}
 use Rattle.mg_reply.specs.aids.Draft.{drafted}
 use Rattle.mg_reply.specs.Listed.{listed}
-use Rattle.mg_reply.specs.aids.Marks.{is_empty, closing}
+use Rattle.mg_reply.specs.aids.Marks.{has_no_part, closing}
 use Rattle.mg_reply.specs.Entries.{texts_of}
 use Rattle.mg_reply.proofs.DraftLaws.{then}
 use Rattle.mg_reply.proofs.ListedLaws.{topology_is}
@@ -13,6 +13,6 @@ returns-clause-value c =
     let texts = texts_of Triples c.args.items.now in
     let all = c.put_all-is_empty.new.draft in
     let close = c.close.ensures.value ∙ ap (λ b. drafted all (closing b)) c.put_all-is_empty.ensures.first in
-    then c.args.draft.now all c.close.new.draft (listed (codes "{Topology{") texts) (closing (is_empty texts))
+    then c.args.draft.now all c.close.new.draft (listed (codes "{Topology{") texts) (closing (has_no_part texts))
     c.put_all-is_empty.ensures.value close
     ∙ ap (drafted c.args.draft.now) (topology_is texts)

@@ -5,20 +5,20 @@ use Rattle.mg_rtp.specs.declared.packet.Packet.{Packet}
 use Rattle.mg_rtp.specs.declared.rtp_fault.RtpFault.{RtpFault}
 use Rattle.mg_rtp.specs.Packet.{IsPacket}
 use Rattle.mg_rtp.specs.RtpFault.{IsFault}
-use Rattle.mg_rtp.specs.Reading.{Reading, IsReading, reading_of}
+use Rattle.mg_rtp.specs.Reading.{Reading, IsPacketReading, reading_of}
 use Rattle.mg_rtp.proofs.Once.{packet_once, fault_once, no_fault}
 use Rattle.mg_rtp.proofs.laws.one_reading.Goals as goal
 
 read_is : (bytes : List ℕ) (r : Result Packet RtpFault) →
     IfOk r (λ packet. IsPacket bytes packet.header packet.payload.now)
-    → ((f : RtpFault) → (r ≡ Err f) ↔ IsFault bytes f) → IsReading bytes (reading_of r)
+    → ((f : RtpFault) → (r ≡ Err f) ↔ IsFault bytes f) → IsPacketReading bytes (reading_of r)
 read_is bytes (Ok packet) found fault = found
 read_is bytes (Err f) found fault = (fault f).0 refl
 
 abbrev packet : Header → List ℕ → Reading
 packet h p = Ok (h, p)
 
-same_reading : (bytes : List ℕ) (a b : Reading) → IsReading bytes a → IsReading bytes b → a ≡ b
+same_reading : (bytes : List ℕ) (a b : Reading) → IsPacketReading bytes a → IsPacketReading bytes b → a ≡ b
 same_reading bytes (Ok p) (Ok q) h k =
     let same = packet_once bytes p.0 q.0 p.1 q.1 h k in
     ap (λ (x : Header). packet x p.1) same.0 ∙ ap (λ (x : List ℕ). packet q.0 x) same.1

@@ -1,13 +1,13 @@
 use Rattle.std.proofs.Common.{◌≡◌, List, ◌-◌, length}
 use Rattle.mg_scan.specs.declared.token.Token.{Token}
-use Rattle.mg_text.specs.Message.{Reaches, start_of}
+use Rattle.mg_text.specs.Message.{Reaches, scanning_of}
 use Rattle.mg_text.proofs.laws.bytes_are_tokens.Given as goal
 
 abbrev pub invariant-loop : goal.invariant-loop
 invariant-loop l = record {
   source : l.scanner.source ≡ l.source;
   way : (ts : List Token) ×
-      Reaches (start_of l.source) ts l.scanner;
+      Reaches (scanning_of l.source) ts l.scanner;
 }
 
 abbrev pub decreases-loop : goal.decreases-loop

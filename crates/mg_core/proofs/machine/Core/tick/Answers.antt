@@ -5,7 +5,7 @@ use Rattle.mg_engine.specs.Tick.{after_tick}
 use Rattle.mg_core.specs.CoreView.{CoreView}
 use Rattle.mg_core.specs.declared.event.Event.TheVariants.{Tick}
 use Rattle.mg_core.specs.Step.{Packet}
-use Rattle.mg_core.specs.World.{StandsFor, ticked, with_tick}
+use Rattle.mg_core.specs.World.{StandsFor, world_after_tick, with_tick}
 use Rattle.mg_core.proofs.HeadlineLaws.{goes_on}
 use Rattle.mg_core.proofs.machine.Core.tick.Goals as goal
 
@@ -26,7 +26,7 @@ pub returns-clause-headline : goal.returns-clause-headline
 returns-clause-headline c = goes_on c.args.self.now.state c.count_tick.new.self Tick
     (map Packet c.tick-concealed.new.outbox.items) (λ w h.
     let held = subst (λ (x : CoreView). StandsFor x.state w) (sym c.self.view_is) h in (
-      ticked w,
+      world_after_tick w,
       (ap (map Packet) (c.tick-concealed.ensures.sent w.gateway held.gateway), refl),
       returns-clause-next c w h,
     ))

@@ -2,7 +2,7 @@ use Rattle.std.proofs.Common.{◌<◌, ℕ, List, Option, length, sym, ap, subst
 use Rattle.std.proofs.lemmas.List.{length-set}
 use Rattle.mg_rooms.specs.Outcome as commands
 use Rattle.mg_rooms.specs.Registry as rooms
-use Rattle.mg_engine.specs.Media as media
+use Rattle.mg_engine.specs.aids.MediaSteps as media_steps
 use Rattle.mg_engine.specs.Outcome.{added, done_with}
 use Rattle.mg_engine.specs.Place.{member_place}
 use Rattle.mg_engine.specs.Stands.{EngineState, StandsFor}
@@ -141,7 +141,7 @@ returns-clause-outcome c w h =
     omega (arith, is.slot, sound.consistent.limits.0.few_slots, c.begin.ensures.rows) in
     let silent = c.enter.ensures.frames ∙ c.begin.ensures.silent in
     let others = c.in_ok-made.ensures.others.termination in
-    let set_to = begun_tuned k.media c.begin.new.media.items c.tune.new.media.items d.slot (media.begun k.config)
+    let set_to = begun_tuned k.media c.begin.new.media.items c.tune.new.media.items d.slot (media_steps.begun k.config)
     settings.depth lt c.begin.ensures.begun c.tune.ensures.tuned in
     let stands = subst (λ (x : EngineState). StandsFor x w) (sym c.self.view_is) h in
     let same = same_others old new n before.there sound.there c.add.ensures.lasts.room others in

@@ -8,6 +8,7 @@ use Rattle.mg_rooms.specs.declared.limits.Limits.{Limits}
 use Rattle.mg_rooms.specs.Limits.{slot_port}
 use Rattle.mg_rooms.specs.Registry.{record_at}
 use Rattle.mg_engine.specs.Media as media
+use Rattle.mg_engine.specs.aids.MediaSteps as media_steps
 use Rattle.mg_engine.specs.Media.{idle}
 use Rattle.mg_engine.specs.aids.Sending.{mixed_now, packet_now}
 use Rattle.mg_engine.specs.Stands.{EngineState}
@@ -39,7 +40,7 @@ returns-clause-put c before last was body =
     ap (λ (l : Limits). slot_port l r.slot) (c.limits.ensures.value ∙ sym c.self.invariant.limits) in
     let payload = body ∙ ap (λ (x : EngineState). map (byte_of to.law) (mixed_now x r)) (sym c.self.view_is) in
     let head = c.header-header.ensures.value ∙
-    ap (λ (t : ℕ). media.header c.index-media-from.result t ((k.config.ssrc + r.number) % 2 ^ 32))
+    ap (λ (t : ℕ). media_steps.header c.index-media-from.result t ((k.config.ssrc + r.number) % 2 ^ 32))
     c.payload_type.ensures.value in
     let made = packet_is k r to c.slot_port-from.result (header_bytes plain c.header-header.result ++ payload_of last)
     (payload_of last) c.header-header.result c.index-media-from.result port refl payload head place in

@@ -2,7 +2,7 @@ use Rattle.std.proofs.Common.{ℕ, length, map, sym, ap, ◌∙◌}
 use Rattle.std.proofs.lemmas.List.{length-replicate}
 use Rattle.mg_rooms.specs.Registry as rooms
 use Rattle.mg_engine.specs.aids.Seating.{place_count}
-use Rattle.mg_sums.specs.Sums.{SumsState, first_state}
+use Rattle.mg_sums.specs.Sums.{SumsState, first_sums}
 use Rattle.mg_engine.proofs.JoinedLaws.{joined_nowhere}
 use Rattle.mg_engine.proofs.MemberLaws.{has_nobody, nobody_seated}
 use Rattle.mg_engine.proofs.engine.Engine.new.Goals as goal
@@ -25,5 +25,5 @@ invariant_of-result c = record {
 }
 
 pub returns-clause-work : goal.returns-clause-work
-unfolding first_state
+unfolding first_sums
 returns-clause-work c = ap (λ (s : SumsState). s.work) c.in_ok-sums.ensures.first

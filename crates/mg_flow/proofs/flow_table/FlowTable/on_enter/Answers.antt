@@ -1,7 +1,7 @@
 use Rattle.std.proofs.Common.{◌∷◌, arith}
 use Rattle.mg_flow.specs.Edits.{Enter}
 use Rattle.mg_flow.proofs.HearsLemmas.{enter_hears}
-use Rattle.mg_flow.proofs.TableLemmas.{IsRead, enter_stands, IsTable-edited}
+use Rattle.mg_flow.proofs.TableLemmas.{IsRead, enter_stands, IsFlowTable-edited}
 use Rattle.mg_flow.proofs.flow_table.FlowTable.on_enter.Goals as goal
 
 pub returns-clause-edits : goal.returns-clause-edits
@@ -29,5 +29,5 @@ invariant_of-self c =
       within = omega arith;
       is = c.index_mut-room.ensures.value;
     } in
-    IsTable-edited _ _ _ (λ es. Enter c.args.place c.args.talks c.args.listens ∷ es)
+    IsFlowTable-edited _ _ _ (λ es. Enter c.args.place c.args.talks c.args.listens ∷ es)
     (enter_stands read c.enter.ensures.edits c.enter.ensures.seat) c.self.invariant

@@ -2,7 +2,7 @@ use Rattle.std.proofs.Common.{◌≡◌, ◌∷◌, true, ap, ◌∙◌}
 use Rattle.mg_flow.specs.Edits.{Leave}
 use Rattle.mg_flow.specs.Table.{holds}
 use Rattle.mg_flow.proofs.HearsLemmas.{leave_hears}
-use Rattle.mg_flow.proofs.TableLemmas.{IsRead, held_within, leave_stands, IsTable-edited}
+use Rattle.mg_flow.proofs.TableLemmas.{IsRead, held_within, leave_stands, IsFlowTable-edited}
 use Rattle.mg_flow.proofs.flow_table.FlowTable.on_leave.Goals as goal
 
 pub returns-clause-edits : goal.returns-clause-edits
@@ -33,5 +33,5 @@ invariant_of-self c =
       within = held_within _ _ _ c.from.ensures held;
       is = c.index_mut-room.ensures.value;
     } in
-    IsTable-edited _ _ _ (λ es. Leave c.args.place ∷ es)
+    IsFlowTable-edited _ _ _ (λ es. Leave c.args.place ∷ es)
     (leave_stands read c.leave.ensures.edits c.leave.ensures.seat) c.self.invariant

@@ -2,7 +2,7 @@ use Rattle.std.proofs.Common.{◌≡◌, ◌∷◌, true, ap, ◌∙◌}
 use Rattle.mg_flow.specs.Edits.{SetMode}
 use Rattle.mg_flow.specs.Table.{holds}
 use Rattle.mg_flow.proofs.HearsLemmas.{mode_hears}
-use Rattle.mg_flow.proofs.TableLemmas.{IsRead, held_within, mode_stands, IsTable-edited}
+use Rattle.mg_flow.proofs.TableLemmas.{IsRead, held_within, mode_stands, IsFlowTable-edited}
 use Rattle.mg_flow.proofs.flow_table.FlowTable.on_mode.Goals as goal
 
 pub returns-clause-edits : goal.returns-clause-edits
@@ -34,5 +34,5 @@ invariant_of-self c =
       within = held_within _ _ _ c.from.ensures held;
       is = c.index_mut-room.ensures.value;
     } in
-    IsTable-edited _ _ _ (λ es. SetMode c.args.place c.args.talks c.args.listens ∷ es)
+    IsFlowTable-edited _ _ _ (λ es. SetMode c.args.place c.args.talks c.args.listens ∷ es)
     (mode_stands read c.set_mode.ensures.topology c.set_mode.ensures.seat) c.self.invariant

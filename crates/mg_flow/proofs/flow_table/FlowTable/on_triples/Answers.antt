@@ -1,8 +1,8 @@
 use Rattle.std.proofs.Common.{◌<◌, length, arith}
 use Rattle.std.proofs.lemmas.Result.{on_ok_weaker}
-use Rattle.mg_flow.specs.Edits.{apply_all}
+use Rattle.mg_flow.specs.Edits.{apply_in_room}
 use Rattle.mg_flow.proofs.HearsLemmas.{triples_hear}
-use Rattle.mg_flow.proofs.TableLemmas.{triples_stand, IsTable-tried}
+use Rattle.mg_flow.proofs.TableLemmas.{triples_stand, IsFlowTable-tried}
 use Rattle.mg_flow.proofs.flow_table.FlowTable.on_triples.Goals as goal
 
 pub returns-clause-ok : goal.returns-clause-ok
@@ -27,7 +27,7 @@ invariant_of-self c =
     let within : c.from.result < length c.self.inside.rooms.items = omega (arith, c.self.invariant.rooms) in
     let stand = triples_stand c.self.inside.rooms.items c.args.room c.from.result c.args.triples.now
     c.index_mut-spoken_of.result.now c.apply.new.self in
-    IsTable-tried c.apply.result _ _ _ _ (apply_all c.args.room c.args.triples.now) within
+    IsFlowTable-tried c.apply.result _ _ _ _ (apply_in_room c.args.room c.args.triples.now) within
     c.index_mut-spoken_of.ensures.value
     (on_ok_weaker c.apply.result
     (λ edits. stand c.from.ensures within c.index_mut-spoken_of.ensures.value edits c.apply.ensures.talks

@@ -2,7 +2,7 @@ use Rattle.std.proofs.Common.{◌≡◌, ◌≢◌, length, ap, arith}
 use Rattle.mg_serve.specs.Lines.{line_command}
 use Rattle.mg_serve.specs.Session.{Does}
 use Rattle.mg_serve.specs.aids.Driving.{Finished}
-use Rattle.mg_serve.specs.aids.Takes.{outside}
+use Rattle.mg_serve.specs.aids.Outside.{outside}
 use Rattle.mg_serve.proofs.Taking.{takes_none, takes_as}
 use Rattle.mg_serve.proofs.Steps.{finished_none, finished_some}
 use Rattle.mg_serve.proofs.line_driver.LineDriver.finish.Goals as goal

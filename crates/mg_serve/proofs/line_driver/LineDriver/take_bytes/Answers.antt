@@ -1,7 +1,7 @@
 use Rattle.std.proofs.Common.{sym, ◌∙◌, false}
 use Rattle.std.proofs.lemmas.List.{take_all}
 use Rattle.std.proofs.lemmas.Result.{err_from_is_err_and}
-use Rattle.mg_serve.specs.aids.Takes.{outside}
+use Rattle.mg_serve.specs.aids.Outside.{outside}
 use Rattle.mg_serve.proofs.Running.{bytes_start, index_plain, index_feed, index_quit, index_fault}
 use Rattle.mg_serve.proofs.line_driver.LineDriver.take_bytes.Goals as goal
 

@@ -1,7 +1,7 @@
 use Rattle.std.proofs.Common.{refl}
 use Rattle.mg_serve.specs.Session.{Does}
-use Rattle.mg_serve.specs.aids.Takes.{outside}
-use Rattle.mg_serve.specs.declared.command.Command.TheVariants.{Quit}
+use Rattle.mg_serve.specs.aids.Outside.{outside}
+use Rattle.mg_serve.specs.declared.command.LineCommand.TheVariants.{Quit}
 use Rattle.mg_serve.proofs.Taking.{takes_none}
 use Rattle.mg_serve.proofs.server.Server.obey.Goals as goal
 

@@ -1,7 +1,7 @@
 use Rattle.std.proofs.Common.{◌≡◌, ◌+◌, ℕ, subst, arith}
 use Rattle.std.specs.List.{range_with_len}
 use Rattle.mg_serve.specs.Session.{Each, SlotTurn}
-use Rattle.mg_serve.specs.aids.Takes.{Takes, outside}
+use Rattle.mg_serve.specs.aids.Outside.{LeadsByTrace, outside}
 use Rattle.mg_serve.proofs.Taking.{one_turn_more}
 use Rattle.mg_serve.proofs.server.Server.poll.Goals as goal
 
@@ -20,7 +20,7 @@ returns-2 g c =
     let z =
     outside (g.P.Ports.calls c.turn.new.ports) (g.W.Write.contents c.turn.new.writer) c.turn.new.self.printer in
     record {
-      value = subst (λ (n : ℕ). Takes c.args.self.now.core.state c.turn.new.self.core.state x z
+      value = subst (λ (n : ℕ). LeadsByTrace c.args.self.now.core.state c.turn.new.self.core.state x z
           (Each (SlotTurn c.args.config) (range_with_len 0 (n + 1)))) last
           (one_turn_more c.args.self.now.core.state c.loop-slot.self.core.state c.turn.new.self.core.state x
           (outside (g.P.Ports.calls c.loop-slot.ports) (g.W.Write.contents c.loop-slot.writer)

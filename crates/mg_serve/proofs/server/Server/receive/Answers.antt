@@ -4,7 +4,7 @@ use Rattle.mg_ports.specs.declared.receipt.Receipt.TheVariants.{Came, Nothing, F
 use Rattle.mg_serve.specs.Session.{event_at}
 use Rattle.mg_serve.specs.Trace.{Called, Happened}
 use Rattle.mg_serve.specs.aids.Driving.{Received}
-use Rattle.mg_serve.specs.aids.Takes.{outside}
+use Rattle.mg_serve.specs.aids.Outside.{outside}
 use Rattle.mg_serve.proofs.Steps.{came, at_control, media_taken}
 use Rattle.mg_serve.proofs.Taking.{takes_told, tells_called, tells_print}
 use Rattle.mg_serve.proofs.server.Server.receive.Goals as goal

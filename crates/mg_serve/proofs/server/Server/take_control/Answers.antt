@@ -2,7 +2,7 @@ use Rattle.std.proofs.Common.{[], ◌∷◌, refl}
 use Rattle.mg_core.specs.declared.event.Event.TheVariants as events
 use Rattle.mg_ports.specs.declared.call.Call.TheVariants.{Send}
 use Rattle.mg_serve.specs.Trace.{Happened}
-use Rattle.mg_serve.specs.aids.Takes.{outside}
+use Rattle.mg_serve.specs.aids.Outside.{outside}
 use Rattle.mg_serve.proofs.Taking.{tells_called, tells_none, tells_print}
 use Rattle.mg_serve.proofs.Steps.{control_answered}
 use Rattle.mg_serve.proofs.server.Server.take_control.Goals as goal

@@ -1,6 +1,6 @@
 use Rattle.mg_core.specs.declared.event.Event.TheVariants as events
 use Rattle.mg_serve.specs.Trace.{Happened}
-use Rattle.mg_serve.specs.aids.Takes.{outside}
+use Rattle.mg_serve.specs.aids.Outside.{outside}
 use Rattle.std.proofs.Common.{refl}
 use Rattle.mg_serve.proofs.Steps.{tick_sent}
 use Rattle.mg_serve.proofs.Taking.{tells_called, tells_print}

@@ -1,7 +1,7 @@
 use Rattle.std.proofs.Common.{◌≡◌, ◌+◌, ℕ, true, false, subst, arith}
 use Rattle.mg_serve.specs.Session.{SlotTurn}
 use Rattle.mg_serve.specs.aids.Driving.{Received}
-use Rattle.mg_serve.specs.aids.Takes.{outside}
+use Rattle.mg_serve.specs.aids.Outside.{outside}
 use Rattle.mg_serve.proofs.Taking.{takes_none, takes_then, takes_as}
 use Rattle.mg_serve.proofs.Steps.{HaveCome, none_came, one_more, turn_ended, turn_full}
 use Rattle.mg_serve.proofs.server.Server.turn.Goals as goal

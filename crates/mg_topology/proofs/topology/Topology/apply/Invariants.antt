@@ -1,11 +1,12 @@
 use Rattle.std.proofs.Common.{◌≡◌, List, take}
-use Rattle.mg_topology.specs.Edits.{Edit, apply_all}
+use Rattle.mg_topology.specs.Edits.{TopologyEdit, apply_all}
 use Rattle.mg_topology.specs.Topology.{StandsFor}
 use Rattle.mg_topology.proofs.topology.Topology.apply.Given as goal
 
 -- the topology stands for each list that it stood for, with the triples so far
 abbrev pub invariant-loop-triple : goal.invariant-loop-triple
 invariant-loop-triple l = record {
-  edits : (es : List Edit) → StandsFor l.fn.self es → StandsFor l.self (apply_all (take l.triple-index l.triples) es);
+  edits : (es : List TopologyEdit) → StandsFor l.fn.self es →
+      StandsFor l.self (apply_all (take l.triple-index l.triples) es);
   held : l.self.held ≡ l.fn.self.held;
 }

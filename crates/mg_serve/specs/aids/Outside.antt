@@ -19,14 +19,15 @@ outside calls written printer =
     record { calls = calls; written = written; printer = printer }
 
 -- from outside, these things were done
-pub record Tells (old new : Outside) (trace : List Did) : Type 0 where
+pub record TellsTrace (old new : Outside) (trace : List Did) : Type 0 where
   pub told : Told old.calls new.calls (calls_of trace)
   pub prints : Prints old.printer new.printer old.written new.written trace
 
 -- From each world that the core stood for a step leads, by what was done, to a world that the core
 -- stands for afterwards.
-abbrev pub Takes : CoreState → CoreState → Outside → Outside
+abbrev pub LeadsByTrace : CoreState → CoreState → Outside → Outside
     → (World → List Did → World → Type 0) → Type 0
-Takes old new before after R =
-    (w : World) → StandsFor old w → (trace : List Did) × (next : World) × Tells before after trace
+LeadsByTrace old new before after R =
+    (w : World) → StandsFor old w →
+    (trace : List Did) × (next : World) × TellsTrace before after trace
     × R w trace next × StandsFor new next

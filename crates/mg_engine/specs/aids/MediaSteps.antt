@@ -1,0 +1,78 @@
+-- The steps that the media of one slot take (RFC 3550, section 5.1).
+use Rattle.std.specs.Prelude.{ℕ, ℤ, ◌+◌, ◌%◌, ◌^◌, Bool, true, false, not, List, Option}
+use Rattle.mg_rtp.specs.declared.header.Header.{Header}
+use Rattle.mg_playout.specs.declared.placed.Placed.{Placed}
+use Rattle.mg_playout.specs.Played.{is_concealed, sound_of}
+use Rattle.mg_playout.specs.Playout as play_lists
+use Rattle.mg_playout.specs.Playout.{first_list}
+use Rattle.mg_engine.specs.declared.config.Config.{Config}
+use Rattle.mg_words.specs.Stats.{no_packets}
+use Rattle.mg_engine.specs.Media.{SlotMedia, timestamp_before}
+use Rattle.mg_engine.specs.Steps.{play_after, received, transmitted}
+use Rattle.mg_sums.specs.Samples.{frame_or_silence}
+
+-- 160 samples on
+abbrev pub next_timestamp : ℕ → ℕ
+next_timestamp n = (n + 160) % 2 ^ 32
+
+-- those of a termination as it is made, with the timestamp of its first tick and the number of its
+-- first packet
+abbrev pub begun_at : ℕ → ℕ → SlotMedia
+begun_at timestamp sequence =
+    record {
+      play = first_list;
+      stats = no_packets;
+      timestamp = timestamp_before timestamp;
+      sequence = sequence % 2 ^ 16;
+      is_sending = false;
+    }
+
+abbrev pub begun : Config → SlotMedia
+begun config = begun_at config.timestamp config.sequence
+
+-- with the depth of the play list that a command names
+abbrev pub slot_tuned : Option ℕ → SlotMedia → SlotMedia
+slot_tuned depth m = record m { play = play_after depth m.play }
+
+-- a packet came, and its frame was placed
+abbrev pub slot_placed : SlotMedia → Header → List ℤ → SlotMedia × Placed
+slot_placed m header frame =
+    let after = play_lists.placed m.play header.ssrc header.sequence frame in
+    (record m { play = after.0; stats = received m.stats }, after.1)
+
+-- the play list ticks
+abbrev pub slot_played : SlotMedia → SlotMedia
+slot_played m =
+    record m {
+      play = (play_lists.ticked m.play).0;
+      timestamp = next_timestamp m.timestamp;
+    }
+
+-- what it gives is the frame of this tick
+abbrev pub frame_played : SlotMedia → List ℤ
+frame_played m = frame_or_silence (sound_of ((play_lists.ticked m.play).1))
+
+-- whether that stands in for a missing frame
+abbrev pub is_concealing : SlotMedia → Bool
+is_concealing m = is_concealed ((play_lists.ticked m.play).1)
+
+-- the header of the next packet; the marker is set where the last tick sent none
+abbrev pub header : SlotMedia → ℕ → ℕ → Header
+header m payload_type ssrc =
+    record {
+      marker = not m.is_sending;
+      payload_type = payload_type;
+      sequence = m.sequence;
+      timestamp = m.timestamp;
+      ssrc = ssrc;
+    }
+
+-- the end of a tick in which a packet was sent, or none
+abbrev pub slot_ended : Bool → SlotMedia → SlotMedia
+slot_ended true m =
+    record m {
+      stats = transmitted m.stats;
+      sequence = (m.sequence + 1) % 2 ^ 16;
+      is_sending = true;
+    }
+slot_ended false m = record m { is_sending = false }

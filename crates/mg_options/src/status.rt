@@ -1,0 +1,35 @@
+ghost use Rattle.std.specs.Prelude.{◌≡◌, ◌≤◌};
+ghost use Rattle.mg_options.specs.Status.{code_of};
+
+/// How a program ends.
+#[derive(Clone, Copy, Debug, PartialEq, Eq)]
+pub enum Status {
+    Done,
+    /// A line of a script is none.
+    BadLine,
+    /// The arguments or a configuration can't be used.
+    Usage,
+    /// A read or a write failed, or the clock.
+    Failed,
+    NoMemory,
+    /// A port can't be bound.
+    NoPort,
+}
+
+impl Status {
+    /// The exit status, from 0, where all went well, to 5.
+    #[tactic(auto, unfolding(crate::specs::Status::code_of))]
+    pub fn code(self) -> u8
+        ensures value { result ≡ code_of self }
+        ensures small { result ≤ 5 }
+    {
+        match self {
+            Status::Done => 0,
+            Status::BadLine => 1,
+            Status::Usage => 2,
+            Status::Failed => 3,
+            Status::NoMemory => 4,
+            Status::NoPort => 5,
+        }
+    }
+}

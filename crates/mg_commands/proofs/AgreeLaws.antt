@@ -33,9 +33,12 @@ use Rattle.mg_commands.specs.declared.served.Served.{Served}
 use Rattle.mg_commands.specs.Agreement.{RequestsKeepAgreement, item_but_received, parts_but_received}
 use Rattle.mg_commands.specs.ContextProperties.{action_fault, audit_items, audit_pair, audit_pairs, context_outcome, is_context_audit, pair_item, triples_of}
 use Rattle.mg_commands.specs.Name.{name_of, written_as, written_name}
-use Rattle.mg_commands.specs.Outcome.{CommandOutcome, Trial, all_names, audit_outcome, audit_root, audit_termination, check_command, check_new_name, in_same_world, made_at, names_for, number_in, outcome, reply_media, reply_parts, served_at, trial_of}
+use Rattle.mg_commands.specs.Outcome.{CommandOutcome, Trial, audit_outcome, audit_root, check_command, check_new_name, in_same_world, made_at, names_for, number_in, outcome, reply_media, reply_parts, served_at, trial_of}
+use Rattle.mg_commands.specs.aids.Steps.{all_names, audit_termination}
 use Rattle.mg_commands.specs.ReplyDescriptors.{descriptors_after, descriptors_before, descriptors_by_audit}
-use Rattle.mg_commands.specs.Transaction.{ActionState, TransactionState, action_start, action_unless, after_commands, after_outcome, after_properties, end_of_action, go_on, go_on_after_action, id_of, unless_optional, with_action, with_actions, with_command, with_commands, with_name, with_names, with_trial}
+use Rattle.mg_commands.specs.Transaction.{ActionState, TransactionState, action_start, after_commands, after_outcome, after_properties, end_of_action, go_on, go_on_after_action, id_of, unless_optional, with_action, with_actions, with_command, with_commands, with_name, with_names, with_trial}
+use Rattle.mg_commands.specs.aids.Steps.{action_unless}
+use Rattle.mg_words.specs.Term.{rtp_name}
 
 -- ## What is told
 
@@ -99,8 +102,9 @@ module _ (some : List ℕ) (edits : SameEditsKeepAgreement) (same_stats : SameSt
   }
 
   served_same : (target : Target) (d : ReplyDescriptors) (n : ℕ) (a b : Gateway) → AgreeOutside some a b →
-      served_but (served_at target n (reply_parts d a n)) ≡ served_but (served_at target n (reply_parts d b n))
-  served_same target d n a b h = λ i. record (served_but (served_at target n (reply_parts d a n)))
+      served_but (served_at target (rtp_name n) (reply_parts d a n)) ≡
+      served_but (served_at target (rtp_name n) (reply_parts d b n))
+  served_same target d n a b h = λ i. record (served_but (served_at target (rtp_name n) (reply_parts d a n)))
       { parts = parts_same d n a b h i }
 
   made_same : (target : Target) (d : ReplyDescriptors) (n : ℕ) (a b : Gateway) → AgreeOutside some a b →
@@ -119,7 +123,7 @@ module _ (some : List ℕ) (edits : SameEditsKeepAgreement) (same_stats : SameSt
 
   abbrev audit_of : Target → CommandParameters → Gateway → ℕ → Result Record ErrorNumber → CommandOutcome
   audit_of target parameters w n r = in_same_world w
-      (r >>= (λ _. Ok (served_at target n (reply_parts (descriptors_by_audit parameters) w n))))
+      (r >>= (λ _. Ok (served_at target (rtp_name n) (reply_parts (descriptors_by_audit parameters) w n))))
 
   audit_at : (target : Target) (parameters : CommandParameters) (n : ℕ) (a b : Gateway) → AgreeOutside some a b →
       (r : Result Record ErrorNumber) → ServedAlike (audit_of target parameters a n r)
@@ -130,9 +134,9 @@ module _ (some : List ℕ) (edits : SameEditsKeepAgreement) (same_stats : SameSt
   audit_by : (target : Target) (parameters : CommandParameters) (a b : Gateway) → AgreeOutside some a b →
       (o : Result ℕ ErrorNumber)
       → ServedAlike (in_same_world a (o >>= (λ n. member a.rooms target n >>=
-      (λ _. Ok (served_at target n (reply_parts (descriptors_by_audit parameters) a n))))))
+      (λ _. Ok (served_at target (rtp_name n) (reply_parts (descriptors_by_audit parameters) a n))))))
       (in_same_world b (o >>= (λ n. member b.rooms target n >>=
-      (λ _. Ok (served_at target n (reply_parts (descriptors_by_audit parameters) b n))))))
+      (λ _. Ok (served_at target (rtp_name n) (reply_parts (descriptors_by_audit parameters) b n))))))
   audit_by target parameters a b h (Ok n) =
       subst (λ (z : rooms.Registry). ServedAlike (audit_of target parameters a n (member a.rooms target n))
       (audit_of target parameters b n (member z target n))) h.rooms
@@ -184,7 +188,7 @@ module _ (some : List ℕ) (edits : SameEditsKeepAgreement) (same_stats : SameSt
       (λ p q agree same. (
         agree,
         served_same (targets.Number p.1.context) (descriptors_after parameters) n p.0 q.0 agree
-            ∙ ap (λ (r : Record). served_but (served_at (targets.Number r.context) n
+            ∙ ap (λ (r : Record). served_but (served_at (targets.Number r.context) (rtp_name n)
             (reply_parts (descriptors_after parameters) q.0 n))) same,
       )))
   outcome_alike words.Subtract target name parameters a b h =

@@ -27,7 +27,8 @@ use Rattle.mg_commands.specs.Name.{name_of, written_as, written_name}
 use Rattle.mg_commands.specs.Outcome.{CommandOutcome, Trial, check_command, members_in, names_for, outcome, takes_all, trial_of, unless_empty}
 use Rattle.mg_commands.specs.Search.{first_of}
 use Rattle.mg_commands.specs.Theorems.{RefusedRequestsChangeNothing, hangs_on_commands, tells_done}
-use Rattle.mg_commands.specs.Transaction.{ActionState, TransactionState, action_start, action_unless, after_commands, after_outcome, after_properties, end_of_action, go_on, go_on_after_action, id_of, unless_optional, with_action, with_actions, with_command, with_commands, with_name, with_names, with_trial}
+use Rattle.mg_commands.specs.Transaction.{ActionState, TransactionState, action_start, after_commands, after_outcome, after_properties, end_of_action, go_on, go_on_after_action, id_of, unless_optional, with_action, with_actions, with_command, with_commands, with_name, with_names, with_trial}
+use Rattle.mg_commands.specs.aids.Steps.{action_unless}
 
 abbrev tells : List Item → Bool
 tells items = list_any tells_done items

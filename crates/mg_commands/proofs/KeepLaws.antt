@@ -22,7 +22,8 @@ use Rattle.mg_commands.specs.declared.served.Served.{Served}
 use Rattle.mg_commands.specs.Name.{written_as}
 use Rattle.mg_commands.specs.ContextProperties.{action_fault, context_outcome, triples_of}
 use Rattle.mg_commands.specs.Outcome.{CommandOutcome, Trial, check_new_name, number_in, in_same_world, outcome, trial_of, audit_outcome}
-use Rattle.mg_commands.specs.Transaction.{ActionState, TransactionState, action_start, action_unless, after_commands, after_outcome, after_properties, go_on, go_on_after_action, replied, unless_optional, with_action, with_actions, with_command, with_commands, with_name, with_names, with_trial}
+use Rattle.mg_commands.specs.Transaction.{ActionState, TransactionState, action_start, after_commands, after_outcome, after_properties, go_on, go_on_after_action, replied, unless_optional, with_action, with_actions, with_command, with_commands, with_name, with_names, with_trial}
+use Rattle.mg_commands.specs.aids.Steps.{action_unless}
 
 -- a result that was done, if there is one, has it
 data Left {A : Type 0} (P : A → Type 0) {B E : Type 0} : Result (A × B) E → Type 0 where

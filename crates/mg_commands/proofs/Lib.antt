@@ -13,3 +13,4 @@ pub mod StreamSteps
 pub mod KeepLaws
 pub mod AgreeLaws
 pub mod AsBeforeLaws
+pub mod CheckLaws

@@ -1,13 +1,12 @@
 -- What is refused changes nothing.
-use Rattle.std.proofs.Common.{[], ◌∷◌, ap, ◌∙◌, append_assoc, Bool, false, List, Option, Result}
+use Rattle.std.proofs.Common.{ap, ◌∙◌, Option, Result}
 use Rattle.mg_scan.specs.Span.{text_of}
 use Rattle.mg_words.specs.declared.error_number.ErrorNumber.{ErrorNumber}
-use Rattle.mg_reply.specs.declared.item.Item.{Item}
-use Rattle.mg_reply.specs.declared.item.Item.TheVariants as replies
 use Rattle.mg_commands.specs.Name.{written_as}
 use Rattle.mg_commands.specs.Outcome.{CommandOutcome, Trial}
 use Rattle.mg_commands.specs.Theorems.{RefusedNamesChangeNothing, RefusedCommandsChangeNothing, RefusedActionsChangeNothing, RefusedTopologiesChangeNothing, OthersAreTried}
-use Rattle.mg_commands.specs.Transaction.{TransactionState, action_unless, after_commands, after_outcome, after_properties, and_then, id_of, with_action, with_names, with_trial}
+use Rattle.mg_commands.specs.Transaction.{after_commands, after_outcome, after_properties, and_then, with_action, with_names, with_trial}
+use Rattle.mg_commands.specs.aids.Steps.{action_unless}
 
 pub names_refused : RefusedNamesChangeNothing
 names_refused source c parameters name run e h =
@@ -25,9 +24,6 @@ unfolding with_action
 topologies_refused source a s run e none were_done h =
     ap (λ (o : Option ErrorNumber). action_unless o source a s) none ∙
     ap (after_commands source a.properties) were_done ∙ ap (after_properties run) h
-    ∙ ap (λ (items : List Item). let s : TransactionState × Bool =
-    (record { gateway = run.gateway; items = items }, false) in s)
-    (append_assoc run.items (replies.Fault e ∷ []) (replies.Action (id_of run.target) ∷ []))
 
 pub others_tried : OthersAreTried
 unfolding with_names

@@ -27,8 +27,10 @@ use Rattle.mg_commands.specs.declared.progress.Progress.{Progress}
 use Rattle.mg_commands.specs.declared.served.Served.{Served}
 use Rattle.mg_commands.specs.ContextProperties.{action_fault, context_outcome}
 use Rattle.mg_commands.specs.Name.{name_of, written_as, written_name}
-use Rattle.mg_commands.specs.Outcome.{Trial, outcome, check_command, all_names, names_for}
-use Rattle.mg_commands.specs.Transaction.{ActionState, TransactionState, after_outcome, with_name, and_then, with_names, with_trial, with_command, unless_optional, go_on, with_commands, action_start, id_of, target_of, end_of_action, after_properties, after_commands, action_unless, with_action, with_actions, replied}
+use Rattle.mg_commands.specs.Outcome.{Trial, outcome, check_command, names_for}
+use Rattle.mg_commands.specs.aids.Steps.{all_names}
+use Rattle.mg_commands.specs.Transaction.{ActionState, TransactionState, after_outcome, with_name, and_then, with_names, with_trial, with_command, unless_optional, go_on, with_commands, action_start, id_of, target_of, end_of_action, after_properties, after_commands, with_action, with_actions, replied}
+use Rattle.mg_commands.specs.aids.Steps.{action_unless}
 use Rattle.mg_commands.specs.aids.Runs.{Base, IsPaid, ActionKept, action_kept, IsActionRun, with_all, TransactionKept}
 use Rattle.mg_commands.specs.aids.Runs.{transaction_kept, IsTransaction, TellsProperties}
 use Rattle.mg_commands.specs.Work.{is_edit, edits_told}

@@ -47,7 +47,8 @@ use Rattle.mg_commands.specs.Name.{name_of, written_as, written_name}
 use Rattle.mg_commands.specs.ContextProperties.{is_context_audit, action_fault, triples_of, pair_item, audit_pair, audit_pairs, audit_items, context_outcome}
 use Rattle.mg_commands.specs.Outcome.{CommandOutcome, Trial, check_new_name, number_in, in_same_world, outcome, trial_of, reply_parts, served_at, made_at}
 use Rattle.mg_commands.specs.ReplyDescriptors.{descriptors_after, descriptors_before}
-use Rattle.mg_commands.specs.Transaction.{ActionState, TransactionState, after_outcome, with_name, with_names, with_trial, with_command, unless_optional, go_on, with_commands, action_start, end_of_action, after_properties, after_commands, refusal, action_unless, with_action, go_on_after_action, with_actions, replied}
+use Rattle.mg_commands.specs.Transaction.{ActionState, TransactionState, after_outcome, with_name, with_names, with_trial, with_command, unless_optional, go_on, with_commands, action_start, end_of_action, after_properties, after_commands, refusal, with_action, go_on_after_action, with_actions, replied}
+use Rattle.mg_commands.specs.aids.Steps.{action_unless}
 
 -- ## Texts
 
@@ -187,8 +188,8 @@ data IsLong (word : CommandWord) : CommandOutcome → Type 0 where
   failed : (e : ErrorNumber) → IsLong word (Err e)
 
 named : (word : CommandWord) (w : Gateway) (target : Target) (n : ℕ) (parts : Parts) →
-    IsLong word (Ok (w, served_at target n parts))
-named word w target n parts = done (w, served_at target n parts) (omega (arith, word_long word, rtp_long n))
+    IsLong word (Ok (w, served_at target (rtp_name n) parts))
+named word w target n parts = done (w, served_at target (rtp_name n) parts) (omega (arith, word_long word, rtp_long n))
 
 made : (word : CommandWord) (w : Gateway) (target : Target) (n : ℕ) (parts : Parts) →
     IsLong word (Ok (w, made_at target n parts))

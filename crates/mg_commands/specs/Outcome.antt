@@ -24,7 +24,6 @@ use Rattle.mg_rooms.specs.Results.{passes}
 use Rattle.mg_engine.specs.Outcome as engine
 use Rattle.mg_engine.specs.Gateway.{Gateway, stats_of}
 use Rattle.mg_text.specs.declared.command.Command.{Command}
-use Rattle.mg_text.specs.declared.descriptor.Descriptor.{Descriptor}
 use Rattle.mg_commands.specs.declared.command_parameters.CommandParameters.{CommandParameters}
 use Rattle.mg_commands.specs.declared.name.Name.{Name}
 use Rattle.mg_commands.specs.declared.name.Name.TheVariants as names
@@ -53,22 +52,14 @@ is_served_word words.Subtract = true
 is_served_word words.AuditValue = true
 is_served_word _ = false
 
--- one reply for all that match isn't served (RFC 3525, section 8.2.2, W-)
-abbrev pub is_served : Command → Bool
-is_served c = is_served_word c.word && not c.wants_wildcard
-
--- what descriptors ask for, if they are served
-abbrev pub check_descriptors : List ℕ → List Descriptor → Result CommandParameters ErrorNumber
-check_descriptors source xs = do
-  _ ← unless (descriptors_fault source xs)
-  _ ← unless (properties_fault source xs)
-  Ok (parameters_of source xs)
-
--- what a command asks for, if its text is served
+-- What a command asks for, if its text is served. One reply for all that match isn't (RFC 3525,
+-- section 8.2.2, W-).
 abbrev pub check_command : List ℕ → Command → Result CommandParameters ErrorNumber
 check_command source c = do
-  _ ← passes (is_served c) errors.NotServed
-  check_descriptors source c.descriptors
+  _ ← passes (is_served_word c.word && not c.wants_wildcard) errors.NotServed
+  _ ← unless (descriptors_fault source c.descriptors)
+  _ ← unless (properties_fault source c.descriptors)
+  Ok (parameters_of source c.descriptors)
 
 -- ## What a command is tried on
 
@@ -81,24 +72,20 @@ takes_all _ = false
 
 -- the members of an action's context, in the order of their entry; one that isn't there has none
 abbrev pub members_in : Gateway → Target → List ℕ
-members_in w targets.Null = []
-members_in w targets.New = []
 members_in w (targets.Number c) = members_at w.rooms c
+members_in w _ = []
 
 -- at least one has to match
 abbrev pub unless_empty : List Name → Result (List Name) ErrorNumber
 unless_empty [] = Err errors.WildcardMatchedNone
 unless_empty (x ∷ xs) = Ok (x ∷ xs)
 
-abbrev pub all_names : Gateway → Target → CommandWord → Result (List Name) ErrorNumber
-all_names w target word =
-    if takes_all word then unless_empty (map names.Number (members_in w target))
-    else Err errors.IdentifierNotAllowed
-
 -- The names that a command is tried on, one after another: its own, or with * those of the members
 -- that are there when it begins (RFC 3525, section 6.2.2).
 abbrev pub names_for : Gateway → Target → CommandWord → Name → Result (List Name) ErrorNumber
-names_for w target word names.All = all_names w target word
+names_for w target word names.All =
+    if takes_all word then unless_empty (map names.Number (members_in w target))
+    else Err errors.IdentifierNotAllowed
 names_for w target word name = Ok (name ∷ [])
 
 -- ## Checks of the name
@@ -123,18 +110,12 @@ number_in _ = Err errors.IdentifierNotAllowed
 abbrev pub media_of_record : Record → Media
 media_of_record r = Whole (record { mode = r.mode; depth = r.depth }) r.local r.remote
 
-abbrev pub whole_media : Gateway → ℕ → Option Media
-whole_media w n = option_map media_of_record (record_at w.rooms n)
-
--- the Local of a termination, alone
-abbrev pub local_media : Gateway → ℕ → Option Media
-local_media w n = option_map Local (option_and_then (λ r. r.local) (record_at w.rooms n))
-
--- the whole media, or else the Local alone
+-- the whole media of a termination, or else its Local alone
 abbrev pub reply_media : ReplyDescriptors → Gateway → ℕ → Option Media
 reply_media descriptors w n =
-    if descriptors.media then whole_media w n
-    else (if descriptors.local then local_media w n else None)
+    if descriptors.media then option_map media_of_record (record_at w.rooms n)
+    else (if descriptors.local
+    then option_map Local (option_and_then (λ r. r.local) (record_at w.rooms n)) else None)
 
 abbrev pub reply_parts : ReplyDescriptors → Gateway → ℕ → Parts
 reply_parts descriptors w n =
@@ -148,13 +129,13 @@ reply_parts descriptors w n =
 abbrev pub CommandOutcome : Type 0
 CommandOutcome = Result (Gateway × Served) ErrorNumber
 
-abbrev pub served_at : Target → ℕ → Parts → Served
-served_at target n parts =
-    record { target = target; made = None; term = rtp_name n; parts = parts }
+abbrev pub served_at : Target → List ℕ → Parts → Served
+served_at target term parts =
+    record { target = target; made = None; term = term; parts = parts }
 
 -- the same of a termination that was made
 abbrev pub made_at : Target → ℕ → Parts → Served
-made_at target n parts = record (served_at target n parts) { made = Some n }
+made_at target n parts = record (served_at target (rtp_name n) parts) { made = Some n }
 
 abbrev pub add_outcome : Gateway → Target → Name → CommandParameters → CommandOutcome
 add_outcome w target name parameters = do
@@ -170,7 +151,7 @@ abbrev pub modify_outcome : Gateway → Target → Name → CommandParameters �
 modify_outcome w target name parameters = do
   n ← number_in name
   p ← engine.modify w target n parameters.settings
-  Ok (p.0, served_at target n (reply_parts (descriptors_after parameters) p.0 n))
+  Ok (p.0, served_at target (rtp_name n) (reply_parts (descriptors_after parameters) p.0 n))
 
 abbrev pub move_outcome : Gateway → Target → Name → CommandParameters → CommandOutcome
 move_outcome w target name parameters = do
@@ -178,7 +159,7 @@ move_outcome w target name parameters = do
   p ← engine.move_to w target n parameters.settings
   Ok (
     p.0,
-    served_at (targets.Number p.1.context) n
+    served_at (targets.Number p.1.context) (rtp_name n)
         (reply_parts (descriptors_after parameters) p.0 n),
   )
 
@@ -186,29 +167,20 @@ abbrev pub subtract_outcome : Gateway → Target → Name → CommandParameters 
 subtract_outcome w target name parameters = do
   n ← number_in name
   p ← engine.subtract w target n
-  Ok (p.0, served_at target n (reply_parts (descriptors_before parameters) w n))
-
-abbrev pub audit_termination : Gateway → Target → Name → CommandParameters
-    → Result Served ErrorNumber
-audit_termination w target name parameters = do
-  n ← number_in name
-  _ ← member w.rooms target n
-  Ok (served_at target n (reply_parts (descriptors_by_audit parameters) w n))
+  Ok (p.0, served_at target (rtp_name n) (reply_parts (descriptors_before parameters) w n))
 
 -- ROOT may be audited in the null context, and tells nothing
 abbrev pub audit_root : Target → Result Served ErrorNumber
 audit_root targets.Null =
-    Ok (record {
-      target = targets.Null;
-      made = None;
-      term = codes "ROOT";
-      parts = record { media = None; statistics = None };
-    })
+    Ok (served_at targets.Null (codes "ROOT") (record { media = None; statistics = None }))
 audit_root _ = Err errors.IdentifierNotAllowed
 
 abbrev pub audit_outcome : Gateway → Target → Name → CommandParameters → Result Served ErrorNumber
 audit_outcome w target names.Root parameters = audit_root target
-audit_outcome w target name parameters = audit_termination w target name parameters
+audit_outcome w target name parameters = do
+  n ← number_in name
+  _ ← member w.rooms target n
+  Ok (served_at target (rtp_name n) (reply_parts (descriptors_by_audit parameters) w n))
 
 -- the world is as it was
 abbrev pub in_same_world : Gateway → Result Served ErrorNumber → CommandOutcome

@@ -10,15 +10,6 @@ abbrev pub is_offer : Option MediaSetting → Bool
 is_offer (Some (settings.Offer (x ∷ xs))) = true
 is_offer _ = false
 
--- after an Add, Modify or Move: what is audited, and the Local that was set
-abbrev pub descriptors_after : CommandParameters → ReplyDescriptors
-descriptors_after parameters =
-    record {
-      media = parameters.audits_media;
-      local = is_offer parameters.settings.local;
-      statistics = parameters.audits_statistics;
-    }
-
 -- by an AuditValue: what is audited
 abbrev pub descriptors_by_audit : CommandParameters → ReplyDescriptors
 descriptors_by_audit parameters =
@@ -28,12 +19,14 @@ descriptors_by_audit parameters =
       statistics = parameters.audits_statistics;
     }
 
+-- after an Add, Modify or Move: what is audited, and the Local that was set
+abbrev pub descriptors_after : CommandParameters → ReplyDescriptors
+descriptors_after parameters =
+    record (descriptors_by_audit parameters) { local = is_offer parameters.settings.local }
+
 -- before a Subtract: what is audited, and without an audit the counters
 abbrev pub descriptors_before : CommandParameters → ReplyDescriptors
 descriptors_before parameters =
-    record {
-      media = parameters.audits_media;
-      local = false;
-      statistics = parameters.audits_statistics
-          || not parameters.has_audit;
+    record (descriptors_by_audit parameters) {
+      statistics = parameters.audits_statistics || not parameters.has_audit;
     }

@@ -19,7 +19,8 @@ use Rattle.mg_commands.specs.declared.name.Name.{Name}
 use Rattle.mg_commands.specs.Name.{written_as, written_name}
 use Rattle.mg_commands.specs.ContextProperties.{action_fault, context_outcome, is_topology}
 use Rattle.mg_commands.specs.Outcome.{outcome, trial_of}
-use Rattle.mg_commands.specs.Transaction.{ActionState, TransactionState, action_start, id_of}
+use Rattle.mg_commands.specs.Transaction.{ActionState, TransactionState, action_start}
+use Rattle.mg_commands.specs.Transaction.{end_of_action}
 use Rattle.mg_commands.specs.Transaction.{with_name, with_names, with_command, with_commands}
 use Rattle.mg_commands.specs.Transaction.{with_action, replied}
 
@@ -62,14 +63,7 @@ RefusedTopologiesChangeNothing =
     (source : List ℕ) (a : Action) (s : TransactionState) (run : ActionState) (e : ErrorNumber)
     → action_fault a ≡ None → with_commands source a.commands (action_start a s) ≡ (run, true)
     → context_outcome source run.made a.properties run.gateway run.target ≡ Err e
-    → with_action source a s
-    ≡ (
-      record {
-        gateway = run.gateway;
-        items = run.items ++ replies.Fault e ∷ replies.Action (id_of run.target) ∷ [];
-      },
-      false,
-    )
+    → with_action source a s ≡ (end_of_action run run.gateway (replies.Fault e ∷ []), false)
 
 -- Of the names that a command is tried on, one that is refused doesn't keep the others from being
 -- tried, on the same gateway, and the command isn't done.

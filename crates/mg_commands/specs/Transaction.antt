@@ -1,7 +1,8 @@
 -- A transaction: what comes of the commands of a request, action by action (RFC 3525, section
 -- 8.2.2).
-use Rattle.std.specs.Prelude.{ℕ, Bool, ◌&&◌, ◌||◌, true, false, List, [], ◌∷◌, ◌++◌, Option, Some}
+use Rattle.std.specs.Prelude.{ℕ, Bool, ◌&&◌, ◌||◌, true, false, List, [], ◌∷◌, ◌++◌, Option}
 use Rattle.std.specs.Prelude.{None, Result, Ok, Err}
+use Rattle.std.specs.Option.{option_map_or}
 use Rattle.mg_scan.specs.Span.{text_of}
 use Rattle.mg_words.specs.declared.command_word.CommandWord.{CommandWord}
 use Rattle.mg_words.specs.declared.context_id.ContextId.{ContextId}
@@ -136,23 +137,14 @@ after_commands source ps (run, true) =
     after_properties run (context_outcome source run.made ps run.gateway run.target)
 
 abbrev pub refusal : Action → TransactionState → ErrorNumber → TransactionState × Bool
-refusal a s e = (
-  record {
-    gateway = s.gateway;
-    items = s.items ++ replies.Fault e ∷ replies.Action a.context ∷ [];
-  },
-  false,
-)
+refusal a s e =
+    (record s { items = s.items ++ replies.Fault e ∷ replies.Action a.context ∷ [] }, false)
 
 -- an action, unless it is refused as a whole
-abbrev pub action_unless : Option ErrorNumber → List ℕ → Action → TransactionState
-    → TransactionState × Bool
-action_unless (Some e) source a s = refusal a s e
-action_unless None source a s =
-    after_commands source a.properties (with_commands source a.commands (action_start a s))
-
 unfoldable pub with_action : List ℕ → Action → TransactionState → TransactionState × Bool
-with_action source a s = action_unless (action_fault a) source a s
+with_action source a s =
+    option_map_or (refusal a s) (action_fault a)
+    (after_commands source a.properties (with_commands source a.commands (action_start a s)))
 
 -- what comes of the rest, unless an action was not done whole
 abbrev pub go_on_after_action : (TransactionState → TransactionState) → TransactionState × Bool

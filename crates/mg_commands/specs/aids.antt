@@ -3,3 +3,4 @@ pub mod Levels
 pub mod Parameters
 pub mod Properties
 pub mod Runs
+pub mod Steps

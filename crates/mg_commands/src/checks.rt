@@ -5,7 +5,8 @@ ghost use Rattle.mg_words.specs.declared.error_number.ErrorNumber.TheVariants.{N
 ghost use Rattle.mg_rooms.specs.Results.{passes};
 ghost use Rattle.mg_engine.specs.Gateway.{Gateway};
 ghost use Rattle.mg_engine.specs.Stands.{StandsFor};
-ghost use Rattle.mg_commands.specs.Outcome.{is_served_word, is_served, unless, check_descriptors, check_command, check_new_name, number_in};
+ghost use Rattle.mg_commands.specs.Outcome.{is_served_word, unless, check_command, check_new_name, number_in};
+ghost use Rattle.mg_commands.specs.aids.Steps.{is_served, check_descriptors};
 
 use crate::command_parameters::{CommandParameters, parameters_of};
 use crate::descriptor_fault::descriptors_fault;
@@ -66,6 +67,7 @@ fn check_descriptors(
 }
 
 /// What a command asks for, if its text is served.
+#[tactic(auto, using(crate::proofs::CheckLaws::by_descriptors))]
 pub fn check_command(source: &[u8], command: &Command) -> Result<CommandParameters, ErrorNumber>
     ensures value { result ≡ check_command source.now command.now }
 {

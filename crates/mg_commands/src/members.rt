@@ -3,7 +3,8 @@
 ghost use Rattle.std.specs.Prelude.{◌≡◌, ◌≤◌, Ok, Err, MatchResult, IfOk, length, map, take};
 ghost use Rattle.mg_engine.specs.Gateway.{Gateway};
 ghost use Rattle.mg_engine.specs.Stands.{StandsFor};
-ghost use Rattle.mg_commands.specs.Outcome.{takes_all, members_in, all_names};
+ghost use Rattle.mg_commands.specs.Outcome.{takes_all, members_in};
+ghost use Rattle.mg_commands.specs.aids.Steps.{all_names};
 
 use crate::name::Name;
 use mg_engine::{Engine, Target};

@@ -1,9 +1,9 @@
-ghost use Rattle.std.specs.Prelude.{◌≡◌, true, Some, None, MatchOption};
+ghost use Rattle.std.specs.Prelude.{◌≡◌, true};
 ghost use Rattle.mg_words.specs.Term.{is_term};
-ghost use Rattle.mg_commands.specs.Name.{after_rtp, name_in_rtp, name_of, written_as, written_name};
+ghost use Rattle.mg_commands.specs.Name.{name_in_rtp, name_of, written_as, written_name};
 
 use mg_text::Term;
-use mg_words::number_of;
+use mg_words::{after_prefix, number_of};
 
 /// What the name of a termination reads as (RFC 3525, section 6.2), whatever the case of its letters.
 #[derive(Clone, Copy, Debug, PartialEq, Eq)]
@@ -18,22 +18,6 @@ pub enum Name {
     Number(u32),
     /// Any other name. No termination has it.
     Other,
-}
-
-/// What stands after `RTP/`, if that stands in front.
-#[tactic(auto, unfolding(crate::specs::Name::after_rtp))]
-fn after_rtp(text: &[u8]) -> Option<&[u8]>
-    ensures value { MatchOption result (after_rtp text.now ≡ None) (λ rest. after_rtp text.now ≡ Some rest.now) }
-{
-    if text.len() < 4 {
-        return None;
-    }
-    let (front, rest) = text.split_at(4);
-    if front.eq_ignore_ascii_case(b"RTP/") {
-        Some(rest)
-    } else {
-        None
-    }
 }
 
 /// What a name reads as by what stands after its `RTP/`.
@@ -63,7 +47,7 @@ pub fn name_of(text: &[u8]) -> Name
     match text {
         b"$" => Name::Choose,
         b"*" => Name::All,
-        _ => match after_rtp(text) {
+        _ => match after_prefix(b"RTP/", text) {
             Some(rest) => name_in_rtp(rest),
             None => Name::Other,
         },

@@ -1,10 +1,12 @@
 //! What commands come to.
 
 ghost use Rattle.std.specs.Prelude.{◌≡◌, OnErr, if◌then◌else◌};
+ghost use Rattle.mg_words.specs.Term.{rtp_name};
 ghost use Rattle.mg_engine.specs.Gateway.{Gateway};
 ghost use Rattle.mg_engine.specs.Stands.{StandsFor, IsOutcome};
 ghost use Rattle.mg_engine.specs.Work.{RisesAtMost};
-ghost use Rattle.mg_commands.specs.Outcome.{served_at, made_at, add_outcome, modify_outcome, move_outcome, subtract_outcome, audit_termination, audit_root, audit_outcome, outcome};
+ghost use Rattle.mg_commands.specs.Outcome.{served_at, made_at, add_outcome, modify_outcome, move_outcome, subtract_outcome, audit_root, audit_outcome, outcome};
+ghost use Rattle.mg_commands.specs.aids.Steps.{audit_termination};
 ghost use Rattle.mg_commands.specs.Work.{is_edit};
 
 use crate::checks::{check_new_name, number_in};
@@ -18,7 +20,7 @@ use mg_text::{CommandWord, ErrorNumber, Parts, Term};
 
 /// What is told of the termination with a number.
 fn served_at(target: Target, number: u32, parts: Parts) -> Served
-    ensures value { result ≡ served_at target number parts }
+    ensures value { result ≡ served_at target (rtp_name number) parts }
 {
     Served {
         target,

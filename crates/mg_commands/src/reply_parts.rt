@@ -1,7 +1,8 @@
 ghost use Rattle.std.specs.Prelude.{◌≡◌, None, if◌then◌else◌};
 ghost use Rattle.mg_engine.specs.Gateway.{Gateway, stats_of};
 ghost use Rattle.mg_engine.specs.Stands.{StandsFor};
-ghost use Rattle.mg_commands.specs.Outcome.{media_of_record, whole_media, local_media, reply_media, reply_parts};
+ghost use Rattle.mg_commands.specs.Outcome.{media_of_record, reply_media, reply_parts};
+ghost use Rattle.mg_commands.specs.aids.Steps.{whole_media, local_media};
 
 use crate::reply_descriptors::ReplyDescriptors;
 use mg_engine::{Engine, Record, Stats};

@@ -19,7 +19,8 @@ use Rattle.mg_engine.specs.Apart as engine
 use Rattle.mg_engine.specs.Apart.{HearsNone, IsPortAmong}
 use Rattle.mg_engine.specs.Gateway.{Gateway, TerminationMedia, media_of}
 use Rattle.mg_engine.specs.Arrival.{at_port}
-use Rattle.mg_engine.specs.Tick.{after_tick, all_played, packet, packet_of, packet_to, sent_in_tick, sent_to}
+use Rattle.mg_engine.specs.Tick.{after_tick, all_played, packet, packet_of, sent_in_tick, sent_to}
+use Rattle.mg_engine.specs.aids.Found.{packet_to}
 use Rattle.mg_scan.specs.Span.{text_of}
 use Rattle.mg_text.specs.declared.body.MessageItem.{MessageItem}
 use Rattle.mg_text.specs.declared.body.MessageItem.TheVariants as items
@@ -29,7 +30,8 @@ use Rattle.mg_text.specs.Message.{items_of}
 use Rattle.mg_text.specs.MessageReading.{MessageReading, IsMessageReading, Read, TooMany, OtherVersion, NoMessage}
 use Rattle.mg_core.specs.declared.event.Event.{Event}
 use Rattle.mg_core.specs.declared.event.Event.TheVariants.{Control, Media, Tick}
-use Rattle.mg_core.specs.Answer.{answer_head, answered, has_requests, if_asked, item_replied, mark_after, replied_to, run_and_kept, sent_text, unless_kept, without_ranges}
+use Rattle.mg_core.specs.Answer.{answer_head, answered, has_requests, if_asked, item_replied, mark_after, replied_to, run_and_kept, sent_text, without_ranges}
+use Rattle.mg_core.specs.aids.Answers.{unless_kept}
 use Rattle.mg_core.specs.Apart.{AgreeOutside, Both, FirstAlone, SecondAlone, HearsNoneAt, HearsNoneIn}
 use Rattle.mg_core.specs.Apart.{OneArrivalKeepsAgreement, SameEventKeepsAgreement, SamePacketsFromPort}
 use Rattle.mg_core.specs.Apart.{UnheardChangesNothing, is_packet_from, key_of, packets_from}

@@ -15,7 +15,8 @@ use Rattle.mg_text.specs.Message.{items_of}
 use Rattle.mg_text.specs.MessageReading.{MessageReading, Read, TooMany, OtherVersion, NoMessage}
 use Rattle.mg_core.specs.declared.event.Event.{Event}
 use Rattle.mg_core.specs.declared.event.Event.TheVariants.{Control, Media, Tick}
-use Rattle.mg_core.specs.Answer.{answer_head, answered, has_requests, if_asked, item_replied, mark_after, replied_to, to_message, unless_kept}
+use Rattle.mg_core.specs.Answer.{answer_head, answered, has_requests, if_asked, item_replied, mark_after, replied_to, to_message}
+use Rattle.mg_core.specs.aids.Answers.{unless_kept}
 use Rattle.mg_core.specs.Step.{Run, Sent, Step}
 use Rattle.mg_core.specs.World.{World, with_control}
 

@@ -16,7 +16,8 @@ use Rattle.mg_engine.specs.declared.taken.Taken.TheVariants.{Placed, Dropped}
 use Rattle.mg_engine.specs.Tick.{concealed_in_tick}
 use Rattle.mg_core.specs.declared.event.Event.{Event}
 use Rattle.mg_core.specs.declared.event.Event.TheVariants.{Control, Media, Tick}
-use Rattle.mg_core.specs.Answer.{answer_head, answered, has_requests, if_asked, item_replied, mark_after, replied_to, unless_kept}
+use Rattle.mg_core.specs.Answer.{answer_head, answered, has_requests, if_asked, item_replied, mark_after, replied_to}
+use Rattle.mg_core.specs.aids.Answers.{unless_kept}
 use Rattle.mg_core.specs.Counting.{EventsAreCounted, RunTaking, RunsTake, is_control, is_media, is_tick, is_placed_as as way, is_dropped_for as why}
 use Rattle.mg_core.specs.World.{World, Tally, cause_of, one_more_at, placed_counter, start_of, with_control, with_taken}
 

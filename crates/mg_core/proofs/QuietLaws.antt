@@ -15,7 +15,8 @@ use Rattle.mg_rtp.specs.declared.header.Header.{Header}
 use Rattle.mg_rtp.specs.Reading.{Reading}
 use Rattle.mg_engine.specs.declared.taken.Taken.{Taken}
 use Rattle.mg_words.specs.declared.peer.Peer.{Peer}
-use Rattle.mg_engine.specs.Arrival.{Arrived, arrived, at_port, frame_placed_at, taken_at, taken_by}
+use Rattle.mg_engine.specs.Arrival.{Arrived, arrived, at_port, frame_placed_at, taken_at}
+use Rattle.mg_engine.specs.aids.Found.{taken_by}
 use Rattle.mg_engine.specs.Gateway.{ContextEdit, Gateway, TerminationMedia, media_of}
 use Rattle.mg_engine.proofs.SendingLaws.{nobody}
 use Rattle.mg_core.specs.declared.event.Event.{Event}

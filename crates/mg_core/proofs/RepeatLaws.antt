@@ -18,7 +18,8 @@ use Rattle.mg_text.specs.MessageReading.{IsMessageReading, MessageReading, Read,
 use Rattle.mg_commands.specs.Transaction.{replied}
 use Rattle.mg_core.specs.declared.event.Event.{Event}
 use Rattle.mg_core.specs.declared.event.Event.TheVariants.{Control, Media, Tick}
-use Rattle.mg_core.specs.Answer.{answer_head, answered, has_requests, if_asked, item_replied, mark_after, replied_to, request_replied, run_and_kept, unless_kept, without_ranges}
+use Rattle.mg_core.specs.Answer.{answer_head, answered, has_requests, if_asked, item_replied, mark_after, replied_to, request_replied, run_and_kept, without_ranges}
+use Rattle.mg_core.specs.aids.Answers.{unless_kept}
 use Rattle.mg_core.specs.Repeats.{AcknowledgedAreGone, GoneAreRun, IsUnasked, NoneIsNewer, PushedOutAreGone, RepliesAreKept, RepliesLast, SpareAll, Spares, acknowledges, asks, kept_for, kept_for_all}
 use Rattle.mg_core.specs.Step.{Run, Sent, Step}
 use Rattle.mg_core.specs.World.{World, start_of, with_control}

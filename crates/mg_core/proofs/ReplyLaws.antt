@@ -31,7 +31,8 @@ use Rattle.mg_words.specs.Leads.{Leads}
 use Rattle.mg_words.specs.Limits.{reply_limit}
 use Rattle.mg_reply.specs.declared.item.Item.{Item}
 use Rattle.mg_reply.specs.Theorems.{TextAlone, AllThere, is_wide, is_too_long}
-use Rattle.mg_core.specs.Answer.{with_front, has_requests, answer_head, if_asked, item_replied, mark_after, replied_to, request_replied, run_and_kept, sent_text, to_message, unless_kept, without_ranges}
+use Rattle.mg_core.specs.Answer.{with_front, has_requests, answer_head, if_asked, item_replied, mark_after, replied_to, request_replied, run_and_kept, sent_text, to_message, without_ranges}
+use Rattle.mg_core.specs.aids.Answers.{unless_kept}
 
 -- the error in the place of a reply is short
 pub refusal_short : (n : ℕ) → n < 2 ^ 32 → length (reply_text n (Fault ReplyTooLong ∷ [])) ≤ 16000

@@ -1,6 +1,7 @@
 -- What a gateway answers to a control datagram, and what becomes of the world by it.
 use Rattle.std.specs.Prelude.{◌≡◌, ℕ, nat_lt, Bool, true, false, List, [], ◌∷◌, ◌++◌, length}
 use Rattle.std.specs.Prelude.{Option, Some, None, if◌then◌else◌}
+use Rattle.std.specs.Option.{option_map_or}
 use Rattle.std.specs.List.{list_any}
 use Rattle.mg_scan.specs.Span.{text_of}
 use Rattle.mg_kept.specs.KeptReplies.{KeptReply, kept_text, with_reply, without_range}
@@ -55,16 +56,12 @@ run_and_kept sender n w s =
       },
     )
 
--- a request comes again while its reply is kept: that is sent, and the world stays as it was
-abbrev pub unless_kept : Option (List ℕ) → List ℕ → List ℕ → Request → World → List ℕ × World
-unless_kept (Some text) source sender request w = (text, w)
-unless_kept None source sender request w =
-    run_and_kept sender request.number w (replied source request w.gateway)
-
--- the reply to a request of a sender, and the world after it (RFC 3525, section 8.2)
+-- The reply to a request of a sender, and the world after it (RFC 3525, section 8.2). Where a
+-- request comes again while its reply is kept, that is sent, and the world stays as it was.
 abbrev pub request_replied : List ℕ → List ℕ → Request → World → List ℕ × World
 request_replied source sender request w =
-    unless_kept (kept_text w.replies sender request.number) source sender request w
+    option_map_or (λ text. (text, w)) (kept_text w.replies sender request.number)
+    (run_and_kept sender request.number w (replied source request w.gateway))
 
 -- ## An item of a message
 

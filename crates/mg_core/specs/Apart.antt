@@ -10,7 +10,7 @@ use Rattle.mg_engine.specs.Apart.{HearsNone, IsPortAmong}
 use Rattle.mg_engine.specs.Gateway.{Gateway}
 use Rattle.mg_core.specs.declared.counts.Counts.{Counts}
 use Rattle.mg_core.specs.declared.event.Event.{Event}
-use Rattle.mg_core.specs.declared.event.Event.TheVariants.{Control, Media, Tick}
+use Rattle.mg_core.specs.declared.event.Event.TheVariants.{Media, Tick}
 use Rattle.mg_core.specs.declared.shown.Shown.{Shown}
 use Rattle.mg_core.specs.declared.state.CoreState.{CoreState}
 use Rattle.mg_core.specs.Headline.{CameTo}

@@ -9,7 +9,7 @@ use Rattle.mg_engine.specs.declared.datagram.Datagram.{Datagram}
 use Rattle.mg_engine.specs.Flow.{flow}
 use Rattle.mg_engine.specs.Mix.{total_at}
 use Rattle.mg_core.specs.declared.event.Event.{Event}
-use Rattle.mg_core.specs.declared.event.Event.TheVariants.{Control, Media, Tick}
+use Rattle.mg_core.specs.declared.event.Event.TheVariants.{Control}
 use Rattle.mg_core.specs.declared.state.CoreState.{CoreState}
 use Rattle.mg_core.specs.World.{World, StandsFor, packets_of, start_of}
 use Rattle.mg_core.specs.Step.{Sent, Run}

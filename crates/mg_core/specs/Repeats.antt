@@ -15,7 +15,7 @@ use Rattle.mg_text.specs.Message.{IsMessage, items_of}
 use Rattle.mg_engine.specs.declared.config.Config.{Config}
 use Rattle.mg_commands.specs.Transaction.{replied}
 use Rattle.mg_core.specs.declared.event.Event.{Event}
-use Rattle.mg_core.specs.declared.event.Event.TheVariants.{Control, Media, Tick}
+use Rattle.mg_core.specs.declared.event.Event.TheVariants.{Control}
 use Rattle.mg_core.specs.Answer.{item_replied, request_replied, run_and_kept}
 use Rattle.mg_core.specs.Step.{Sent, Step, Run}
 use Rattle.mg_core.specs.World.{World, start_of, with_control}

@@ -1,6 +1,7 @@
 -- What a gateway does at each event, and at events one after another: the datagrams that it sends,
 -- and the world that it comes to.
 use Rattle.std.specs.Prelude.{◌≡◌, ℕ, List, [], ◌∷◌, ◌++◌, map, Option, Some, None}
+use Rattle.std.specs.Option.{option_map_or}
 use Rattle.mg_engine.specs.declared.datagram.Datagram.{Datagram}
 use Rattle.mg_words.specs.declared.peer.Peer.{Peer}
 use Rattle.mg_engine.specs.declared.taken.Taken.{Taken}
@@ -18,8 +19,7 @@ pub data Sent : Type 0 where
 
 -- an answer goes to where the datagram came from
 abbrev pub answer_to : Peer → Option (List ℕ) → List Sent
-answer_to source None = []
-answer_to source (Some text) = Reply source text ∷ []
+answer_to source answer = option_map_or (λ text. Reply source text ∷ []) answer []
 
 -- the answer that a core tells, with its text
 abbrev pub told : Answer → List ℕ → Option (List ℕ)

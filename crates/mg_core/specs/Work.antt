@@ -5,7 +5,7 @@ use Rattle.mg_kept.specs.KeptReplies.{kept_text}
 use Rattle.mg_text.specs.declared.body.MessageItem.{MessageItem}
 use Rattle.mg_text.specs.declared.body.MessageItem.TheVariants as items
 use Rattle.mg_text.specs.Message.{items_of}
-use Rattle.mg_text.specs.MessageReading.{MessageReading, Read, TooMany, OtherVersion, NoMessage}
+use Rattle.mg_text.specs.MessageReading.{MessageReading, Read}
 use Rattle.mg_text.specs.MessageReading.{IsMessageReading}
 use Rattle.mg_reply.specs.declared.item.Item.{Item}
 use Rattle.mg_commands.specs.Transaction.{replied}

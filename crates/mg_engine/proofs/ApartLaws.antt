@@ -18,10 +18,12 @@ use Rattle.mg_rooms.specs.Registry.{members_at}
 use Rattle.mg_sums.specs.Samples.{silence}
 use Rattle.mg_engine.specs.declared.topology_triple.TopologyTriple.{TopologyTriple}
 use Rattle.mg_engine.specs.Apart.{AgreeOutside, EndsAlike, IsPortAmong, SameEditsKeepAgreement, AgreementIsMutual, SamePackets, SameStatsButReceived, SameTickKeepsAgreement, but_received, unless_among, without_arrivals}
-use Rattle.mg_engine.specs.Arrival.{Arrived, arrived, at_port, frame_placed, frame_placed_at, taken_at, taken_by}
+use Rattle.mg_engine.specs.Arrival.{Arrived, arrived, at_port, frame_placed, frame_placed_at, taken_at}
+use Rattle.mg_engine.specs.aids.Found.{taken_by}
 use Rattle.mg_engine.specs.Flow.{has}
 use Rattle.mg_engine.specs.Steps.{counted_up}
-use Rattle.mg_engine.specs.Gateway.{Gateway, TerminationMedia, ContextEdit, Enter, Leave, frame_in, frame_of, media_of, new_media}
+use Rattle.mg_engine.specs.Gateway.{Gateway, TerminationMedia, ContextEdit, Enter, Leave, frame_of, media_of, new_media}
+use Rattle.mg_engine.specs.aids.Found.{frame_in}
 use Rattle.mg_engine.specs.Isolation.{hears_itself, progress_of}
 use Rattle.mg_engine.specs.Outcome.{added, modified, moved, subtracted, apply_triples, context_there, done_with, tuned}
 use Rattle.mg_engine.specs.Tick.{all_ended, all_played, played, sends_at, sent}

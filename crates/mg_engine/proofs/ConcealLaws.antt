@@ -12,7 +12,8 @@ use Rattle.mg_engine.specs.Gateway.{Gateway}
 use Rattle.mg_engine.specs.Media as media
 use Rattle.mg_engine.specs.aids.MediaSteps as media_steps
 use Rattle.mg_engine.specs.Stands.{EngineState, StandsFor, media_at}
-use Rattle.mg_engine.specs.Tick.{conceals, conceals_in, concealed_in_tick}
+use Rattle.mg_engine.specs.Tick.{conceals, concealed_in_tick}
+use Rattle.mg_engine.specs.aids.Found.{conceals_in}
 use Rattle.mg_engine.proofs.GatewayLaws.{has_media}
 use Rattle.mg_engine.proofs.PlaceLaws.{ByNumber}
 use Rattle.mg_engine.proofs.SendingLaws.{nobody}

@@ -1,5 +1,5 @@
 -- What a command on a termination leaves of a context that it isn't about.
-use Rattle.std.proofs.Common.{◌≡◌, ℕ, ◌<◌, eqb, not, Bool, true, false, List, [], ◌∷◌, ◌++◌, Option, Some, None, Result, Ok, refl, sym, ap, subst, ◌∙◌, arith, find, ◌&&◌, nat_lt, length}
+use Rattle.std.proofs.Common.{◌≡◌, ℕ, ◌<◌, eqb, not, Bool, true, false, List, [], ◌∷◌, ◌++◌, Option, Some, None, Result, Ok, refl, sym, ap, subst, ◌∙◌, arith, find, ◌&&◌, nat_lt, length, nat_le}
 use Rattle.std.specs.Prelude.{IsSome, ok_or, option_to_list}
 use Rattle.std.proofs.lemmas.Bool.{eqb-true, ne_eqb}
 use Rattle.mg_rooms.specs.declared.context.Context.{Context}
@@ -8,14 +8,15 @@ use Rattle.mg_rooms.specs.declared.record.Record.{Record}
 use Rattle.mg_rooms.specs.declared.settings.Settings.{Settings}
 use Rattle.mg_rooms.specs.declared.target.Target.{Target}
 use Rattle.mg_rooms.specs.declared.target.Target.TheVariants.{Null, New, Number}
-use Rattle.mg_rooms.specs.Changes.{inserted, replaced, removed, entered, entered_at, left, with_members}
+use Rattle.mg_rooms.specs.Changes.{inserted, replaced, removed, entered, left, with_members}
+use Rattle.mg_rooms.specs.aids.Entering.{entered_at}
 use Rattle.mg_rooms.specs.Members.{without}
 use Rattle.mg_rooms.specs.Outcome.{may_enter, member, named, is_number, new_slot, new_place, add, modify, move_to, subtract}
 use Rattle.mg_rooms.specs.Record.{fresh, at_place, with_settings}
-use Rattle.mg_rooms.specs.Registry.{Registry, record_at, context_at, members_at, free_room, free_seat, has_context_left}
+use Rattle.mg_rooms.specs.Registry.{Registry, record_at, context_at, members_at, free_room, free_seat}
 use Rattle.mg_rooms.specs.Results.{passes}
 use Rattle.mg_rooms.specs.Sound.{IsSound}
-use Rattle.mg_words.specs.Limits.{context_limit, member_limit}
+use Rattle.mg_words.specs.Limits.{context_limit, member_limit, last_context}
 use Rattle.mg_words.specs.declared.error_number.ErrorNumber.{ErrorNumber}
 use Rattle.mg_words.specs.declared.error_number.ErrorNumber.TheVariants.{AlreadyInContext, ContextFull, NoContextLeft}
 use Rattle.mg_engine.specs.Flow.{has}
@@ -88,8 +89,8 @@ place_elsewhere : (w : Registry) (target : Target) (place : EntryPlace) (c : ℕ
     is_number target c ≡ false → new_place w target ≡ Ok place → eqb place.context c ≡ false
 place_elsewhere w Null place c h there apart e = absurd (cc e)
 place_elsewhere w New place c h there apart e =
-    after_ok (eqb place.context c ≡ false) (passes (nat_lt (length w.contexts) context_limit && has_context_left w)
-    NoContextLeft) _ place e (λ _ one.
+    after_ok (eqb place.context c ≡ false)
+    (passes (nat_lt (length w.contexts) context_limit && nat_le w.next_context last_context) NoContextLeft) _ place e (λ _ one.
     after_ok (eqb place.context c ≡ false) (ok_or (free_room w) NoContextLeft) _ place one (λ room two.
     let is = ap (λ (p : EntryPlace). p.context) (place_is _ place two) in
     let below = below_next w c h there in

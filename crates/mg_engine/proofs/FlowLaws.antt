@@ -9,7 +9,9 @@ use Rattle.mg_rooms.specs.Registry.{record_at}
 use Rattle.mg_words.specs.Mode as mode
 use Rattle.mg_flow.specs.declared.place.Place.{Place}
 use Rattle.mg_flow.specs.Table as flow
-use Rattle.mg_engine.specs.Gateway.{Gateway, mode_or_inactive, mode_of, context_in, context_of}
+use Rattle.mg_engine.specs.Gateway.{Gateway, mode_of, context_of}
+use Rattle.mg_engine.specs.aids.Found.{context_in}
+use Rattle.mg_engine.specs.aids.Found.{mode_or_inactive}
 use Rattle.mg_engine.specs.Flow.{lets_hear, share_context, is_silenced}
 use Rattle.mg_engine.specs.Flow as worlds
 use Rattle.mg_engine.specs.Place.{place_of, IsOnPlace}

@@ -20,10 +20,12 @@ use Rattle.mg_sums.specs.Samples.{nearest_sample, sum_of}
 use Rattle.mg_engine.proofs.PlainSums.{map_agree}
 use Rattle.mg_engine.proofs.PlainSums.{sum_of-same}
 use Rattle.mg_engine.specs.declared.datagram.Datagram.{Datagram}
-use Rattle.mg_engine.specs.Gateway.{Gateway, TerminationMedia, ContextEdit, Enter, Leave, Apply, media_of, frame_of, frame_in, mode_of, context_of, numbers_of}
+use Rattle.mg_engine.specs.Gateway.{Gateway, TerminationMedia, ContextEdit, Enter, Leave, Apply, media_of, frame_of, mode_of, context_of, numbers_of}
+use Rattle.mg_engine.specs.aids.Found.{frame_in}
 use Rattle.mg_engine.specs.Flow.{flow, leads, speaks_of, lets_hear}
 use Rattle.mg_engine.specs.Mix.{played_sample, part_of_mix, heard, mix, mixed, is_loopback}
-use Rattle.mg_engine.specs.Tick.{packet, packet_to, header_of, sent_to, type_of}
+use Rattle.mg_engine.specs.Tick.{packet, header_of, sent_to, type_of}
+use Rattle.mg_engine.specs.aids.Found.{packet_to}
 use Rattle.mg_engine.specs.Isolation.{NobodyHearsHimself, leaves_isolated, IsolatedAreNotHeard, replayed, with_frame, hears_itself, progress_of, PacketsAreOfWhatIsHeard, OwnSpeechChangesNoPacket, UnheardChangesNoPacket, PayloadsAreMixes}
 
 and_none : (x y : Bool) → y ≡ false → (x && y) ≡ false

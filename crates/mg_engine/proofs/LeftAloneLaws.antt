@@ -16,7 +16,8 @@ use Rattle.mg_rooms.specs.declared.target.Target.TheVariants.{Null, New, Number}
 use Rattle.mg_rooms.specs.Outcome.{is_number}
 use Rattle.mg_rooms.specs.Outcome as commands
 use Rattle.mg_rooms.specs.Registry as rooms
-use Rattle.mg_rooms.specs.Registry.{record_at, context_at, members_at, members_of}
+use Rattle.mg_rooms.specs.Registry.{record_at, context_at, members_at}
+use Rattle.mg_rooms.specs.aids.Found.{members_of}
 use Rattle.mg_rooms.specs.Results.{passes}
 use Rattle.mg_rooms.specs.Sound.{IsSound}
 use Rattle.mg_sums.specs.Samples.{sum_of}
@@ -28,9 +29,13 @@ use Rattle.mg_engine.specs.declared.taken.Taken.{Taken}
 use Rattle.mg_engine.specs.declared.topology_triple.TopologyTriple.{TopologyTriple}
 use Rattle.mg_engine.specs.declared.triple_term.TripleTerm.{TripleTerm}
 use Rattle.mg_engine.specs.declared.triple_term.TripleTerm.TheVariants as terms
-use Rattle.mg_engine.specs.Arrival.{Arrived, Takes, arrived, at_port, frame_placed_at, taken_at, taken_by}
+use Rattle.mg_engine.specs.Arrival.{Arrived, Takes, arrived, at_port, frame_placed_at, taken_at}
+use Rattle.mg_engine.specs.aids.Found.{taken_by}
 use Rattle.mg_engine.specs.Flow.{has, flow, hears, lets_hear}
-use Rattle.mg_engine.specs.Gateway.{Gateway, TerminationMedia, ContextEdit, Apply, Enter, context_in, frame_in, media_of, mode_or_inactive, new_media}
+use Rattle.mg_engine.specs.Gateway.{Gateway, TerminationMedia, ContextEdit, Apply, Enter, media_of, new_media}
+use Rattle.mg_engine.specs.aids.Found.{frame_in}
+use Rattle.mg_engine.specs.aids.Found.{context_in}
+use Rattle.mg_engine.specs.aids.Found.{mode_or_inactive}
 use Rattle.mg_engine.specs.LeftAlone.{IsLeftAlone, IsElsewhere, IsEditElsewhere, IsPortElsewhere, is_member}
 use Rattle.mg_engine.specs.Mix.{total, part_of_total}
 use Rattle.mg_engine.specs.Outcome.{added, modified, moved, subtracted, add, modify, move_to, subtract, apply_triples, context_there, done_as, outcome, tuned}

@@ -17,7 +17,8 @@ use Rattle.mg_rooms.specs.Registry as rooms
 use Rattle.mg_rooms.specs.Registry.{members_at}
 use Rattle.mg_engine.specs.declared.taken.Taken.{Taken}
 use Rattle.mg_engine.specs.declared.topology_triple.TopologyTriple.{TopologyTriple}
-use Rattle.mg_engine.specs.Arrival.{Arrived, Takes, arrived, at_port, frame_placed, frame_placed_at, taken_at, taken_by}
+use Rattle.mg_engine.specs.Arrival.{Arrived, Takes, arrived, at_port, frame_placed, frame_placed_at, taken_at}
+use Rattle.mg_engine.specs.aids.Found.{taken_by}
 use Rattle.mg_engine.specs.Gateway.{Gateway, TerminationMedia, media_of}
 use Rattle.mg_engine.specs.Order.{OrderOfTwoIsNothing}
 use Rattle.mg_engine.specs.Outcome.{apply_triples, context_there, done_with}

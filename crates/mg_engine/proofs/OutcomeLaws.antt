@@ -11,10 +11,12 @@ use Rattle.mg_words.specs.ResultSteps.{◌>>=◌}
 use Rattle.mg_rooms.specs.Results.{passes}
 use Rattle.mg_rooms.specs.declared.limits.Limits.{Limits}
 use Rattle.mg_rooms.specs.Limits.{slot_port}
-use Rattle.mg_rooms.specs.Settings.{local_after, remote_after}
+use Rattle.mg_rooms.specs.Settings.{media_after}
+use Rattle.mg_sdp.specs.Choice.{local_choice, remote_choice}
 use Rattle.mg_rooms.specs.Registry.{Registry, record_at}
 use Rattle.mg_rooms.specs.Record.{fresh, at_place, with_settings}
-use Rattle.mg_rooms.specs.Changes.{change, inserted, replaced, removed, entered, entered_at, left}
+use Rattle.mg_rooms.specs.Changes.{change, inserted, replaced, removed, entered, left}
+use Rattle.mg_rooms.specs.aids.Entering.{entered_at}
 use Rattle.mg_rooms.specs.Outcome.{may_enter, may_have_members, member, named, is_number, new_slot, new_place, add, modify, move_to, subtract}
 
 -- each step of an outcome that is done is done
@@ -113,9 +115,9 @@ pub record SameTermination (old r : Record) : Type 0 where
 pub settings_keep : (limits : Limits) (settings : Settings) (old r : Record) →
     with_settings limits settings old ≡ fine r → SameTermination old r
 settings_keep limits settings old r e =
-    after_ok (SameTermination old r) (local_after limits.address (slot_port limits old.slot) settings.local old.local)
-    _ r e (λ local one.
-    after_ok (SameTermination old r) (remote_after settings.remote old.remote) _ r one (λ remote two.
+    after_ok (SameTermination old r)
+    (media_after (local_choice limits.address (slot_port limits old.slot)) settings.local old.local) _ r e (λ local one.
+    after_ok (SameTermination old r) (media_after remote_choice settings.remote old.remote) _ r one (λ remote two.
     let is = fine_is _ r two in record {
       slot = ap (λ (x : Record). x.slot) (sym is);
       number = ap (λ (x : Record). x.number) (sym is);
@@ -125,9 +127,9 @@ settings_keep limits settings old r e =
 settings_stay : (limits : Limits) (settings : Settings) (old r : Record) →
     with_settings limits settings old ≡ fine r → r.context ≡ old.context
 settings_stay limits settings old r e =
-    after_ok (r.context ≡ old.context) (local_after limits.address (slot_port limits old.slot) settings.local
-    old.local) _ r e (λ local one.
-    after_ok (r.context ≡ old.context) (remote_after settings.remote old.remote) _ r one
+    after_ok (r.context ≡ old.context)
+    (media_after (local_choice limits.address (slot_port limits old.slot)) settings.local old.local) _ r e (λ local one.
+    after_ok (r.context ≡ old.context) (media_after remote_choice settings.remote old.remote) _ r one
     (λ remote two. ap (λ (x : Record). x.context) (sym (fine_is _ r two))))
 
 -- the same, and it stays in its context

@@ -18,7 +18,8 @@ use Rattle.mg_engine.specs.Steps.{transmitted}
 use Rattle.mg_sums.specs.Samples.{frame_or_silence}
 use Rattle.mg_engine.specs.Media as media
 use Rattle.mg_engine.specs.aids.MediaSteps as media_steps
-use Rattle.mg_engine.specs.Tick.{played, all_played, sent, has_destination, sends_at, all_ended}
+use Rattle.mg_engine.specs.Tick.{played, all_played, sent, sends_at, all_ended}
+use Rattle.mg_engine.specs.aids.Found.{has_destination}
 use Rattle.mg_engine.specs.aids.Playing.{AreOld, IsPlayed}
 use Rattle.mg_engine.specs.aids.Sending.{slot_sends, with_mixes, IsEnded}
 use Rattle.mg_engine.specs.Stands.{EngineState, StandsFor, IsMediaOf, media_at}

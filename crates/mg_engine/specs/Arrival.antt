@@ -2,6 +2,7 @@
 -- a drop and their order are this project's own).
 use Rattle.std.specs.Prelude.{◌≡◌, ℕ, ℤ, ◌==◌, not, Bool, false, List, map, length}
 use Rattle.std.specs.Prelude.{find, Option, Some, None, Result, Ok, Err, if◌then◌else◌}
+use Rattle.std.specs.Option.{option_map_or}
 use Rattle.std.specs.Str.{bytes_eq}
 use Rattle.mg_g711.specs.declared.law.Law.{Law}
 use Rattle.mg_g711.specs.Law.{sample_of}
@@ -38,16 +39,13 @@ frame_by_law law (Err fault) = Err (causes.Rtp fault)
 
 -- a termination that has a Remote takes packets from its address alone
 abbrev pub is_stray_source : Option Chosen → List ℕ → Bool
-is_stray_source None source = false
-is_stray_source (Some remote) source = not (bytes_eq remote.address source)
-
-abbrev pub law_in : Option Chosen → Result Law DropCause
-law_in None = Err causes.NoLocal
-law_in (Some local) = Ok local.law
+is_stray_source remote source = option_map_or (λ to. not (bytes_eq to.address source)) remote false
 
 -- the law of the payloads that a termination takes from a source
 abbrev pub law_for : Record → List ℕ → Result Law DropCause
-law_for r source = if is_stray_source r.remote source then Err causes.Stray else law_in r.local
+law_for r source =
+    if is_stray_source r.remote source then Err causes.Stray
+    else option_map_or (λ local. Ok local.law) r.local (Err causes.NoLocal)
 
 -- what comes to a termination
 abbrev pub arrived : Record → List ℕ → Reading → Arrived
@@ -79,13 +77,11 @@ taken_at w n (Err cause) = (w, Dropped cause)
 abbrev pub at_port : rooms.Registry → ℕ → Option Record
 at_port w port = find (λ r. slot_port w.limits r.slot == port) w.terminations
 
-abbrev pub taken_by : Gateway → Option Record → List ℕ → Reading → Gateway × Taken
-taken_by w None source reading = (w, Dropped causes.NoTermination)
-taken_by w (Some r) source reading = taken_at w r.number (arrived r source reading)
-
 -- the world after a datagram came to a port from an address, and what became of it
 abbrev pub taken : Gateway → ℕ → List ℕ → Reading → Gateway × Taken
-taken w port source reading = taken_by w (at_port w.rooms port) source reading
+taken w port source reading =
+    option_map_or (λ r. taken_at w r.number (arrived r source reading)) (at_port w.rooms port)
+    (w, Dropped causes.NoTermination)
 
 abbrev pub Takes : Gateway → ℕ → List ℕ → List ℕ → Gateway → Taken → Type 0
 Takes w port source bytes after result =

@@ -1,12 +1,11 @@
 -- What a gateway is, seen from outside: its configuration, its terminations with their media, its
 -- contexts with their members, and what happened in them (RFC 3525, section 6; RFC 3550).
-use Rattle.std.specs.Prelude.{ℕ, ℤ, ◌==◌, Bool, false, List, [], Option, Some, None, find, map}
-use Rattle.std.specs.Option.{option_map}
+use Rattle.std.specs.Prelude.{ℕ, ℤ, ◌==◌, Bool, false, List, [], Option, find, map}
+use Rattle.std.specs.Option.{option_map, option_map_or}
 use Rattle.mg_words.specs.declared.association.Association.{Association}
 use Rattle.mg_playout.specs.Playout.{PlayList, first_list}
 use Rattle.mg_words.specs.declared.mode.Mode.{Mode}
 use Rattle.mg_words.specs.declared.mode.Mode.TheVariants.{Inactive}
-use Rattle.mg_rooms.specs.declared.record.Record.{Record}
 use Rattle.mg_rooms.specs.Registry as rooms
 use Rattle.mg_engine.specs.declared.config.Config.{Config}
 use Rattle.mg_engine.specs.Config.{limits_of}
@@ -75,27 +74,15 @@ stats_of w n = option_map (λ s. s.stats) (media_of w n)
 
 -- ## The same of any number: one that names no termination is Inactive, in context 0, and silent
 
-abbrev pub mode_or_inactive : Option Record → Mode
-mode_or_inactive None = Inactive
-mode_or_inactive (Some r) = r.mode
-
 abbrev pub mode_of : Gateway → ℕ → Mode
-mode_of w n = mode_or_inactive (rooms.record_at w.rooms n)
-
-abbrev pub context_in : Option Record → ℕ
-context_in None = 0
-context_in (Some r) = r.context
+mode_of w n = option_map_or (λ r. r.mode) (rooms.record_at w.rooms n) Inactive
 
 abbrev pub context_of : Gateway → ℕ → ℕ
-context_of w n = context_in (rooms.record_at w.rooms n)
-
-abbrev pub frame_in : Option TerminationMedia → List ℤ
-frame_in None = silence
-frame_in (Some s) = s.frame
+context_of w n = option_map_or (λ r. r.context) (rooms.record_at w.rooms n) 0
 
 -- the frame that this tick plays
 abbrev pub frame_of : Gateway → ℕ → List ℤ
-frame_of w n = frame_in (media_of w n)
+frame_of w n = option_map_or (λ s. s.frame) (media_of w n) silence
 
 abbrev pub numbers_of : Gateway → List ℕ
 numbers_of w = map (λ r. r.number) w.rooms.terminations

@@ -54,11 +54,8 @@ modified w settings rooms r = record w {
 }
 
 abbrev pub moved : Gateway → Settings → rooms.Registry → Record → Gateway
-moved w settings rooms r = record w {
-  rooms = rooms;
-  media = media_with settings r.number w.media;
-  edits = Enter r.number ∷ Leave r.number ∷ w.edits;
-}
+moved w settings rooms r =
+    record (modified w settings rooms r) { edits = Enter r.number ∷ Leave r.number ∷ w.edits }
 
 abbrev pub subtracted : Gateway → rooms.Registry → Record → Gateway
 subtracted w rooms r = record w {

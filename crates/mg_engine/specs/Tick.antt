@@ -1,8 +1,9 @@
 -- What becomes of the world by a tick of 20 ms, and the packets that are sent in it (RFC 3550,
 -- section 5.1; RFC 3551, sections 4.1 and 6).
 use Rattle.std.specs.Prelude.{ℕ, ◌+◌, ◌-◌, ◌*◌, ◌%◌, ◌^◌, Bool, true, false, not, List, ◌++◌, map}
-use Rattle.std.specs.Prelude.{count_by, filter_map, Option, Some, None, is_some, if◌then◌else◌}
-use Rattle.std.specs.Option.{option_map}
+use Rattle.std.specs.Prelude.{count_by, filter_map, Option, None, is_some, if◌then◌else◌}
+use Rattle.std.specs.Option.{option_map, option_map_or}
+use Rattle.mg_words.specs.OptionSteps.{◌>>=◌}
 use Rattle.mg_g711.specs.declared.law.Law.{Law}
 use Rattle.mg_g711.specs.declared.law.Law.TheVariants.{Mu, A}
 use Rattle.mg_g711.specs.Law.{byte_of}
@@ -35,12 +36,9 @@ abbrev pub all_played : Gateway → Gateway
 all_played w = record w { media = map played w.media }
 
 -- whether the play list of a termination gives a frame that stands in for a missing one
-abbrev pub conceals_in : Option TerminationMedia → Bool
-conceals_in None = false
-conceals_in (Some s) = is_concealed ((play_lists.ticked s.play).1)
-
 abbrev pub conceals : Gateway → ℕ → Bool
-conceals w n = conceals_in (media_of w n)
+conceals w n =
+    option_map_or (λ s. is_concealed ((play_lists.ticked s.play).1)) (media_of w n) false
 
 -- how many do in a tick
 abbrev pub concealed_in_tick : Gateway → ℕ
@@ -83,12 +81,11 @@ packet w r to s = record {
   bytes = header_bytes plain (header_of w to s) ++ map (byte_of to.law) (mixed w r.number);
 }
 
-abbrev pub packet_to : Gateway → Record → Option Chosen → Option Datagram
-packet_to w r None = None
-packet_to w r (Some to) = option_map (packet w r to) (media_of w r.number)
-
+-- .. if it sends
 abbrev pub packet_of : Gateway → Record → Option Datagram
-packet_of w r = packet_to w r (sent_to r)
+packet_of w r = do
+  to ← sent_to r
+  option_map (packet w r to) (media_of w r.number)
 
 -- the packets of a tick whose frames were played, by rising numbers of terminations
 abbrev pub packets : Gateway → List Datagram
@@ -96,12 +93,8 @@ packets w = filter_map (packet_of w) w.rooms.terminations
 
 -- ## The end of a tick
 
-abbrev pub has_destination : Option Record → Bool
-has_destination None = false
-has_destination (Some r) = is_some (sent_to r)
-
 abbrev pub sends_at : rooms.Registry → ℕ → Bool
-sends_at w n = has_destination (rooms.record_at w n)
+sends_at w n = option_map_or (λ r. is_some (sent_to r)) (rooms.record_at w n) false
 
 abbrev pub sent : Bool → TerminationMedia → TerminationMedia
 sent true s = record s { stats = transmitted s.stats; packets = s.packets + 1; sent_last = true }

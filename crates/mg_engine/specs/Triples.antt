@@ -28,8 +28,7 @@ barred_triple = record { first = Barred; second = Barred; association = Isolate 
 abbrev pub matched : List ℕ → TripleTerm → List ℕ
 matched members Every = members
 matched members (Number n) = n ∷ []
-matched members Barred = []
-matched members Stranger = []
+matched members _ = []
 
 abbrev pub is_barred : TripleTerm → Bool
 is_barred Barred = true
@@ -37,10 +36,9 @@ is_barred _ = false
 
 -- whether a term names something else than members
 abbrev pub names_others : List ℕ → TripleTerm → Bool
-names_others members Every = false
 names_others members (Number n) = not (has members n)
-names_others members Barred = false
 names_others members Stranger = true
+names_others members _ = false
 
 -- whether it is a Oneway triple of which a member matches both terms
 abbrev pub overlaps : List ℕ → TopologyTriple → Bool

@@ -1,3 +1,4 @@
+pub mod Found
 pub mod Joined
 pub mod MediaSteps
 pub mod Members

@@ -1,5 +1,5 @@
 -- The frames at the places, after each step.
-use Rattle.std.proofs.Common.{◌≡◌, ℕ, zero, suc, ◌+◌, ◌-◌, ◌++◌, ap, min, ℤ, Bool, true, false, List, [], ◌∷◌, length, drop, Option, Some, None, arith, refl, sym, inl, inr, ◌∙◌}
+use Rattle.std.proofs.Common.{◌≡◌, ℕ, zero, suc, ◌+◌, ◌-◌, ◌++◌, ap, min, ℤ, true, List, [], ◌∷◌, length, drop, Option, Some, None, arith, refl, sym, inl, inr, ◌∙◌}
 use Rattle.std.proofs.lemmas.Bool.{cases_lt}
 use Rattle.std.proofs.lemmas.List.{get_or_append_left, get_or-append_right, get_or-drop, get_or-replicate, get_or_past, length-drop, length-replicate}
 use Rattle.mg_playout.specs.Places.{FramePlaces, frame_at, empty_places, fallen, has_no_frame}

@@ -6,7 +6,7 @@ use Rattle.std.proofs.lemmas.Bool.Decides.{nat_tests}
 use Rattle.mg_playout.specs.Order.{given_after, given_at, frame_before}
 use Rattle.mg_playout.specs.Places.{FramePlaces, frame_at, fallen, has_no_frame}
 use Rattle.mg_playout.specs.Played.{given, frame_from_packet}
-use Rattle.mg_playout.specs.Playout.{PlayList, shifted, advanced}
+use Rattle.mg_playout.specs.Playout.{PlayList, advanced}
 use Rattle.mg_playout.specs.declared.phase.Phase.{Phase}
 use Rattle.mg_playout.specs.declared.phase.Phase.TheVariants.{Idle, Wait, Run}
 use Rattle.mg_playout.specs.declared.played.Played.{Played}

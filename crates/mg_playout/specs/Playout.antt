@@ -2,7 +2,7 @@
 use Rattle.std.specs.Prelude.{ℕ, ◌+◌, ◌-◌, ◌/◌, ◌%◌, ℤ, pos, neg_ℤ, nat_abs, int_lt, int_le, ◌||◌}
 use Rattle.std.specs.Prelude.{◌==◌, ◌≤◌, nat_le, if◌then◌else◌, List, length, slice_set, Option}
 use Rattle.std.specs.Prelude.{Some, None, is_some}
-use Rattle.std.specs.Option.{option_map}
+use Rattle.std.specs.Option.{option_map, option_map_or}
 use Rattle.mg_words.specs.Limits.{first_depth}
 use Rattle.mg_playout.specs.Places.{FramePlaces, empty_places, started_with, frame_at, has_no_frame}
 use Rattle.mg_playout.specs.Places.{fallen, resized}
@@ -79,13 +79,10 @@ turn_at list distance =
     else turn_of_place list.phase list.places (nat_abs distance)
 
 -- where a frame belongs, by the first case that holds
-abbrev pub turn_from : PlayList → Option Source → ℕ → ℕ → Turn
-turn_from list None ssrc sequence = Start
-turn_from list (Some source) ssrc sequence =
-    if ssrc == source.ssrc then turn_at list (distance_of source.next sequence) else Start
-
 abbrev pub turn_of : PlayList → ℕ → ℕ → Turn
-turn_of list ssrc sequence = turn_from list list.source ssrc sequence
+turn_of list ssrc sequence =
+    option_map_or (λ source. if ssrc == source.ssrc
+    then turn_at list (distance_of source.next sequence) else Start) list.source Start
 
 -- the play list with the frame where it belongs, and the answer
 abbrev pub placed_at : Turn → PlayList → ℕ → ℕ → List ℤ → PlayList × Placed

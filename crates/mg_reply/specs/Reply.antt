@@ -2,7 +2,7 @@
 use Rattle.std.specs.Prelude.{◌≡◌, ℕ, ◌+◌, ◌-◌, ◌*◌, ◌^◌, ◌<◌, ◌≤◌, Bool, true, false, ◌&&◌, ◌||◌}
 use Rattle.std.specs.Prelude.{◌==◌, not, List, [], ◌∷◌, ◌++◌, length, if◌then◌else◌}
 use Rattle.mg_reply.specs.declared.item.Item.{Item}
-use Rattle.mg_reply.specs.declared.item.Item.TheVariants.{Triple, Command, Fault, Action}
+use Rattle.mg_reply.specs.declared.item.Item.TheVariants.{Fault, Action}
 
 -- The number of the transaction, the items so far, the room that is left, whether items wait for
 -- the end of their action, and whether an item found no room.

@@ -5,7 +5,7 @@ use Rattle.mg_words.specs.Address.{address_text}
 use Rattle.mg_words.specs.declared.context_id.ContextId.{ContextId}
 use Rattle.mg_words.specs.ContextId.{context_text}
 use Rattle.mg_reply.specs.declared.item.Item.{Item}
-use Rattle.mg_reply.specs.declared.item.Item.TheVariants.{Triple, Command, Fault, Action}
+use Rattle.mg_reply.specs.declared.item.Item.TheVariants.{Fault, Action}
 use Rattle.mg_words.specs.ErrorNumber.{error_text}
 use Rattle.mg_reply.specs.Listed.{grouped}
 use Rattle.mg_reply.specs.Entries.{entries_of}
@@ -25,11 +25,7 @@ unfoldable pub actions_text : List ℕ → List Item → List Item → List ℕ
 actions_text mark pending [] = []
 actions_text mark pending (Action id ∷ xs) =
     mark ++ (action_text id pending ++ actions_text (codes ",") [] xs)
-actions_text mark pending (Triple a b association ∷ xs) =
-    actions_text mark (pending ++ Triple a b association ∷ []) xs
-actions_text mark pending (Command word term outcome ∷ xs) =
-    actions_text mark (pending ++ Command word term outcome ∷ []) xs
-actions_text mark pending (Fault e ∷ xs) = actions_text mark (pending ++ Fault e ∷ []) xs
+actions_text mark pending (x ∷ xs) = actions_text mark (pending ++ x ∷ []) xs
 
 -- an error alone, or actions with commas between them
 abbrev pub items_text : List Item → List ℕ

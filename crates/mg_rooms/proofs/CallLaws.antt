@@ -14,7 +14,8 @@ use Rattle.mg_rooms.specs.Members.{without}
 use Rattle.mg_rooms.specs.Outcome.{new_context}
 use Rattle.mg_words.specs.declared.limits.TheConstants.{CONTEXTS, MEMBERS, LAST_CONTEXT}
 use Rattle.mg_rooms.specs.aids.Tables.{HasTables, IsTable, world_of}
-use Rattle.mg_rooms.specs.Registry.{Registry, members_of, record_at, context_at, free_slot, free_room, free_seat}
+use Rattle.mg_rooms.specs.Registry.{Registry, record_at, context_at, free_slot, free_room, free_seat}
+use Rattle.mg_rooms.specs.aids.Found.{members_of}
 use Rattle.mg_rooms.proofs.OrderLaws.{any-in_order, KeepsKey, change_at, change_none, found_key, in_order-push, length-in_order_room, length-in_order_full, find-in_order, first_at_zero}
 use Rattle.mg_rooms.proofs.TableLaws.{OnlyAt, lookup_some, lookup_none, free-in_order, find_spot, entry_at, empty_place, IsTable-set}
 

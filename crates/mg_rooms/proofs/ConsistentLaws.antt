@@ -1,5 +1,5 @@
 -- Each outcome of a command on a sound world is a sound world.
-use Rattle.std.proofs.Common.{◌≡◌, ℕ, ◌+◌, ◌<◌, ◌≤◌, ◌&&◌, Bool, true, false, cond, not, List, [], ◌∷◌, ◌++◌, length, Option, Some, None, Result, Ok, Err, refl, sym, ◌∙◌, ap, subst, arith, inl, inr, ◌==◌, nat_lt, nat_le, find, option_and_then, IfSome, IsSome, ok_or}
+use Rattle.std.proofs.Common.{◌≡◌, ℕ, ◌+◌, ◌<◌, ◌≤◌, ◌&&◌, Bool, true, false, cond, not, List, [], ◌∷◌, ◌++◌, length, Option, Some, None, Result, Ok, Err, refl, sym, ◌∙◌, ap, subst, arith, inl, inr, ◌==◌, nat_lt, nat_le, find, option_and_then, IfSome, IsSome, ok_or, unwrap_or}
 use Rattle.std.specs.List.{count_by, list_any, range_with_len}
 use Rattle.std.proofs.Common.{length-append}
 use Rattle.std.proofs.lemmas.Bool.{cases_Bool, eqb-true, eqb-false, eq-eqb, and_parts, and_from, not-true, ltb-true, leb-true}
@@ -15,12 +15,15 @@ use Rattle.mg_words.specs.declared.limits.TheConstants.{CONTEXTS, MEMBERS, LAST_
 use Rattle.mg_words.specs.declared.limits.TheConstants.{MIN_DEPTH, MAX_DEPTH}
 use Rattle.mg_words.specs.ResultSteps.{◌>>=◌}
 use Rattle.mg_rooms.specs.Results.{passes}
-use Rattle.mg_rooms.specs.Settings.{depth_after, local_after, remote_after, mode_after}
+use Rattle.mg_rooms.specs.Settings.{depth_after, media_after}
+use Rattle.mg_sdp.specs.Choice.{local_choice, remote_choice}
 use Rattle.mg_rooms.specs.Limits.{slot_port, AreValidLimits}
 use Rattle.mg_rooms.specs.Record.{fresh, at_place, with_settings}
 use Rattle.mg_rooms.specs.Members.{without}
-use Rattle.mg_rooms.specs.Changes.{change, inserted, replaced, removed, entered_at, entered, left, with_members}
-use Rattle.mg_rooms.specs.Registry.{Registry, start_of, record_at, context_at, members_of, members_at, free_slot, free_room, free_seat}
+use Rattle.mg_rooms.specs.Changes.{change, inserted, replaced, removed, entered, left, with_members}
+use Rattle.mg_rooms.specs.aids.Entering.{entered_at}
+use Rattle.mg_rooms.specs.Registry.{Registry, start_of, record_at, context_at, members_at, free_slot, free_room, free_seat}
+use Rattle.mg_rooms.specs.aids.Found.{members_of}
 use Rattle.mg_rooms.specs.Outcome.{named, may_enter, may_have_members, is_number, member, new_slot, new_seat, new_context, new_place, add, modify, move_to, subtract}
 use Rattle.mg_rooms.specs.Consistent.{IsTermination, AreTerminations, IsContext, AreContexts, Agree, IsConsistent}
 use Rattle.mg_rooms.proofs.OrderLaws.{found_key}
@@ -93,11 +96,11 @@ max_depth_after (Some depth) old h = omega arith
 pub with_settings_ok : (limits : Limits) (settings : Settings) (old r : Record) →
     with_settings limits settings old ≡ Ok r → HasSettings old r
 with_settings_ok limits settings old r h =
-    let (local, _, after_local) = bind_ok (local_after limits.address (slot_port limits old.slot) settings.local
-    old.local) _ r h in
-    let (remote, _, after_remote) = bind_ok (remote_after settings.remote old.remote) _ r after_local in
+    let (local, _, after_local) =
+    bind_ok (media_after (local_choice limits.address (slot_port limits old.slot)) settings.local old.local) _ r h in
+    let (remote, _, after_remote) = bind_ok (media_after remote_choice settings.remote old.remote) _ r after_local in
     let is : record old {
-      mode = mode_after settings.mode old.mode;
+      mode = unwrap_or settings.mode old.mode;
       depth = depth_after settings.depth old.depth;
       local = local;
       remote = remote;

@@ -10,7 +10,8 @@ use Rattle.mg_words.specs.declared.error_number.ErrorNumber.{ErrorNumber}
 use Rattle.mg_rooms.specs.Results.{passes}
 use Rattle.mg_rooms.specs.Record.{fresh, at_place, with_settings}
 use Rattle.mg_rooms.specs.Members.{without}
-use Rattle.mg_rooms.specs.Changes.{inserted, replaced, removed, entered_at, entered, left, with_members}
+use Rattle.mg_rooms.specs.Changes.{inserted, replaced, removed, entered, left, with_members}
+use Rattle.mg_rooms.specs.aids.Entering.{entered_at}
 use Rattle.mg_rooms.specs.Registry.{Registry, record_at, context_at}
 use Rattle.mg_rooms.specs.Outcome.{named, may_enter, is_number, member, new_slot, new_place, add, modify, move_to, subtract}
 use Rattle.mg_rooms.specs.Consistent.{IsTermination, AreContexts, IsConsistent}

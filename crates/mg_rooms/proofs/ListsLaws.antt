@@ -6,7 +6,7 @@ use Rattle.mg_rooms.specs.declared.record.Record.{Record}
 use Rattle.mg_rooms.specs.declared.context.Context.{Context}
 use Rattle.mg_rooms.specs.declared.limits.Limits.{Limits}
 use Rattle.mg_rooms.specs.Changes.{change}
-use Rattle.mg_rooms.specs.Registry.{members_of}
+use Rattle.mg_rooms.specs.aids.Found.{members_of}
 use Rattle.mg_rooms.specs.Consistent.{IsTermination, AreTerminations, IsContext, AreContexts}
 use Rattle.mg_rooms.proofs.OrderLaws.{found_key, KeepsKey, change_none}
 use Rattle.mg_rooms.proofs.RisingLaws.{rising-push, rising-change}

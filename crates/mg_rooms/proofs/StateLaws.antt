@@ -9,7 +9,8 @@ use Rattle.mg_words.specs.declared.error_number.ErrorNumber.TheVariants.{Context
 use Rattle.mg_rooms.specs.Outcome.{new_slot, new_seat, new_context}
 use Rattle.mg_rooms.specs.declared.place.EntryPlace.{EntryPlace}
 use Rattle.mg_words.specs.declared.error_number.ErrorNumber.{ErrorNumber}
-use Rattle.mg_rooms.specs.Registry.{Registry, record_at, context_at, members_of, members_at, free_seat, free_room, IsMember, free_slot}
+use Rattle.mg_rooms.specs.Registry.{Registry, record_at, context_at, members_at, free_seat, free_room, IsMember, free_slot}
+use Rattle.mg_rooms.specs.aids.Found.{members_of}
 use Rattle.mg_rooms.specs.Consistent.{IsTermination, IsContext, IsConsistent}
 use Rattle.mg_rooms.proofs.OrderLaws.{found_key}
 use Rattle.mg_rooms.proofs.CountLaws.{one-true, one-false, count-cons, count-found, count-weaker, same_found, all-found}

@@ -1,6 +1,7 @@
 -- How a command changes the terminations and contexts.
 use Rattle.std.specs.Prelude.{ℕ, ◌+◌, List, [], ◌∷◌, ◌++◌, Option, Some, None, ◌==◌, if◌then◌else◌}
 use Rattle.std.specs.Prelude.{option_to_list}
+use Rattle.std.specs.Option.{option_map_or}
 use Rattle.mg_rooms.specs.declared.record.Record.{Record}
 use Rattle.mg_rooms.specs.declared.context.Context.{Context}
 use Rattle.mg_rooms.specs.declared.place.EntryPlace.{EntryPlace}
@@ -47,12 +48,9 @@ joined w c n =
     }
 
 -- n enters, into a context that is made for it or one that is there
-abbrev pub entered_at : Registry → EntryPlace → ℕ → Option ℕ → Registry
-entered_at w place n (Some room) = made w place.context room n
-entered_at w place n None = joined w place.context n
-
 abbrev pub entered : Registry → EntryPlace → ℕ → Registry
-entered w place n = entered_at w place n place.made
+entered w place n =
+    option_map_or (λ room. made w place.context room n) place.made (joined w place.context n)
 
 -- a context with these members, where there is one
 abbrev pub with_members : Context → List ℕ → Option Context

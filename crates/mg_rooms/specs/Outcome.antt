@@ -3,7 +3,7 @@
 -- as it was until it was subtracted. The order of the checks is this project's own: the
 -- termination, the action's context, what is used up, the media.
 use Rattle.std.specs.Prelude.{◌≡◌, ℕ, Bool, false, not, ◌&&◌, length, Some, None, Result, Ok, Err}
-use Rattle.std.specs.Prelude.{◌==◌, nat_lt, ok_or}
+use Rattle.std.specs.Prelude.{◌==◌, nat_lt, nat_le, ok_or}
 use Rattle.mg_rooms.specs.declared.record.Record.{Record}
 use Rattle.mg_rooms.specs.declared.place.EntryPlace.{EntryPlace}
 use Rattle.mg_rooms.specs.declared.settings.Settings.{Settings}
@@ -11,11 +11,11 @@ use Rattle.mg_rooms.specs.declared.target.Target.{Target}
 use Rattle.mg_rooms.specs.declared.target.Target.TheVariants as targets
 use Rattle.mg_words.specs.declared.error_number.ErrorNumber.{ErrorNumber}
 use Rattle.mg_words.specs.declared.error_number.ErrorNumber.TheVariants as refusals
-use Rattle.mg_words.specs.Limits.{context_limit, member_limit}
+use Rattle.mg_words.specs.Limits.{context_limit, member_limit, last_termination, last_context}
 use Rattle.mg_words.specs.ResultSteps.{◌>>=◌}
 use Rattle.mg_rooms.specs.Results.{passes}
 use Rattle.mg_rooms.specs.Registry.{Registry, record_at, context_at, members_at, free_slot}
-use Rattle.mg_rooms.specs.Registry.{free_room, free_seat, has_termination_left, has_context_left}
+use Rattle.mg_rooms.specs.Registry.{free_room, free_seat}
 use Rattle.mg_rooms.specs.Record.{fresh, at_place, with_settings}
 use Rattle.mg_rooms.specs.Changes.{inserted, replaced, removed, entered, left}
 
@@ -58,7 +58,7 @@ member w target n = do
 -- a slot for one more termination
 abbrev pub new_slot : Registry → Result ℕ ErrorNumber
 new_slot w = do
-  _ ← passes (has_termination_left w) refusals.NoTerminationLeft
+  _ ← passes (nat_le w.next_termination last_termination) refusals.NoTerminationLeft
   ok_or (free_slot w) refusals.NoTerminationLeft
 
 -- a seat in a context that is there; one is free where it has not as many members as it can have
@@ -71,7 +71,8 @@ new_seat w c = do
 -- the first seat of one more context; a room is free where there are not as many as there can be
 abbrev pub new_context : Registry → Result EntryPlace ErrorNumber
 new_context w = do
-  _ ← passes (nat_lt (length w.contexts) context_limit && has_context_left w) refusals.NoContextLeft
+  _ ← passes (nat_lt (length w.contexts) context_limit && nat_le w.next_context last_context)
+      refusals.NoContextLeft
   room ← ok_or (free_room w) refusals.NoContextLeft
   Ok (record { context = w.next_context; seat = 0; made = Some room })
 

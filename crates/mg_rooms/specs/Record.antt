@@ -1,5 +1,6 @@
 -- One termination (RFC 3525, section 6.2).
-use Rattle.std.specs.Prelude.{ℕ, None, Result, Ok}
+use Rattle.std.specs.Prelude.{ℕ, None, Result, Ok, unwrap_or}
+use Rattle.mg_sdp.specs.Choice.{local_choice, remote_choice}
 use Rattle.mg_words.specs.declared.mode.Mode.TheVariants.{Inactive}
 use Rattle.mg_words.specs.declared.error_number.ErrorNumber.{ErrorNumber}
 use Rattle.mg_rooms.specs.declared.settings.Settings.{Settings}
@@ -9,7 +10,7 @@ use Rattle.mg_rooms.specs.declared.place.EntryPlace.{EntryPlace}
 use Rattle.mg_rooms.specs.Limits.{slot_port}
 use Rattle.mg_words.specs.Limits.{first_depth}
 use Rattle.mg_words.specs.ResultSteps.{◌>>=◌}
-use Rattle.mg_rooms.specs.Settings.{mode_after, depth_after, local_after, remote_after}
+use Rattle.mg_rooms.specs.Settings.{depth_after, media_after}
 
 -- as it is made
 abbrev pub fresh : ℕ → ℕ → EntryPlace → Record
@@ -32,10 +33,11 @@ at_place old place = record old { context = place.context; seat = place.seat }
 -- with the settings that a command names, or the refusal of its media
 abbrev pub with_settings : Limits → Settings → Record → Result Record ErrorNumber
 with_settings limits settings old = do
-  local ← local_after limits.address (slot_port limits old.slot) settings.local old.local
-  remote ← remote_after settings.remote old.remote
+  local ← media_after (local_choice limits.address (slot_port limits old.slot)) settings.local
+      old.local
+  remote ← media_after remote_choice settings.remote old.remote
   Ok (record old {
-    mode = mode_after settings.mode old.mode;
+    mode = unwrap_or settings.mode old.mode;
     depth = depth_after settings.depth old.depth;
     local = local;
     remote = remote;

@@ -1,11 +1,12 @@
 -- The terminations and contexts of a gateway (RFC 3525, section 6).
-use Rattle.std.specs.Prelude.{◌≡◌, ℕ, Bool, not, ◌&&◌, List, [], Option, Some, None, ◌==◌, nat_le}
+use Rattle.std.specs.Prelude.{◌≡◌, ℕ, Bool, not, ◌&&◌, List, [], Option, Some, ◌==◌}
 use Rattle.std.specs.Prelude.{find}
 use Rattle.std.specs.List.{list_any, range_with_len}
+use Rattle.std.specs.Option.{option_map_or}
 use Rattle.mg_rooms.specs.declared.record.Record.{Record}
 use Rattle.mg_rooms.specs.declared.context.Context.{Context}
 use Rattle.mg_rooms.specs.declared.limits.Limits.{Limits}
-use Rattle.mg_words.specs.Limits.{context_limit, member_limit, last_termination, last_context}
+use Rattle.mg_words.specs.Limits.{context_limit, member_limit}
 
 -- terminations and contexts stand in the order of their numbers, which is that of their making
 pub record Registry : Type 0 where
@@ -38,13 +39,9 @@ context_at w c = find (λ x. x.number == c) w.contexts
 abbrev pub holder_of : Registry → ℕ → Option Record
 holder_of w slot = find (λ r. r.slot == slot) w.terminations
 
-abbrev pub members_of : Option Context → List ℕ
-members_of None = []
-members_of (Some x) = x.members
-
 -- a context that is not there has no members
 abbrev pub members_at : Registry → ℕ → List ℕ
-members_at w c = members_of (context_at w c)
+members_at w c = option_map_or (λ x. x.members) (context_at w c) []
 
 -- ## What is free
 
@@ -66,13 +63,6 @@ abbrev pub free_seat : Registry → ℕ → Option ℕ
 free_seat w c =
     least_below member_limit (λ seat. not
     (list_any (λ r. (r.context == c) && (r.seat == seat)) w.terminations))
-
--- numbers rise and are not used again
-abbrev pub has_termination_left : Registry → Bool
-has_termination_left w = nat_le w.next_termination last_termination
-
-abbrev pub has_context_left : Registry → Bool
-has_context_left w = nat_le w.next_context last_context
 
 -- the termination n is in the context c
 abbrev pub IsMember : Registry → ℕ → ℕ → Type 0

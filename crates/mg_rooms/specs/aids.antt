@@ -1,4 +1,5 @@
 pub mod Entering
 pub mod Entries
+pub mod Found
 pub mod Order
 pub mod Tables

@@ -1,7 +1,8 @@
 //! What a command changes of terminations and contexts, each step by itself.
 
-ghost use Rattle.std.specs.Prelude.{◌≡◌, ◌<◌, IfSome, Some, true, length};
-ghost use Rattle.mg_rooms.specs.Registry.{record_at, members_at, free_slot, has_termination_left};
+ghost use Rattle.std.specs.Prelude.{◌≡◌, ◌<◌, IfSome, Some, true, length, nat_le};
+ghost use Rattle.mg_words.specs.Limits.{last_termination};
+ghost use Rattle.mg_rooms.specs.Registry.{record_at, members_at, free_slot};
 ghost use Rattle.mg_rooms.specs.Changes.{inserted, replaced, removed, made, joined, entered, left};
 ghost use Rattle.mg_rooms.specs.aids.Entering.{CanEnter, CanEnterAt};
 
@@ -17,7 +18,7 @@ use mg_words::MEMBERS;
 impl Tables {
     /// The number of the termination that is made next.
     pub(crate) fn next_number(&self) -> u32
-        requires left { has_termination_left self.now ≡ true }
+        requires left { nat_le self.now.next_termination last_termination ≡ true }
         ensures value { result ≡ self.now.next_termination }
     {
         self.next_termination as u32

@@ -1,7 +1,8 @@
 //! What a command needs of terminations and contexts. Nothing is changed here.
 
-ghost use Rattle.std.specs.Prelude.{◌≡◌, ◌<◌, true, IfOk, Some};
-ghost use Rattle.mg_rooms.specs.Registry.{record_at, free_slot, has_termination_left};
+ghost use Rattle.std.specs.Prelude.{◌≡◌, ◌<◌, true, nat_le, IfOk, Some};
+ghost use Rattle.mg_words.specs.Limits.{last_termination};
+ghost use Rattle.mg_rooms.specs.Registry.{record_at, free_slot};
 ghost use Rattle.mg_rooms.specs.Record.{with_settings};
 ghost use Rattle.mg_rooms.specs.Outcome.{named, there, may_enter, may_have_members, is_number, member, new_slot, new_seat, new_context, new_place};
 ghost use Rattle.mg_rooms.specs.aids.Entering.{CanEnter};
@@ -86,7 +87,7 @@ impl Tables {
         ensures value { result ≡ new_slot self.now }
         ensures free { IfOk result (λ slot. free_slot self.now ≡ Some slot) }
         ensures below { IfOk result (λ slot. slot < self.now.limits.slots) }
-        ensures left { IfOk result (λ _. has_termination_left self.now ≡ true) }
+        ensures left { IfOk result (λ _. nat_le self.now.next_termination last_termination ≡ true) }
     {
         if self.next_termination <= u64::from(LAST_TERMINATION) {
             self.free_slot().ok_or(ErrorNumber::NoTerminationLeft)

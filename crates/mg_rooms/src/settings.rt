@@ -1,6 +1,6 @@
-ghost use Rattle.std.specs.Prelude.{◌≡◌, ◌≤◌, Some};
+ghost use Rattle.std.specs.Prelude.{◌≡◌, ◌≤◌, Some, unwrap_or};
 ghost use Rattle.mg_words.specs.declared.limits.TheConstants.{MIN_DEPTH, MAX_DEPTH};
-ghost use Rattle.mg_rooms.specs.Settings.{offered, local_after, remote_after, depth_after, mode_after};
+ghost use Rattle.mg_rooms.specs.Settings.{offered, media_after, depth_after};
 ghost use Rattle.mg_sdp.specs.Choice.{local_choice, remote_choice};
 
 use crate::media_setting::MediaSetting;
@@ -33,7 +33,7 @@ pub fn depth_within(depth: u16) -> u8
 impl Settings {
     /// The mode of a termination that had the old one.
     pub(crate) fn mode_after(&self, old: Mode) -> Mode
-        ensures value { result ≡ mode_after self.now.mode old }
+        ensures value { result ≡ unwrap_or self.now.mode old }
     {
         self.mode.unwrap_or(old)
     }
@@ -55,7 +55,7 @@ impl Settings {
         address: [u8; 4],
         port: u16,
     ) -> Result<Option<Chosen>, ErrorNumber>
-        ensures value { result ≡ local_after address port self.now.local old }
+        ensures value { result ≡ media_after (local_choice address port) self.now.local old }
     {
         match &self.local {
             None => Ok(old),
@@ -67,7 +67,7 @@ impl Settings {
 
     /// The Remote of a termination that had the old one.
     pub(crate) fn remote_after(&self, old: Option<Chosen>) -> Result<Option<Chosen>, ErrorNumber>
-        ensures value { result ≡ remote_after self.now.remote old }
+        ensures value { result ≡ media_after remote_choice self.now.remote old }
     {
         match &self.remote {
             None => Ok(old),

@@ -5,17 +5,18 @@ use Rattle.std.proofs.lemmas.List.Elements.{filter_map-append}
 use Rattle.std.proofs.lemmas.List.Folds.{list_all-append}
 use Rattle.std.proofs.lemmas.Bool.{eqb-true}
 use Rattle.std.specs.List.{list_all, last_or, cons_option}
+use Rattle.std.specs.Option.{option_map_or}
 use Rattle.mg_words.specs.OptionSteps.{◌>>=◌}
 use Rattle.mg_sdp.specs.declared.media.MediaLine.{MediaLine}
 use Rattle.mg_sdp.specs.declared.part.AlternativePart.{AlternativePart}
 use Rattle.mg_sdp.specs.declared.part.AlternativePart.TheVariants.{Missing, Faulty}
 use Rattle.mg_sdp.specs.declared.alternative.Alternative.{Alternative}
-use Rattle.mg_sdp.specs.Lines.{letter_and_value, value_by, line_value, values_of}
+use Rattle.mg_sdp.specs.Lines.{letter_and_value, line_value, values_of}
 use Rattle.mg_sdp.specs.Fields.{fields_of}
 use Rattle.mg_sdp.specs.Media.{media_in}
 use Rattle.mg_sdp.specs.Connection.{connection_in}
-use Rattle.mg_sdp.specs.Offer.{is_served_version, is_served_attribute, only_media, address_by, offer_with, offer_of}
-use Rattle.mg_sdp.specs.aids.Reader.{part_of, no_lines, with_line, media_with_line, offer_at, offer_from, offer_by}
+use Rattle.mg_sdp.specs.Offer.{is_served_version, is_served_attribute, only_media, offer_of}
+use Rattle.mg_sdp.specs.aids.Reader.{offer_with, part_of, no_lines, with_line, media_with_line, offer_at, offer_from, offer_by}
 
 abbrev media_part : List (List ℕ) → AlternativePart MediaLine
 media_part [] = Missing
@@ -61,6 +62,10 @@ offer_connected : (holds : Bool) (medias : List (List ℕ)) (o : Option (Option 
 offer_connected holds medias None = refl
 offer_connected holds medias (Some address) = offer_medias holds medias address
 
+-- what the last connection line asks for
+abbrev address_by : Option (List ℕ) → Option (Option (List ℕ))
+address_by last = option_map_or (λ value. connection_in (fields_of value)) last (Some None)
+
 offer_last : (holds : Bool) (medias : List (List ℕ)) (last : Option (List ℕ)) →
     offer_from holds (media_part medias) (connection_part last) ≡
     (address_by last >>= (λ address. only_media medias >>=
@@ -104,7 +109,7 @@ last_push o (first ∷ values) value = last_push (Some first) values value
 
 -- the values with one more, if there is one
 abbrev more : List (List ℕ) → ℕ → ℕ → List ℕ → List (List ℕ)
-more values k letter value = values ++ cons_option (value_by k (Some (letter, value))) []
+more values k letter value = values ++ cons_option (cond (eqb letter k) (Some value) None) []
 
 abbrev states : List (List ℕ) → List (List ℕ) → List (List ℕ) → List (List ℕ) → ℕ → List ℕ → Alternative
 states versions attributes medias connections letter value =

@@ -7,7 +7,7 @@ use Rattle.std.proofs.lemmas.Bool.{leb-true, le-leb, ne_eqb, and_parts, and_from
 use Rattle.std.specs.List.{list_all}
 use Rattle.std.specs.Char.{is_ascii_digit}
 use Rattle.std.specs.Str.{all_ascii_digits}
-use Rattle.mg_words.specs.Numbers.{value_of_digits, decimal_of, port_of, address_part_of}
+use Rattle.mg_words.specs.Numbers.{value_of_digits, decimal_of, port_of}
 use Rattle.mg_sdp.proofs.WrittenLaws.{byte_short, port_short}
 
 -- the digits of a number, the last of them apart
@@ -72,7 +72,7 @@ decimal_of-decimal most limit n h short small =
 pub port_of-decimal : (n : ℕ) → n < 2 ^ 16 → port_of (decimal n) ≡ Some n
 port_of-decimal n h = decimal_of-decimal 5 65535 n (omega arith) (port_short n h) (omega arith)
 
-pub part_of-decimal : (n : ℕ) → n < 256 → address_part_of (decimal n) ≡ Some n
+pub part_of-decimal : (n : ℕ) → n < 256 → decimal_of 3 255 (decimal n) ≡ Some n
 part_of-decimal n h = decimal_of-decimal 3 255 n (omega arith) (byte_short n h) (omega arith)
 
 digit_passes : (p : ℕ → Bool) → ((c : ℕ) → 48 ≤ c → c ≤ 57 → p c ≡ true) → (c : ℕ) → is_ascii_digit c ≡ true →

@@ -1,9 +1,9 @@
 -- Which alternative is chosen (RFC 3525, section 7.1.8): the first that can be served.
-use Rattle.std.specs.Prelude.{ℕ, ◌==◌, ◌&&◌, not, Bool, true, false, List, Option, Some, None}
+use Rattle.std.specs.Prelude.{ℕ, ◌==◌, ◌&&◌, not, Bool, true, false, List, Option, Some}
 use Rattle.std.specs.Prelude.{is_some, unwrap_or, find}
 use Rattle.std.specs.List.{filter_map}
 use Rattle.std.specs.Str.{bytes_eq}
-use Rattle.std.specs.Option.{option_map, option_and_then}
+use Rattle.std.specs.Option.{option_map, option_map_or, option_and_then}
 use Rattle.mg_words.specs.OptionSteps.{◌>>=◌}
 use Rattle.mg_g711.specs.declared.law.Law.TheVariants.{Mu}
 use Rattle.mg_sdp.specs.declared.offer.Offer.{Offer}
@@ -11,17 +11,14 @@ use Rattle.mg_sdp.specs.declared.chosen.Chosen.{Chosen}
 
 -- left to the gateway, or its own
 abbrev pub is_own_address : List ℕ → Option (List ℕ) → Bool
-is_own_address own None = true
-is_own_address own (Some address) = bytes_eq address own
+is_own_address own asked = option_map_or (λ address. bytes_eq address own) asked true
 
 abbrev pub is_own_port : ℕ → Option ℕ → Bool
-is_own_port own None = true
-is_own_port own (Some port) = port == own
+is_own_port own asked = option_map_or (λ port. port == own) asked true
 
 -- given, and one that packets can be sent to
 abbrev pub is_open_port : Option ℕ → Bool
-is_open_port None = false
-is_open_port (Some port) = not (port == 0)
+is_open_port asked = option_map_or (λ port. not (port == 0)) asked false
 
 -- the gateway itself can serve it at its own address and port
 abbrev pub is_served_local : List ℕ → ℕ → Offer → Bool

@@ -3,6 +3,7 @@
 use Rattle.std.specs.Prelude.{ℕ, ◌==◌, ◌-◌, ◌||◌, ◌&&◌, Bool, true, false, List, [], ◌∷◌, length}
 use Rattle.std.specs.Prelude.{map, filter, take, drop, Option, Some, None, is_some, if◌then◌else◌}
 use Rattle.std.specs.List.{prefix_len, suffix_len, slice_split, filter_map}
+use Rattle.std.specs.Option.{option_and_then}
 use Rattle.std.specs.Char.{is_ascii_alphabetic}
 use Rattle.std.specs.Str.{byte}
 use Rattle.mg_words.specs.LineEnd.{is_line_end}
@@ -37,12 +38,10 @@ abbrev pub is_line : List ℕ → Bool
 is_line line = is_some (letter_and_value line)
 
 -- the value of a line, if it has this letter
-abbrev pub value_by : ℕ → Option (ℕ × List ℕ) → Option (List ℕ)
-value_by letter None = None
-value_by letter (Some parts) = if parts.0 == letter then Some parts.1 else None
-
 abbrev pub line_value : ℕ → List ℕ → Option (List ℕ)
-line_value letter line = value_by letter (letter_and_value line)
+line_value letter line =
+    option_and_then (λ parts. if parts.0 == letter then Some parts.1 else None)
+    (letter_and_value line)
 
 -- the values of the lines of this letter
 abbrev pub values_of : ℕ → List (List ℕ) → List (List ℕ)

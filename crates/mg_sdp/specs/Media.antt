@@ -16,9 +16,6 @@ abbrev pub asked_in_field : {X : Type 0} → (List ℕ → Option X) → List �
 asked_in_field read field =
     if bytes_eq field (codes "$") then Some None else option_map Some (read field)
 
-abbrev pub port_asked : List ℕ → Option (Option ℕ)
-port_asked field = asked_in_field port_of field
-
 -- what a format asks for: 0 is mu-law, 8 is A-law
 unfoldable pub law_of : List ℕ → Option (Option Law)
 law_of format =
@@ -42,5 +39,5 @@ unfoldable pub media_in : List (List ℕ) → Option MediaLine
 media_in (kind ∷ port ∷ protocol ∷ formats) =
     if str_eq_ignore_ascii_case kind (codes "audio")
     && str_eq_ignore_ascii_case protocol (codes "RTP/AVP")
-    then media_asked (port_asked port) (first_law formats) else None
+    then media_asked (asked_in_field port_of port) (first_law formats) else None
 media_in _ = None

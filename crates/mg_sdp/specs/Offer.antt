@@ -4,6 +4,7 @@ use Rattle.std.specs.Prelude.{ℕ, ◌&&◌, ◌||◌, not, nat_eq, Bool, List, 
 use Rattle.std.specs.Prelude.{codes, if◌then◌else◌}
 use Rattle.std.specs.Str.{byte, bytes_eq}
 use Rattle.std.specs.List.{list_all, last_or, starts_with}
+use Rattle.std.specs.Option.{option_map_or}
 use Rattle.mg_words.specs.OptionSteps.{◌>>=◌}
 use Rattle.mg_sdp.specs.Lines.{values_of}
 use Rattle.mg_sdp.specs.Fields.{fields_of}
@@ -26,19 +27,13 @@ abbrev pub only_media : List (List ℕ) → Option MediaLine
 only_media (value ∷ []) = media_in (fields_of value)
 only_media _ = None
 
--- what the last connection line asks for; where there is none, the address is left to the gateway
-abbrev pub address_by : Option (List ℕ) → Option (Option (List ℕ))
-address_by None = Some None
-address_by (Some value) = connection_in (fields_of value)
-
-abbrev pub offer_with : MediaLine → Option (List ℕ) → Offer
-offer_with media address = record { address = address; port = media.port; law = media.law }
-
--- what an alternative offers, or None where its lines aren't served
+-- What an alternative offers, or None where its lines aren't served. Of connection lines the last
+-- counts, and where there is none the address is left to the gateway.
 unfoldable pub offer_of : List (List ℕ) → Option Offer
 offer_of lines = do
-  address ← address_by (last_or None (values_of (byte "c") lines))
+  address ← option_map_or (λ value. connection_in (fields_of value))
+      (last_or None (values_of (byte "c") lines)) (Some None)
   media ← only_media (values_of (byte "m") lines)
   if list_all is_served_version (values_of (byte "v") lines)
       && list_all is_served_attribute (values_of (byte "a") lines)
-      then Some (offer_with media address) else None
+      then Some (record { address = address; port = media.port; law = media.law }) else None

@@ -1,13 +1,15 @@
 ghost use Rattle.std.specs.Prelude.{◌≡◌};
 ghost use Rattle.mg_sdp.specs.Fields.{fields_of};
-ghost use Rattle.mg_sdp.specs.Connection.{address_asked, connection_in};
+ghost use Rattle.mg_sdp.specs.Media.{asked_in_field};
+ghost use Rattle.mg_sdp.specs.Connection.{connection_in};
+ghost use Rattle.mg_words.specs.Address.{address_of};
 
 use crate::fields::Fields;
 use mg_words::address_of;
 
 /// The address that a field asks for.
 fn address_asked(field: &[u8]) -> Option<Option<[u8; 4]>>
-    ensures value { result ≡ address_asked field.now }
+    ensures value { result ≡ asked_in_field address_of field.now }
 {
     match field {
         b"$" => Some(None),

@@ -1,7 +1,8 @@
 ghost use Rattle.std.specs.Prelude.{◌≡◌};
 ghost use Rattle.mg_sdp.specs.Fields.{fields_of};
 ghost use Rattle.mg_sdp.specs.aids.FieldsLeft.{fields_left};
-ghost use Rattle.mg_sdp.specs.Media.{law_of, first_law, port_asked, media_in};
+ghost use Rattle.mg_sdp.specs.Media.{law_of, first_law, asked_in_field, media_in};
+ghost use Rattle.mg_words.specs.Numbers.{port_of};
 
 use crate::fields::Fields;
 use mg_g711::Law;
@@ -42,7 +43,7 @@ fn first_law(formats: Fields<'_>) -> Option<Option<Law>>
 
 /// The port that a field asks for.
 fn port_asked(field: &[u8]) -> Option<Option<u16>>
-    ensures value { result ≡ port_asked field.now }
+    ensures value { result ≡ asked_in_field port_of field.now }
 {
     match field {
         b"$" => Some(None),

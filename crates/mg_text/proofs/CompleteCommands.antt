@@ -12,15 +12,18 @@ use Rattle.mg_words.specs.declared.command_word.CommandWord.{CommandWord}
 use Rattle.mg_words.specs.declared.command_word.CommandWord.TheVariants as commands
 use Rattle.mg_text.specs.declared.command.Command.{Command}
 use Rattle.mg_text.specs.Keyword.{keyword_of}
-use Rattle.mg_text.specs.Words.{by_keyword, audit_word_named, command_of}
+use Rattle.mg_text.specs.Words.{by_keyword, audit_word_named}
+use Rattle.mg_text.specs.aids.Words.{command_of}
 use Rattle.mg_text.specs.aids.Reading.{after_mark, meaning_at}
 use Rattle.mg_text.specs.aids.Media.{media_part_at}
 use Rattle.mg_text.specs.aids.Commands.{audit_words_at, assigned_at, content_at, other_at, descriptor_named, descriptor_at, audit_at, optional_audit_at, skipped_at, descriptors_at, command_at}
 use Rattle.mg_text.specs.Production.{◌▹◌}
-use Rattle.mg_text.specs.Grammar.{IsMark, IsWorded, IsAnyBraced, IsContent, IsOtherContent, keyword_for, IsMediaPart, IsAudit, IsDescriptor, IsOptionalAudit, IsSkipped, IsDescribed, head_of, IsCommand}
+use Rattle.mg_text.specs.Grammar.{IsMark, IsWorded, IsAnyBraced, IsContent, IsOtherContent, keyword_for, IsMediaPart, IsAudit, IsDescriptor, IsOptionalAudit, IsSkipped, IsDescribed, IsCommand}
+use Rattle.mg_text.specs.aids.Words.{head_of}
 use Rattle.mg_text.proofs.Complete.{Stops, mark_read, after_read, after_other, word_read, span_other, worded_read, inside_read, term_read, filled_read, mark_shorter, span_shorter, worded_shorter, group_shorter, content_shorter, braced_read, braced_shorter, optional_braced_read, optional_braced_shorter, any_braced_read, any_braced_shorter, each_word_read, each_word_shorter, each_word_begins}
 use Rattle.mg_text.proofs.SoundCommands.{IsAssignedContent}
 use Rattle.mg_text.proofs.CompleteMedia.{media_part_read, media_part_shorter}
+use Rattle.mg_text.proofs.WordLaws.{worded_head}
 
 audit_words_read : (source : List ℕ) (xs : List AuditWord) (ts rest : List Token) →
     IsAnyBraced (IsWorded (by_keyword audit_word_named) source) xs ts rest → audit_words_at source ts ≡ Ok (xs, rest)
@@ -205,7 +208,7 @@ pub command_read : (source : List ℕ) (ts : List Token) (x : Command) (rest : L
 unfolding command_at
 command_read source ts x rest stops m =
     rw (
-      worded_read command_of source (head_of x) ts m.0 m.1,
+      worded_read command_of source (head_of x) ts m.0 (worded_head source (head_of x) ts m.0 m.1),
       mark_read source Equals m.0 m.2.0 m.2.1,
       term_read source x.term m.2.0 m.2.2.0 m.2.2.1,
       described_read source x.word x.descriptors m.2.2.0 rest stops.«open»
@@ -217,7 +220,7 @@ pub command_shorter : (source : List ℕ) (ts : List Token) (x : Command) (rest 
 command_shorter source ts x rest m =
     omega (
       arith,
-      worded_shorter command_of source (head_of x) ts m.0 m.1,
+      worded_shorter command_of source (head_of x) ts m.0 (worded_head source (head_of x) ts m.0 m.1),
       mark_shorter Equals m.0 m.2.0 m.2.1,
       span_shorter Word x.term m.2.0 m.2.2.0 m.2.2.1.1,
       described_shorter source x.word x.descriptors m.2.2.0 rest m.2.2.2,

@@ -19,9 +19,13 @@ use Rattle.mg_text.specs.declared.body.MessageItem.{MessageItem}
 use Rattle.mg_text.specs.declared.body.MessageItem.TheVariants as items
 use Rattle.mg_text.specs.declared.command_head.CommandHead.{CommandHead}
 use Rattle.mg_text.specs.declared.message.Message.{Message}
+use Rattle.std.specs.Prelude.{codes}
+use Rattle.std.specs.Option.{option_map_or}
+use Rattle.mg_words.specs.Cut.{after_prefix}
 use Rattle.mg_text.specs.Keyword.{keyword_of}
 use Rattle.mg_words.specs.ContextId.{context_id_of}
-use Rattle.mg_text.specs.Words.{by_keyword, association_named, context_word_named, range_of, command_for, command_of}
+use Rattle.mg_text.specs.Words.{by_keyword, context_word_named, range_of}
+use Rattle.mg_text.specs.aids.Words.{association_named, prefixed, headed, command_of}
 use Rattle.mg_text.specs.Head.{version_in_head}
 use Rattle.mg_text.specs.Sender.{is_sender}
 use Rattle.mg_words.specs.ResultSteps.{◌>>=◌}
@@ -30,10 +34,13 @@ use Rattle.mg_text.specs.aids.Commands.{command_at}
 use Rattle.mg_text.specs.aids.Requests.{triple_at, priority_at, emergency_at, property_at, is_property, begins_property, parts_at, action_at, request_at, ranges_at, answer_at, item_at, sequence_at, error_at, body_at}
 use Rattle.mg_text.specs.aids.Text.{version_at, sender_at, text_at}
 use Rattle.mg_text.specs.Production.{◌or◌}
-use Rattle.mg_text.specs.Grammar.{IsWordThat, IsWorded, IsName, IsListed, head_of, IsCommand, IsTriple, IsContextProperty, IsParts, IsAction, IsAnswer, IsItem, IsSequence, kept, body_of, IsItems, IsBody, IsText}
+use Rattle.mg_text.specs.Grammar.{IsWordThat, IsWorded, IsName, IsListed, IsCommand, IsTriple, IsContextProperty, IsParts, IsAction, IsAnswer, IsItem, IsSequence, body_of, IsItems, IsBody, IsText}
+use Rattle.mg_text.specs.aids.Words.{head_of}
+use Rattle.mg_text.specs.aids.Parts.{kept}
 use Rattle.mg_text.proofs.KeywordLaws.{named_is}
 use Rattle.mg_text.proofs.Complete.{Stops, at_comma, at_close, mark_read, after_read, after_other, word_read, named_read, worded_read, group_read, term_read, mark_shorter, span_shorter, worded_shorter, group_shorter, items_shorter, items_read, braced_read, braced_shorter, each_word_read, each_word_shorter}
 use Rattle.mg_text.proofs.CompleteCommands.{command_read, command_shorter}
+use Rattle.mg_text.proofs.WordLaws.{association_means, worded_head}
 
 triple_read : (source : List ℕ) (ts : List Token) (x : NamedTriple) (rest : List Token) → Stops rest →
     IsTriple source x ts rest → triple_at source ts ≡ Ok (x, rest)
@@ -44,7 +51,8 @@ triple_read source ts x rest stops m =
       mark_read source Comma m.0 m.2.0 m.2.1,
       term_read source x.second m.2.0 m.2.2.0 m.2.2.1,
       mark_read source Comma m.2.2.0 m.2.2.2.0 m.2.2.2.1,
-      worded_read (by_keyword association_named) source x.association m.2.2.2.0 rest m.2.2.2.2,
+      worded_read (by_keyword association_named) source x.association m.2.2.2.0 rest
+          (association_means source x.association m.2.2.2.0 rest m.2.2.2.2),
     ) refl
 
 triple_shorter : (source : List ℕ) (ts : List Token) (x : NamedTriple) (rest : List Token) → IsTriple source x ts rest →
@@ -56,7 +64,8 @@ triple_shorter source ts x rest m =
       mark_shorter Comma m.0 m.2.0 m.2.1,
       span_shorter Word x.second m.2.0 m.2.2.0 m.2.2.1.1,
       mark_shorter Comma m.2.2.0 m.2.2.2.0 m.2.2.2.1,
-      worded_shorter (by_keyword association_named) source x.association m.2.2.2.0 rest m.2.2.2.2,
+      worded_shorter (by_keyword association_named) source x.association m.2.2.2.0 rest
+          (association_means source x.association m.2.2.2.0 rest m.2.2.2.2),
     )
 
 property_read : (source : List ℕ) (x : ContextProperty) (ts rest : List Token) → Stops rest →
@@ -138,6 +147,14 @@ property_begins source (properties.ContextAudit xs) ts rest m =
 property_begins source (properties.Priority w) ts rest m = begins_with source keywords.Priority ts m.0 refl m.1
 property_begins source (properties.Emergency o) ts rest m = begins_with source keywords.Emergency ts m.0 refl m.1
 
+-- what a command's text stands for, by the word that it is a form of, if it is one
+abbrev command_for : List ℕ → Option Keyword → Option CommandHead
+command_for text keyword =
+    option_map_or (headed false false) keyword
+    (prefixed true true (after_prefix (codes "O-W-") text)
+    (prefixed true false (after_prefix (codes "O-") text)
+    (prefixed false true (after_prefix (codes "W-") text) None)))
+
 no_property : (text : List ℕ) (k : Option Keyword) (head : CommandHead) → command_for text k ≡ Some head →
     is_property k ≡ false
 no_property text (Some keywords.Topology) head e = absurd cc
@@ -155,7 +172,8 @@ command_begins source head ts rest m = rw m.2
 commands_begin : (source : List ℕ) (xs : List Command) (ts rest : List Token) →
     IsListed (IsCommand source) xs ts rest → begins_property source ts ≡ false
 commands_begin source [] ts rest h = absurd h
-commands_begin source (x ∷ xs) ts rest h = command_begins source (head_of x) ts h.1.0 h.1.1
+commands_begin source (x ∷ xs) ts rest h =
+    command_begins source (head_of x) ts h.1.0 (worded_head source (head_of x) ts h.1.0 h.1.1)
 
 abbrev parts_of : List ContextProperty → List Command → ActionParts
 parts_of properties commands = record { properties = properties; commands = commands }
@@ -220,7 +238,8 @@ parts_read source (suc n) (p ∷ q ∷ qs) xs ts rest lt m =
 parts_some : (source : List ℕ) (ps : List ContextProperty) (xs : List Command) (ts rest : List Token) →
     IsParts source ps xs ts rest → length ps < length ts
 parts_some source [] [] ts rest m = absurd m
-parts_some source [] (x ∷ xs) ts rest m = omega (arith, worded_shorter command_of source (head_of x) ts m.1.0 m.1.1)
+parts_some source [] (x ∷ xs) ts rest m =
+    omega (arith, worded_shorter command_of source (head_of x) ts m.1.0 (worded_head source (head_of x) ts m.1.0 m.1.1))
 parts_some source (p ∷ []) [] ts rest m = omega
     (arith, property_shorter source p ts m.0 m.1, mark_shorter Close m.0 rest m.2)
 parts_some source (p ∷ []) (x ∷ xs) ts rest m =

@@ -15,14 +15,18 @@ use Rattle.mg_text.specs.declared.media.StreamPart.{StreamPart}
 use Rattle.mg_text.specs.declared.media.StreamPart.TheVariants as streams
 use Rattle.mg_text.specs.declared.media.MediaPart.{MediaPart}
 use Rattle.mg_text.specs.declared.media.MediaPart.TheVariants as parts
-use Rattle.mg_text.specs.Keyword.{long_of, short_of, keyword_of}
-use Rattle.mg_text.specs.Words.{by_keyword, mode_named, switch_of}
+use Rattle.mg_text.specs.Keyword.{forms_of, keyword_of}
+use Rattle.mg_text.specs.Words.{by_keyword, switch_of}
+use Rattle.mg_text.specs.aids.Words.{mode_named}
 use Rattle.mg_text.specs.aids.Reading.{after_mark}
 use Rattle.mg_text.specs.aids.Media.{value_at, optional_value_at, switched_at, mode_part_at, package_part_at, control_named, control_at, stream_part_at, numbered_at, media_part_at}
 use Rattle.mg_text.specs.Production.{◌▹◌}
 use Rattle.mg_text.specs.Grammar.{IsMark, IsWorded, IsName, IsOptionalAssigned, IsValue, has_slash, IsControlPart, IsStreamPart, IsMediaPart}
 use Rattle.mg_text.proofs.KeywordLaws.{no_slash}
 use Rattle.mg_text.proofs.Complete.{Stops, mark_read, after_read, span_read, word_read, worded_read, inside_read, filled_read, mark_shorter, span_shorter, worded_shorter, group_shorter, content_shorter, braced_read, braced_shorter}
+use Rattle.mg_words.specs.Mode.{mode_text}
+use Rattle.mg_text.specs.Keyword.{long_word}
+use Rattle.mg_text.proofs.WordLaws.{mode_means}
 
 value_read : (source : List ℕ) (v : PropertyValue) (ts rest : List Token) → IsValue v ts rest →
     value_at source ts ≡ Ok (v, rest)
@@ -58,7 +62,7 @@ is_control _ = false
 
 -- no slash stands in them
 slash_apart : (text : List ℕ) (k : Option Keyword) → keyword_of text ≡ k → has_slash text ≡ true → is_control k ≡ false
-unfolding long_of short_of
+unfolding forms_of
 slash_apart text (Some keywords.Mode) e h = absurd (no_slash text keywords.Mode e refl refl h)
 slash_apart text (Some keywords.ReservedValue) e h = absurd (no_slash text keywords.ReservedValue e refl refl h)
 slash_apart text (Some keywords.ReservedGroup) e h = absurd (no_slash text keywords.ReservedGroup e refl refl h)
@@ -85,7 +89,7 @@ control_read source ts (controls.Mode mode) rest stops m =
       word_read source m.1.0 ts m.0 m.1.2,
       m.1.1,
       mark_read source Equals m.0 m.2.0 m.2.1,
-      worded_read (by_keyword mode_named) source mode m.2.0 rest m.2.2,
+      worded_read (by_keyword mode_named) source mode m.2.0 rest (mode_means source mode m.2.0 rest m.2.2),
     ) refl
 control_read source ts (controls.ReservedValue on) rest stops m =
     rw (
@@ -120,7 +124,7 @@ assigned_shorter meaning source keyword x ts rest m =
 control_shorter : (source : List ℕ) (ts : List Token) (x : ControlPart) (rest : List Token) →
     IsControlPart source x ts rest → length rest ≤ length ts
 control_shorter source ts (controls.Mode mode) rest m =
-    assigned_shorter (by_keyword mode_named) source keywords.Mode mode ts rest m
+    assigned_shorter long_word source keywords.Mode (mode_text mode) ts rest m
 control_shorter source ts (controls.ReservedValue on) rest m =
     assigned_shorter switch_of source keywords.ReservedValue on ts rest m
 control_shorter source ts (controls.ReservedGroup on) rest m =

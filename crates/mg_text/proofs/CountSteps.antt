@@ -9,7 +9,8 @@ use Rattle.mg_text.specs.declared.request.Action.{Action}
 use Rattle.mg_text.specs.declared.body.MessageItem.{MessageItem}
 use Rattle.mg_text.specs.declared.body.MessageItem.TheVariants as items
 use Rattle.mg_text.specs.declared.body.Range.{Range}
-use Rattle.mg_text.specs.Message.{action_commands, requests_in, commands_in}
+use Rattle.mg_text.specs.Message.{requests_in, commands_in}
+use Rattle.mg_text.specs.Message.{action_commands}
 use Rattle.mg_text.specs.aids.Text.{left_after, is_within}
 
 fits : (most n : ℕ) → n ≤ most → left_after most n ≡ Some (most - n)

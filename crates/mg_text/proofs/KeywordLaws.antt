@@ -1,15 +1,15 @@
 -- Looking a word of the encoding up among those that begin with its first letter.
-use Rattle.std.proofs.Common.{◌≡◌, ◌≢◌, ℕ, Bool, true, false, ◌||◌, ◌&&◌, ◌==◌, cond, List, [], ◌∷◌, length, take, get_or, ◌<◌, Some, None, refl, sym, ap, ◌∙◌, arith}
+use Rattle.std.proofs.Common.{◌≡◌, ◌≢◌, ℕ, Bool, true, false, ◌||◌, ◌==◌, cond, List, [], ◌∷◌, length, get_or, ◌<◌, Some, None, refl, sym, ap, ◌∙◌, arith}
 use Rattle.std.proofs.lemmas.Bool.{and_parts, true≢false}
 use Rattle.std.proofs.lemmas.Bool.Decides.{nat_tests}
-use Rattle.std.proofs.lemmas.List.{length-take}
 use Rattle.std.specs.Prelude.{find, filter}
 use Rattle.std.specs.Char.{to_ascii_lowercase}
-use Rattle.std.specs.Str.{bytes_eq, str_to_ascii_lowercase}
+use Rattle.std.specs.Str.{bytes_eq, str_eq_ignore_ascii_case, str_to_ascii_lowercase}
 use Rattle.std.proofs.lemmas.Slice.Eq.{bytes_eq-Decides}
+use Rattle.mg_words.proofs.CutLaws as cut_laws
 use Rattle.mg_text.specs.declared.keyword.Keyword.{Keyword}
 use Rattle.mg_text.specs.declared.keyword.Keyword.TheVariants.{Context}
-use Rattle.mg_text.specs.Keyword.{same_word, long_of, short_of, is_named, keywords, keyword_of}
+use Rattle.mg_text.specs.Keyword.{forms_of, is_named, keywords, keyword_of}
 use Rattle.mg_text.specs.Grammar.{has_slash}
 use Rattle.mg_text.specs.aids.Keywords.{begins, can_begin, words_by}
 
@@ -26,7 +26,8 @@ find_filter : {X : Type 0} (p q : X → Bool) → ((x : X) → p x ≡ true → 
 find_filter p q wider [] = refl
 find_filter p q wider (x ∷ xs) = find_tests p x xs (filter q xs) (p x) (q x) (wider x) refl (find_filter p q wider xs)
 
-begins_with : (b : ℕ) (bs form : List ℕ) → same_word (b ∷ bs) form ≡ true → begins (to_ascii_lowercase b) form ≡ true
+begins_with : (b : ℕ) (bs form : List ℕ) → str_eq_ignore_ascii_case (b ∷ bs) form ≡ true →
+    begins (to_ascii_lowercase b) form ≡ true
 begins_with b bs [] h = absurd cc
 begins_with b bs (c ∷ cs) h = (and_parts _ _ h).0
 
@@ -38,7 +39,8 @@ or_true false b false y f g h = g h
 named_begins : (b : ℕ) (bs : List ℕ) (k : Keyword) → is_named (b ∷ bs) k ≡ true →
     can_begin (to_ascii_lowercase b) k ≡ true
 unfolding is_named
-named_begins b bs k h = or_true _ _ _ _ (begins_with b bs (long_of k)) (begins_with b bs (short_of k)) h
+named_begins b bs k h = or_true _ _ _ _
+    (begins_with b bs (forms_of k).0) (begins_with b bs (forms_of k).1) h
 
 pub by_letter : (text : List ℕ) → 0 < length text →
     find (is_named text) (words_by (to_ascii_lowercase (get_or text 0 0))) ≡ keyword_of text
@@ -47,39 +49,24 @@ by_letter [] h = absurd (omega arith)
 by_letter (b ∷ bs) h = find_filter (is_named (b ∷ bs)) (can_begin (to_ascii_lowercase b)) (named_begins b bs) keywords
 
 pub no_letter : (text : List ℕ) → length text < 1 → keyword_of text ≡ None
-unfolding keyword_of is_named long_of short_of
+unfolding keyword_of is_named forms_of
 no_letter [] h = refl
 no_letter (b ∷ bs) h = absurd (omega arith)
 
 -- the very same word
-pub exact : (a b : List ℕ) → a ≡ b → same_word a b ≡ true
+pub exact : (a b : List ℕ) → a ≡ b → str_eq_ignore_ascii_case a b ≡ true
 exact a b e = rw e (same_itself (str_to_ascii_lowercase b))
   where
     same_itself : (xs : List ℕ) → bytes_eq xs xs ≡ true
     same_itself xs = (bytes_eq-Decides xs xs).1 refl
 
-and_false : (p : Bool) → (p && false) ≡ false
-and_false true = refl
-and_false false = refl
-
 -- words of two lengths
-pub same_len : (a b : List ℕ) → length a ≢ length b → same_word a b ≡ false
-same_len [] [] ne = absurd (ne refl)
-same_len [] (y ∷ b) ne = refl
-same_len (x ∷ a) [] ne = refl
-same_len (x ∷ a) (y ∷ b) ne =
-    let rest : same_word a b ≡ false = same_len a b (omega arith) in
-    rw rest (and_false (to_ascii_lowercase x == to_ascii_lowercase y))
-
--- a text that is shorter than a word doesn't begin with it
-pub too_short : (prefix text : List ℕ) → length text < length prefix →
-    same_word (take (length prefix) text) prefix ≡ false
-too_short prefix text lt = same_len (take (length prefix) text) prefix
-    (λ e. omega (arith, lt, e, length-take (length prefix) text))
+pub same_len : (a b : List ℕ) → length a ≢ length b → str_eq_ignore_ascii_case a b ≡ false
+same_len a b apart = cut_laws.same_len a b apart
 
 -- ## What the word of a text says of the text
 
-found_passes : {X : Type 0} (p : X → Bool) (xs : List X) (x : X) → find p xs ≡ Some x → p x ≡ true
+pub found_passes : {X : Type 0} (p : X → Bool) (xs : List X) (x : X) → find p xs ≡ Some x → p x ≡ true
 found_passes p [] x e = absurd cc
 found_passes p (y ∷ ys) x e = by_test (p y) refl e (found_passes p ys x)
   where
@@ -93,20 +80,22 @@ pub named_is : (text : List ℕ) (k : Keyword) → keyword_of text ≡ Some k �
 unfolding keyword_of
 named_is text k e = found_passes (is_named text) keywords k e
 
-same_letters : (a b : List ℕ) → same_word a b ≡ true → str_to_ascii_lowercase a ≡ str_to_ascii_lowercase b
+pub same_letters : (a b : List ℕ) → str_eq_ignore_ascii_case a b ≡ true →
+    str_to_ascii_lowercase a ≡ str_to_ascii_lowercase b
 same_letters a b e = (bytes_eq-Decides (str_to_ascii_lowercase a) (str_to_ascii_lowercase b)).0 e
 
-either : {A : Type 0} (p q : Bool) → (p ≡ true → A) → (q ≡ true → A) → (p || q) ≡ true → A
+pub either : {A : Type 0} (p q : Bool) → (p ≡ true → A) → (q ≡ true → A) → (p || q) ≡ true → A
 either true q f g e = f refl
 either false q f g e = g e
 
 -- a form of CONTEXT is a form of no word before it
 pub context_is : (text : List ℕ) → is_named text Context ≡ true → keyword_of text ≡ Some Context
-unfolding keyword_of is_named long_of short_of
+unfolding keyword_of is_named forms_of
 context_is text e =
-    either (same_word text (long_of Context)) (same_word text (short_of Context))
-    (λ long. let same = same_letters text (long_of Context) long in rw same (refl {a = Some Context}))
-    (λ short. let same = same_letters text (short_of Context) short in rw same (refl {a = Some Context})) e
+    let forms = forms_of Context in
+    either (str_eq_ignore_ascii_case text forms.0) (str_eq_ignore_ascii_case text forms.1)
+    (λ long. let same = same_letters text forms.0 long in rw same (refl {a = Some Context}))
+    (λ short. let same = same_letters text forms.1 short in rw same (refl {a = Some Context})) e
 
 lower_slash : (b : ℕ) → (to_ascii_lowercase b == 47) ≡ (b == 47)
 lower_slash b = grind (arith, nat_tests)
@@ -115,14 +104,15 @@ slash_in_lower : (text : List ℕ) → has_slash (str_to_ascii_lowercase text) �
 slash_in_lower [] = refl
 slash_in_lower (b ∷ bs) = rw (lower_slash b, slash_in_lower bs) refl
 
-same_slash : (a b : List ℕ) → same_word a b ≡ true → has_slash a ≡ has_slash b
+same_slash : (a b : List ℕ) → str_eq_ignore_ascii_case a b ≡ true → has_slash a ≡ has_slash b
 same_slash a b e = sym (slash_in_lower a) ∙ ap has_slash (same_letters a b e) ∙ slash_in_lower b
 
 -- no slash stands in a form of a word that has none in its forms
-pub no_slash : (text : List ℕ) (k : Keyword) → keyword_of text ≡ Some k → has_slash (long_of k) ≡ false →
-    has_slash (short_of k) ≡ false → has_slash text ≡ true → ⊥
+pub no_slash : (text : List ℕ) (k : Keyword) → keyword_of text ≡ Some k → has_slash (forms_of k).0 ≡ false →
+    has_slash (forms_of k).1 ≡ false → has_slash text ≡ true → ⊥
 unfolding is_named
 no_slash text k e long short slash =
-    either (same_word text (long_of k)) (same_word text (short_of k))
-    (λ is. true≢false (sym slash ∙ same_slash text (long_of k) is ∙ long))
-    (λ is. true≢false (sym slash ∙ same_slash text (short_of k) is ∙ short)) (named_is text k e)
+    let forms = forms_of k in
+    either (str_eq_ignore_ascii_case text forms.0) (str_eq_ignore_ascii_case text forms.1)
+    (λ is. true≢false (sym slash ∙ same_slash text forms.0 is ∙ long))
+    (λ is. true≢false (sym slash ∙ same_slash text forms.1 is ∙ short)) (named_is text k e)

@@ -17,3 +17,4 @@ pub mod OneReading
 pub mod ProperLaws
 pub mod KeywordLaws
 pub mod SenderLaws
+pub mod WordLaws

@@ -13,7 +13,8 @@ use Rattle.mg_text.specs.declared.body.Body.{Body}
 use Rattle.mg_text.specs.declared.body.MessageItem.{MessageItem}
 use Rattle.mg_text.specs.declared.body.MessageItem.TheVariants as items
 use Rattle.mg_text.specs.Production.{Production}
-use Rattle.mg_text.specs.Grammar.{IsListed, IsMore, IsCommand, IsTriple, IsContextProperty, IsParts, IsAction, IsRequest, IsItem, IsSequence, IsBody, kept, body_of}
+use Rattle.mg_text.specs.Grammar.{IsListed, IsMore, IsCommand, IsTriple, IsContextProperty, IsParts, IsAction, IsRequest, IsItem, IsSequence, IsBody, body_of}
+use Rattle.mg_text.specs.aids.Parts.{kept}
 use Rattle.mg_text.specs.aids.Requests.{kept_before}
 use Rattle.mg_text.specs.Message.{items_of}
 use Rattle.mg_text.specs.Proper.{command_is_proper, triple_is_proper, property_is_proper, action_is_proper, request_is_proper, are_proper}

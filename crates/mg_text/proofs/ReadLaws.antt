@@ -15,7 +15,8 @@ use Rattle.mg_text.specs.Head.{version_in_head}
 use Rattle.mg_text.specs.aids.Reading.{Agrees}
 use Rattle.mg_text.specs.aids.Text.{version_at, text_at, is_within, answer_of, fault_within, UnlessNoMemory, AgreesText, AgreesAfter, AgreesVersioned}
 use Rattle.mg_text.specs.Grammar.{IsText, IsWorded}
-use Rattle.mg_text.specs.Message.{AreTokens, IsShort, IsTree, IsMessage, AsksTooMuch, IsTooMany, HasOtherVersion, requests_in, commands_in, items_of}
+use Rattle.mg_text.specs.Message.{AreTokens, IsTree, IsMessage, AsksTooMuch, IsTooMany, HasOtherVersion, requests_in, commands_in, items_of}
+use Rattle.mg_text.specs.aids.Parts.{IsShort}
 use Rattle.mg_text.specs.Proper.{are_proper}
 use Rattle.mg_text.proofs.ProperLaws.{message_proper}
 use Rattle.mg_text.proofs.ScanLaws.{one_scan}

@@ -8,7 +8,8 @@ use Rattle.mg_scan.specs.Scanner.{Scanning, rest_of}
 use Rattle.mg_scan.specs.Tokens.{first_token, token_and_rest, TokenAndRest, closing_len, names_octets}
 use Rattle.mg_scan.specs.Scanner.{IsNext}
 use Rattle.mg_scan.specs.Span.{text_of}
-use Rattle.mg_text.specs.Message.{Reaches, ending, AreTokens, scanning_of}
+use Rattle.mg_text.specs.Message.{Reaches, AreTokens, scanning_of}
+use Rattle.mg_text.specs.aids.Parts.{ending}
 
 -- one token more
 pub Reaches-push : (ts : List Token) (old mid new : Scanning) (t : Token) → Reaches old ts mid →

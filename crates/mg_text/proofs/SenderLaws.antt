@@ -7,7 +7,7 @@ use Rattle.std.specs.List.{position_or_len}
 use Rattle.mg_words.specs.Limits.{sender_limit}
 use Rattle.mg_words.specs.OptionSteps.{◌>>=◌}
 use Rattle.mg_words.specs.Cut.{cut_at, cut}
-use Rattle.mg_words.specs.Numbers.{decimal_of, address_part_of}
+use Rattle.mg_words.specs.Numbers.{decimal_of}
 use Rattle.mg_words.specs.Address.{address_of}
 use Rattle.mg_text.specs.Sender.{is_sender, is_domain, is_address, is_port_part, is_host}
 
@@ -29,7 +29,7 @@ first_step (Some x) f h = (x, refl, refl, h)
 decimal_short : (most limit : ℕ) (text : List ℕ) → is_some (decimal_of most limit text) ≡ true → length text ≤ most
 decimal_short most limit text h = grind (arith, nat_tests)
 
-part_short : (text : List ℕ) → is_some (address_part_of text) ≡ true → length text ≤ 3
+part_short : (text : List ℕ) → is_some (decimal_of 3 255 text) ≡ true → length text ≤ 3
 part_short text h = decimal_short 3 255 text h
 
 -- an address: four numbers of three digits and three dots
@@ -39,10 +39,10 @@ address_short text h =
     let one = first_step (cut 46 text) _ h in
     let two = first_step (cut 46 one.0.1) _ one.3 in
     let three = first_step (cut 46 two.0.1) _ two.3 in
-    let a = first_step (address_part_of one.0.0) _ three.3 in
-    let b = first_step (address_part_of two.0.0) _ a.3 in
-    let c = first_step (address_part_of three.0.0) _ b.3 in
-    let d = first_step (address_part_of three.0.1) _ c.3 in
+    let a = first_step (decimal_of 3 255 one.0.0) _ three.3 in
+    let b = first_step (decimal_of 3 255 two.0.0) _ a.3 in
+    let c = first_step (decimal_of 3 255 three.0.0) _ b.3 in
+    let d = first_step (decimal_of 3 255 three.0.1) _ c.3 in
     omega (
       arith,
       cut_joins 46 text one.0 one.1,

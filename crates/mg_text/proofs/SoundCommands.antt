@@ -12,7 +12,8 @@ use Rattle.mg_words.specs.declared.command_word.CommandWord.{CommandWord}
 use Rattle.mg_words.specs.declared.command_word.CommandWord.TheVariants as commands
 use Rattle.mg_text.specs.declared.command.Command.{Command}
 use Rattle.mg_text.specs.Keyword.{keyword_of}
-use Rattle.mg_text.specs.Words.{by_keyword, audit_word_named, command_of}
+use Rattle.mg_text.specs.Words.{by_keyword, audit_word_named}
+use Rattle.mg_text.specs.aids.Words.{command_of}
 use Rattle.mg_text.specs.aids.Reading.{mark_at, after_mark, word_at, meaning_at, keyword_at, term_at, filled_at}
 use Rattle.mg_text.specs.aids.Reading.{braced_at, place_of_rest}
 use Rattle.mg_text.specs.aids.Media.{media_part_at}
@@ -21,6 +22,7 @@ use Rattle.mg_text.specs.Production.{Production, ◌▹◌, ◌or◌}
 use Rattle.mg_text.specs.Grammar.{IsMark, IsWorded, IsAnyBraced, IsGroup, IsContent, IsOptionalGroup, IsOtherContent, keyword_for, IsMediaPart, IsAudit, IsDescriptor, IsOptionalAudit, IsSkipped, IsDescribed, IsCommand}
 use Rattle.mg_text.proofs.Sound.{bind_ok, ok_is, mark_found, after_found, if_some_ok, word_found, worded_found, term_found, group_found, filled_found, braced_found, any_braced_found, optional_braced_found, IsSpelled}
 use Rattle.mg_text.proofs.SoundMedia.{media_part_found}
+use Rattle.mg_text.proofs.WordLaws.{head_worded}
 
 audit_words_found : (source : List ℕ) (ts : List Token) (x : List AuditWord × List Token) →
     audit_words_at source ts ≡ Ok x → IsAnyBraced (IsWorded (by_keyword audit_word_named) source) x.0 ts x.1
@@ -166,7 +168,7 @@ command_found source ts x e =
     let items = bind_ok (descriptors_at source head.0.0.word term.0.1) _ x term.2 in
     subst (IsSpelled (IsCommand source) ts) (ok_is _ x items.2) (
       head.0.1,
-      worded_found command_of source ts head.0 head.1,
+      head_worded source head.0.0 ts head.0.1 (worded_found command_of source ts head.0 head.1),
       (
         b.0,
         mark_found source Equals head.0.1 b.0 b.1,

@@ -19,7 +19,8 @@ use Rattle.mg_text.specs.declared.body.MessageItem.{MessageItem}
 use Rattle.mg_text.specs.declared.message.Message.{Message}
 use Rattle.mg_text.specs.Keyword.{keyword_of}
 use Rattle.mg_words.specs.ContextId.{context_id_of}
-use Rattle.mg_text.specs.Words.{by_keyword, association_named, context_word_named, range_of}
+use Rattle.mg_text.specs.Words.{by_keyword, context_word_named, range_of}
+use Rattle.mg_text.specs.aids.Words.{association_named}
 use Rattle.mg_text.specs.Head.{version_in_head}
 use Rattle.mg_text.specs.Sender.{is_sender}
 use Rattle.mg_words.specs.ResultSteps.{◌>>=◌}
@@ -28,10 +29,12 @@ use Rattle.mg_text.specs.aids.Reading.{context_id_at, term_at, group_at, items_a
 use Rattle.mg_text.specs.aids.Commands.{command_at}
 use Rattle.mg_text.specs.aids.Requests.{triple_at, priority_at, emergency_at, property_named, property_at, begins_property, parts_at, action_at, request_at, ranges_at, answer_at, item_named, item_at, kept_before, sequence_at, error_at, body_named, body_at}
 use Rattle.mg_text.specs.aids.Text.{sender_at, text_at}
-use Rattle.mg_text.specs.Grammar.{IsMark, IsWordThat, IsWorded, IsGroup, IsCommand, IsTriple, IsContextProperty, IsParts, IsAction, IsItem, IsSequence, kept, body_of, IsBody, IsText}
+use Rattle.mg_text.specs.Grammar.{IsMark, IsWordThat, IsWorded, IsGroup, IsCommand, IsTriple, IsContextProperty, IsParts, IsAction, IsItem, IsSequence, body_of, IsBody, IsText}
+use Rattle.mg_text.specs.aids.Parts.{kept}
 use Rattle.mg_text.proofs.Sound.{bind_ok, guard_ok, ok_is, mark_found, after_found, if_some_ok, chosen, word_found, named_found, worded_found, term_found, group_at_found, items_found, braced_found, IsSpelled}
 use Rattle.mg_text.proofs.SoundCommands.{command_found}
 use Rattle.mg_text.proofs.KeywordLaws.{context_is}
+use Rattle.mg_text.proofs.WordLaws.{association_is_meant}
 
 triple_found : (source : List ℕ) (ts : List Token) (x : NamedTriple × List Token) → triple_at source ts ≡ Ok x →
     IsTriple source x.0 ts x.1
@@ -54,7 +57,8 @@ triple_found source ts x e =
           (
             f.0,
             mark_found source Comma second.0.1 f.0 f.1,
-            worded_found (by_keyword association_named) source f.0 association.0 association.1,
+            association_is_meant source association.0.0 f.0 association.0.1
+                (worded_found (by_keyword association_named) source f.0 association.0 association.1),
           ),
         ),
       ),

@@ -15,13 +15,15 @@ use Rattle.mg_text.specs.declared.media.StreamPart.{StreamPart}
 use Rattle.mg_text.specs.declared.media.MediaPart.{MediaPart}
 use Rattle.mg_text.specs.declared.media.MediaPart.TheVariants as parts
 use Rattle.mg_text.specs.Keyword.{keyword_of}
-use Rattle.mg_text.specs.Words.{by_keyword, mode_named, switch_of}
+use Rattle.mg_text.specs.Words.{by_keyword, switch_of}
+use Rattle.mg_text.specs.aids.Words.{mode_named}
 use Rattle.mg_words.specs.ResultSteps.{◌>>=◌}
 use Rattle.mg_text.specs.aids.Reading.{mark_at, after_mark, span_at, word_at, meaning_at, keyword_at, number_at}
 use Rattle.mg_text.specs.aids.Reading.{after_group, filled_at, braced_at, place_of_rest}
 use Rattle.mg_text.specs.aids.Media.{value_kinded, value_at, optional_value_at, switched_at, mode_part_at, package_part_at, control_named, control_at, stream_named, stream_part_at, numbered_at, media_named, media_part_at}
 use Rattle.mg_text.specs.Grammar.{IsSpan, IsWord, IsWorded, IsOptionalAssigned, IsValue, has_slash, IsControlPart, IsStreamPart, IsMediaPart}
 use Rattle.mg_text.proofs.Sound.{bind_ok, ok_is, mark_found, after_found, if_some_ok, chosen, token_is, span_found, word_found, worded_found, group_found, filled_found, braced_found, IsSpelled}
+use Rattle.mg_text.proofs.WordLaws.{mode_is_meant}
 
 value_kinded_found : (source : List ℕ) (k : TokenKind) (w : Span) (t : Token) (ts : List Token)
     (x : PropertyValue × List Token) → t.kind ≡ k → t.span ≡ w → value_kinded source k w ts ≡ Ok x →
@@ -63,8 +65,16 @@ unfolding mode_part_at
 mode_found source ts a x name e =
     let b = bind_ok (mark_at source Equals a) _ x e in
     let mode = bind_ok (meaning_at (by_keyword mode_named) source b.0) _ x b.2 in
-    subst (IsSpelled (IsControlPart source) ts) (ok_is _ x mode.2)
-    (a, name, (b.0, mark_found source Equals a b.0 b.1, worded_found (by_keyword mode_named) source b.0 mode.0 mode.1))
+    subst (IsSpelled (IsControlPart source) ts) (ok_is _ x mode.2) (
+      a,
+      name,
+      (
+        b.0,
+        mark_found source Equals a b.0 b.1,
+        mode_is_meant source mode.0.0 b.0 mode.0.1
+            (worded_found (by_keyword mode_named) source b.0 mode.0 mode.1),
+      ),
+    )
 
 value_part_found : (source : List ℕ) (ts a : List Token) (x : ControlPart × List Token) →
     IsWorded keyword_of source keywords.ReservedValue ts a → switched_at source controls.ReservedValue a ≡ Ok x →

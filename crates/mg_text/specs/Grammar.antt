@@ -3,8 +3,9 @@
 -- and straight after it Q, and `P or Q` is one of the two. Above each production stands its text:
 -- square brackets mark what may be missing, * what may be repeated, and words in capitals are words
 -- of the encoding in either form.
-use Rattle.std.specs.Prelude.{◌≡◌, ◌≢◌, ℕ, ◌⊎◌, Bool, true, false, ◌==◌, List, [], ◌∷◌, filter_map}
-use Rattle.std.specs.Prelude.{Option, Some, None}
+use Rattle.std.specs.Prelude.{◌≡◌, ◌≢◌, ℕ, ◌⊎◌, Bool, true, false, ◌==◌, List, [], ◌∷◌, ◌++◌}
+use Rattle.std.specs.Prelude.{Option, Some, None, filter_map, codes, if◌then◌else◌}
+use Rattle.std.specs.Option.{option_and_then}
 use Rattle.std.specs.List.{list_any}
 use Rattle.mg_scan.specs.declared.kind.TokenKind.{TokenKind}
 use Rattle.mg_scan.specs.declared.kind.TokenKind.TheVariants.{Word, Open, Close, Comma, Equals}
@@ -13,6 +14,10 @@ use Rattle.mg_scan.specs.declared.span.Span.{Span}
 use Rattle.mg_scan.specs.declared.token.Token.{Token}
 use Rattle.mg_scan.specs.Span.{text_of}
 use Rattle.mg_words.specs.Numbers.{number_of}
+use Rattle.mg_words.specs.Cut.{after_prefix}
+use Rattle.mg_words.specs.Mode.{mode_text}
+use Rattle.mg_words.specs.Association.{association_text}
+use Rattle.mg_words.specs.CommandWord.{command_text}
 use Rattle.mg_text.specs.declared.keyword.Keyword.{Keyword}
 use Rattle.mg_text.specs.declared.keyword.Keyword.TheVariants as keywords
 use Rattle.mg_text.specs.declared.media.PropertyValue.{PropertyValue}
@@ -30,7 +35,6 @@ use Rattle.mg_text.specs.declared.descriptor.Descriptor.{Descriptor}
 use Rattle.mg_text.specs.declared.descriptor.Descriptor.TheVariants as descriptors
 use Rattle.mg_words.specs.declared.command_word.CommandWord.{CommandWord}
 use Rattle.mg_words.specs.declared.command_word.CommandWord.TheVariants as commands
-use Rattle.mg_text.specs.declared.command_head.CommandHead.{CommandHead}
 use Rattle.mg_text.specs.declared.command.Command.{Command}
 use Rattle.mg_text.specs.declared.context_property.NamedTriple.{NamedTriple}
 use Rattle.mg_text.specs.declared.context_property.ContextProperty.{ContextProperty}
@@ -43,10 +47,10 @@ use Rattle.mg_text.specs.declared.body.MessageItem.{MessageItem}
 use Rattle.mg_text.specs.declared.body.MessageItem.TheVariants as items
 use Rattle.mg_text.specs.declared.message.Message.{Message}
 use Rattle.mg_text.specs.Production.{Production, ◌▹◌, ◌or◌, IsNothing, IsAny}
-use Rattle.mg_text.specs.Keyword.{keyword_of}
+use Rattle.mg_text.specs.Keyword.{keyword_of, long_word}
 use Rattle.mg_words.specs.ContextId.{context_id_of}
-use Rattle.mg_text.specs.Words.{by_keyword, association_named, context_word_named, mode_named}
-use Rattle.mg_text.specs.Words.{audit_word_named, switch_of, range_of, command_of}
+use Rattle.mg_text.specs.Words.{by_keyword, context_word_named}
+use Rattle.mg_text.specs.Words.{audit_word_named, switch_of, range_of}
 use Rattle.mg_words.specs.Term.{is_term}
 use Rattle.mg_text.specs.Head.{version_in_head}
 use Rattle.mg_text.specs.Sender.{is_sender}
@@ -143,7 +147,7 @@ has_slash text = list_any (λ b. b == 47) text
 -- | group)], where prop = a Word with "/" in it, which no word of the encoding has
 abbrev pub IsControlPart : List ℕ → ControlPart → Production
 IsControlPart source (controls.Mode mode) =
-    IsName source keywords.Mode ▹ IsMark Equals ▹ IsWorded (by_keyword mode_named) source mode
+    IsName source keywords.Mode ▹ IsMark Equals ▹ IsWorded long_word source (mode_text mode)
 IsControlPart source (controls.ReservedValue on) =
     IsName source keywords.ReservedValue ▹ IsMark Equals ▹ IsWorded switch_of source on
 IsControlPart source (controls.ReservedGroup on) =
@@ -216,25 +220,29 @@ IsDescribed source commands.Modify xs = IsOptionalBraced (IsDescriptor source) x
 IsDescribed source commands.Move xs = IsOptionalBraced (IsDescriptor source) xs
 IsDescribed source commands.Subtract xs = IsOptionalAudit source xs
 IsDescribed source commands.AuditValue xs = IsOptionalAudit source xs
-IsDescribed source commands.AuditCapability xs = IsSkipped xs
-IsDescribed source commands.Notify xs = IsSkipped xs
-IsDescribed source commands.ServiceChange xs = IsSkipped xs
+IsDescribed source _ xs = IsSkipped xs
 
--- the word of a command with its prefixes
-abbrev pub head_of : Command → CommandHead
-head_of x = record { word = x.word; is_optional = x.is_optional; wants_wildcard = x.wants_wildcard }
+-- O- before a command that is optional, and W- before one that wants one reply for all matches
+abbrev pub prefix_of : Bool → Bool → List ℕ
+prefix_of optional wildcard =
+    (if optional then codes "O-" else []) ++ (if wildcard then codes "W-" else [])
+
+-- the long form of the word of the encoding that stands after a prefix
+abbrev pub word_after : List ℕ → List ℕ → Option (List ℕ)
+word_after prefix text = option_and_then long_word (after_prefix prefix text)
 
 -- command = ["O-"]["W-"] word "=" term and its descriptors, where term = a Word of 1 to 64 bytes
 abbrev pub IsCommand : List ℕ → Command → Production
 IsCommand source x =
-    IsWorded command_of source (head_of x) ▹ IsMark Equals ▹ IsWordThat is_term source x.term
+    IsWorded (word_after (prefix_of x.is_optional x.wants_wildcard)) source (command_text x.word)
+    ▹ IsMark Equals ▹ IsWordThat is_term source x.term
     ▹ IsDescribed source x.word x.descriptors
 
 -- triple = term "," term "," (ISOLATE | ONEWAY | BOTHWAY)
 abbrev pub IsTriple : List ℕ → NamedTriple → Production
 IsTriple source x =
     IsWordThat is_term source x.first ▹ IsMark Comma ▹ IsWordThat is_term source x.second
-    ▹ IsMark Comma ▹ IsWorded (by_keyword association_named) source x.association
+    ▹ IsMark Comma ▹ IsWorded long_word source (association_text x.association)
 
 -- property = TOPOLOGY "{" triple *("," triple) "}" | CONTEXTAUDIT "{" caword *("," caword) "}"
 --          | PRIORITY "=" Word | EMERGENCY ["=" Word]
@@ -288,10 +296,6 @@ IsSequence source [] ts rest = ⊥
 IsSequence source (x ∷ []) ts rest = IsItem source x ts rest
 IsSequence source (x ∷ y ∷ xs) ts rest = (IsItem source x ▹ IsSequence source (y ∷ xs)) ts rest
 
--- the items that are kept
-abbrev pub kept : List (Option MessageItem) → List MessageItem
-kept xs = filter_map (λ x. x) xs
-
 -- the body with these items
 abbrev pub body_of : List MessageItem → Body
 body_of [] = bodies.Ignored
@@ -304,7 +308,8 @@ IsError source = IsName source keywords.Error ▹ IsMark Equals ▹ IsMark Word 
 -- item *(item), with the items that are kept in the body
 abbrev pub IsItems : List ℕ → Body → Production
 IsItems source x ts rest =
-    (xs : List (Option MessageItem)) × (x ≡ body_of (kept xs)) × IsSequence source xs ts rest
+    (xs : List (Option MessageItem)) × (x ≡ body_of (filter_map (λ item. item) xs))
+    × IsSequence source xs ts rest
 
 -- body = error | item *(item)
 abbrev pub IsBody : List ℕ → Body → Production

@@ -2,7 +2,7 @@
 use Rattle.std.specs.Prelude.{ℕ, List, Option, codes}
 use Rattle.std.specs.Option.{option_and_then, option_or}
 use Rattle.mg_words.specs.Numbers.{version_in_digits}
-use Rattle.mg_text.specs.Words.{after_prefix}
+use Rattle.mg_words.specs.Cut.{after_prefix}
 
 -- the version that stands after a name of the protocol, in any case
 unfoldable pub version_after : List ℕ → List ℕ → Option ℕ

@@ -1,5 +1,6 @@
 -- The words of the encoding, in two forms and any case (RFC 3525, Annex B.2).
 use Rattle.std.specs.Prelude.{ℕ, Bool, ◌||◌, List, [], ◌∷◌, Option, find, codes}
+use Rattle.std.specs.Option.{option_map}
 use Rattle.std.specs.Str.{str_eq_ignore_ascii_case}
 use Rattle.mg_text.specs.declared.keyword.Keyword.{Keyword}
 use Rattle.mg_text.specs.declared.keyword.Keyword.TheVariants.{Transaction, Reply, Pending}
@@ -19,12 +20,8 @@ use Rattle.mg_text.specs.declared.keyword.Keyword.TheVariants.{DigitMap, EventBu
 use Rattle.mg_text.specs.declared.keyword.Keyword.TheVariants.{ObservedEvents, Packages, Priority}
 use Rattle.mg_text.specs.declared.keyword.Keyword.TheVariants.{Emergency}
 
--- the same but for the case of ASCII letters
-abbrev pub same_word : List ℕ → List ℕ → Bool
-same_word a b = str_eq_ignore_ascii_case a b
-
--- the long form of a word and its short one
-abbrev pub forms_of : Keyword → List ℕ × List ℕ
+-- the long form of a word and its short one, each in letters of any case
+unfoldable pub forms_of : Keyword → List ℕ × List ℕ
 forms_of Transaction = (codes "Transaction", codes "T")
 forms_of Reply = (codes "Reply", codes "P")
 forms_of Pending = (codes "Pending", codes "PN")
@@ -71,15 +68,11 @@ forms_of Packages = (codes "Packages", codes "PG")
 forms_of Priority = (codes "Priority", codes "PR")
 forms_of Emergency = (codes "Emergency", codes "EG")
 
-unfoldable pub long_of : Keyword → List ℕ
-long_of keyword = (forms_of keyword).0
-
-unfoldable pub short_of : Keyword → List ℕ
-short_of keyword = (forms_of keyword).1
-
 -- the text is the word in one of its forms
 unfoldable pub is_named : List ℕ → Keyword → Bool
-is_named text keyword = same_word text (long_of keyword) || same_word text (short_of keyword)
+is_named text keyword =
+    str_eq_ignore_ascii_case text (forms_of keyword).0
+    || str_eq_ignore_ascii_case text (forms_of keyword).1
 
 -- each of the words
 abbrev pub keywords : List Keyword
@@ -94,3 +87,7 @@ keywords =
 -- the word that a text is a form of
 unfoldable pub keyword_of : List ℕ → Option Keyword
 keyword_of text = find (is_named text) keywords
+
+-- the long form of that word
+abbrev pub long_word : List ℕ → Option (List ℕ)
+long_word text = option_map (λ keyword. (forms_of keyword).0) (keyword_of text)

@@ -1,11 +1,12 @@
 -- A message, and the head of one of another version.
 use Rattle.std.specs.Prelude.{◌≡◌, ◌≢◌, ℕ, ◌+◌, ◌<◌, ◌≤◌, ◌⊎◌, false, List, [], ◌∷◌, length, Option}
-use Rattle.std.specs.Prelude.{Some, None, Result, Err}
+use Rattle.std.specs.Prelude.{None, Err}
+use Rattle.std.specs.Option.{option_map}
 use Rattle.mg_words.specs.Limits.{message_limit, request_limit, command_limit}
 use Rattle.mg_scan.specs.declared.fault.ScanFault.{ScanFault}
 use Rattle.mg_scan.specs.declared.token.Token.{Token}
 use Rattle.mg_scan.specs.Scanner.{Scanning, IsNext, rest_of}
-use Rattle.mg_scan.specs.Tokens.{TokenAndRest, first_token}
+use Rattle.mg_scan.specs.Tokens.{first_token}
 use Rattle.mg_text.specs.declared.request.Action.{Action}
 use Rattle.mg_text.specs.declared.body.MessageItem.{MessageItem}
 use Rattle.mg_text.specs.declared.body.MessageItem.TheVariants as items
@@ -21,11 +22,6 @@ Reaches old [] new = old ≡ new
 Reaches old (t ∷ ts) new =
     (next : Scanning) × (next.source ≡ old.source) × IsNext old t next × Reaches next ts new
 
--- what stands where the tokens end: nothing, or a fault
-abbrev pub ending : Option ScanFault → Option (Result TokenAndRest ScanFault)
-ending None = None
-ending (Some f) = Some (Err f)
-
 abbrev pub scanning_of : List ℕ → Scanning
 scanning_of source = record { source = source; at = 0; named = false }
 
@@ -33,15 +29,11 @@ scanning_of source = record { source = source; at = 0; named = false }
 pub record AreTokens (source : List ℕ) (ts : List Token) (fault : Option ScanFault) : Type 0 where
   pub last : Scanning
   pub way : Reaches (scanning_of source) ts last
-  pub end : first_token last.named (rest_of last) ≡ ending fault
+  pub end : first_token last.named (rest_of last) ≡ option_map Err fault
 
--- a datagram is read up to 8,192 bytes
-abbrev pub IsShort : List ℕ → Type 0
-IsShort source = length source ≤ message_limit
-
--- the bytes have a tree of the grammar, and it is this one
+-- the bytes, at most 8,192, have a tree of the grammar, and it is this one
 pub record IsTree (source : List ℕ) (m : Message) : Type 0 where
-  pub short : IsShort source
+  pub short : length source ≤ message_limit
   pub tokens : List Token
   pub are : AreTokens source tokens None
   pub is : IsText source m tokens
@@ -85,7 +77,7 @@ IsTooMany source =
 
 -- the bytes begin with the head of another version, whatever stands after it
 pub record HasOtherVersion (source : List ℕ) (version : ℕ) : Type 0 where
-  pub short : IsShort source
+  pub short : length source ≤ message_limit
   pub tokens : List Token
   pub rest : List Token
   pub fault : Option ScanFault

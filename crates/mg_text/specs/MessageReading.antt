@@ -1,7 +1,8 @@
 -- What a datagram is to a gateway that reads messages.
-use Rattle.std.specs.Prelude.{ℕ, List}
+use Rattle.std.specs.Prelude.{ℕ, ◌≤◌, List, length}
+use Rattle.mg_words.specs.Limits.{message_limit}
 use Rattle.mg_text.specs.declared.message.Message.{Message}
-use Rattle.mg_text.specs.Message.{IsShort, IsTree, IsMessage, IsTooMany, HasOtherVersion}
+use Rattle.mg_text.specs.Message.{IsTree, IsMessage, IsTooMany, HasOtherVersion}
 
 -- a message with this tree, one that is too long or asks for too much, one of another version, or
 -- none
@@ -13,7 +14,7 @@ pub data MessageReading : Type 0 where
 
 -- bytes of a fit length that have no head of another version, and no tree of the grammar
 pub record IsNoMessage (bytes : List ℕ) : Type 0 where
-  pub short : IsShort bytes
+  pub short : length bytes ≤ message_limit
   pub no_version : (n : ℕ) → HasOtherVersion bytes n → ⊥
   pub no_tree : (m : Message) → IsTree bytes m → ⊥
 

@@ -1,7 +1,8 @@
 -- The sender of a message (RFC 3525, Annex B.2: mId, as a domain address, a domain name or a device
 -- name).
 use Rattle.std.specs.Prelude.{ℕ, Bool, true, false, ◌&&◌, ◌||◌, ◌==◌, not, nat_le, List}
-use Rattle.std.specs.Prelude.{[], ◌∷◌, length, Option, Some, None, is_some, if◌then◌else◌}
+use Rattle.std.specs.Prelude.{[], ◌∷◌, length, Option, is_some, if◌then◌else◌}
+use Rattle.std.specs.Option.{option_map_or}
 use Rattle.std.specs.List.{list_all}
 use Rattle.std.specs.Char.{is_ascii_alphanumeric}
 use Rattle.mg_words.specs.Limits.{name_limit}
@@ -27,8 +28,7 @@ is_port_part (b ∷ port) = if b == 58 then is_some (port_of port) else false
 
 -- what stands before the closing mark passes a test, and after the mark stands perhaps a port
 abbrev pub is_host : (List ℕ → Bool) → Option (List ℕ × List ℕ) → Bool
-is_host test None = false
-is_host test (Some parts) = test parts.0 && is_port_part parts.1
+is_host test parts = option_map_or (λ p. test p.0 && is_port_part p.1) parts false
 
 -- [address], <domain name>, each perhaps with a port, or a device name of 1 to 64 bytes
 abbrev pub is_sender : List ℕ → Bool

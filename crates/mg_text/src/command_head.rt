@@ -1,9 +1,9 @@
 ghost use Rattle.std.specs.Prelude.{◌≡◌, None, Some, MatchOption};
-ghost use Rattle.mg_text.specs.Words.{after_prefix, command_named, headed, command_of};
+ghost use Rattle.mg_text.specs.aids.Words.{command_named, headed, command_of};
 
 use crate::from_word::FromWord;
-use crate::keyword::{Keyword, keyword_of, same_word};
-use mg_words::CommandWord;
+use crate::keyword::{Keyword, keyword_of};
+use mg_words::{CommandWord, after_prefix};
 
 /// A command's word with what stands straight before it.
 #[derive(Clone, Copy, Debug, PartialEq, Eq)]
@@ -11,23 +11,6 @@ pub struct CommandHead {
     pub word: CommandWord,
     pub is_optional: bool,
     pub wants_wildcard: bool,
-}
-
-/// What stands after a prefix, in letters of any case, or `None` where the text has another front.
-#[tactic(auto, unfolding(crate::specs::Words::after_prefix), using(crate::proofs::KeywordLaws::too_short))]
-fn after_prefix<'a>(prefix: &[u8], text: &'a [u8]) -> Option<&'a [u8]>
-    ensures { MatchOption result (after_prefix prefix.now text.now ≡ None)
-        (λ rest. after_prefix prefix.now text.now ≡ Some rest.now) }
-{
-    if text.len() < prefix.len() {
-        return None;
-    }
-    let (front, rest) = text.split_at(prefix.len());
-    if same_word(front, prefix) {
-        Some(rest)
-    } else {
-        None
-    }
 }
 
 /// The command that a word of the encoding stands for.
@@ -63,7 +46,7 @@ fn headed(is_optional: bool, wants_wildcard: bool, keyword: Keyword) -> Option<C
 impl FromWord for CommandHead {
     ghost meaning = { command_of };
 
-    #[tactic(auto, unfolding(crate::specs::Words::command_of))]
+    #[tactic(auto, unfolding(crate::specs::aids::Words::command_of))]
     fn from_word(text: &[u8]) -> Option<CommandHead> {
         if let Some(keyword) = keyword_of(text) {
             return headed(false, false, keyword);

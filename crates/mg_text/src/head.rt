@@ -1,24 +1,16 @@
-ghost use Rattle.std.specs.Prelude.{◌≡◌, ◌<◌, length};
+ghost use Rattle.std.specs.Prelude.{◌≡◌};
 ghost use Rattle.mg_text.specs.Head.{version_after, version_in_head};
 
 use crate::from_word::FromWord;
-use crate::keyword::same_word;
-use mg_words::version_in_digits;
+use mg_words::{after_prefix, version_in_digits};
 
 /// The version that a word names after one form of the protocol's name.
-#[tactic(auto, unfolding(crate::specs::Head::version_after, crate::specs::Words::after_prefix), using(crate::proofs::KeywordLaws::too_short))]
+#[tactic(auto, unfolding(crate::specs::Head::version_after))]
 fn version_after(name: &[u8], text: &[u8]) -> Option<u8>
     ensures value { result ≡ version_after name.now text.now }
 {
-    if text.len() < name.len() {
-        return None;
-    }
-    let (front, digits) = text.split_at(name.len());
-    if same_word(front, name) {
-        version_in_digits(digits)
-    } else {
-        None
-    }
+    let digits = after_prefix(name, text)?;
+    version_in_digits(digits)
 }
 
 /// The version of the protocol that the first word of a message names.

@@ -1,5 +1,6 @@
 ghost use Rattle.std.specs.Prelude.{◌≡◌, find};
-ghost use Rattle.mg_text.specs.Keyword.{same_word, long_of, short_of, is_named, keyword_of};
+ghost use Rattle.std.specs.Str.{str_eq_ignore_ascii_case};
+ghost use Rattle.mg_text.specs.Keyword.{forms_of, is_named, keyword_of};
 ghost use Rattle.mg_text.specs.aids.Keywords.{words_by};
 
 /// The words of the encoding. Each has a long and a short form, in letters of any case.
@@ -53,9 +54,9 @@ pub enum Keyword {
 }
 
 impl Keyword {
-    #[tactic(auto, unfolding(crate::specs::Keyword::long_of))]
+    #[tactic(auto, unfolding(crate::specs::Keyword::forms_of))]
     fn long(self) -> &'static str
-        ensures value { result.now ≡ long_of self }
+        ensures value { result.now ≡ (forms_of self).0 }
     {
         match self {
             Keyword::Transaction => "Transaction",
@@ -106,9 +107,9 @@ impl Keyword {
         }
     }
 
-    #[tactic(auto, unfolding(crate::specs::Keyword::short_of))]
+    #[tactic(auto, unfolding(crate::specs::Keyword::forms_of))]
     fn short(self) -> &'static str
-        ensures value { result.now ≡ short_of self }
+        ensures value { result.now ≡ (forms_of self).1 }
     {
         match self {
             Keyword::Transaction => "T",
@@ -164,7 +165,7 @@ impl Keyword {
 #[inline(never)]
 #[tactic(auto, using(crate::proofs::KeywordLaws::exact))]
 fn same_letters(a: &[u8], b: &[u8]) -> bool
-    ensures value { result ≡ same_word a.now b.now }
+    ensures value { result ≡ str_eq_ignore_ascii_case a.now b.now }
 {
     a == b || a.eq_ignore_ascii_case(b)
 }
@@ -172,7 +173,7 @@ fn same_letters(a: &[u8], b: &[u8]) -> bool
 /// Whether two words are the same but for the case of their letters.
 #[tactic(auto, using(crate::proofs::KeywordLaws::same_len))]
 pub fn same_word(a: &[u8], b: &[u8]) -> bool
-    ensures value { result ≡ same_word a.now b.now }
+    ensures value { result ≡ str_eq_ignore_ascii_case a.now b.now }
 {
     a.len() == b.len() && same_letters(a, b)
 }
@@ -186,7 +187,7 @@ pub fn is_named(text: &[u8], keyword: Keyword) -> bool
 }
 
 /// The words of which a form begins with a letter, which is given in lower case.
-#[tactic(auto, unfolding(crate::specs::aids::Keywords::words_by, crate::specs::Keyword::long_of, crate::specs::Keyword::short_of))]
+#[tactic(auto, unfolding(crate::specs::aids::Keywords::words_by, crate::specs::Keyword::forms_of))]
 fn words_by(letter: u8) -> &'static [Keyword]
     ensures value { result.now ≡ words_by letter }
 {

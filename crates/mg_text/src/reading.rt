@@ -5,7 +5,8 @@ ghost use Rattle.mg_text.specs.declared.message.Message.{Message};
 ghost use Rattle.mg_text.specs.aids.Reading.{Agrees};
 ghost use Rattle.mg_text.specs.aids.Text.{version_at, sender_at, text_at, left_after, is_within, fault_within, answer_of, AgreesVersioned};
 ghost use Rattle.mg_text.specs.Proper.{are_proper};
-ghost use Rattle.mg_text.specs.Message.{IsTree, IsMessage, AsksTooMuch, IsTooMany, HasOtherVersion, items_of, action_commands};
+ghost use Rattle.mg_text.specs.Message.{IsTree, IsMessage, AsksTooMuch, IsTooMany, HasOtherVersion, items_of};
+ghost use Rattle.mg_text.specs.Message.{action_commands};
 
 use crate::body::{Body, MessageItem};
 use crate::fault::ReadFault;

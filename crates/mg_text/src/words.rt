@@ -2,7 +2,8 @@ ghost use Rattle.std.specs.Prelude.{◌≡◌};
 ghost use Rattle.mg_words.specs.Numbers.{number_of};
 ghost use Rattle.mg_words.specs.ContextId.{context_id_of};
 ghost use Rattle.mg_text.specs.Keyword.{keyword_of};
-ghost use Rattle.mg_text.specs.Words.{by_keyword, association_named, context_word_named, audit_word_named, mode_named, switch_of, range_of};
+ghost use Rattle.mg_text.specs.Words.{by_keyword, context_word_named, audit_word_named, switch_of, range_of};
+ghost use Rattle.mg_text.specs.aids.Words.{association_named, mode_named};
 
 use crate::body::Range;
 use crate::context_property::ContextWord;

@@ -1,6 +1,8 @@
--- The first byte of a kind parts a text.
-use Rattle.std.proofs.Common.{◌≡◌, ℕ, ◌+◌, List, length, take, drop, Some, None, refl, arith, ◌∙◌, ap}
-use Rattle.std.proofs.lemmas.List.{drop-drop}
+-- The first byte of a kind parts a text; what is shorter than a prefix doesn't begin with it.
+use Rattle.std.proofs.Common.{◌≡◌, ◌≢◌, ℕ, ◌+◌, ◌<◌, ◌&&◌, ◌==◌, Bool, true, false, List, [], ◌∷◌, length, take, drop, Some, None, refl, arith, ◌∙◌, ap}
+use Rattle.std.proofs.lemmas.List.{drop-drop, length-take}
+use Rattle.std.specs.Char.{to_ascii_lowercase}
+use Rattle.std.specs.Str.{str_eq_ignore_ascii_case}
 use Rattle.std.proofs.lemmas.List.Sums.{position_or_len_is}
 use Rattle.std.proofs.lemmas.Bool.{false_from_ne_true, lt-ltb, le-ltb}
 use Rattle.memchr.specs.Find.{IsFirstByte, is_byte}
@@ -20,3 +22,22 @@ first_cut byte text before tail after n h b t r =
     let high = h.0.high in
     let rest : after ≡ drop (n + 1) text = r ∙ ap (drop 1) t ∙ drop-drop 1 n text in
     rw (place, lt-ltb n (length text) high, ← b, ← rest) refl
+
+and_false : (p : Bool) → (p && false) ≡ false
+and_false true = refl
+and_false false = refl
+
+-- words of two lengths
+pub same_len : (a b : List ℕ) → length a ≢ length b → str_eq_ignore_ascii_case a b ≡ false
+same_len [] [] ne = absurd (ne refl)
+same_len [] (y ∷ b) ne = refl
+same_len (x ∷ a) [] ne = refl
+same_len (x ∷ a) (y ∷ b) ne =
+    let rest : str_eq_ignore_ascii_case a b ≡ false = same_len a b (omega arith) in
+    rw rest (and_false (to_ascii_lowercase x == to_ascii_lowercase y))
+
+-- a text that is shorter than a word doesn't begin with it
+pub too_short : (prefix text : List ℕ) → length text < length prefix →
+    str_eq_ignore_ascii_case (take (length prefix) text) prefix ≡ false
+too_short prefix text lt = same_len (take (length prefix) text) prefix
+    (λ e. omega (arith, lt, e, length-take (length prefix) text))

@@ -2,18 +2,18 @@
 use Rattle.std.specs.Prelude.{ℕ, List, [], ◌∷◌, ◌++◌, Option, Some, codes, decimal, slice_index}
 use Rattle.mg_words.specs.OptionSteps.{◌>>=◌}
 use Rattle.mg_words.specs.Cut.{cut}
-use Rattle.mg_words.specs.Numbers.{address_part_of}
+use Rattle.mg_words.specs.Numbers.{decimal_of}
 
--- four parts with a dot between each two
+-- four parts with a dot between each two, each of one to three digits that 8 bits hold
 unfoldable pub address_of : List ℕ → Option (List ℕ)
 address_of text = do
   first ← cut 46 text
   second ← cut 46 first.1
   third ← cut 46 second.1
-  a ← address_part_of first.0
-  b ← address_part_of second.0
-  c ← address_part_of third.0
-  d ← address_part_of third.1
+  a ← decimal_of 3 255 first.0
+  b ← decimal_of 3 255 second.0
+  c ← decimal_of 3 255 third.0
+  d ← decimal_of 3 255 third.1
   Some (a ∷ b ∷ c ∷ d ∷ [])
 
 -- an address as it is written: four numbers with a dot between each two

@@ -2,6 +2,7 @@
 use Rattle.std.specs.Prelude.{ℕ, ◌+◌, ◌==◌, nat_lt, List, length, take, drop, Option, Some, None}
 use Rattle.std.specs.Prelude.{if◌then◌else◌}
 use Rattle.std.specs.List.{position_or_len}
+use Rattle.std.specs.Str.{str_eq_ignore_ascii_case}
 
 -- the two parts at a place, if the text goes beyond it
 abbrev pub cut_at : List ℕ → ℕ → Option (List ℕ × List ℕ)
@@ -10,3 +11,9 @@ cut_at text n = if nat_lt n (length text) then Some (take n text, drop (n + 1) t
 -- what stands before the first such byte of a text, and what stands after it
 abbrev pub cut : ℕ → List ℕ → Option (List ℕ × List ℕ)
 cut byte text = cut_at text (position_or_len (λ b. b == byte) text)
+
+-- what stands after a prefix, in letters of any case
+unfoldable pub after_prefix : List ℕ → List ℕ → Option (List ℕ)
+after_prefix prefix text =
+    if str_eq_ignore_ascii_case (take (length prefix) text) prefix
+    then Some (drop (length prefix) text) else None

@@ -31,10 +31,6 @@ uint16_of text = decimal_of 5 65535 text
 abbrev pub port_of : List ℕ → Option ℕ
 port_of text = uint16_of text
 
--- a part of an IPv4 address: one to three digits, a value that 8 bits hold
-abbrev pub address_part_of : List ℕ → Option ℕ
-address_part_of text = decimal_of 3 255 text
-
 -- a version of the protocol: one or two digits
 abbrev pub version_in_digits : List ℕ → Option ℕ
 version_in_digits text = decimal_of 2 99 text

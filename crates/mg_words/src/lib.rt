@@ -40,7 +40,7 @@ pub use crate::limits::{
 };
 pub use crate::mode::{Mode, mode_listens, mode_talks};
 pub use crate::number::{number_of, port_of, uint16_of, version_in_digits};
-pub use crate::parts::cut;
+pub use crate::parts::{after_prefix, cut};
 pub use crate::peer::Peer;
 pub use crate::stats::Stats;
 pub use crate::term::{Term, is_term};

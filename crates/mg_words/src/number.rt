@@ -1,5 +1,5 @@
 ghost use Rattle.std.specs.Prelude.{◌≡◌, ◌≤◌, IfSome};
-ghost use Rattle.mg_words.specs.Numbers.{decimal_of, number_of, uint16_of, port_of, address_part_of, version_in_digits};
+ghost use Rattle.mg_words.specs.Numbers.{decimal_of, number_of, uint16_of, port_of, version_in_digits};
 
 /// The number that so many digits at the most stand for, if it is at most the limit.
 #[tactic(auto, using(crate::proofs::DigitSteps::steps))]
@@ -50,7 +50,7 @@ pub fn port_of(text: &[u8]) -> Option<u16>
 
 /// The part of an address that one to three digits stand for, if it is at most 255.
 pub fn address_part_of(text: &[u8]) -> Option<u8>
-    ensures value { result ≡ address_part_of text.now }
+    ensures value { result ≡ decimal_of 3 255 text.now }
 {
     match decimal_of(text, 3, 255) {
         Some(part) => Some(part as u8),

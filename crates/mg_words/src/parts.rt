@@ -1,5 +1,5 @@
 ghost use Rattle.std.specs.Prelude.{◌≡◌, None, Some, MatchOption};
-ghost use Rattle.mg_words.specs.Cut.{cut};
+ghost use Rattle.mg_words.specs.Cut.{cut, after_prefix};
 
 use memchr::memchr;
 
@@ -15,5 +15,22 @@ pub fn cut(byte: u8, text: &[u8]) -> Option<(&[u8], &[u8])>
             Some((before, after))
         }
         None => None,
+    }
+}
+
+/// What stands after a prefix, in letters of any case, or `None` where the text has another front.
+#[tactic(auto, unfolding(crate::specs::Cut::after_prefix), using(crate::proofs::CutLaws::too_short))]
+pub fn after_prefix<'a>(prefix: &[u8], text: &'a [u8]) -> Option<&'a [u8]>
+    ensures value { MatchOption result (after_prefix prefix.now text.now ≡ None)
+        (λ rest. after_prefix prefix.now text.now ≡ Some rest.now) }
+{
+    if text.len() < prefix.len() {
+        return None;
+    }
+    let (front, rest) = text.split_at(prefix.len());
+    if front.eq_ignore_ascii_case(prefix) {
+        Some(rest)
+    } else {
+        None
     }
 }

@@ -1,6 +1,6 @@
 use crate::{
-    ContextId, ErrorNumber, Mode, Stats, Term, address_of, address_text, context_id_of, cut,
-    mode_listens, mode_talks, number_of, port_of, version_in_digits,
+    ContextId, ErrorNumber, Mode, Stats, Term, address_of, address_text, after_prefix,
+    context_id_of, cut, mode_listens, mode_talks, number_of, port_of, version_in_digits,
 };
 
 #[test]
@@ -33,6 +33,14 @@ fn reads_addresses(rt: HostRuntime) {
         Some((b"a".as_slice(), b"b:c".as_slice()))
     );
     assert_eq!(rt; cut(b':', b"abc"), None);
+}
+
+#[test]
+fn takes_prefixes(rt: HostRuntime) {
+    assert_eq!(rt; after_prefix(b"RTP/", b"rtp/7"), Some(b"7".as_slice()));
+    assert_eq!(rt; after_prefix(b"RTP/", b"RTP/"), Some(b"".as_slice()));
+    assert_eq!(rt; after_prefix(b"RTP/", b"RTP"), None);
+    assert_eq!(rt; after_prefix(b"RTP/", b"RTCP/7"), None);
 }
 
 #[test]

@@ -12,7 +12,7 @@ use Rattle.mg_engine.specs.Work.{RisesAtMost}
 use Rattle.mg_text.specs.declared.command.Command.{Command}
 use Rattle.mg_commands.specs.declared.command_parameters.CommandParameters.{CommandParameters}
 use Rattle.mg_commands.specs.declared.progress.Progress.{Progress}
-use Rattle.mg_commands.specs.Outcome.{all_names}
+use Rattle.mg_commands.specs.aids.Steps.{all_names}
 use Rattle.mg_commands.specs.Transaction.{ActionState, TransactionState, with_trial}
 use Rattle.mg_commands.specs.Work.{edits_told}
 

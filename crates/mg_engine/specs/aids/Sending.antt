@@ -26,7 +26,8 @@ use Rattle.mg_engine.specs.aids.MediaSteps as media_steps
 use Rattle.mg_engine.specs.Place.{place_of}
 use Rattle.mg_engine.specs.Mix.{is_loopback}
 use Rattle.mg_engine.specs.Stands.{EngineState, media_at}
-use Rattle.mg_engine.specs.Tick.{type_of, sent_to, has_destination}
+use Rattle.mg_engine.specs.Tick.{type_of, sent_to}
+use Rattle.mg_engine.specs.aids.Found.{has_destination}
 
 -- a sample of the frame in the row of a slot
 abbrev pub sample_at : List (List ℤ) → ℕ → ℕ → ℤ

@@ -15,7 +15,7 @@ use Rattle.mg_sdp.specs.Lines.{letter_and_value}
 use Rattle.mg_sdp.specs.Fields.{fields_of}
 use Rattle.mg_sdp.specs.Media.{media_in}
 use Rattle.mg_sdp.specs.Connection.{connection_in}
-use Rattle.mg_sdp.specs.Offer.{is_served_version, is_served_attribute, offer_with}
+use Rattle.mg_sdp.specs.Offer.{is_served_version, is_served_attribute}
 use Rattle.mg_sdp.specs.aids.Progress.{Progress}
 
 abbrev pub part_of : {X : Type 0} → Option X → AlternativePart X
@@ -56,6 +56,9 @@ with_line old letter value =
       connection = connection_with_line value;
     }
     else old)))
+
+abbrev pub offer_with : MediaLine → Option (List ℕ) → Offer
+offer_with media address = record { address = address; port = media.port; law = media.law }
 
 abbrev pub offer_at : Bool → AlternativePart MediaLine → Option (List ℕ) → Option Offer
 offer_at holds Missing address = None

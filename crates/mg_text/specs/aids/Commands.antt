@@ -14,7 +14,8 @@ use Rattle.mg_words.specs.declared.command_word.CommandWord.{CommandWord}
 use Rattle.mg_words.specs.declared.command_word.CommandWord.TheVariants as commands
 use Rattle.mg_text.specs.declared.command_head.CommandHead.{CommandHead}
 use Rattle.mg_text.specs.declared.command.Command.{Command}
-use Rattle.mg_text.specs.Words.{by_keyword, audit_word_named, command_of}
+use Rattle.mg_text.specs.Words.{by_keyword, audit_word_named}
+use Rattle.mg_text.specs.aids.Words.{command_of}
 use Rattle.mg_words.specs.ResultSteps.{◌>>=◌}
 use Rattle.mg_text.specs.aids.Reading.{mark_at, after_mark, if_some, word_at, meaning_at}
 use Rattle.mg_text.specs.aids.Reading.{keyword_at, term_at, after_group, filled_at, braced_at}

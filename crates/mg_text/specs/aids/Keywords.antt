@@ -2,7 +2,7 @@
 use Rattle.std.specs.Prelude.{ℕ, Bool, false, ◌||◌, ◌==◌, List, [], ◌∷◌, filter}
 use Rattle.std.specs.Char.{to_ascii_lowercase}
 use Rattle.mg_text.specs.declared.keyword.Keyword.{Keyword}
-use Rattle.mg_text.specs.Keyword.{long_of, short_of, keywords}
+use Rattle.mg_text.specs.Keyword.{forms_of, keywords}
 
 -- a form begins with a letter, which is given in lower case
 abbrev pub begins : ℕ → List ℕ → Bool
@@ -10,7 +10,8 @@ begins letter [] = false
 begins letter (b ∷ bs) = letter == to_ascii_lowercase b
 
 abbrev pub can_begin : ℕ → Keyword → Bool
-can_begin letter keyword = begins letter (long_of keyword) || begins letter (short_of keyword)
+can_begin letter keyword =
+    begins letter (forms_of keyword).0 || begins letter (forms_of keyword).1
 
 -- the words of which a form begins with a letter
 unfoldable pub words_by : ℕ → List Keyword

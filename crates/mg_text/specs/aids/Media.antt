@@ -17,7 +17,8 @@ use Rattle.mg_text.specs.declared.media.StreamPart.TheVariants as streams
 use Rattle.mg_text.specs.declared.media.MediaPart.{MediaPart}
 use Rattle.mg_text.specs.declared.media.MediaPart.TheVariants as parts
 use Rattle.mg_text.specs.Keyword.{keyword_of}
-use Rattle.mg_text.specs.Words.{by_keyword, mode_named, switch_of}
+use Rattle.mg_text.specs.Words.{by_keyword, switch_of}
+use Rattle.mg_text.specs.aids.Words.{mode_named}
 use Rattle.mg_text.specs.Grammar.{has_slash}
 use Rattle.mg_words.specs.ResultSteps.{◌>>=◌}
 use Rattle.mg_text.specs.aids.Reading.{mark_at, after_mark, if_some, span_at, word_at, meaning_at}

@@ -4,7 +4,8 @@ use Rattle.mg_kept.specs.KeptReplies.{KeptReply, kept_text, with_reply}
 use Rattle.mg_kept.specs.Theorems.{KeptIsFound}
 use Rattle.mg_text.specs.declared.request.Request.{Request}
 use Rattle.mg_commands.specs.Transaction.{replied}
-use Rattle.mg_core.specs.Answer.{request_replied, run_and_kept, unless_kept}
+use Rattle.mg_core.specs.Answer.{request_replied, run_and_kept}
+use Rattle.mg_core.specs.aids.Answers.{unless_kept}
 use Rattle.mg_core.specs.World.{World}
 use Rattle.mg_core.proofs.laws.repetitions_are_answered_alike.Goals as goal
 

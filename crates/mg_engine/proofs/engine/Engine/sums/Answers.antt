@@ -1,7 +1,8 @@
 use Rattle.std.proofs.Common.{Option, get_or, sym, ap, subst, ◌∙◌, arith}
 use Rattle.mg_rooms.specs.Registry as rooms
 use Rattle.mg_rooms.specs.Registry.{record_at, context_at}
-use Rattle.mg_engine.specs.Gateway.{TerminationMedia, frame_in}
+use Rattle.mg_engine.specs.Gateway.{TerminationMedia}
+use Rattle.mg_engine.specs.aids.Found.{frame_in}
 use Rattle.mg_engine.specs.Stands.{EngineState, StandsFor}
 use Rattle.mg_engine.proofs.GatewayLaws.{has_media}
 use Rattle.mg_engine.proofs.TotalLaws.{total_is}

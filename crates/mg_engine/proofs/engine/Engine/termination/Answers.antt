@@ -1,8 +1,7 @@
-use Rattle.std.proofs.Common.{◌≡◌, ◌<◌, ◌∙◌, ℕ, Some, length, get_or, map, refl, sym, ap, arith}
+use Rattle.std.proofs.Common.{◌≡◌, ◌<◌, ◌∙◌, ℕ, length, get_or, map, refl, sym, ap, arith}
 use Rattle.std.proofs.lemmas.List.{get_or-map}
 use Rattle.std.proofs.lemmas.Option.{slice_get-get_or}
 use Rattle.std.specs.List.{slice_get}
-use Rattle.std.specs.Option.{IsSome}
 use Rattle.mg_rooms.specs.Registry.{Registry, holder_of}
 use Rattle.mg_rooms.specs.Sound.{IsSound}
 use Rattle.mg_engine.specs.Stands.{EngineState}

@@ -1,5 +1,5 @@
 use Rattle.std.proofs.Common.{sym, ◌∙◌, ap}
-use Rattle.mg_rooms.specs.Registry.{members_of}
+use Rattle.mg_rooms.specs.aids.Found.{members_of}
 use Rattle.mg_rooms.proofs.CallLaws.{context_some, context_none}
 use Rattle.mg_rooms.proofs.tables.Tables.members.Goals as goal
 

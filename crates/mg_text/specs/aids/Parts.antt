@@ -1,0 +1,20 @@
+-- Parts of definitions, by names that proofs speak of them by.
+use Rattle.std.specs.Prelude.{ℕ, ◌≤◌, List, length, Option, Result, Err}
+use Rattle.std.specs.List.{filter_map}
+use Rattle.std.specs.Option.{option_map}
+use Rattle.mg_words.specs.Limits.{message_limit}
+use Rattle.mg_scan.specs.declared.fault.ScanFault.{ScanFault}
+use Rattle.mg_scan.specs.Tokens.{TokenAndRest}
+use Rattle.mg_text.specs.declared.body.MessageItem.{MessageItem}
+
+-- what stands where the tokens end: nothing, or a fault
+abbrev pub ending : Option ScanFault → Option (Result TokenAndRest ScanFault)
+ending fault = option_map Err fault
+
+-- the items that are kept
+abbrev pub kept : List (Option MessageItem) → List MessageItem
+kept xs = filter_map (λ x. x) xs
+
+-- a datagram that is read
+abbrev pub IsShort : List ℕ → Type 0
+IsShort source = length source ≤ message_limit

@@ -1,6 +1,6 @@
 #!/bin/sh
-# Has the tools that read them check the unit file and the firewall's rules, where these tools are there: systemd-analyze and nft.
-# The second needs root.
+# Has the tools that read them check the unit file and the firewall's rules, where these tools are there:
+# systemd-analyze and nft. The second needs root.
 set -eu
 here=$(CDPATH= cd -- "$(dirname -- "$0")" && pwd)
 work=$(mktemp -d)

@@ -4,8 +4,10 @@
 #include <stdio.h>
 #include <time.h>
 
-void g711_bench_encode(uint8_t payload_type, const int16_t *samples, size_t samples_len, uint8_t *bytes, size_t bytes_len);
-void g711_bench_decode(uint8_t payload_type, const uint8_t *bytes, size_t bytes_len, int16_t *samples, size_t samples_len);
+void g711_bench_encode(uint8_t payload_type, const int16_t *samples, size_t samples_len, uint8_t *bytes,
+                       size_t bytes_len);
+void g711_bench_decode(uint8_t payload_type, const uint8_t *bytes, size_t bytes_len, int16_t *samples,
+                       size_t samples_len);
 
 enum { FRAME = 160, FRAMES = 128, TURNS = 50, RUNS = 300 };
 

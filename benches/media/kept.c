@@ -75,11 +75,13 @@ static void encode(int alaw, const int16_t *in, uint8_t *out) {
     if (alaw) encode_alaw(in, out); else encode_ulaw(in, out);
 }
 
-__attribute__((noinline)) static void change(int32_t *restrict total, const int16_t *restrict old, const int16_t *restrict new) {
+__attribute__((noinline)) static void change(int32_t *restrict total, const int16_t *restrict old,
+                                             const int16_t *restrict new) {
     for (int i = 0; i < FRAME; i++) total[i] += new[i] - old[i];
 }
 
-__attribute__((noinline)) static void difference(const int32_t *restrict total, const int16_t *restrict own, int32_t *restrict out) {
+__attribute__((noinline)) static void difference(const int32_t *restrict total, const int16_t *restrict own,
+                                                 int32_t *restrict out) {
     for (int i = 0; i < FRAME; i++) out[i] = total[i] - own[i];
 }
 
@@ -188,7 +190,8 @@ static void tell(int count, int talkers, int rooms) {
         least_tick = LEAST(least_tick, took);
         least_arrivals = LEAST(least_arrivals, arrivals);
     }
-    printf("%d callers in %d, %d talk: tick %.0f, %d packets; %d arrivals %.0f\n", count, rooms, talkers, least_tick, count, talkers, least_arrivals);
+    printf("%d callers in %d, %d talk: tick %.0f, %d packets; %d arrivals %.0f\n", count, rooms, talkers, least_tick,
+           count, talkers, least_arrivals);
 }
 
 int main(void) {

@@ -2,8 +2,8 @@
 
 usage: pages.py PAGE ..
 
-Such a command is a block of `sh` that calls `rt run` or `rt try` in parentheses. What it prints has to be one of the blocks that follow
-it, up to the next block of `sh`. Ends with 1 where it isn't.
+Such a command is a block of `sh` that calls `rt run` or `rt try` in parentheses. What it prints has to be one of the
+blocks that follow it, up to the next block of `sh`. Ends with 1 where it isn't.
 """
 import re
 import subprocess

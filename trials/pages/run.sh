@@ -1,5 +1,6 @@
 #!/bin/sh
-# Runs the commands of the README and of docs/SCRIPTS.md that need no network, and looks whether they print what is shown.
+# Runs the commands of the README and of docs/SCRIPTS.md that need no network, and looks whether they print what is
+# shown.
 # usage: run.sh
 # It needs python3, bash and rt; what isn't built yet is proved and built first, which takes some minutes.
 set -eu

@@ -1,10 +1,11 @@
-"""Plays callers whose packets come too early, too late or from two sources through `mg_bridge replay`, and tells what is heard of them.
+"""Plays callers whose packets come too early, too late or from two sources through `mg_bridge replay`, and tells what
+is heard of them.
 
 usage: callers.py BRIDGE
 
-Two callers are in a conference. The first sends frames that tell their sequence numbers, at times that are reckoned and not waited
-for; a tick is every 20 ms, in the middle between two packets of a caller without fault. What the second is sent in each tick is
-the number of a frame, or silence.
+Two callers are in a conference. The first sends frames that tell their sequence numbers, at times that are reckoned and
+not waited for; a tick is every 20 ms, in the middle between two packets of a caller without fault. What the second is
+sent in each tick is the number of a frame, or silence.
 """
 import struct
 import subprocess
@@ -32,7 +33,8 @@ def heard(packets, seconds, depth=80):
         while packets and packets[0][0] < 20 * tick + 10:
             lines.append(packets.pop(0)[1])
         lines.append("tick")
-    run = subprocess.run([sys.argv[1], "replay"], input="\n".join(lines) + "\n", stdout=subprocess.PIPE, text=True, check=True)
+    said = {"stdout": subprocess.PIPE, "text": True, "check": True}
+    run = subprocess.run([sys.argv[1], "replay"], input="\n".join(lines) + "\n", **said)
     sent = [bytes.fromhex(line.split()[3])[12] for line in run.stdout.split("\n") if line.startswith("rtp 30002 ")]
     return [None if code == 255 else code - 128 for code in sent]
 

@@ -1,5 +1,6 @@
 #!/bin/sh
-# Tells what is heard of callers whose clocks are off, whose numbers jump, who send in bursts, or who are two at one port.
+# Tells what is heard of callers whose clocks are off, whose numbers jump, who send in bursts, or who are two at one
+# port.
 # usage: run.sh
 # It needs python3 and rt. `mg_bridge` is the one that `rt run` leaves in crates/mg_bridge/out; what isn't built yet is
 # proved and built first, which takes some minutes. It takes some seconds.

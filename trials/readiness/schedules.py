@@ -2,11 +2,11 @@
 
 usage: schedules.py BRIDGE LIBRARY SCHEDULES SEED
 
-A schedule is some bursts and polls in random order. A burst goes to one port; some are 64 datagrams, which are as many as a poll
-takes of a port, some one more or 64 more. The gateway isn't waited for, so that datagrams come while it polls. Then it is
-polled as often as the fullest port needs, and has to have counted each datagram once. Messages of the schedule are answered in the
-order in which they were sent. Each hundred schedules are a session; in two of three sessions a receive fails, or the
-question which sockets are ready. Ends with 1 at the first schedule that is wrong.
+A schedule is some bursts and polls in random order. A burst goes to one port; some are 64 datagrams, which are as many
+as a poll takes of a port, some one more or 64 more. The gateway isn't waited for, so that datagrams come while it
+polls. Then it is polled as often as the fullest port needs, and has to have counted each datagram once. Messages of the
+schedule are answered in the order in which they were sent. Each hundred schedules are a session; in two of three
+sessions a receive fails, or the question which sockets are ready. Ends with 1 at the first schedule that is wrong.
 """
 import os
 import random
@@ -31,7 +31,8 @@ class Session:
         self.refused = chance.choice(["none", "receive", "wait"])
         at = chance.randrange(1, 2000)
         env = dict(os.environ, LD_PRELOAD=LIBRARY, REFUSE=self.refused, REFUSE_AT=str(at))
-        words = [BRIDGE, "serve", "--control-port", str(self.control), "--base-port", str(self.base), "--slots", str(SLOTS)]
+        ports = ["--control-port", str(self.control), "--base-port", str(self.base)]
+        words = [BRIDGE, "serve", *ports, "--slots", str(SLOTS)]
         self.bridge = subprocess.Popen(words, stdin=subprocess.PIPE, stdout=subprocess.PIPE, env=env)
         if self.bridge.stdout.readline() != b"ready\n":
             sys.exit("not ready")

@@ -1,9 +1,10 @@
 #!/bin/sh
-# Refuses each request for memory, each read, write, receive, send and wait of the gateway in turn, one in a run, up to a run that has
-# no such call any more, and looks at what follows each. Prints how many runs there were, and ends with 1 at the first that is wrong.
+# Refuses each request for memory, each read, write, receive, send and wait of the gateway in turn, one in a run, up to
+# a run that has no such call any more, and looks at what follows each. Prints how many runs there were, and ends with 1
+# at the first that is wrong.
 # usage: run.sh
-# It needs gcc, python3 and rt. `mg_bridge` is the one that `rt run` leaves in crates/mg_bridge/out; what isn't built yet is
-# proved and built first, which takes some minutes. The runs take less than one.
+# It needs gcc, python3 and rt. `mg_bridge` is the one that `rt run` leaves in crates/mg_bridge/out; what isn't built
+# yet is proved and built first, which takes some minutes. The runs take less than one.
 set -eu
 here=$(CDPATH= cd -- "$(dirname -- "$0")" && pwd)
 root=$here/../..
@@ -48,7 +49,8 @@ ended() {
 
 # What was written is the front of what is stored.
 is_front() {
-    head -c "$(wc -c < "$work/out")" "$output" | cmp -s - "$work/out" || wrong 'what was written is no front of the output'
+    head -c "$(wc -c < "$work/out")" "$output" | cmp -s - "$work/out" \
+        || wrong 'what was written is no front of the output'
 }
 
 # What was written ends at the end of a line.
@@ -120,11 +122,12 @@ for kind in memory read write receive send wait; do
     PYTHONPATH=$here/.. python3 "$here/serve.py" "$bridge" "$work/refuse.so" "$kind"
 done
 
-# A core alone: what it answers to who looks at it, before and after a message that found no memory. Its program is built anew
-# where it or the crates have changed.
+# A core alone: what it answers to who looks at it, before and after a message that found no memory. Its program is
+# built anew where it or the crates have changed.
 name=control
 sources() {
-    find "$root"/crates/*/src "$here/control.rt.in" -type f | LC_ALL=C sort | while read -r file; do cat "$file"; done | cksum
+    find "$root"/crates/*/src "$here/control.rt.in" -type f | LC_ALL=C sort \
+        | while read -r file; do cat "$file"; done | cksum
 }
 if [ ! -x "$here/out/control" ] || [ "$(sources)" != "$(cat "$here/out/sources")" ]; then
     mkdir -p "$work/program" "$here/out"
@@ -147,7 +150,8 @@ while refused memory "$k" 0 /dev/null "$here/out/control"; was_refused; do
     else
         # One of the two messages was answered again, and nothing else differs.
         [ "$(grep -c ': as before, and answered again$' "$work/out")" = 1 ] || wrong 'no message was answered again'
-        sed 's/: as before, and answered again$/: answered/' "$work/out" | cmp -s - "$work/answered" || wrong 'another outcome'
+        sed 's/: as before, and answered again$/: answered/' "$work/out" | cmp -s - "$work/answered" \
+            || wrong 'another outcome'
     fi
     k=$((k + 1))
 done

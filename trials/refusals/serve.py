@@ -2,8 +2,9 @@
 
 usage: serve.py BRIDGE LIBRARY KIND
 
-Each session is a conversation of a controller and two callers: an Add of both, 20 ms of speech, three ticks and a heartbeat.
-What is not answered, or not counted, is sent again or polled for again. Ends with 1 at the first session that is wrong.
+Each session is a conversation of a controller and two callers: an Add of both, 20 ms of speech, three ticks and a
+heartbeat. What is not answered, or not counted, is sent again or polled for again. Ends with 1 at the first session
+that is wrong.
 """
 import os
 import signal
@@ -53,7 +54,10 @@ def came(s):
 
 
 def packet(number, tick):
-    """The packet of a tick, from 0 on, to one of the two callers. In the third tick the second hears the first, who says 80."""
+    """The packet of a tick, from 0 on, to one of the two callers.
+
+    In the third tick the second hears the first, who says 80.
+    """
     payload = b"\x80" if (number, tick) == (2, 2) else b"\xff"
     head = bytes([0x80, 0x80 if tick == 0 else 0]) + tick.to_bytes(2, "big")
     return head + (160 * tick).to_bytes(4, "big") + number.to_bytes(4, "big") + 160 * payload

@@ -1,9 +1,10 @@
-"""Stops `mg_bridge live` for some seconds while callers in conferences of up to 64 send packets, and looks at what they are sent.
+"""Stops `mg_bridge live` for some seconds while callers in conferences of up to 64 send packets, and looks at what they
+are sent.
 
 usage: stall.py BRIDGE CALLERS SECONDS
 
-After the stall no caller may be sent more than six packets at once, those of ticks that are late by five ticks or less, and the
-timestamps have to be where the clock is. Ends with 1 where it is otherwise.
+After the stall no caller may be sent more than six packets at once, those of ticks that are late by five ticks or less,
+and the timestamps have to be where the clock is. Ends with 1 where it is otherwise.
 """
 import re
 import selectors
@@ -39,7 +40,8 @@ def conference(control, callers):
     for first in range(0, CALLERS, A_REQUEST):
         adds = ",".join(ADD % s.getsockname()[1] for s in callers[first:first + A_REQUEST])
         context = "$" if first % MEMBERS == 0 else str(first // MEMBERS + 1)
-        reply = ask(controller, control, f"MEGACO/1 [127.0.0.1]:2945 Transaction={first + 1}{{Context={context}{{{adds}}}}}")
+        action = f"Context={context}{{{adds}}}"
+        reply = ask(controller, control, f"MEGACO/1 [127.0.0.1]:2945 Transaction={first + 1}{{{action}}}")
         ports += [int(port) for port in re.findall(r"m=audio (\d+)", reply)]
     if len(ports) != CALLERS:
         sys.exit("not all callers were added")
@@ -49,7 +51,8 @@ def conference(control, callers):
 def main():
     control, base = free_ports(CALLERS)
     errors = tempfile.TemporaryFile()
-    bridge = subprocess.Popen([BRIDGE, "live", "--control-port", str(control), "--base-port", str(base), "--slots", str(CALLERS)],
+    ports = ["--control-port", str(control), "--base-port", str(base)]
+    bridge = subprocess.Popen([BRIDGE, "live", *ports, "--slots", str(CALLERS)],
                               stdout=subprocess.PIPE, stderr=errors)
     try:
         trial(bridge, control)
@@ -100,8 +103,8 @@ def trial(bridge, control):
         for at, stamp in came:
             if at > first + 0.1:
                 early, late = min(early, at - stamp - origin), max(late, at - stamp - origin)
-    print(f"{CALLERS} callers, {STALL:g} s: at most {at_once} packets at once, {missing} missing; after it a packet comes "
-          f"{1000 * early:.0f} to {1000 * late:.0f} ms after its timestamp")
+    print(f"{CALLERS} callers, {STALL:g} s: at most {at_once} packets at once, {missing} missing; after it a packet "
+          f"comes {1000 * early:.0f} to {1000 * late:.0f} ms after its timestamp")
     if at_once > 6 or early < -0.03 or late > 0.1:
         sys.exit(1)
 

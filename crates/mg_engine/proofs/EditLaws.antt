@@ -348,8 +348,9 @@ changed_stands k new after flows kept w now settings n d a slots others lt set_t
       config = config ∙ h.config;
       rooms = same;
       numbers = ap (map (λ s. s.number)) streams ∙ tuned_numbers k new w settings n d a h;
-      media = λ m q s found there. tuned_media k new after kept.frames w settings n d a slots others lt set_to rows h m q
-          s found (ap (find (λ s. eqb s.number m)) (sym streams) ∙ there) (eqb n m) refl;
+      media = λ m q s found there.
+          tuned_media k new after kept.frames w settings n d a slots others lt set_to rows h m q s found
+          (ap (find (λ s. eqb s.number m)) (sym streams) ∙ there) (eqb n m) refl;
       hears = hears;
     }
 

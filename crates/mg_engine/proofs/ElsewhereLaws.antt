@@ -90,7 +90,8 @@ place_elsewhere : (w : Registry) (target : Target) (place : EntryPlace) (c : ℕ
 place_elsewhere w Null place c h there apart e = absurd (cc e)
 place_elsewhere w New place c h there apart e =
     after_ok (eqb place.context c ≡ false)
-    (passes (nat_lt (length w.contexts) context_limit && nat_le w.next_context last_context) NoContextLeft) _ place e (λ _ one.
+    (passes (nat_lt (length w.contexts) context_limit && nat_le w.next_context last_context) NoContextLeft)
+    _ place e (λ _ one.
     after_ok (eqb place.context c ≡ false) (ok_or (free_room w) NoContextLeft) _ place one (λ room two.
     let is = ap (λ (p : EntryPlace). p.context) (place_is _ place two) in
     let below = below_next w c h there in

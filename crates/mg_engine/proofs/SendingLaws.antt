@@ -33,8 +33,8 @@ packet_is k r to from bytes payload header m port joined body headed kept =
     let head = headed ∙ ap (λ (x : media.SlotMedia). media_steps.header x (type_of to.law) (ssrc_of k r)) kept in
     let whole = joined
     ∙ ap (λ (h : Header). header_bytes plain h ++ payload) head
-    ∙ ap (λ (p : List ℕ). header_bytes plain (media_steps.header (media_at k.media r.slot) (type_of to.law) (ssrc_of k r))
-    ++ p) body in
+    ∙ ap (λ (p : List ℕ).
+    header_bytes plain (media_steps.header (media_at k.media r.slot) (type_of to.law) (ssrc_of k r)) ++ p) body in
     ap (λ (f : ℕ). datagram to f bytes) port ∙
     ap (λ (b : List ℕ). datagram to (slot_port k.rooms.limits r.slot) b) whole
 

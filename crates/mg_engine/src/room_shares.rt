@@ -48,7 +48,8 @@ impl RoomShares {
     /// Who talks hears what nobody else does. So a room of talkers has as many of these packets as members, and to look
     /// at all of them for each would cost by their pairs. Those who listen alone find theirs among the newest.
     pub fn find(&self, talkers: Mask, law: Law) -> Option<u8>
-        ensures found { IfSome result (λ packet. Contains self.now (record { talkers = talkers; law = law; packet = packet })) }
+        ensures found { IfSome result
+            (λ packet. Contains self.now (record { talkers = talkers; law = law; packet = packet })) }
     {
         let shares = self.shares.as_slice();
         let older = shares.len().saturating_sub(NEWEST);

@@ -8,8 +8,8 @@
 //!
 //! [`serve`] is proved for any [`Ports`](mg_ports::Ports): at every exit the lines that were read whole and what was
 //! done for them are a session (`specs/Session.antt`). So it drops no datagram that it received, takes the ports in
-//! their order, and sends each answer and each packet once; [`laws`] says that what it sends is what a run of the gateway's
-//! events sends, and that a recording of it is a script of these events.
+//! their order, and sends each answer and each packet once; [`laws`] says that what it sends is what a run of the
+//! gateway's events sends, and that a recording of it is a script of these events.
 #![tactic(auto)]
 
 mod command;

@@ -1,6 +1,7 @@
 //! What a run tells of changes.
 
-use mg_core::{Config, RunFault, Shown, run};
+use crate::scripts::run_script;
+use mg_core::{RunFault, Shown};
 use std::alloc::Global;
 use std::io::Cursor;
 
@@ -44,7 +45,7 @@ const WRITTEN: &[u8] =
 fn played(alloc: Global, shown: Shown) -> (Vec<u8>, Option<RunFault>) {
     let mut reader = Cursor::new(SCRIPT);
     let mut written = Vec::new(alloc);
-    let outcome = run(alloc, Config::default(), shown, &mut reader, &mut written);
+    let outcome = run_script(alloc, shown, &mut reader, &mut written);
     (written, outcome.err())
 }
 

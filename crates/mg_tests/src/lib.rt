@@ -20,6 +20,8 @@ mod reply;
 #[cfg(test)]
 mod rooms;
 #[cfg(test)]
+mod scripts;
+#[cfg(test)]
 mod sdp;
 #[cfg(test)]
 mod serve;

@@ -1,7 +1,8 @@
 //! The machine of events: what no line of a script shows.
 
+use crate::scripts::run_script;
 use mg_core::{
-    Answer, Config, Core, Counts, NoMemory, Peer, RunFault, Shown, StartFault, TERMINATIONS, run,
+    Answer, Config, Core, Counts, NoMemory, Peer, RunFault, Shown, StartFault, TERMINATIONS,
 };
 use std::alloc::Global;
 use std::io::{self, Cursor, Error, ErrorKind, Read, Write};
@@ -138,13 +139,7 @@ fn refuses_bad_configurations(rt: HostRuntime) {
 fn played(alloc: Global, script: &[u8]) -> (Vec<u8>, Option<RunFault>) {
     let mut reader = Cursor::new(script);
     let mut written = Vec::new(alloc);
-    let outcome = run(
-        alloc,
-        Config::default(),
-        Shown::Sent,
-        &mut reader,
-        &mut written,
-    );
+    let outcome = run_script(alloc, Shown::Sent, &mut reader, &mut written);
     (written, outcome.err())
 }
 
@@ -215,14 +210,7 @@ const CALLERS: &[u8] = b"say 127.0.0.1:2945 !/1 [127.0.0.1]:2945 T=1{C=${\
 fn counted(alloc: Global, script: &[u8]) -> Result<Counts, Fail> {
     let mut reader = Cursor::new(script);
     let mut written = Vec::new(alloc);
-    run(
-        alloc,
-        Config::default(),
-        Shown::Sent,
-        &mut reader,
-        &mut written,
-    )
-    .map_err(|_| "a script".into())
+    run_script(alloc, Shown::Sent, &mut reader, &mut written).map_err(|_| "a script".into())
 }
 
 #[test]
@@ -397,13 +385,7 @@ fn read_in_pieces(
         calls,
     };
     let mut written = Vec::new(alloc);
-    let outcome = run(
-        alloc,
-        Config::default(),
-        Shown::Sent,
-        &mut reader,
-        &mut written,
-    );
+    let outcome = run_script(alloc, Shown::Sent, &mut reader, &mut written);
     (written, outcome)
 }
 
@@ -414,13 +396,7 @@ fn write_in_pieces(alloc: Global, script: &[u8], calls: usize) -> (Vec<u8>, Opti
         written: Vec::new(alloc),
         calls,
     };
-    let outcome = run(
-        alloc,
-        Config::default(),
-        Shown::Sent,
-        &mut reader,
-        &mut writer,
-    );
+    let outcome = run_script(alloc, Shown::Sent, &mut reader, &mut writer);
     (writer.written, outcome.err())
 }
 

@@ -2,7 +2,8 @@
 
 ghost use Rattle.std.specs.Prelude.{◌≤◌, length};
 
-use mg_core::{Config, Counts, EventLine, Peer, Shown, run};
+use crate::scripts::run_script;
+use mg_core::{Counts, EventLine, Peer, Shown};
 use std::alloc::Global;
 use std::io::Cursor;
 use std::test::Fail;
@@ -98,13 +99,7 @@ fn writes_the_longest(rt: HostRuntime) -> Result<(), Fail> {
 fn played(alloc: Global, script: &[u8]) -> Result<(Vec<u8>, Counts), Fail> {
     let mut reader = Cursor::new(script);
     let mut written = Vec::new(alloc);
-    let outcome = run(
-        alloc,
-        Config::default(),
-        Shown::Sent,
-        &mut reader,
-        &mut written,
-    );
+    let outcome = run_script(alloc, Shown::Sent, &mut reader, &mut written);
     match outcome {
         Ok(counts) => Ok((written, counts)),
         Err(_) => Err("no script".into()),

@@ -7,7 +7,7 @@ use Rattle.mg_options.specs.declared.status.Status.TheVariants.{Done, Usage, NoM
 use Rattle.mg_options.specs.Ends.{Tells}
 use Rattle.mg_options.specs.Status.{code_of}
 
-done_is_small : code_of Done ≤ 4
+pub done_is_small : code_of Done ≤ 4
 unfolding code_of
 done_is_small = omega arith
 

@@ -2,14 +2,9 @@
 use Rattle.std.proofs.Common.{◌≡◌, ◌≤◌, Result, Ok, Err, arith}
 use Rattle.mg_options.specs.Status.{code_of}
 use Rattle.mg_options.specs.declared.status.Status.{Status}
-use Rattle.mg_options.specs.declared.status.Status.TheVariants.{Done}
 use Rattle.mg_pace.specs.declared.fault.PaceFault.{PaceFault}
 use Rattle.mg_pace.specs.declared.fault.PaceFault.TheVariants as faults
 use Rattle.mg_pace.specs.Status.{status_of}
-
-pub done_is_small : code_of Done ≤ 4
-unfolding code_of
-done_is_small = omega arith
 
 -- a run ends by none that is of ports
 pub run_is_small : (outcome : Result (Unit {0}) PaceFault) (status : Status) → status ≡ status_of outcome →

@@ -4,6 +4,7 @@ use Rattle.std.proofs.lemmas.Bool.{and_parts, true≢false}
 use Rattle.std.proofs.lemmas.Bool.Decides.{nat_tests}
 use Rattle.std.specs.Prelude.{find, filter}
 use Rattle.std.specs.Char.{to_ascii_lowercase}
+use Rattle.std.specs.List.{list_any}
 use Rattle.std.specs.Str.{bytes_eq, str_eq_ignore_ascii_case, str_to_ascii_lowercase}
 use Rattle.std.proofs.lemmas.Slice.Eq.{bytes_eq-Decides}
 use Rattle.mg_words.proofs.CutLaws as cut_laws
@@ -97,22 +98,32 @@ context_is text e =
     (λ long. let same = same_letters text forms.0 long in rw same (refl {a = Some Context}))
     (λ short. let same = same_letters text forms.1 short in rw same (refl {a = Some Context})) e
 
+-- ## A byte that is no letter
+
+module _ (mark : ℕ) (is_no_letter : (b : ℕ) → (to_ascii_lowercase b == mark) ≡ (b == mark)) where
+  pub mark_in_lower : (text : List ℕ) →
+      list_any (λ b. b == mark) (str_to_ascii_lowercase text) ≡ list_any (λ b. b == mark) text
+  mark_in_lower [] = refl
+  mark_in_lower (b ∷ bs) = rw (is_no_letter b, mark_in_lower bs) refl
+
+  same_mark : (a b : List ℕ) → str_eq_ignore_ascii_case a b ≡ true →
+      list_any (λ c. c == mark) a ≡ list_any (λ c. c == mark) b
+  same_mark a b e = sym (mark_in_lower a) ∙ ap (list_any (λ c. c == mark)) (same_letters a b e) ∙ mark_in_lower b
+
+  -- it stands in no form of a word that has none in its forms
+  pub markless : (text : List ℕ) (k : Keyword) → keyword_of text ≡ Some k →
+      list_any (λ b. b == mark) (forms_of k).0 ≡ false → list_any (λ b. b == mark) (forms_of k).1 ≡ false →
+      list_any (λ b. b == mark) text ≡ false
+  unfolding is_named
+  markless text k e long short =
+      let forms = forms_of k in
+      either (str_eq_ignore_ascii_case text forms.0) (str_eq_ignore_ascii_case text forms.1)
+      (λ is. same_mark text forms.0 is ∙ long) (λ is. same_mark text forms.1 is ∙ short) (named_is text k e)
+
 lower_slash : (b : ℕ) → (to_ascii_lowercase b == 47) ≡ (b == 47)
 lower_slash b = grind (arith, nat_tests)
-
-slash_in_lower : (text : List ℕ) → has_slash (str_to_ascii_lowercase text) ≡ has_slash text
-slash_in_lower [] = refl
-slash_in_lower (b ∷ bs) = rw (lower_slash b, slash_in_lower bs) refl
-
-same_slash : (a b : List ℕ) → str_eq_ignore_ascii_case a b ≡ true → has_slash a ≡ has_slash b
-same_slash a b e = sym (slash_in_lower a) ∙ ap has_slash (same_letters a b e) ∙ slash_in_lower b
 
 -- no slash stands in a form of a word that has none in its forms
 pub no_slash : (text : List ℕ) (k : Keyword) → keyword_of text ≡ Some k → has_slash (forms_of k).0 ≡ false →
     has_slash (forms_of k).1 ≡ false → has_slash text ≡ true → ⊥
-unfolding is_named
-no_slash text k e long short slash =
-    let forms = forms_of k in
-    either (str_eq_ignore_ascii_case text forms.0) (str_eq_ignore_ascii_case text forms.1)
-    (λ is. true≢false (sym slash ∙ same_slash text forms.0 is ∙ long))
-    (λ is. true≢false (sym slash ∙ same_slash text forms.1 is ∙ short)) (named_is text k e)
+no_slash text k e long short slash = true≢false (sym slash ∙ markless 47 lower_slash text k e long short)

@@ -22,12 +22,12 @@ use Rattle.mg_text.specs.declared.keyword.Keyword.{Keyword}
 use Rattle.mg_text.specs.declared.keyword.Keyword.TheVariants as keywords
 use Rattle.mg_text.specs.declared.command_head.CommandHead.{CommandHead}
 use Rattle.mg_scan.specs.Span.{text_of}
-use Rattle.mg_text.specs.Keyword.{forms_of, is_named, keyword_of, long_word}
+use Rattle.mg_text.specs.Keyword.{forms_of, keyword_of, long_word}
 use Rattle.mg_text.specs.Words.{by_keyword}
 use Rattle.mg_text.specs.Grammar.{IsWorded, prefix_of, word_after}
 use Rattle.mg_text.specs.Production.{Production}
 use Rattle.mg_text.specs.aids.Words.{association_named, mode_named, command_named, headed, prefixed, command_of}
-use Rattle.mg_text.proofs.KeywordLaws.{named_is, found_passes, either, same_letters}
+use Rattle.mg_text.proofs.KeywordLaws.{found_passes, same_letters, mark_in_lower, markless}
 use Rattle.mg_scan.specs.declared.token.Token.{Token}
 
 -- ## Values by long forms
@@ -143,11 +143,7 @@ lower_dash : (b : ℕ) → (to_ascii_lowercase b == 45) ≡ (b == 45)
 lower_dash b = grind (arith, nat_tests)
 
 dash_in_lower : (text : List ℕ) → has_dash (str_to_ascii_lowercase text) ≡ has_dash text
-dash_in_lower [] = refl
-dash_in_lower (b ∷ bs) = rw (lower_dash b, dash_in_lower bs) refl
-
-same_dash : (a b : List ℕ) → str_eq_ignore_ascii_case a b ≡ true → has_dash a ≡ has_dash b
-same_dash a b e = sym (dash_in_lower a) ∙ ap has_dash (same_letters a b e) ∙ dash_in_lower b
+dash_in_lower = mark_in_lower 45 lower_dash
 
 long_dashless : (k : Keyword) → has_dash (forms_of k).0 ≡ false
 unfolding forms_of
@@ -160,12 +156,7 @@ short_dashless keywords.Add = refl
 short_dashless _ = refl
 
 dashless : (text : List ℕ) (k : Keyword) → keyword_of text ≡ Some k → has_dash text ≡ false
-unfolding is_named
-dashless text k e =
-    let forms = forms_of k in
-    either (str_eq_ignore_ascii_case text forms.0) (str_eq_ignore_ascii_case text forms.1)
-    (λ is. same_dash text forms.0 is ∙ long_dashless k)
-    (λ is. same_dash text forms.1 is ∙ short_dashless k) (named_is text k e)
+dashless text k e = markless 45 lower_dash text k e (long_dashless k) (short_dashless k)
 
 -- a text with a dash is no word of the encoding
 no_keyword : (text : List ℕ) (o : Option Keyword) → keyword_of text ≡ o → has_dash text ≡ true → keyword_of text ≡ None

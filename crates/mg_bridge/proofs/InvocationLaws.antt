@@ -161,41 +161,34 @@ run_is name rows address control controllers config run named commanded listed c
     (goes_on controllers (controllers_in rows) (with_controllers name rows address control) listed ∙
     rw (is, configured) refl)
 
--- an error says why there is none at a text that names no address
-pub refuses_address : (asked : Result Invocation Kinds) (name : Text) (rows : List Row) (fault : AddressFault)
-    (kind : ErrorKind)
-    → asked ≡ run_in name rows → Err fault ≡ address_in (codes "address") standard.address rows →
-    kind ≡ ValueValidation → IsRefused asked kind
-refuses_address asked name rows fault kind asks named is =
-    rw (
-      asks ∙ stops fault (address_in (codes "address") standard.address rows) (with_address name rows) named,
-      is,
-    ) (inr (inl refl))
+-- there is none at a text that names no address
+pub refuses_address : (name : Text) (rows : List Row) (fault : AddressFault) →
+    Err fault ≡ address_in (codes "address") standard.address rows → run_in name rows ≡ Err (ValueValidation ∷ [])
+refuses_address name rows fault named =
+    stops fault (address_in (codes "address") standard.address rows) (with_address name rows) named
 
--- or none at one that names no address for control messages
-pub refuses_control : (asked : Result Invocation Kinds) (name : Text) (rows : List Row) (address : List ℕ)
-    (fault : AddressFault) (kind : ErrorKind)
-    → asked ≡ run_in name rows → Ok address ≡ address_in (codes "address") standard.address rows →
-    Err fault ≡ address_in (codes "control-address") address rows → kind ≡ ValueValidation → IsRefused asked kind
-refuses_control asked name rows address fault kind asks named commanded is =
-    rw (
-      asks ∙ (at_address name rows address named ∙
-          stops fault (address_in (codes "control-address") address rows) (with_control name rows address) commanded),
-      is,
-    ) (inr (inl refl))
+-- none at one that names no address for control messages
+pub refuses_control : (name : Text) (rows : List Row) (address : List ℕ) (fault : AddressFault) →
+    Ok address ≡ address_in (codes "address") standard.address rows →
+    Err fault ≡ address_in (codes "control-address") address rows → run_in name rows ≡ Err (ValueValidation ∷ [])
+refuses_control name rows address fault named commanded =
+    at_address name rows address named ∙
+    stops fault (address_in (codes "control-address") address rows) (with_control name rows address) commanded
 
--- or none under texts that name no controllers
-pub refuses_controllers : (asked : Result Invocation Kinds) (name : Text) (rows : List Row) (address control : List ℕ)
-    (fault : ControllerFault) (kind : ErrorKind)
-    → asked ≡ run_in name rows → Ok address ≡ address_in (codes "address") standard.address rows →
+-- and none under texts that name no controllers
+pub refuses_controllers : (name : Text) (rows : List Row) (address control : List ℕ) (fault : ControllerFault) →
+    Ok address ≡ address_in (codes "address") standard.address rows →
     Ok control ≡ address_in (codes "control-address") address rows → Err fault ≡ controllers_in rows →
-    kind ≡ ValueValidation → IsRefused asked kind
-refuses_controllers asked name rows address control fault kind asks named commanded listed is =
-    rw (
-      asks ∙ (at_control name rows address control named commanded ∙
-          stops fault (controllers_in rows) (with_controllers name rows address control) listed),
-      is,
-    ) (inr (inl refl))
+    run_in name rows ≡ Err (ValueValidation ∷ [])
+refuses_controllers name rows address control fault named commanded listed =
+    at_control name rows address control named commanded ∙
+    stops fault (controllers_in rows) (with_controllers name rows address control) listed
+
+-- an error says why words ask for none
+pub refuses : (asked : Result Invocation Kinds) (name : Text) (rows : List Row) (kind : ErrorKind) →
+    asked ≡ run_in name rows → run_in name rows ≡ Err (ValueValidation ∷ []) → kind ≡ ValueValidation →
+    IsRefused asked kind
+refuses asked name rows kind asks refused is = rw (asks ∙ refused, is) (inr (inl refl))
 
 -- want of memory that was passed on
 pub memory_passed_on : {T : Type 0} (r : Result T Error) (asked : Result Invocation Kinds) →

@@ -1,11 +1,12 @@
-ghost use Rattle.std.specs.Prelude.{◌≡◌, IfErr, IfOk, Ok, codes, fold, if◌then◌else◌, map};
+ghost use Rattle.std.specs.Prelude.{◌≡◌, ◌∷◌, [], Err, IfErr, IfOk, Ok, codes, fold, if◌then◌else◌, map};
+ghost use Rattle.clap.specs.declared.error.kind.ErrorKind.TheVariants.{ValueValidation};
 ghost use Rattle.clap.specs.Words.{app_of, found_of, kind_of, rows_of, rule_of, with_rule};
 ghost use Rattle.mg_options.specs.Asked.{IsRefused};
 ghost use Rattle.mg_options.specs.Line.{text_rule};
 ghost use Rattle.mg_options.specs.Numbers.{number_or};
 ghost use Rattle.mg_bridge.specs.Options.{address_in, asked, command_line, config_at, controller_rule, controllers_in};
 ghost use Rattle.mg_bridge.specs.Options.{flag_rule, is_set, live_line, options, replay_line, run_of, service_of};
-ghost use Rattle.mg_bridge.specs.Options.{sockets_line, subcommand_line};
+ghost use Rattle.mg_bridge.specs.Options.{run_in, sockets_line, subcommand_line};
 
 use crate::address::{AddressFault, own_address};
 use crate::controller_fault::ControllerFault;
@@ -265,6 +266,31 @@ fn run_of(
     }
 }
 
+/// The run that a subcommand with these options asks for, or the text that tells why there is none.
+fn run_in(name: &str, matches: &ArgMatches<'_>) -> Result<Invocation, &'static str>
+    ensures run { IfOk result (λ run. run_in name.now (rows_of (found_of matches.now)) ≡ Ok run) }
+    ensures refused { IfErr result (λ _. run_in name.now (rows_of (found_of matches.now)) ≡
+        Err (ValueValidation ∷ [])) }
+{
+    let address = match address_of("address", Config::default().address, matches) {
+        Ok(address) => address,
+        Err(fault) => return Err(fault.message()),
+    };
+    let control = match address_of("control-address", address, matches) {
+        Ok(control) => control,
+        Err(fault) => return Err(fault.control_message()),
+    };
+    match controllers_of(matches) {
+        Ok(controllers) => Ok(run_of(
+            name,
+            config_at(address, control, matches),
+            controllers,
+            matches,
+        )),
+        Err(fault) => Err(fault.message()),
+    }
+}
+
 /// The run that the program's arguments ask for. The arguments stand without the program's name.
 ///
 /// Where they ask for no run the error says why, and is told to the caller: a fault of theirs, a call for help or the
@@ -278,23 +304,8 @@ pub fn asked_run<'a, S: AsStr>(alloc: Global, words: &'a [S]) -> Result<Invocati
     let Some((name, options)) = matches.subcommand() else {
         unreachable!();
     };
-    let address = match address_of("address", Config::default().address, options) {
-        Ok(address) => address,
-        Err(fault) => return Err(command.error(ErrorKind::ValueValidation, fault.message())?),
-    };
-    let control = match address_of("control-address", address, options) {
-        Ok(control) => control,
-        Err(fault) => {
-            return Err(command.error(ErrorKind::ValueValidation, fault.control_message())?);
-        }
-    };
-    match controllers_of(options) {
-        Ok(controllers) => Ok(run_of(
-            name,
-            config_at(address, control, options),
-            controllers,
-            options,
-        )),
-        Err(fault) => Err(command.error(ErrorKind::ValueValidation, fault.message())?),
+    match run_in(name, options) {
+        Ok(run) => Ok(run),
+        Err(fault) => Err(command.error(ErrorKind::ValueValidation, fault)?),
     }
 }

@@ -38,6 +38,17 @@ fn watched_for(alloc: Global, shown: Shown) -> Result<Option<Watched>, AllocErro
     }
 }
 
+/// What a runner writes its lines with: room for the longest, and what is kept of terminations. This takes all their
+/// memory.
+fn outputs(alloc: Global, shown: Shown) -> Result<(Bytes, Option<Watched>), AllocError>
+    ensures output { IfOk result (λ (output, watched). output ≡ record { text = []; room = 128099 }) }
+    ensures watched { (config : Config) →
+        IfOk result (λ (output, watched). AreKeptListeners shown watched (start_of config)) }
+{
+    let output = Bytes::new(alloc, OUTPUT_LIMIT)?;
+    Ok((output, watched_for(alloc, shown)?))
+}
+
 /// Runs lines of a script on a gateway.
 #[derive(Drop)]
 pub struct LineRunner {
@@ -59,11 +70,12 @@ impl LineRunner {
         ensures sent { IfOk result (λ runner. runner.sent ≡ 0) }
     {
         let core = Core::new(alloc, config)?;
+        let (output, watched) = outputs(alloc, shown)?;
         Ok(LineRunner {
             core,
-            output: Bytes::new(alloc, OUTPUT_LIMIT)?,
+            output,
             sent: 0,
-            watched: watched_for(alloc, shown)?,
+            watched,
         })
     }
 

@@ -28,7 +28,7 @@ use mg_commands::Kept;
 use mg_engine::{Config, Datagram, Engine, Outbox, Peer, Record, Rooms, StartFault, Stats, Taken};
 use mg_rooms::TERMINATIONS;
 use mg_text::{Bytes, ErrorNumber, Message, Reply, read, write_head};
-use std::alloc::Global;
+use std::alloc::{AllocError, Global};
 use std::marker::Model;
 
 /// The bytes of the longest answer: a head, four replies, and a line feed between each two of them.
@@ -58,6 +58,17 @@ impl Model for Core {
     ghost invariant = { λ c. c.answer.room + length c.answer.text ≡ 64036 };
 }
 
+/// What a core has of replies before the first: none is kept, none is put together, and there is no answer. This takes
+/// all their memory.
+fn no_replies(alloc: Global) -> Result<(Kept, Reply, Bytes), AllocError>
+    ensures kept { IfOk result (λ (kept, reply, answer). kept ≡ []) }
+    ensures answer { IfOk result (λ (kept, reply, answer). answer ≡ record { text = []; room = ANSWER_LIMIT }) }
+{
+    let kept = Kept::new(alloc)?;
+    let reply = Reply::new(alloc)?;
+    Ok((kept, reply, Bytes::new(alloc, ANSWER_LIMIT)?))
+}
+
 impl Core {
     /// A gateway with this configuration. This takes all the memory that it holds.
     pub fn new(alloc: Global, config: Config) -> Result<Self, StartFault>
@@ -68,14 +79,15 @@ impl Core {
         ensures sound { OnOk result (IsValidConfig config) }
     {
         let engine = Engine::new(alloc, config)?;
+        let (kept, reply, answer) = no_replies(alloc)?;
         Ok(Core {
             state: CoreState {
                 engine,
-                kept: Kept::new(alloc)?,
+                kept,
                 counts: Counts::new(),
             },
-            reply: Reply::new(alloc)?,
-            answer: Bytes::new(alloc, ANSWER_LIMIT)?,
+            reply,
+            answer,
             outbox: Outbox::new(),
         })
     }

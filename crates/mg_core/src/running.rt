@@ -1,6 +1,10 @@
-ghost use Rattle.std.specs.Prelude.{◌≡◌, ◌↔◌, Err, OnOk};
+ghost use Rattle.std.specs.Prelude.{◌≡◌, ◌≢◌, ◌↔◌, [], Err, OnOk};
+ghost use Rattle.mg_engine.specs.declared.config.Config.{Config};
 ghost use Rattle.mg_engine.specs.Config.{IsValidConfig};
+ghost use Rattle.mg_core.specs.declared.shown.Shown.{Shown};
 ghost use Rattle.mg_core.specs.Run.{ScriptRan};
+ghost use Rattle.mg_core.specs.World.{start_of};
+ghost use Rattle.mg_core.specs.aids.Steps.{Follows};
 
 use crate::counts::Counts;
 use crate::fault::RunFault;
@@ -35,6 +39,25 @@ pub fn run<R: Read, W: Write>(
     ensures sound { OnOk result (IsValidConfig config) }
 {
     let mut runner = ScriptRunner::new(alloc, config, shown)?;
+    run_whole(&mut runner, alloc, reader, writer)
+}
+
+/// Runs a whole script on a new gateway.
+fn run_whole<R: Read, W: Write>(
+    runner: &mut ScriptRunner,
+    alloc: Global,
+    reader: &mut R,
+    writer: &mut W,
+) -> Result<Counts, RunFault>
+    requires lines { runner.old.lines ≡ 0 }
+    requires begun { runner.old.begun.text ≡ [] }
+    requires sent { runner.old.runner.sent ≡ 0 }
+    ensures script { (config : Config) (shown : Shown) →
+        Follows shown runner.old.runner.core.state runner.old.runner.watched (start_of config) →
+        ScriptRan config shown (R.remaining reader.old) (R.remaining reader.new) (W.contents writer.old)
+        (W.contents writer.new) result }
+    ensures started { result ≢ Err RunFault.BadConfig }
+{
     runner.take_all(alloc, reader, writer)?;
     Ok(runner.counts())
 }

@@ -21,7 +21,9 @@ ghost use Rattle.mg_engine.specs.Place.{IsOnPlace, IsOnSeat};
 ghost use Rattle.mg_engine.specs.Tick.{sends, sent_to, packets, all_played, all_ended, sent_in_tick, after_tick, concealed_in_tick};
 ghost use Rattle.mg_g711.specs.Law.{byte_of};
 ghost use Rattle.mg_words.specs.Mode.{listens};
-ghost use Rattle.mg_sums.specs.Sums.{frame_of_row};
+ghost use Rattle.mg_flow.specs.Table as table;
+ghost use Rattle.mg_sums.specs.Sums.{AreValidSums, first_sums, frame_of_row, room_of};
+ghost use Rattle.mg_engine.specs.aids.Seating.{place_count};
 ghost use Rattle.mg_rtp.specs.Reading.{reading_of};
 ghost use Rattle.mg_engine.specs.Arrival.{at_port, arrived, Takes};
 ghost use Rattle.mg_engine.specs.Flow.{flow, hears};
@@ -116,6 +118,22 @@ fn idle_media(alloc: Global, slots: u16) -> Result<Vec<HeldMedia>, AllocError>
     Ok(media)
 }
 
+/// Who hears whom, who is on which place, what is said, and which packets lend their payloads, of a gateway without
+/// terminations. This takes all their memory.
+fn empty_tables(alloc: Global) -> Result<(FlowTable, Seating, Sums, Shares), AllocError>
+    ensures flows { IfOk result (λ (flows, seating, sums, shares). table.StandsFor flows []) }
+    ensures seating { IfOk result (λ (flows, seating, sums, shares). seating ≡ replicate place_count 0) }
+    ensures first { IfOk result (λ (flows, seating, sums, shares). sums ≡ first_sums) }
+    ensures nowhere { IfOk result (λ (flows, seating, sums, shares). (row : ℕ) → room_of sums row ≡ None) }
+    ensures valid { IfOk result (λ (flows, seating, sums, shares). AreValidSums sums) }
+    ensures shares { IfOk result (λ (flows, seating, sums, shares). shares ≡ replicate context_limit []) }
+{
+    let flows = FlowTable::new(alloc)?;
+    let seating = Seating::new(alloc)?;
+    let sums = Sums::new(alloc)?;
+    Ok((flows, seating, sums, Shares::new(alloc)?))
+}
+
 impl Engine {
     /// A gateway without terminations. It takes the memory for all that there can be, and no other call takes
     /// any.
@@ -131,10 +149,7 @@ impl Engine {
         let rooms = Rooms::new(alloc, config.limits())?;
         let ports = PortPool::new(alloc, config.limits())?;
         let media = idle_media(alloc, config.slots)?;
-        let flows = FlowTable::new(alloc)?;
-        let seating = Seating::new(alloc)?;
-        let sums = Sums::new(alloc)?;
-        let shares = Shares::new(alloc)?;
+        let (flows, seating, sums, shares) = empty_tables(alloc)?;
         Ok(Engine {
             config,
             rooms,

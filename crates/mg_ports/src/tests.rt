@@ -116,12 +116,24 @@ fn lets_messages_of_strangers_fall(rt: HostRuntime) -> Result<(), Fail> {
     assert_eq!(rt; guarded.receive(0, &mut buffer), Ok(None));
     assert_eq!(rt; guarded.strangers(), 2);
     assert_eq!(rt; guarded.receive(2, &mut buffer), Ok(Some((5, CALLER))));
+    Ok(())
+}
+
+#[test]
+fn gives_messages_of_controllers(rt: HostRuntime) -> Result<(), Fail> {
+    let mut buffer = [0; 8];
     let controllers = [[127, 0, 0, 2], CALLER.address];
     let mut guarded = GuardedPorts::new(ports(rt.alloc(), &[1])?, &controllers);
     assert_eq!(rt; guarded.receive(0, &mut buffer), Ok(Some((3, CALLER))));
     assert_eq!(rt; guarded.receive(0, &mut buffer), Err(PortFault));
     assert_eq!(rt; guarded.receive(0, &mut buffer), Ok(Some((3, CALLER))));
     assert_eq!(rt; guarded.failures(), 1);
+    Ok(())
+}
+
+#[test]
+fn gives_all_messages_where_no_controller_is_listed(rt: HostRuntime) -> Result<(), Fail> {
+    let mut buffer = [0; 8];
     let mut open = GuardedPorts::new(ports(rt.alloc(), &[])?, &[]);
     assert_eq!(rt; open.receive(0, &mut buffer), Ok(Some((3, CALLER))));
     assert_eq!(rt; open.strangers(), 0);

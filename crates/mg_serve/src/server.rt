@@ -23,7 +23,7 @@ use crate::reports::Reports;
 use mg_core::{Answer, Config, Core, Counts, Datagram, Peer, StartFault};
 use mg_lines::WriteFailed;
 use mg_ports::Ports;
-use std::alloc::Global;
+use std::alloc::{AllocError, Global};
 use std::io::Write;
 
 /// How many datagrams one slot gives in a poll.
@@ -92,6 +92,19 @@ fn media_port(config: Config, slot: u16) -> u16
     config.base_port + 2 * (slot - 1)
 }
 
+/// Where a server tells what happens: prints of a form for whoever drives it, and reports for an operator.
+fn outputs<'a, E: Write>(
+    alloc: Global,
+    form: Form,
+    seconds: u16,
+    reports: &'a mut E,
+) -> Result<(Printer, Reports<'a, E>), AllocError>
+    ensures printer { IfOk result (λ outputs. outputs.0 ≡ record { form = form; has_failed = false }) }
+{
+    let printer = Printer::new(alloc, form)?;
+    Ok((printer, Reports::new(alloc, seconds, reports)?))
+}
+
 impl<'a, E: Write> Server<'a, E> {
     /// A server of a new gateway, which reports every so many seconds, if any.
     pub fn new(
@@ -106,10 +119,12 @@ impl<'a, E: Write> Server<'a, E> {
         ensures start { IfOk result (λ server. StandsFor server.core.state (start_of config)) }
         ensures printer { IfOk result (λ server. server.printer ≡ record { form = form; has_failed = false }) }
     {
+        let core = Core::new(alloc, config)?;
+        let (printer, reports) = outputs(alloc, form, seconds, reports)?;
         Ok(Server {
-            core: Core::new(alloc, config)?,
-            printer: Printer::new(alloc, form)?,
-            reports: Reports::new(alloc, seconds, reports)?,
+            core,
+            printer,
+            reports,
             lines: 0,
             sent: 0,
             unread: 0,

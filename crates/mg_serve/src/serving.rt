@@ -1,6 +1,7 @@
-ghost use Rattle.std.specs.Prelude.{◌≡◌, ◌↔◌, length, Err, IfOk, OnOk};
+ghost use Rattle.std.specs.Prelude.{◌≡◌, ◌≢◌, ◌↔◌, [], false, length, Err, IfOk, OnOk};
 ghost use Rattle.std.specs.Option.{option_map};
 ghost use Rattle.mg_engine.specs.Config.{IsValidConfig};
+ghost use Rattle.mg_core.specs.World.{StandsFor, start_of};
 ghost use Rattle.mg_serve.specs.Serve.{ServedSession, form_of};
 
 use crate::form::Form;
@@ -51,6 +52,30 @@ pub fn serve<P: Ports, R: Read, W: Write, E: Write>(
     ensures sound { OnOk result (IsValidConfig config) }
 {
     let mut driver = LineDriver::new(alloc, config, form_of(title), seconds, reports)?;
+    drive(&mut driver, alloc, config, title, ports, reader, writer)
+}
+
+/// Drives a new gateway by the lines of the input, up to the first `quit` or the end.
+fn drive<P: Ports, R: Read, W: Write, E: Write>(
+    driver: &mut LineDriver<'_, E>,
+    alloc: Global,
+    config: Config,
+    title: Option<&[u8]>,
+    ports: &mut P,
+    reader: &mut R,
+    writer: &mut W,
+) -> Result<Counts, RunFault>
+    requires sound { IsValidConfig config }
+    requires start { StandsFor driver.old.server.core.state (start_of config) }
+    requires printer { driver.old.server.printer ≡
+        record { form = form_of (option_map (λ text. text.now) title); has_failed = false } }
+    requires begun { driver.old.begun ≡ [] }
+    ensures session { ServedSession config (option_map (λ text. text.now) title.entry) (R.remaining reader.old)
+        (R.remaining reader.new) (P.calls ports.old) (P.calls ports.new) (W.contents writer.old)
+        (W.contents writer.new) result }
+    ensures started { result ≢ Err RunFault.BadConfig }
+    ensures sound { OnOk result (IsValidConfig config) }
+{
     let Ok(mut buffer) = datagram_buffer(alloc) else {
         return Err(RunFault::NoMemory);
     };

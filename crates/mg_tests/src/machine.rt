@@ -63,7 +63,7 @@ const FULL_REPLY: &[u8] = b"MEGACO/1 [127.0.0.1]:2944\n\
     Reply=3{Context=1{Add=${Error=432{\"no termination or port left\"}}}}";
 
 /// A heartbeat, silence, an Add, and one that finds no slot.
-fn answer_in_turn(rt: &impl Abort, alloc: Global, core: &mut Core) -> Result<(), NoMemory> {
+fn answer_in_turn(rt: &impl Abort, alloc: Global, core: &mut Core) -> Result<(), Fail> {
     assert!(rt; is_answered(alloc, core, HEARTBEAT, REPLY)?);
     assert!(rt; is_silent(alloc, core, b"MEGACO/1 mg K{7}")?);
     assert!(rt; is_answered(alloc, core, ADD, ADDED)?);
@@ -79,8 +79,7 @@ fn answers_messages(rt: HostRuntime) -> Result<(), Fail> {
         ..Config::default()
     };
     let mut core = Core::new(rt.alloc(), one_slot)?;
-    answer_in_turn(&rt, rt.alloc(), &mut core)?;
-    Ok(())
+    answer_in_turn(&rt, rt.alloc(), &mut core)
 }
 
 /// Why a bridge doesn't start with a configuration.
@@ -447,6 +446,20 @@ const TWO_ADDS: &[u8] = b"!/1 [127.0.0.1]:2945 T=1{C=${A=$,A=$}}";
 const LAST_ADDED: &[u8] =
     b"MEGACO/1 [127.0.0.1]:2944\nReply=1{Context=1{Add=RTP/4294967295,Add=${Error=432{\"no termination or port left\"}}}}";
 
+/// Whether a core answers each message of the controller with its text.
+fn answers_each(
+    alloc: Global,
+    core: &mut Core,
+    messages: &[(&[u8], &[u8])],
+) -> Result<bool, NoMemory> {
+    for (message, text) in messages {
+        if !is_answered(alloc, core, message, text)? {
+            return Ok(false);
+        }
+    }
+    Ok(true)
+}
+
 /// Whether a new core answers each message of the controller with its text. A configuration that isn't sound answers
 /// none.
 fn answers_all(
@@ -454,15 +467,10 @@ fn answers_all(
     config: Config,
     messages: &[(&[u8], &[u8])],
 ) -> Result<bool, NoMemory> {
-    let Ok(mut core) = Core::new(alloc, config) else {
-        return Ok(false);
-    };
-    for (message, text) in messages {
-        if !is_answered(alloc, &mut core, message, text)? {
-            return Ok(false);
-        }
+    match Core::new(alloc, config) {
+        Ok(mut core) => answers_each(alloc, &mut core, messages),
+        Err(_) => Ok(false),
     }
-    Ok(true)
 }
 
 /// The last termination has the greatest number of 32 bits.
@@ -507,17 +515,22 @@ fn sent_header(core: &mut Core) -> Option<[u8; 12]> {
     }
 }
 
-/// The headers of the first two packets to one caller of a new core.
-fn first_headers(alloc: Global, config: Config) -> Result<Option<([u8; 12], [u8; 12])>, NoMemory> {
-    let Ok(mut core) = Core::new(alloc, config) else {
-        return Ok(None);
-    };
-    if hand(alloc, &mut core, CALLER)? != Answer::Send {
+/// The headers of the first two packets to one caller, who is the first of a core.
+fn two_headers(alloc: Global, core: &mut Core) -> Result<Option<([u8; 12], [u8; 12])>, NoMemory> {
+    if hand(alloc, core, CALLER)? != Answer::Send {
         return Ok(None);
     }
-    match (sent_header(&mut core), sent_header(&mut core)) {
+    match (sent_header(core), sent_header(core)) {
         (Some(first), Some(second)) => Ok(Some((first, second))),
         _ => Ok(None),
+    }
+}
+
+/// The headers of the first two packets to one caller of a new core.
+fn first_headers(alloc: Global, config: Config) -> Result<Option<([u8; 12], [u8; 12])>, NoMemory> {
+    match Core::new(alloc, config) {
+        Ok(mut core) => two_headers(alloc, &mut core),
+        Err(_) => Ok(None),
     }
 }
 

@@ -7,9 +7,10 @@ use mg_core::{Config, Counts, Peer, RunFault};
 use mg_ports::{GuardedPorts, PortFault, Ports};
 use mg_serve::serve;
 use mio::Events;
-use std::alloc::AllocError;
+use std::alloc::{AllocError, Global};
 use std::io;
 use std::net::{IpAddr, Ipv4Addr, SocketAddr, UdpSocket};
+use std::process::Abort;
 use std::test::Fail;
 
 /// Makes two terminations that talk and listen, with callers at 29510 and 29512.
@@ -65,8 +66,8 @@ fn speech() -> [u8; 172] {
 }
 
 /// 200 polls, three ticks and `quit`.
-fn lines(rt: &HostRuntime) -> Result<String, AllocError> {
-    let mut lines = String::new(rt.alloc());
+fn lines(alloc: Global) -> Result<String, AllocError> {
+    let mut lines = String::new(alloc);
     for _ in 0..200 {
         lines.push_str("poll\n")?;
     }
@@ -76,12 +77,11 @@ fn lines(rt: &HostRuntime) -> Result<String, AllocError> {
 
 /// Serves a gateway on some ports by these lines: what was counted, and what was printed.
 fn serve_lines<P: Ports>(
-    rt: &HostRuntime,
+    alloc: Global,
     config: Config,
     ports: &mut P,
     lines: &str,
 ) -> (Result<Counts, RunFault>, Vec<u8>) {
-    let alloc = rt.alloc();
     let mut input = lines.as_bytes();
     let mut printed = Vec::new(alloc);
     let mut reports = Vec::new(alloc);
@@ -108,16 +108,19 @@ fn carries(socket: &UdpSocket, before: usize, payload: &[u8]) -> io::Result<bool
     Ok(n == 172 && &buffer[12..172] == payload)
 }
 
-#[test]
-fn carries_speech_from_one_caller_to_another(rt: HostRuntime) -> Result<(), Fail> {
-    let config = config(29500, 2);
-    let mut ports = bind(&rt, &config)?;
-    let first = caller(&rt, 29510)?;
-    let second = caller(&rt, 29512)?;
+/// What the first caller says goes to the second.
+fn carry_speech(
+    rt: &impl Abort,
+    alloc: Global,
+    config: Config,
+    ports: &mut UdpPorts<NoDeadline>,
+    first: &UdpSocket,
+    second: &UdpSocket,
+) -> Result<(), Fail> {
     first.send_to(TWO_CALLERS, local(29500))?;
     first.send_to(&speech(), local(29502))?;
-    let lines = lines(&rt)?;
-    let (result, printed) = serve_lines(&rt, config, &mut ports, lines.as_str());
+    let lines = lines(alloc)?;
+    let (result, printed) = serve_lines(alloc, config, ports, lines.as_str());
     assert_eq!(rt; printed.as_slice(), b"ready\n".as_slice());
     let counts = result?;
     assert_eq!(rt; counts.lines, 204);
@@ -127,24 +130,44 @@ fn carries_speech_from_one_caller_to_another(rt: HostRuntime) -> Result<(), Fail
     let (n, from) = first.recv_from(&mut buffer)?;
     assert_eq!(rt; &buffer[..n], ANSWER);
     assert_eq!(rt; from, local(29500));
-    assert!(rt; carries(&second, 2, &[0x80; 160])?);
-    assert!(rt; carries(&first, 2, &[0xff; 160])?);
+    assert!(rt; carries(second, 2, &[0x80; 160])?);
+    assert!(rt; carries(first, 2, &[0xff; 160])?);
+    Ok(())
+}
+
+#[test]
+fn carries_speech_from_one_caller_to_another(rt: HostRuntime) -> Result<(), Fail> {
+    let config = config(29500, 2);
+    let first = caller(&rt, 29510)?;
+    let second = caller(&rt, 29512)?;
+    let mut ports = bind(&rt, &config)?;
+    carry_speech(&rt, rt.alloc(), config, &mut ports, &first, &second)
+}
+
+/// Packets to an address that isn't allowed are lost, and no others.
+fn lose_packets(
+    rt: &impl Abort,
+    alloc: Global,
+    config: Config,
+    ports: &mut UdpPorts<NoDeadline>,
+    caller: &UdpSocket,
+) -> Result<(), Fail> {
+    caller.send_to(ONE_UNREACHABLE, local(29600))?;
+    let (result, printed) = serve_lines(alloc, config, ports, "poll\ntick\ntick\nstats\n");
+    assert!(rt; result.is_ok());
+    let wanted: &[u8] =
+        b"ready\ncontrol=1 media=0 ticks=2 sent=3 failed=2 dropped=0,0,0,0,0,0 concealed=0\n";
+    assert_eq!(rt; printed.as_slice(), wanted);
+    assert!(rt; carries(caller, 2, &[0xff; 160])?);
     Ok(())
 }
 
 #[test]
 fn loses_the_packets_that_cannot_be_sent_alone(rt: HostRuntime) -> Result<(), Fail> {
     let config = config(29600, 2);
-    let mut ports = bind(&rt, &config)?;
     let caller = caller(&rt, 29612)?;
-    caller.send_to(ONE_UNREACHABLE, local(29600))?;
-    let (result, printed) = serve_lines(&rt, config, &mut ports, "poll\ntick\ntick\nstats\n");
-    assert!(rt; result.is_ok());
-    let wanted: &[u8] =
-        b"ready\ncontrol=1 media=0 ticks=2 sent=3 failed=2 dropped=0,0,0,0,0,0 concealed=0\n";
-    assert_eq!(rt; printed.as_slice(), wanted);
-    assert!(rt; carries(&caller, 2, &[0xff; 160])?);
-    Ok(())
+    let mut ports = bind(&rt, &config)?;
+    lose_packets(&rt, rt.alloc(), config, &mut ports, &caller)
 }
 
 /// Makes a termination that sends to 0.0.0.0, one that sends to a group, and one that sends to 28712.
@@ -153,35 +176,44 @@ const HELD: &[u8] = b"MEGACO/1 [127.0.0.1]:28712 Transaction=1{Context=${\
     Add=${Media{LocalControl{Mode=SendOnly},Remote{v=0\nc=IN IP4 224.0.0.1\nm=audio 28712 RTP/AVP 0\n}}},\
     Add=${Media{LocalControl{Mode=SendOnly},Remote{v=0\nc=IN IP4 127.0.0.1\nm=audio 28712 RTP/AVP 0\n}}}}}";
 
-#[test]
-fn sends_to_one_machine_alone(rt: HostRuntime) -> Result<(), Fail> {
-    let config = config(28700, 3);
-    let mut ports = bind(&rt, &config)?;
-    let caller = caller(&rt, 28712)?;
+/// Nothing is sent to 0.0.0.0 or to a group.
+fn send_to_one_machine(
+    rt: &impl Abort,
+    alloc: Global,
+    config: Config,
+    ports: &mut UdpPorts<NoDeadline>,
+    caller: &UdpSocket,
+) -> Result<(), Fail> {
     caller.send_to(HELD, local(28700))?;
-    let (result, _) = serve_lines(&rt, config, &mut ports, "poll\ntick\n");
+    let (result, _) = serve_lines(alloc, config, ports, "poll\ntick\n");
     let counts = result?;
     assert_eq!(rt; counts.sent, 2);
     assert_eq!(rt; counts.failed, 2);
-    assert!(rt; carries(&caller, 1, &[0xff; 160])?);
+    assert!(rt; carries(caller, 1, &[0xff; 160])?);
     Ok(())
 }
 
 #[test]
-fn binds_its_addresses_alone(rt: HostRuntime) -> Result<(), Fail> {
-    let config = Config {
-        address: [127, 0, 0, 3],
-        control_address: [127, 0, 0, 2],
-        ..config(29700, 1)
-    };
+fn sends_to_one_machine_alone(rt: HostRuntime) -> Result<(), Fail> {
+    let config = config(28700, 3);
+    let caller = caller(&rt, 28712)?;
     let mut ports = bind(&rt, &config)?;
-    let _other = caller(&rt, 29700)?;
-    let caller = caller(&rt, 29710)?;
+    send_to_one_machine(&rt, rt.alloc(), config, &mut ports, &caller)
+}
+
+/// Control messages come to one address and media to another, at ports that others have at a third.
+fn take_at_two_addresses(
+    rt: &impl Abort,
+    alloc: Global,
+    config: Config,
+    ports: &mut UdpPorts<NoDeadline>,
+    caller: &UdpSocket,
+) -> Result<(), Fail> {
     let control = SocketAddr::new(IpAddr::V4(Ipv4Addr::new(127, 0, 0, 2)), 29700);
     caller.send_to(b"MEGACO/2", control)?;
     let media = SocketAddr::new(IpAddr::V4(Ipv4Addr::new(127, 0, 0, 3)), 29702);
     caller.send_to(b"x", media)?;
-    let (result, _) = serve_lines(&rt, config, &mut ports, "poll\n");
+    let (result, _) = serve_lines(alloc, config, ports, "poll\n");
     let counts = result?;
     assert_eq!(rt; counts.control, 1);
     assert_eq!(rt; counts.media, 1);
@@ -196,9 +228,24 @@ fn binds_its_addresses_alone(rt: HostRuntime) -> Result<(), Fail> {
 }
 
 #[test]
-fn receives_without_waiting(rt: HostRuntime) -> Result<(), Fail> {
-    let mut ports = bind(&rt, &config(29800, 1))?;
-    let caller = caller(&rt, 29810)?;
+fn binds_its_addresses_alone(rt: HostRuntime) -> Result<(), Fail> {
+    let config = Config {
+        address: [127, 0, 0, 3],
+        control_address: [127, 0, 0, 2],
+        ..config(29700, 1)
+    };
+    let _other = caller(&rt, 29700)?;
+    let caller = caller(&rt, 29710)?;
+    let mut ports = bind(&rt, &config)?;
+    take_at_two_addresses(&rt, rt.alloc(), config, &mut ports, &caller)
+}
+
+/// What waits is given, and where nothing waits none is.
+fn receive_what_waits(
+    rt: &impl Abort,
+    ports: &mut UdpPorts<NoDeadline>,
+    caller: &UdpSocket,
+) -> Result<(), Fail> {
     let mut buffer = [0; 4];
     assert_eq!(rt; ports.receive(0, &mut buffer), Ok(None));
     caller.send_to(b"", local(29802))?;
@@ -219,27 +266,36 @@ fn receives_without_waiting(rt: HostRuntime) -> Result<(), Fail> {
     Ok(())
 }
 
+#[test]
+fn receives_without_waiting(rt: HostRuntime) -> Result<(), Fail> {
+    let caller = caller(&rt, 29810)?;
+    let mut ports = bind(&rt, &config(29800, 1))?;
+    receive_what_waits(&rt, &mut ports, &caller)
+}
+
 const HEARTBEAT: &[u8] =
     b"MEGACO/1 [127.0.0.1]:29910 Transaction=1{Context=-{AuditValue=ROOT{Audit{}}}}";
 
 /// A heartbeat with spaces after it, of so many bytes in all.
-fn padded(rt: &HostRuntime, length: usize) -> Result<Vec<u8>, AllocError> {
-    let mut message = HEARTBEAT.to_vec(rt.alloc())?;
+fn padded(alloc: Global, length: usize) -> Result<Vec<u8>, AllocError> {
+    let mut message = HEARTBEAT.to_vec(alloc)?;
     message.resize(length, b' ')?;
     Ok(message)
 }
 
 /// The longest message is read, and a longer one is refused, up to the longest that UDP carries.
-#[test]
-fn takes_messages_whole(rt: HostRuntime) -> Result<(), Fail> {
-    let config = config(29900, 1);
-    let mut ports = bind(&rt, &config)?;
-    let caller = caller(&rt, 29910)?;
+fn take_messages(
+    rt: &impl Abort,
+    alloc: Global,
+    config: Config,
+    ports: &mut UdpPorts<NoDeadline>,
+    caller: &UdpSocket,
+) -> Result<(), Fail> {
     for length in [8192, 8193, 65507] {
-        let message = padded(&rt, length)?;
+        let message = padded(alloc, length)?;
         caller.send_to(message.as_slice(), local(29900))?;
     }
-    let (result, _) = serve_lines(&rt, config, &mut ports, "poll\n");
+    let (result, _) = serve_lines(alloc, config, ports, "poll\n");
     assert_eq!(rt; result?.control, 3);
     let answered: &[u8] = b"MEGACO/1 [127.0.0.1]:29900\nReply=1{Context=-{AuditValue=ROOT}}";
     let refused: &[u8] = b"MEGACO/1 [127.0.0.1]:29900\nError=501{\"not served\"}";
@@ -252,21 +308,41 @@ fn takes_messages_whole(rt: HostRuntime) -> Result<(), Fail> {
 }
 
 #[test]
-fn lets_messages_of_strangers_fall(rt: HostRuntime) -> Result<(), Fail> {
-    let config = config(28800, 1);
-    let controllers = [[127, 0, 0, 2]];
-    let mut ports = GuardedPorts::new(bind(&rt, &config)?, &controllers);
-    let stranger = caller(&rt, 28810)?;
-    let address = SocketAddr::new(IpAddr::V4(Ipv4Addr::new(127, 0, 0, 2)), 28810);
-    let controller = UdpSocket::bind(&rt, address)?;
-    for sender in [&stranger, &stranger, &controller] {
+fn takes_messages_whole(rt: HostRuntime) -> Result<(), Fail> {
+    let config = config(29900, 1);
+    let caller = caller(&rt, 29910)?;
+    let mut ports = bind(&rt, &config)?;
+    take_messages(&rt, rt.alloc(), config, &mut ports, &caller)
+}
+
+/// Of three messages that of the listed controller is taken alone.
+fn take_from_the_controller<P: Ports>(
+    rt: &impl Abort,
+    alloc: Global,
+    config: Config,
+    ports: &mut P,
+    stranger: &UdpSocket,
+    controller: &UdpSocket,
+) -> Result<(), Fail> {
+    for sender in [stranger, stranger, controller] {
         sender.send_to(b"MEGACO/2", local(28800))?;
     }
-    let (result, _) = serve_lines(&rt, config, &mut ports, "poll\n");
+    let (result, _) = serve_lines(alloc, config, ports, "poll\n");
     assert_eq!(rt; result?.control, 1);
     assert_eq!(rt; ports.strangers(), 2);
     let mut buffer = [0; 100];
     assert!(rt; stranger.recv_from(&mut buffer).is_err());
     assert!(rt; controller.recv_from(&mut buffer).is_ok());
     Ok(())
+}
+
+#[test]
+fn lets_messages_of_strangers_fall(rt: HostRuntime) -> Result<(), Fail> {
+    let config = config(28800, 1);
+    let stranger = caller(&rt, 28810)?;
+    let address = SocketAddr::new(IpAddr::V4(Ipv4Addr::new(127, 0, 0, 2)), 28810);
+    let controller = UdpSocket::bind(&rt, address)?;
+    let controllers = [[127, 0, 0, 2]];
+    let mut ports = GuardedPorts::new(bind(&rt, &config)?, &controllers);
+    take_from_the_controller(&rt, rt.alloc(), config, &mut ports, &stranger, &controller)
 }

@@ -1,7 +1,6 @@
 use Rattle.std.specs.Option.{option_map}
 use Rattle.std.proofs.lemmas.Result.{err_from_is_err_and}
-use Rattle.mg_serve.specs.aids.Outside.{outside}
-use Rattle.mg_serve.proofs.Running.{no_memory, not_opened, served_ok, served_err, not_started}
+use Rattle.mg_serve.proofs.Running.{not_started}
 use Rattle.mg_serve.proofs.serving.serve.Goals as goal
 
 pub returns-in_err-driver-clause-session : goal.returns-in_err-driver-clause-session
@@ -10,41 +9,3 @@ returns-in_err-driver-clause-session g c =
     rw p.1 (not_started c.args.config (option_map (λ title. title.now) c.args.title)
     (g.R.Read.remaining c.args.reader.now) (g.P.Ports.calls c.args.ports.now) (g.W.Write.contents c.args.writer.now)
     c.in_err-driver.field-0.0 p.0 p.2)
-
-pub returns-in_default-clause-session : goal.returns-in_default-clause-session
-returns-in_default-clause-session g c = no_memory c.args.config (option_map (λ title. title.now) c.args.title)
-    (g.R.Read.remaining c.args.reader.now) (g.P.Ports.calls c.args.ports.now) (g.W.Write.contents c.args.writer.now)
-
-pub returns-in_default-open-clause-session : goal.returns-in_default-open-clause-session
-returns-in_default-open-clause-session g c =
-    not_opened c.args.config (option_map (λ title. title.now) c.args.title)
-    (g.R.Read.remaining c.args.reader.now) (g.P.Ports.calls c.args.ports.now)
-    c.in_ok-driver.driver.server.printer c.open.new.self.server.printer
-    (g.W.Write.contents c.args.writer.now) (g.W.Write.contents c.open.new.writer)
-    (rw c.form_of.ensures.value at c.in_ok-driver.ensures.printer, c.open.ensures.printed)
-    c.in_default-open.ensures.failed
-
-pub returns-in_err-take_all-clause-session : goal.returns-in_err-take_all-clause-session
-returns-in_err-take_all-clause-session g c =
-    let p = err_from_is_err_and c.from_residual-in_err-take_all.result c.from_residual-in_err-take_all.ensures.1 in
-    rw (p.1, p.2) (served_err c.in_err-take_all.field-0.0 c.args.config (option_map (λ title. title.now) c.args.title)
-    (g.R.Read.remaining c.args.reader.now) (g.R.Read.remaining c.take_all.new.reader)
-    c.in_ok-driver.driver.server.core.state c.take_all.new.self.server.core.state
-    c.in_ok-driver.driver.server.printer (g.W.Write.contents c.args.writer.now)
-    (outside (g.P.Ports.calls c.args.ports.now) (g.W.Write.contents c.open.new.writer) c.open.new.self.server.printer)
-    (outside (g.P.Ports.calls c.take_all.new.ports) (g.W.Write.contents c.take_all.new.writer)
-    c.take_all.new.self.server.printer) c.in_ok-driver.ensures.start
-    (rw c.form_of.ensures.value at c.in_ok-driver.ensures.printer, c.open.ensures.printed)
-    c.in_err-take_all.ensures.ends (rw c.open.ensures.core at c.in_err-take_all.ensures.value))
-
-pub returns-clause-session : goal.returns-clause-session
-returns-clause-session g c =
-    served_ok c.counts.result c.args.config (option_map (λ title. title.now) c.args.title)
-    (g.R.Read.remaining c.args.reader.now) (g.R.Read.remaining c.take_all.new.reader)
-    c.in_ok-driver.driver.server.core.state c.take_all.new.self.server.core.state
-    c.in_ok-driver.driver.server.printer (g.W.Write.contents c.args.writer.now)
-    (outside (g.P.Ports.calls c.args.ports.now) (g.W.Write.contents c.open.new.writer) c.open.new.self.server.printer)
-    (outside (g.P.Ports.calls c.take_all.new.ports) (g.W.Write.contents c.take_all.new.writer)
-    c.take_all.new.self.server.printer) c.in_ok-driver.ensures.start
-    (rw c.form_of.ensures.value at c.in_ok-driver.ensures.printer, c.open.ensures.printed)
-    c.in_ok-take_all.ensures.ends (rw c.open.ensures.core at c.in_ok-take_all.ensures.value) c.counts.ensures.events

@@ -13,17 +13,17 @@ invariant_of-result c = record {
   limits = ap (λ (w : rooms.Registry). w.limits) c.in_ok-rooms.ensures.start ∙ c.limits.ensures.value;
   ports = c.in_ok-ports.ensures.value ∙ c.limits-2.ensures.value;
   media = ap length c.in_ok-media.ensures.value ∙ length-replicate _ _;
-  held = c.new-7.ensures ∙ ap (λ (w : rooms.Registry). map (λ r. r.slot) w.terminations)
+  held = c.new-3.ensures ∙ ap (λ (w : rooms.Registry). map (λ r. r.slot) w.terminations)
       (sym c.in_ok-rooms.ensures.start);
   members = has_nobody c.in_ok-rooms.rooms c.limits.result c.in_ok-flows.flows c.in_ok-rooms.ensures.start
-      c.in_ok-flows.ensures.edits;
-  seats = nobody_seated c.in_ok-rooms.rooms c.limits.result c.in_ok-seating.seating c.in_ok-rooms.ensures.start;
-  places = ap length c.in_ok-seating.ensures.value ∙ length-replicate {A = ℕ} place_count 0;
-  joined = joined_nowhere c.in_ok-rooms.rooms c.limits.result c.in_ok-sums.sums.rooms c.in_ok-rooms.ensures.start
-      c.in_ok-sums.ensures.nowhere;
-  row_count = c.in_ok-sums.ensures.valid.rooms;
+      c.in_ok-flows.ensures.flows;
+  seats = nobody_seated c.in_ok-rooms.rooms c.limits.result c.in_ok-flows.seating c.in_ok-rooms.ensures.start;
+  places = ap length c.in_ok-flows.ensures.seating ∙ length-replicate {A = ℕ} place_count 0;
+  joined = joined_nowhere c.in_ok-rooms.rooms c.limits.result c.in_ok-flows.sums.rooms c.in_ok-rooms.ensures.start
+      c.in_ok-flows.ensures.nowhere;
+  row_count = c.in_ok-flows.ensures.valid.rooms;
 }
 
 pub returns-clause-work : goal.returns-clause-work
 unfolding first_sums
-returns-clause-work c = ap (λ (s : SumsState). s.work) c.in_ok-sums.ensures.first
+returns-clause-work c = ap (λ (s : SumsState). s.work) c.in_ok-flows.ensures.first

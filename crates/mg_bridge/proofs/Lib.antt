@@ -1,5 +1,5 @@
-pub mod InvocationLaws
+pub mod InvocationLemmas
 pub mod AskedRows
-pub mod ControllerLaws
-pub mod EndLaws
-pub mod ReadinessLaws
+pub mod ControllerLemmas
+pub mod EndLemmas
+pub mod ReadinessLemmas

@@ -1,13 +1,13 @@
 //! The program `mg_bridge`: a conference media gateway under a controller.
 //!
-//! `mg_bridge replay` runs a script of events on standard input, and writes a line for each answer on
+//! `mg_bridge replay` runs a script of events on standard input, and writes a line for each answer and each packet on
 //! standard output.
 //!
 //! `mg_bridge live` is a gateway on UDP ports in real time.
 //!
 //! `mg_bridge serve` is the same gateway, driven by lines on standard input: `poll` takes what came to the ports,
 //! `tick` passes on by 20 ms and sends the packets, `stats` prints what was counted, `quit` ends it. Another program,
-//! `mg_pace`, writes these lines by the clock.
+//! `mg_pace`, writes `poll` and `tick` by the clock.
 //!
 //! With `--record`, what `live` and `serve` print is a recording: a script of the events that happened.
 #![tactic(auto)]

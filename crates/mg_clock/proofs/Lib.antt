@@ -1,3 +1,3 @@
-pub mod DueLaws
-pub mod ReadingLaws
-pub mod TextLaws
+pub mod DueLemmas
+pub mod ReadingLemmas
+pub mod TextLemmas

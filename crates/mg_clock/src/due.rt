@@ -20,7 +20,7 @@ pub fn steps_due(polls: u64, now: u64) -> u64
 }
 
 /// How long after a time the step after so many is due: no time, where it is due already.
-#[tactic(auto, using(crate::proofs::DueLaws::soon))]
+#[tactic(auto, using(crate::proofs::DueLemmas::soon))]
 pub fn time_to_step(polls: u64, before: u64, now: u64) -> Duration
     requires some { 0 < polls }
     requires few { polls ≤ 1000 }

@@ -1,7 +1,7 @@
 //! The time of a gateway: when its polls and ticks are due, and their lines as they fall due.
 //!
-//! A tick comes every 20 ms, and a step, which is a poll, several times in 20 ms; the last step of each 20 ms is a poll
-//! and a tick. Each stands at its own point of time from the start, so that no delay adds up. [`ClockLines`] is a
+//! A tick comes every 20 ms, and a step, which is a poll, once in 20 ms or oftener; the last step of each 20 ms has the
+//! tick too. Each stands at its own point of time from the start, so that no delay adds up. [`ClockLines`] is a
 //! reader that gives the lines `poll` and `tick` when they are due, and never ends:
 //!
 //! ```rust

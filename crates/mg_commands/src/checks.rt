@@ -67,7 +67,7 @@ fn check_descriptors(
 }
 
 /// What a command asks for, if its text is served.
-#[tactic(auto, using(crate::proofs::CheckLaws::by_descriptors))]
+#[tactic(auto, using(crate::proofs::CheckLemmas::by_descriptors))]
 pub fn check_command(source: &[u8], command: &Command) -> Result<CommandParameters, ErrorNumber>
     ensures value { result ≡ check_command source.now command.now }
 {

@@ -31,7 +31,6 @@ mod context_audit;
 mod context_properties;
 mod descriptor_fault;
 mod descriptor_parts;
-pub mod laws;
 mod members;
 mod name;
 mod named_member;
@@ -42,6 +41,7 @@ mod property_fault;
 mod reply_descriptors;
 mod reply_parts;
 mod served;
+pub mod theorems;
 mod transactions;
 
 pub use crate::name::{Name, name_of, written_name};

@@ -153,7 +153,7 @@ fn try_command(
 
 /// Tries the commands of an action up to the first that fails and isn't optional. The answer is how far they come, and
 /// whether there was none such.
-#[tactic(auto, using(crate::proofs::RunLaws::propers))]
+#[tactic(auto, using(crate::proofs::RunLemmas::propers))]
 fn try_commands(
     engine: &mut Engine,
     source: &[u8],
@@ -227,7 +227,7 @@ fn try_action(engine: &mut Engine, source: &[u8], action: &Action, reply: &mut R
 }
 
 /// Tries actions up to the first that isn't done whole.
-#[tactic(auto, using(crate::proofs::RunLaws::propers))]
+#[tactic(auto, using(crate::proofs::RunLemmas::propers))]
 fn try_actions(engine: &mut Engine, source: &[u8], actions: &[Action], reply: &mut Reply)
     requires proper { list_all (action_is_proper source.now) actions.now ≡ true }
     ensures ran { (base : Base) → Leads (IsTransaction base) (transaction_kept engine.old reply.old)

@@ -37,7 +37,7 @@ pub fn refusal_of(fault: ReadFault) -> Option<ErrorNumber>
 }
 
 /// Writes the refusal of a message as a whole.
-#[tactic(auto, using(crate::proofs::AnswerLaws::totals))]
+#[tactic(auto, using(crate::proofs::AnswerLemmas::totals))]
 pub fn put_error(config: &Config, number: ErrorNumber, answer: &mut Bytes)
     requires room { 97 ≤ answer.old.room }
     ensures text { answer.new.text ≡ answer.old.text
@@ -68,7 +68,7 @@ pub fn has_requests(items: &[MessageItem]) -> bool
 }
 
 /// Writes a reply, or an error in its place where it is too long: at most 16,000 bytes.
-#[tactic(auto, using(crate::proofs::ReplyLaws::sending))]
+#[tactic(auto, using(crate::proofs::ReplyLemmas::sending))]
 fn put_reply(reply: &mut Reply, answer: &mut Bytes)
     requires whole { IsWhole reply.old }
     requires room { REPLY_LIMIT ≤ answer.old.room }
@@ -150,7 +150,7 @@ fn acknowledge(kept: &mut Kept, sender: &[u8], ranges: &[Range])
 
 /// Does what an item asks that came from a sender in the message that stands in `source`, and writes its reply with a
 /// mark before it, if it is a request. What is answered is the mark of the next reply.
-#[tactic(auto, using(crate::proofs::ReplyLaws::one_reply))]
+#[tactic(auto, using(crate::proofs::ReplyLemmas::one_reply))]
 fn put_item<'m>(
     state: &mut CoreState,
     source: &[u8],
@@ -188,7 +188,7 @@ fn put_item<'m>(
 
 /// Does what the items ask that came from a sender in the message that stands in `source`, and writes the replies to
 /// the requests among them, with a line feed between each two.
-#[tactic(auto, using(crate::proofs::ReplyLaws::replying))]
+#[tactic(auto, using(crate::proofs::ReplyLemmas::replying))]
 pub fn put_replies(
     state: &mut CoreState,
     source: &[u8],

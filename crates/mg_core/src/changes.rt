@@ -10,7 +10,7 @@ use mg_text::Bytes;
 use mg_words::{MEMBERS, Mode};
 
 /// Writes a number in plain decimal.
-#[tactic(auto, using(crate::proofs::ChangeLaws::lengths))]
+#[tactic(auto, using(crate::proofs::ChangeLemmas::lengths))]
 fn push_number(n: u64, out: &mut Bytes)
     requires room { 20 ≤ out.old.room }
     ensures value { out.new ≡ appended out.old (decimal n) }
@@ -21,7 +21,7 @@ fn push_number(n: u64, out: &mut Bytes)
 }
 
 /// Writes what each line begins with: the number of ticks so far, and of whom it tells.
-#[tactic(auto, using(crate::proofs::ChangeLaws::steps))]
+#[tactic(auto, using(crate::proofs::ChangeLemmas::steps))]
 fn push_head(ticks: u64, number: u32, out: &mut Bytes)
     requires room { 54 ≤ out.old.room }
     ensures value { out.new ≡ appended out.old (line_head ticks number) }
@@ -34,7 +34,7 @@ fn push_head(ticks: u64, number: u32, out: &mut Bytes)
 }
 
 /// Writes that a termination ended.
-#[tactic(auto, using(crate::proofs::ChangeLaws::steps))]
+#[tactic(auto, using(crate::proofs::ChangeLemmas::steps))]
 fn push_ended(ticks: u64, old: &KeptListener, out: &mut Bytes)
     requires room { 61 ≤ out.old.room }
     ensures value { out.new ≡ appended out.old (ended_line ticks old.now) }
@@ -45,7 +45,7 @@ fn push_ended(ticks: u64, old: &KeptListener, out: &mut Bytes)
 }
 
 /// Writes where a termination was made.
-#[tactic(auto, using(crate::proofs::ChangeLaws::steps))]
+#[tactic(auto, using(crate::proofs::ChangeLemmas::steps))]
 fn push_place(context: u32, port: u16, out: &mut Bytes)
     requires room { 66 ≤ out.old.room }
     ensures value { out.new ≡ appended out.old
@@ -60,7 +60,7 @@ fn push_place(context: u32, port: u16, out: &mut Bytes)
 }
 
 /// Writes that a termination was made.
-#[tactic(auto, using(crate::proofs::ChangeLaws::steps))]
+#[tactic(auto, using(crate::proofs::ChangeLemmas::steps))]
 fn push_made(ticks: u64, new: &KeptListener, out: &mut Bytes)
     requires room { 121 ≤ out.old.room }
     ensures value { out.new ≡ appended out.old (made_line ticks new.now) }
@@ -72,7 +72,7 @@ fn push_made(ticks: u64, new: &KeptListener, out: &mut Bytes)
 }
 
 /// Writes where a termination moved to.
-#[tactic(auto, using(crate::proofs::ChangeLaws::steps))]
+#[tactic(auto, using(crate::proofs::ChangeLemmas::steps))]
 fn push_context(context: u32, out: &mut Bytes)
     requires room { 38 ≤ out.old.room }
     ensures value { out.new ≡ appended out.old (codes " moved to context " ++ decimal context) }
@@ -83,7 +83,7 @@ fn push_context(context: u32, out: &mut Bytes)
 }
 
 /// Writes that a termination moved to another context.
-#[tactic(auto, using(crate::proofs::ChangeLaws::steps))]
+#[tactic(auto, using(crate::proofs::ChangeLemmas::steps))]
 fn push_moved(ticks: u64, new: &KeptListener, out: &mut Bytes)
     requires room { 93 ≤ out.old.room }
     ensures value { out.new ≡ appended out.old (moved_line ticks new.now) }
@@ -95,7 +95,7 @@ fn push_moved(ticks: u64, new: &KeptListener, out: &mut Bytes)
 }
 
 /// Writes the mode of a termination.
-#[tactic(auto, using(crate::proofs::ChangeLaws::steps))]
+#[tactic(auto, using(crate::proofs::ChangeLemmas::steps))]
 fn push_mode(ticks: u64, new: &KeptListener, out: &mut Bytes)
     requires room { 72 ≤ out.old.room }
     ensures value { out.new ≡ appended out.old (in_mode ticks new.now) }
@@ -108,7 +108,7 @@ fn push_mode(ticks: u64, new: &KeptListener, out: &mut Bytes)
 }
 
 /// Writes the name of a termination after a space.
-#[tactic(auto, using(crate::proofs::ChangeLaws::steps))]
+#[tactic(auto, using(crate::proofs::ChangeLemmas::steps))]
 fn push_name(number: u32, out: &mut Bytes)
     requires room { 25 ≤ out.old.room }
     ensures value { out.new ≡ appended out.old (name_in_line number) }
@@ -119,7 +119,7 @@ fn push_name(number: u32, out: &mut Bytes)
 }
 
 /// Writes the names of terminations, or that there is none.
-#[tactic(auto, using(crate::proofs::ChangeLaws::steps))]
+#[tactic(auto, using(crate::proofs::ChangeLemmas::steps))]
 fn push_names(numbers: &[u32], out: &mut Bytes)
     requires few { length numbers.now ≤ MEMBERS }
     requires room { 1600 ≤ out.old.room }
@@ -136,7 +136,7 @@ fn push_names(numbers: &[u32], out: &mut Bytes)
 }
 
 /// Writes whom a termination hears.
-#[tactic(auto, using(crate::proofs::ChangeLaws::steps))]
+#[tactic(auto, using(crate::proofs::ChangeLemmas::steps))]
 fn push_talkers(ticks: u64, new: &KeptListener, out: &mut Bytes)
     requires room { 1661 ≤ out.old.room }
     ensures value { out.new ≡ appended out.old (hearing ticks new.now) }
@@ -149,7 +149,7 @@ fn push_talkers(ticks: u64, new: &KeptListener, out: &mut Bytes)
 }
 
 /// Writes all of a termination that wasn't there before.
-#[tactic(auto, using(crate::proofs::ChangeLaws::steps))]
+#[tactic(auto, using(crate::proofs::ChangeLemmas::steps))]
 fn push_new(ticks: u64, new: &KeptListener, out: &mut Bytes)
     requires room { 1854 ≤ out.old.room }
     ensures value { out.new ≡ appended out.old (told_of_new ticks None new.now) }
@@ -170,7 +170,7 @@ fn is_same_mode(a: Mode, b: Mode) -> bool
 }
 
 /// Writes what is another of a termination that was there before.
-#[tactic(auto, using(crate::proofs::ChangeLaws::steps))]
+#[tactic(auto, using(crate::proofs::ChangeLemmas::steps))]
 fn push_changed(ticks: u64, old: &KeptListener, new: &KeptListener, out: &mut Bytes)
     requires room { 1854 ≤ out.old.room }
     ensures value { out.new ≡ appended out.old (told_of_new ticks (Some old.now) new.now) }
@@ -201,7 +201,7 @@ fn listener_at(listeners: &[KeptListener], number: u32) -> Option<&KeptListener>
 }
 
 /// Writes that a termination ended, unless it is there after the change.
-#[tactic(auto, using(crate::proofs::ChangeLaws::steps))]
+#[tactic(auto, using(crate::proofs::ChangeLemmas::steps))]
 fn push_old(ticks: u64, after: &[KeptListener], old: &KeptListener, out: &mut Bytes)
     requires room { 61 ≤ out.old.room }
     ensures value { out.new ≡ appended out.old (told_of_old ticks after.now old.now) }
@@ -214,7 +214,7 @@ fn push_old(ticks: u64, after: &[KeptListener], old: &KeptListener, out: &mut By
 }
 
 /// Writes what is new of a termination.
-#[tactic(auto, using(crate::proofs::ChangeLaws::steps))]
+#[tactic(auto, using(crate::proofs::ChangeLemmas::steps))]
 fn push_listener(ticks: u64, before: &[KeptListener], new: &KeptListener, out: &mut Bytes)
     requires room { 1854 ≤ out.old.room }
     ensures value { out.new ≡ appended out.old (told_of_new ticks (listener_at before.now new.now.number) new.now) }
@@ -227,7 +227,7 @@ fn push_listener(ticks: u64, before: &[KeptListener], new: &KeptListener, out: &
 }
 
 /// Writes which terminations ended.
-#[tactic(auto, using(crate::proofs::ChangeLaws::steps))]
+#[tactic(auto, using(crate::proofs::ChangeLemmas::steps))]
 fn push_all_old(ticks: u64, before: &[KeptListener], after: &[KeptListener], out: &mut Bytes)
     requires room { 61 * length before.now ≤ out.old.room }
     ensures value { out.new ≡ appended out.old (flat_map (told_of_old ticks after.now) before.now) }
@@ -239,7 +239,7 @@ fn push_all_old(ticks: u64, before: &[KeptListener], after: &[KeptListener], out
 }
 
 /// Writes what is new of all terminations.
-#[tactic(auto, using(crate::proofs::ChangeLaws::steps))]
+#[tactic(auto, using(crate::proofs::ChangeLemmas::steps))]
 fn push_all_new(ticks: u64, before: &[KeptListener], after: &[KeptListener], out: &mut Bytes)
     requires room { 1854 * length after.now ≤ out.old.room }
     ensures value { out.new ≡ appended out.old
@@ -253,7 +253,7 @@ fn push_all_new(ticks: u64, before: &[KeptListener], after: &[KeptListener], out
 }
 
 /// Writes all that changed, from the terminations before to those after.
-#[tactic(auto, using(crate::proofs::ChangeLaws::steps))]
+#[tactic(auto, using(crate::proofs::ChangeLemmas::steps))]
 pub fn push_changes(ticks: u64, before: &[KeptListener], after: &[KeptListener], out: &mut Bytes)
     requires room { 61 * length before.now + 1854 * length after.now ≤ out.old.room }
     ensures value { out.new ≡ appended out.old (changes ticks before.now after.now) }

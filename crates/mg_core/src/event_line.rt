@@ -32,7 +32,7 @@ impl Model for EventLine {
 }
 
 /// Writes a peer and the bytes of a datagram, and ends the line. The digits are made up in a place of their own.
-#[tactic(auto, using(crate::proofs::OutputLaws::steps))]
+#[tactic(auto, using(crate::proofs::OutputLemmas::steps))]
 fn push_datagram(source: Peer, bytes: &[u8], digits: &mut [u8], out: &mut Bytes)
     requires digits { 2 * length bytes.now ≤ length digits.old }
     requires room { 23 + 2 * length bytes.now ≤ out.old.room }
@@ -60,7 +60,7 @@ impl EventLine {
     }
 
     /// Makes up the line for a control datagram.
-    #[tactic(auto, using(crate::proofs::OutputLaws::steps))]
+    #[tactic(auto, using(crate::proofs::OutputLemmas::steps))]
     pub fn control(&mut self, source: Peer, bytes: &[u8])
         requires short { length bytes.now ≤ 65535 }
         ensures value { self.new ≡ event_line (events.Control source bytes.now) }
@@ -71,7 +71,7 @@ impl EventLine {
     }
 
     /// Makes up the line for an RTP datagram that came to a media port.
-    #[tactic(auto, using(crate::proofs::OutputLaws::steps))]
+    #[tactic(auto, using(crate::proofs::OutputLemmas::steps))]
     pub fn media(&mut self, port: u16, source: Peer, bytes: &[u8])
         requires short { length bytes.now ≤ 65535 }
         ensures value { self.new ≡ event_line (events.Media port source bytes.now) }

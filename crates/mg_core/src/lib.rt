@@ -9,7 +9,7 @@
 //! ```
 //!
 //! [`run`] does so for each line of a script. Contracts speak of the worlds that a core's state stands for (`StandsFor`
-//! in `specs/World.antt`): each call is a step from each of them to the next (`Step` in `specs/Step.antt`). So after
+//! in `specs/World.antt`): each call that hands it an event is a step from each of them to the next (`Step` in `specs/Step.antt`). So after
 //! any list of events its flows, totals and packets are those computed anew (`specs/Headline.antt`). A request that
 //! comes again is answered by the reply that was kept for it, and not run twice (`specs/Repeats.antt`).
 #![tactic(auto)]
@@ -21,7 +21,6 @@ mod counts;
 mod event;
 mod event_line;
 mod fault;
-pub mod laws;
 mod line_runner;
 mod listener;
 mod listeners;
@@ -33,6 +32,7 @@ mod script;
 mod script_runner;
 mod shown;
 mod state;
+pub mod theorems;
 mod watched;
 
 pub use crate::answer::Answer;

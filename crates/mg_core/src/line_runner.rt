@@ -80,7 +80,7 @@ impl LineRunner {
     }
 
     /// Takes a control datagram, and writes the line of its answer.
-    #[tactic(auto, using(crate::proofs::AnswerLaws::totals))]
+    #[tactic(auto, using(crate::proofs::AnswerLemmas::totals))]
     fn take_control<W: Write>(
         &mut self,
         alloc: Global,
@@ -119,7 +119,7 @@ impl LineRunner {
     }
 
     /// Passes on by 20 ms, and writes the lines of the packets that are sent.
-    #[tactic(auto, using(crate::proofs::AnswerLaws::totals))]
+    #[tactic(auto, using(crate::proofs::AnswerLemmas::totals))]
     fn take_tick<W: Write>(&mut self, writer: &mut W) -> Result<(), EventFault>
         ensures value { Leads StandsFor self.old.core.state self.new.core.state (λ w next.
             EventRan Shown.Sent Event.Tick w next self.old.sent self.new.sent (W.contents writer.old)

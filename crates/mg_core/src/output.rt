@@ -23,7 +23,7 @@ fn push_escape(b: u8, out: &mut Bytes)
 }
 
 /// Writes a text with escapes.
-#[tactic(auto, using(crate::proofs::OutputLaws::steps))]
+#[tactic(auto, using(crate::proofs::OutputLemmas::steps))]
 fn push_escaped(text: &[u8], out: &mut Bytes)
     requires room { 2 * length text.now ≤ out.old.room }
     ensures value { out.new ≡ appended out.old (escaped text.now) }
@@ -35,7 +35,7 @@ fn push_escaped(text: &[u8], out: &mut Bytes)
 }
 
 /// Writes a peer: an address, a colon and a port.
-#[tactic(auto, using(crate::proofs::OutputLaws::steps))]
+#[tactic(auto, using(crate::proofs::OutputLemmas::steps))]
 pub fn push_peer(peer: Peer, out: &mut Bytes)
     requires room { 21 ≤ out.old.room }
     ensures value { out.new ≡ appended out.old (peer_text peer) }
@@ -47,7 +47,7 @@ pub fn push_peer(peer: Peer, out: &mut Bytes)
 }
 
 /// Writes the line for an answer to a peer.
-#[tactic(auto, using(crate::proofs::OutputLaws::steps))]
+#[tactic(auto, using(crate::proofs::OutputLemmas::steps))]
 pub fn push_answer(peer: Peer, text: &[u8], out: &mut Bytes)
     requires room { 27 + 2 * length text.now ≤ out.old.room }
     ensures value { out.new ≡ appended out.old (answer_line peer text.now) }
@@ -72,7 +72,7 @@ fn push_digits(bytes: &[u8; 172], out: &mut Bytes)
 }
 
 /// Writes the line for a packet that is sent.
-#[tactic(auto, using(crate::proofs::OutputLaws::steps))]
+#[tactic(auto, using(crate::proofs::OutputLemmas::steps))]
 fn push_packet(packet: &Datagram, out: &mut Bytes)
     requires room { 377 ≤ out.old.room }
     ensures value { out.new ≡ appended out.old (packet_line packet.now) }
@@ -88,7 +88,7 @@ fn push_packet(packet: &Datagram, out: &mut Bytes)
 }
 
 /// Writes the lines for the packets of a tick.
-#[tactic(auto, using(crate::proofs::OutputLaws::steps))]
+#[tactic(auto, using(crate::proofs::OutputLemmas::steps))]
 pub fn push_packets(packets: &[Datagram], out: &mut Bytes)
     requires room { 377 * length packets.now ≤ out.old.room }
     ensures value { out.new ≡ appended out.old (lines_for (map Packet packets.now)) }

@@ -14,8 +14,8 @@ use mg_engine::Config;
 use std::alloc::Global;
 use std::io::{Read, Write};
 
-/// Runs a script on a new gateway: reads it to its end, and writes a line for each answer. The lines of an
-/// event are written before more is read. After 4,294,967,295 reads without an end of input it answers
+/// Runs a script on a new gateway: reads it to its end, and writes a line for each answer and each packet. The lines of
+/// an event are written before more is read. After 4,294,967,295 reads without an end of input it answers
 /// `Read`.
 ///
 /// `Ok` says that all of the input is a script, that what was written is the lines of the datagrams that its events

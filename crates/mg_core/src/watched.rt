@@ -49,7 +49,7 @@ impl Watched {
     }
 
     /// Writes what changed of a core since, and takes its terminations as they are.
-    #[tactic(auto, using(crate::proofs::AnswerLaws::totals))]
+    #[tactic(auto, using(crate::proofs::AnswerLemmas::totals))]
     pub fn write_changes<W: Write>(
         &mut self,
         core: &Core,

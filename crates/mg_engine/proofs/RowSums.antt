@@ -11,10 +11,10 @@ use Rattle.mg_rooms.specs.Registry.{Registry}
 use Rattle.mg_flow.specs.declared.place.Place.{Place}
 use Rattle.mg_sums.specs.Sums.{SumsState, sample_in, is_room, is_joined, joined_rows, total_of}
 use Rattle.mg_sums.specs.Samples.{sum_of}
-use Rattle.mg_engine.proofs.PlainSums.{sum_of-filter}
+use Rattle.mg_sums.proofs.SumLemmas.{sum_of-filter}
 use Rattle.mg_engine.specs.aids.Joined.{AreJoined, room_of_row, room_for}
 use Rattle.mg_engine.specs.aids.Sending.{sample_at}
-use Rattle.mg_engine.proofs.SendingLaws.{nobody}
+use Rattle.mg_engine.proofs.SendingLemmas.{nobody}
 use Rattle.mg_engine.proofs.SeatSums.{found_counts, seat_sums}
 
 -- ## Rows that are joined to a room

@@ -8,8 +8,8 @@ use Rattle.std.proofs.lemmas.Bool.Decides.{nat_tests}
 use Rattle.std.proofs.lemmas.List.Sums.{sum_by-cons}
 use Rattle.mg_topology.specs.Mask.{seat_limit, has_seat, seats_of}
 use Rattle.mg_sums.specs.Samples.{sum_of}
-use Rattle.mg_engine.proofs.PlainSums.{sum_of-cons, sum_of-filter, sum_of-nil, sum_of-none, sum_of-plus, sum_of-same}
-use Rattle.mg_engine.proofs.SumLaws.{sum-cong}
+use Rattle.mg_sums.proofs.SumLemmas.{sum_of-cons, sum_of-filter, sum_of-nil, sum_of-none, sum_of-plus, sum_of-same}
+use Rattle.mg_engine.proofs.SumLemmas.{sum-cong}
 
 -- ## Sums of sums
 

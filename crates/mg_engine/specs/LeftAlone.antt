@@ -53,7 +53,7 @@ abbrev pub IsPortElsewhere : Gateway → ℕ → ℕ → Type 0
 IsPortElsewhere w c port =
     (r : Record) → at_port w.rooms port ≡ Some r → is_member w c r.number ≡ false
 
--- ## The laws
+-- ## The theorems
 
 -- an edit leaves each context alone that is there and that it isn't about
 abbrev pub EditsLeaveOthersAlone : Type 0

@@ -23,7 +23,7 @@ pub record EngineState : Type 0 where
   pub config : Config
   pub rooms : rooms.Registry
   pub media : List media.SlotMedia
-  pub flows : List flow.Room
+  pub flows : List flow.RoomFlows
   pub sums : sums.SumsState
   pub shares : List (List Share)
 

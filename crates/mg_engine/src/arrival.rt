@@ -3,7 +3,7 @@
 ghost use Rattle.std.specs.Prelude.{◌≡◌, ℕ, ℤ, List, Result, Ok, Err};
 ghost use Rattle.mg_rtp.specs.declared.header.Header.{Header};
 ghost use Rattle.mg_rtp.specs.declared.rtp_fault.RtpFault.{RtpFault};
-ghost use Rattle.mg_rtp.specs.Reading.{reading_of};
+ghost use Rattle.mg_rtp.specs.aids.Read.{reading_of};
 ghost use Rattle.mg_engine.specs.Arrival.{is_stray_source, law_for, decoded, frame_by_law};
 
 use crate::sending::payload_type;

@@ -24,7 +24,7 @@ ghost use Rattle.mg_words.specs.Mode.{listens};
 ghost use Rattle.mg_flow.specs.Table as table;
 ghost use Rattle.mg_sums.specs.Sums.{AreValidSums, first_sums, frame_of_row, room_of};
 ghost use Rattle.mg_engine.specs.aids.Seating.{place_count};
-ghost use Rattle.mg_rtp.specs.Reading.{reading_of};
+ghost use Rattle.mg_rtp.specs.aids.Read.{reading_of};
 ghost use Rattle.mg_engine.specs.Arrival.{at_port, arrived, Takes};
 ghost use Rattle.mg_engine.specs.Flow.{flow, hears};
 ghost use Rattle.mg_engine.specs.LeftAlone.{IsLeftAlone, IsElsewhere, IsEditElsewhere, IsPortElsewhere};

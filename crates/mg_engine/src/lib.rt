@@ -6,7 +6,7 @@
 //! ```rust
 //! let mut engine = Engine::new(alloc, Config::default())?;
 //! let done = engine.add(Target::New, &Settings::default())?;
-//! assert_eq!(rt; engine.rooms().members(done.context), [done.termination].as_slice());
+//! assert_eq!(rt; engine.rooms().members(done.context), [done.number].as_slice());
 //! ```
 //!
 //! What an engine's tick costs grows with its terminations and packets, not with the pairs of those who hear each
@@ -14,8 +14,8 @@
 //! samples that is added to a total, taken away from one, or written ([`Engine::work`]). A tick takes two rows for each
 //! termination that talks, whose old frame leaves the total and whose new one comes in. A packet takes one, the total
 //! without the listener itself, and one more for each talker whom the topology keeps from the listener. One in Loopback
-//! is sent its own frame, which takes none. Listeners of one context who hear the same, by the same law, share one
-//! payload. `specs/Work.antt` has the bound that each tick is proved to keep. An edit takes at most four rows, and an
+//! is sent its own frame, which takes none. Listeners of one context who hear the same, by the same law, share a
+//! payload that is among the newest eight of their context. `specs/Work.antt` has the bound that each tick is proved to keep. An edit takes at most four rows, and an
 //! RTP datagram none.
 //!
 //! The engine keeps no history, and what it keeps may be shorter than what it stands for. So its contracts speak of
@@ -31,7 +31,6 @@ mod edit;
 mod engine;
 mod fault;
 mod joining;
-pub mod laws;
 mod media;
 mod membership;
 mod mixing;
@@ -43,6 +42,7 @@ mod sending;
 mod share;
 mod shares;
 mod taken;
+pub mod theorems;
 mod topology_triple;
 mod triple_term;
 mod triples;

@@ -10,19 +10,21 @@ use Rattle.mg_flow.specs.declared.place.Place.{Place}
 use Rattle.mg_flow.specs.Place.{is_same_place, are_together}
 use Rattle.mg_flow.specs.Edits.{FlowEdit, Enter, Leave, SetMode, Apply, apply_in_room, edits_in, is_held, lets_hear}
 use Rattle.mg_flow.specs.Edits.{hears_in}
-use Rattle.mg_flow.specs.Table.{Room, holds, hears, hears_after, StandsFor, StandsForSome}
+use Rattle.mg_flow.specs.Table.{RoomFlows, holds, hears, hears_after, StandsFor, StandsForSome}
 use Rattle.mg_flow.proofs.TableLemmas.{own_triples, hears-stands}
 
 -- whatever is told of two places by each list of edits is so
-from_edits : (old : List Room) (x y : Bool) → StandsForSome old → ((es : List FlowEdit) → StandsFor old es → x ≡ y) →
+from_edits : (old : List RoomFlows) (x y : Bool) → StandsForSome old → ((es : List FlowEdit) → StandsFor old es →
+    x ≡ y) →
     x ≡ y
 from_edits old x y some tells = ∥∥₁_elim some (Bool-set x y)
     (λ (e : (es : List FlowEdit) × StandsFor old es). tells e.0 e.1)
 
-holds-stands : (table : List Room) (es : List FlowEdit) (p : Place) → StandsFor table es → holds table p ≡ is_held es p
+holds-stands : (table : List RoomFlows) (es : List FlowEdit) (p : Place) → StandsFor table es →
+    holds table p ≡ is_held es p
 holds-stands table es p h = (h.topologies p.room).seats p.seat
 
-are_together-stands : (table : List Room) (es : List FlowEdit) (a b : Place) → StandsFor table es
+are_together-stands : (table : List RoomFlows) (es : List FlowEdit) (a b : Place) → StandsFor table es
     → are_together (holds table) a b ≡ are_together (is_held es) a b
 are_together-stands table es a b h = rw (holds-stands table es a h, holds-stands table es b h) refl
 
@@ -53,7 +55,7 @@ hears_in-entered es place a b t l =
     (a.seat == b.seat) (lets_hear es a b) _
     (lets_hear-entered es place a b t l))
 
-pub enter_hears : (old new : List Room) (place : Place) (t l : Bool) → StandsForSome old
+pub enter_hears : (old new : List RoomFlows) (place : Place) (t l : Bool) → StandsForSome old
     → ((es : List FlowEdit) → StandsFor old es → StandsFor new (Enter place t l ∷ es)) → (a b : Place)
     → hears new a b ≡ cond (is_same_place a place || is_same_place b place) (are_together (holds new) a b)
     (hears old a b)
@@ -86,7 +88,7 @@ hears_in-left es place a b =
     (pair-left (is_same_place a place) (is_same_place b place) (is_held es a) (is_held es b)
     ((a.room == b.room) && not (a.seat == b.seat)) (lets_hear es a b))
 
-pub leave_hears : (old new : List Room) (place : Place) → StandsForSome old
+pub leave_hears : (old new : List RoomFlows) (place : Place) → StandsForSome old
     → ((es : List FlowEdit) → StandsFor old es → StandsFor new (Leave place ∷ es)) → (a b : Place)
     → hears new a b ≡ cond (is_same_place a place || is_same_place b place) false (hears old a b)
 leave_hears old new place some edits a b =
@@ -96,7 +98,7 @@ leave_hears old new place some edits a b =
 
 -- ---- a mode changes
 
-pub mode_hears : (old new : List Room) (place : Place) (t l : Bool) → StandsForSome old
+pub mode_hears : (old new : List RoomFlows) (place : Place) (t l : Bool) → StandsForSome old
     → ((es : List FlowEdit) → StandsFor old es → StandsFor new (SetMode place t l ∷ es)) → (a b : Place)
     → hears new a b ≡ hears old a b
 mode_hears old new place t l some edits a b =
@@ -146,7 +148,7 @@ hears_in-triples triples es a b together =
     ∙ lets_hear-triples triples es a b
     ∙ ap (hears_after triples a.seat b.seat) (sym (word_alone _ (lets_hear es a b) together))
 
-pub triples_hear : (old new : List Room) (room : ℕ) (triples : List Triple) → StandsForSome old
+pub triples_hear : (old new : List RoomFlows) (room : ℕ) (triples : List Triple) → StandsForSome old
     → ((es : List FlowEdit) → StandsFor old es → StandsFor new (apply_in_room room triples es)) → (a b : Place)
     → a.room ≡ room → are_together (holds old) a b ≡ true
     → hears new a b ≡ hears_after triples a.seat b.seat (hears old a b)

@@ -14,42 +14,43 @@ use Rattle.mg_flow.specs.declared.place.Place.{Place}
 use Rattle.mg_flow.specs.Place.{is_same_place, beside, are_together}
 use Rattle.mg_flow.specs.Edits.{FlowEdit, Enter, Leave, SetMode, Apply, apply_in_room, edits_in, is_held, talks_in}
 use Rattle.mg_flow.specs.Edits.{listens_in, lets_hear, hears_in, flows_in, is_silenced_in}
-use Rattle.mg_flow.specs.aids.Room.{flows_to, is_kept_from, IsVacant, SetsSeat}
+use Rattle.mg_flow.specs.aids.RoomFlows.{flows_to, is_kept_from, IsVacant, SetsSeat}
 use Rattle.mg_flow.specs.aids.Table.{IsFlowTable}
-use Rattle.mg_flow.specs.Table.{Room, vacant, room_at, talks_at, listens_at, holds, hears, flows, is_silenced}
+use Rattle.mg_flow.specs.Table.{RoomFlows, vacant, room_at, talks_at, listens_at, holds, hears, flows, is_silenced}
 use Rattle.mg_flow.specs.Table.{StandsFor}
 use Rattle.mg_flow.proofs.SeatLemmas.{has_seat-empty}
 
 -- ---- a table in which one room was written
 
-room_at-own : (table : List Room) (i : ℕ) (r : Room) → i < length table → room_at (slice_set table i r) i ≡ r
+room_at-own : (table : List RoomFlows) (i : ℕ) (r : RoomFlows) → i < length table → room_at (slice_set table i r) i ≡ r
 room_at-own table i r within = rw get_or-set_same
 
-room_at-other : (table : List Room) (i k : ℕ) (r : Room) → k ≢ i → room_at (slice_set table i r) k ≡ room_at table k
+room_at-other : (table : List RoomFlows) (i k : ℕ) (r : RoomFlows) → k ≢ i →
+    room_at (slice_set table i r) k ≡ room_at table k
 room_at-other table i k r apart = rw get_or-set_other
 
 -- a room as the code reads it
-room_at-read : (table : List Room) (i : ℕ) (room : Room) → i < length table → room ≡ get_or table i room →
+room_at-read : (table : List RoomFlows) (i : ℕ) (room : RoomFlows) → i < length table → room ≡ get_or table i room →
     room ≡ room_at table i
 room_at-read table i room within is = is ∙ get_or_default table i room vacant within
 
 -- the room of the place is read, which is the i-th, and s is the place's seat
-pub record IsRead (table : List Room) (place : Place) (i s : ℕ) (room : Room) : Type 0 where
+pub record IsRead (table : List RoomFlows) (place : Place) (i s : ℕ) (room : RoomFlows) : Type 0 where
   pub number : i ≡ place.room
   pub seat : s ≡ place.seat
   pub within : i < length table
   pub is : room ≡ get_or table i room
 
-found_at : {table : List Room} {place : Place} {i s : ℕ} {room : Room} → IsRead table place i s room →
+found_at : {table : List RoomFlows} {place : Place} {i s : ℕ} {room : RoomFlows} → IsRead table place i s room →
     room ≡ room_at table i
 found_at {table} {place} {i} {s} {room} read = room_at-read table i room read.within read.is
 
-found : {table : List Room} {place : Place} {i s : ℕ} {room : Room} → IsRead table place i s room →
+found : {table : List RoomFlows} {place : Place} {i s : ℕ} {room : RoomFlows} → IsRead table place i s room →
     room ≡ room_at table place.room
 found {table} read = found_at read ∙ ap (room_at table) read.number
 
 -- a place that is held is in a room of the table
-pub held_within : (table : List Room) (place : Place) (i : ℕ) → i ≡ place.room → holds table place ≡ true →
+pub held_within : (table : List RoomFlows) (place : Place) (i : ℕ) → i ≡ place.room → holds table place ≡ true →
     i < length table
 held_within table place i number held =
     elim (cases_lt i (length table)) [
@@ -58,12 +59,14 @@ held_within table place i number held =
           (let at_end : room_at table place.room ≡ vacant = ap (room_at table) (sym number) ∙
           get_or-eq_default table vacant above in
           let no_seat = and_right (nat_lt place.seat seat_limit) (has_seat 0 place.seat) (has_seat-empty place.seat) in
-          let free : holds table place ≡ false = ap (λ (r : Room). kept.holds r.topology place.seat) at_end ∙ no_seat in
+          let free : holds table place ≡ false = ap (λ (r : RoomFlows). kept.holds r.topology place.seat) at_end ∙
+          no_seat in
           absurd (both_ways _ free held))
     ]
 
 -- one seat of one room is set, in the mask that f reads
-seat_set : (f : Room → ℕ) {table : List Room} {place : Place} {i s : ℕ} {old : Room} (new : Room) (b : Bool) →
+seat_set : (f : RoomFlows → ℕ) {table : List RoomFlows} {place : Place} {i s : ℕ} {old : RoomFlows}
+    (new : RoomFlows) (b : Bool) →
     IsRead table place i s old
     → ((k : ℕ) → has_seat (f new) k ≡ cond (k == s) b (has_seat (f old) k)) → (p : Place)
     → has_seat (f (room_at (slice_set table i new) p.room)) p.seat ≡
@@ -94,14 +97,14 @@ vacant_room = record {
   listens = has_seat-empty;
 }
 
-vacant_at : (table : List Room) → All IsVacant table → (k : ℕ) → IsVacant (room_at table k)
+vacant_at : (table : List RoomFlows) → All IsVacant table → (k : ℕ) → IsVacant (room_at table k)
 vacant_at table each k =
     elim (cases_lt k (length table)) [
       | inl below ↦ each k vacant below
       | inr above ↦ rw (get_or-eq_default table vacant above) vacant_room
     ]
 
-pub new_stands : (table : List Room) → All IsVacant table → StandsFor table []
+pub new_stands : (table : List RoomFlows) → All IsVacant table → StandsFor table []
 new_stands table each = record {
   topologies = λ k. (vacant_at table each k).topology;
   talkers = λ p. (vacant_at table each p.room).talks p.seat;
@@ -111,7 +114,7 @@ new_stands table each = record {
 -- ---- the edits, one by one
 
 -- what an edit of one room owes: its own topology, and who talks and who listens everywhere
-edited : (table : List Room) (i : ℕ) (r : Room) (es es' : List FlowEdit) → i < length table
+edited : (table : List RoomFlows) (i : ℕ) (r : RoomFlows) (es es' : List FlowEdit) → i < length table
     → (kept.StandsFor (room_at table i).topology (edits_in i es) → kept.StandsFor r.topology (edits_in i es'))
     → ((k : ℕ) → k ≢ i → edits_in k es' ≡ edits_in k es)
     → ((p : Place) → talks_at (slice_set table i r) p ≡ talks_in es' p)
@@ -128,7 +131,7 @@ edited table i r es es' within own quiet talkers listeners h = record {
 
 -- The old room is read, and the new one is written.
 
-pub enter_stands : {table : List Room} {place : Place} {i s : ℕ} {old new : Room} {t l : Bool} →
+pub enter_stands : {table : List RoomFlows} {place : Place} {i s : ℕ} {old new : RoomFlows} {t l : Bool} →
     IsRead table place i s old
     → ((edits : List topology.TopologyEdit) → kept.StandsFor old.topology edits →
     kept.StandsFor new.topology (topology.Enter s ∷ edits))
@@ -138,12 +141,13 @@ enter_stands {table} {place} {i} {s} {old} {new} {t} {l} read edits set es h =
     edited table i new es (Enter place t l ∷ es) read.within
     (λ x. rw (eq-eqb place.room i (sym read.number), ← read.seat) (edits (edits_in i es) (rw (found_at read) x)))
     (λ k ne. rw (ne_eqb place.room k (λ e. ne (sym e ∙ sym read.number))) refl)
-    (λ p. seat_set (λ (x : Room). x.talks) new t read set.talkers p ∙ ap (cond (is_same_place p place) t) (h.talkers p))
-    (λ p. seat_set (λ (x : Room). x.listens) new l read set.listeners p ∙
+    (λ p. seat_set (λ (x : RoomFlows). x.talks) new t read set.talkers p ∙
+    ap (cond (is_same_place p place) t) (h.talkers p))
+    (λ p. seat_set (λ (x : RoomFlows). x.listens) new l read set.listeners p ∙
     ap (cond (is_same_place p place) l) (h.listeners p))
     h
 
-pub leave_stands : {table : List Room} {place : Place} {i s : ℕ} {old new : Room} → IsRead table place i s old
+pub leave_stands : {table : List RoomFlows} {place : Place} {i s : ℕ} {old new : RoomFlows} → IsRead table place i s old
     → ((edits : List topology.TopologyEdit) → kept.StandsFor old.topology edits →
     kept.StandsFor new.topology (topology.Leave s ∷ edits))
     → SetsSeat old new s false false false
@@ -152,13 +156,13 @@ leave_stands {table} {place} {i} {s} {old} {new} read edits set es h =
     edited table i new es (Leave place ∷ es) read.within
     (λ x. rw (eq-eqb place.room i (sym read.number), ← read.seat) (edits (edits_in i es) (rw (found_at read) x)))
     (λ k ne. rw (ne_eqb place.room k (λ e. ne (sym e ∙ sym read.number))) refl)
-    (λ p. seat_set (λ (x : Room). x.talks) new false read set.talkers p ∙
+    (λ p. seat_set (λ (x : RoomFlows). x.talks) new false read set.talkers p ∙
     ap (cond (is_same_place p place) false) (h.talkers p))
-    (λ p. seat_set (λ (x : Room). x.listens) new false read set.listeners p ∙
+    (λ p. seat_set (λ (x : RoomFlows). x.listens) new false read set.listeners p ∙
     ap (cond (is_same_place p place) false) (h.listeners p))
     h
 
-pub mode_stands : {table : List Room} {place : Place} {i s : ℕ} {old new : Room} {t l : Bool} →
+pub mode_stands : {table : List RoomFlows} {place : Place} {i s : ℕ} {old new : RoomFlows} {t l : Bool} →
     IsRead table place i s old
     → new.topology ≡ old.topology → SetsSeat old new s true t l
     → (es : List FlowEdit) → StandsFor table es → StandsFor (slice_set table i new) (SetMode place t l ∷ es)
@@ -166,8 +170,9 @@ mode_stands {table} {place} {i} {s} {old} {new} {t} {l} read same set es h =
     edited table i new es (SetMode place t l ∷ es) read.within
     (λ x. rw (same, found_at read) x)
     (λ k ne. refl)
-    (λ p. seat_set (λ (x : Room). x.talks) new t read set.talkers p ∙ ap (cond (is_same_place p place) t) (h.talkers p))
-    (λ p. seat_set (λ (x : Room). x.listens) new l read set.listeners p ∙
+    (λ p. seat_set (λ (x : RoomFlows). x.talks) new t read set.talkers p ∙
+    ap (cond (is_same_place p place) t) (h.talkers p))
+    (λ p. seat_set (λ (x : RoomFlows). x.listens) new l read set.listeners p ∙
     ap (cond (is_same_place p place) l) (h.listeners p))
     h
 
@@ -198,7 +203,7 @@ listens_in-triples : (room : ℕ) (triples : List Triple) (es : List FlowEdit) (
 listens_in-triples room [] es p = refl
 listens_in-triples room (triple ∷ triples) es p = listens_in-triples room triples (Apply room triple ∷ es) p
 
-seat_kept : (f : Room → ℕ) (table : List Room) (i : ℕ) (r : Room) (p : Place) → i < length table →
+seat_kept : (f : RoomFlows → ℕ) (table : List RoomFlows) (i : ℕ) (r : RoomFlows) (p : Place) → i < length table →
     f r ≡ f (room_at table i)
     → has_seat (f (room_at (slice_set table i r) p.room)) p.seat ≡ has_seat (f (room_at table p.room)) p.seat
 seat_kept f table i r p within same =
@@ -207,7 +212,7 @@ seat_kept f table i r p within same =
       | inr ne ↦ rw (room_at-other table i p.room r ne) refl
     ]
 
-pub triples_stand : (table : List Room) (room i : ℕ) (triples : List Triple) (old new : Room) → i ≡ room →
+pub triples_stand : (table : List RoomFlows) (room i : ℕ) (triples : List Triple) (old new : RoomFlows) → i ≡ room →
     i < length table → old ≡ get_or table i old
     → ((edits : List topology.TopologyEdit) → kept.StandsFor old.topology edits →
     kept.StandsFor new.topology (topology.apply_all triples edits))
@@ -218,15 +223,15 @@ triples_stand table room i triples old new number within is edits talkers listen
     rw (← number) (edited table i new es (apply_in_room i triples es) within
     (λ x. rw (own_triples i triples es) (edits (edits_in i es) (rw here x)))
     (λ k ne. other_triples i k triples es ne)
-    (λ p. seat_kept (λ (x : Room). x.talks) table i new p within (rw (← here) talkers) ∙ h.talkers p ∙
+    (λ p. seat_kept (λ (x : RoomFlows). x.talks) table i new p within (rw (← here) talkers) ∙ h.talkers p ∙
     sym (talks_in-triples i triples es p))
-    (λ p. seat_kept (λ (x : Room). x.listens) table i new p within (rw (← here) listeners) ∙ h.listeners p ∙
+    (λ p. seat_kept (λ (x : RoomFlows). x.listens) table i new p within (rw (← here) listeners) ∙ h.listeners p ∙
     sym (listens_in-triples i triples es p))
     h)
 
 -- ---- there is a list of edits after each edit
 
-pub IsFlowTable-edited : (table : List Room) (i : ℕ) (new : Room) (edit : List FlowEdit → List FlowEdit)
+pub IsFlowTable-edited : (table : List RoomFlows) (i : ℕ) (new : RoomFlows) (edit : List FlowEdit → List FlowEdit)
     → ((es : List FlowEdit) → StandsFor table es → StandsFor (slice_set table i new) (edit es)) → IsFlowTable table →
     IsFlowTable (slice_set table i new)
 IsFlowTable-edited table i new edit stands h = record {
@@ -235,18 +240,21 @@ IsFlowTable-edited table i new edit stands h = record {
 }
 
 -- a room that is written as it was
-same_stands : (table : List Room) (i : ℕ) (old new : Room) → i < length table → old ≡ get_or table i old → new ≡ old
+same_stands : (table : List RoomFlows) (i : ℕ) (old new : RoomFlows) → i < length table → old ≡ get_or table i old →
+    new ≡ old
     → (es : List FlowEdit) → StandsFor table es → StandsFor (slice_set table i new) es
 same_stands table i old new within is same es h =
     let here : new ≡ room_at table i = same ∙ room_at-read table i old within is in
     edited table i new es es within
     (λ x. rw here x)
     (λ k ne. refl)
-    (λ p. seat_kept (λ (x : Room). x.talks) table i new p within (ap (λ (x : Room). x.talks) here) ∙ h.talkers p)
-    (λ p. seat_kept (λ (x : Room). x.listens) table i new p within (ap (λ (x : Room). x.listens) here) ∙ h.listeners p)
+    (λ p. seat_kept (λ (x : RoomFlows). x.talks) table i new p within (ap (λ (x : RoomFlows). x.talks) here) ∙
+    h.talkers p)
+    (λ p. seat_kept (λ (x : RoomFlows). x.listens) table i new p within (ap (λ (x : RoomFlows). x.listens) here) ∙
+    h.listeners p)
     h
 
-pub IsFlowTable-tried : (result : Result (Unit {0}) Overlap) (table : List Room) (i : ℕ) (old new : Room)
+pub IsFlowTable-tried : (result : Result (Unit {0}) Overlap) (table : List RoomFlows) (i : ℕ) (old new : RoomFlows)
     (edit : List FlowEdit → List FlowEdit)
     → i < length table → old ≡ get_or table i old
     → OnOk result ((es : List FlowEdit) → StandsFor table es → StandsFor (slice_set table i new) (edit es)) →
@@ -258,11 +266,11 @@ IsFlowTable-tried (Err e) table i old new edit within is ok err h =
 
 -- ---- what a table tells
 
-pub hears-stands : (table : List Room) (es : List FlowEdit) (t l : Place) → StandsFor table es
+pub hears-stands : (table : List RoomFlows) (es : List FlowEdit) (t l : Place) → StandsFor table es
     → hears table t l ≡ hears_in es t l
 hears-stands table es t l h = grind (arith, nat_tests, (h.topologies t.room).pairs t.seat l.seat)
 
-pub flows-stands : (table : List Room) (es : List FlowEdit) (t l : Place) → StandsFor table es
+pub flows-stands : (table : List RoomFlows) (es : List FlowEdit) (t l : Place) → StandsFor table es
     → flows table t l ≡ flows_in es t l
 flows-stands table es t l h = rw (h.talkers t, h.listeners l, hears-stands table es t l h) refl
 
@@ -270,7 +278,7 @@ not_both : (x w : Bool) → (x && not (x && w)) ≡ (x && not w)
 not_both true w = refl
 not_both false w = refl
 
-pub is_silenced-stands : (table : List Room) (es : List FlowEdit) (t l : Place) → StandsFor table es
+pub is_silenced-stands : (table : List RoomFlows) (es : List FlowEdit) (t l : Place) → StandsFor table es
     → is_silenced table t l ≡ is_silenced_in es t l
 is_silenced-stands table es t l h =
     rw (
@@ -283,10 +291,11 @@ is_silenced-stands table es t l h =
 
 -- what the masks of a room that is read tell of a place, as the table tells it
 
-pub flows-read : {table : List Room} {place : Place} {i s : ℕ} {room : Room} → IsRead table place i s room
+pub flows-read : {table : List RoomFlows} {place : Place} {i s : ℕ} {room : RoomFlows} → IsRead table place i s room
     → (seat : ℕ) → flows_to room.topology room.talks room.listens seat s ≡ flows table (beside place seat) place
 flows-read {table} {place} read seat = rw (found read, read.seat, eq-eqb place.room place.room refl) refl
 
-pub is_silenced-read : {table : List Room} {place : Place} {i s : ℕ} {room : Room} → IsRead table place i s room
+pub is_silenced-read : {table : List RoomFlows} {place : Place} {i s : ℕ} {room : RoomFlows} →
+    IsRead table place i s room
     → (seat : ℕ) → is_kept_from room.topology room.talks seat s ≡ is_silenced table (beside place seat) place
 is_silenced-read {table} {place} read seat = rw (found read, read.seat, eq-eqb place.room place.room refl) (grind arith)

@@ -10,66 +10,66 @@ use Rattle.mg_flow.specs.Place.{is_same_place, are_together}
 use Rattle.mg_flow.specs.Edits.{FlowEdit, edits_in, talks_in, listens_in}
 
 -- what is kept of a room: its topology, and the seats of those who talk and of those who listen
-pub record Room : Type 0 where
+pub record RoomFlows : Type 0 where
   pub topology : topology.TopologyState
   pub talks : ℕ
   pub listens : ℕ
 
 -- a room that nobody has entered
-abbrev pub vacant : Room
+abbrev pub vacant : RoomFlows
 vacant = record { topology = record { held = 0; rows = [] }; talks = 0; listens = 0 }
 
 -- a room of a table, which is the list of its rooms; any other is vacant
-abbrev pub room_at : List Room → ℕ → Room
+abbrev pub room_at : List RoomFlows → ℕ → RoomFlows
 room_at table room = slice_index_or table room vacant
 
 -- whether the place is held
-abbrev pub holds : List Room → Place → Bool
+abbrev pub holds : List RoomFlows → Place → Bool
 holds table place = topology.holds (room_at table place.room).topology place.seat
 
 -- whether the member on the place talks
-abbrev pub talks_at : List Room → Place → Bool
+abbrev pub talks_at : List RoomFlows → Place → Bool
 talks_at table place = has_seat (room_at table place.room).talks place.seat
 
 -- whether it listens
-abbrev pub listens_at : List Room → Place → Bool
+abbrev pub listens_at : List RoomFlows → Place → Bool
 listens_at table place = has_seat (room_at table place.room).listens place.seat
 
 -- whether the listener hears the talker, which is in the same room
-abbrev pub hears : List Room → Place → Place → Bool
+abbrev pub hears : List RoomFlows → Place → Place → Bool
 hears table talker listener =
     (talker.room == listener.room)
     && topology.hears (room_at table talker.room).topology talker.seat listener.seat
 
 -- whether the talker's speech goes to the listener
-abbrev pub flows : List Room → Place → Place → Bool
+abbrev pub flows : List RoomFlows → Place → Place → Bool
 flows table talker listener =
     talks_at table talker && (listens_at table listener && hears table talker listener)
 
 -- whether the talker is silenced for the listener
-abbrev pub is_silenced : List Room → Place → Place → Bool
+abbrev pub is_silenced : List RoomFlows → Place → Place → Bool
 is_silenced table talker listener =
     talks_at table talker
     && (are_together (holds table) talker listener && not (hears table talker listener))
 
 -- what is kept agrees with the edits, for each room and for each place
-pub record StandsFor (table : List Room) (es : List FlowEdit) : Type 0 where
+pub record StandsFor (table : List RoomFlows) (es : List FlowEdit) : Type 0 where
   pub topologies : (room : ℕ) →
       topology.StandsFor (room_at table room).topology (edits_in room es)
   pub talkers : (place : Place) → talks_at table place ≡ talks_in es place
   pub listeners : (place : Place) → listens_at table place ≡ listens_in es place
 
 -- there is a list of edits that the table stands for
-abbrev pub StandsForSome : List Room → Type 0
+abbrev pub StandsForSome : List RoomFlows → Type 0
 StandsForSome table = ∥ ((es : List FlowEdit) × StandsFor table es) ∥₁
 
 -- All rooms but the one are as they were, and with them all that is told of their places.
-abbrev pub KeepsOthers : List Room → List Room → ℕ → Type 0
+abbrev pub KeepsOthers : List RoomFlows → List RoomFlows → ℕ → Type 0
 KeepsOthers old new room = (other : ℕ) → other ≢ room → room_at new other ≡ room_at old other
 
 -- The place is now held, or not, and its member talks, or not, and listens, or not; each other
 -- place is as it was.
-pub record SetsPlace (old new : List Room) (place : Place)
+pub record SetsPlace (old new : List RoomFlows) (place : Place)
     (is_held does_talk does_listen : Bool) : Type 0 where
   pub held : (p : Place) →
       holds new p ≡ (if is_same_place p place then is_held else holds old p)
@@ -79,7 +79,7 @@ pub record SetsPlace (old new : List Room) (place : Place)
       listens_at new p ≡ (if is_same_place p place then does_listen else listens_at old p)
 
 -- each place is held, and each member talks and listens, as before
-pub record KeepsPlaces (old new : List Room) : Type 0 where
+pub record KeepsPlaces (old new : List RoomFlows) : Type 0 where
   pub held : (p : Place) → holds new p ≡ holds old p
   pub talkers : (p : Place) → talks_at new p ≡ talks_at old p
   pub listeners : (p : Place) → listens_at new p ≡ listens_at old p

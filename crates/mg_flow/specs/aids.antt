@@ -1,3 +1,3 @@
 -- Tools of the proofs.
-pub mod Room
+pub mod RoomFlows
 pub mod Table

@@ -7,7 +7,7 @@ ghost use Rattle.mg_topology.specs.Triple.{Overlaps};
 ghost use Rattle.mg_flow.specs.Place.{IsWithinLimits, is_same_place, beside, are_together};
 
 use crate::place::Place;
-use crate::room::Room;
+use crate::room_flows::RoomFlows;
 use mg_topology::mask::{self, Mask};
 use mg_topology::{Overlap, Triple};
 use mg_words::CONTEXTS;
@@ -22,18 +22,18 @@ use std::marker::Model;
 /// the table stood for to those with its edits. So each table stands for one
 /// ([`each_table_stands_for_edits`]).
 ///
-/// [`each_table_stands_for_edits`]: crate::laws::each_table_stands_for_edits
+/// [`each_table_stands_for_edits`]: crate::theorems::each_table_stands_for_edits
 #[derive(Debug, Drop)]
 pub struct FlowTable {
-    rooms: Vec<Room>,
+    rooms: Vec<RoomFlows>,
 }
 
 impl Model for FlowTable {
     ghost use Rattle.std.specs.Prelude.{List};
-    ghost use Rattle.mg_flow.specs.Table.{Room};
+    ghost use Rattle.mg_flow.specs.Table.{RoomFlows};
     ghost use Rattle.mg_flow.specs.aids.Table.{IsFlowTable};
 
-    ghost Value = { List Room };
+    ghost Value = { List RoomFlows };
 
     ghost view = { λ table. table.rooms.items };
 
@@ -53,7 +53,7 @@ impl FlowTable {
     {
         let mut rooms = Vec::with_capacity(alloc, CONTEXTS)?;
         for _ in 0..CONTEXTS {
-            rooms.push(Room::new())?;
+            rooms.push(RoomFlows::new())?;
         }
         Ok(FlowTable { rooms })
     }

@@ -22,17 +22,17 @@
 //! A table keeps no history. So its contracts speak of each list of edits that it stood for before
 //! a call, and say which list it stands for afterwards (`StandsFor` in `specs/Table.antt`). What a
 //! list of edits means stands in `specs/Edits.antt`, by looking backwards over the list, and
-//! [`laws`] has what follows from that alone. Where there is no list at hand, the clauses `kept`,
+//! [`theorems`] has what follows from that alone. Where there is no list at hand, the clauses `kept`,
 //! `place`, `places`, `hears` and `others` say what is kept, what changes, and what stays.
 #![tactic(auto)]
 
 mod flow_table;
-pub mod laws;
 mod masks;
 mod place;
-mod room;
+mod room_flows;
 #[cfg(test)]
 mod tests;
+pub mod theorems;
 
 pub use flow_table::FlowTable;
 pub use mg_words::CONTEXTS;

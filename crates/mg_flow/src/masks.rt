@@ -2,7 +2,7 @@
 
 ghost use Rattle.std.specs.Prelude.{◌≡◌, ℕ, ◌<◌};
 ghost use Rattle.mg_topology.specs.Mask.{has_seat};
-ghost use Rattle.mg_flow.specs.aids.Room.{flows_to, is_kept_from};
+ghost use Rattle.mg_flow.specs.aids.RoomFlows.{flows_to, is_kept_from};
 
 use mg_topology::Topology;
 use mg_topology::mask::{self, Mask, SEATS};
@@ -17,12 +17,12 @@ pub(crate) struct Masks {
 }
 
 impl Masks {
-    ghost use Rattle.mg_flow.specs.Table.{Room};
-    ghost use Rattle.mg_flow.specs.aids.Room.{AreMasks};
+    ghost use Rattle.mg_flow.specs.Table.{RoomFlows};
+    ghost use Rattle.mg_flow.specs.aids.RoomFlows.{AreMasks};
 
     /// The masks of a room by its topology, and by who talks and who listens.
     pub(crate) fn of(topology: &Topology, talks: Mask, listens: Mask) -> Masks
-        ensures { let room : Room =
+        ensures { let room : RoomFlows =
             record { topology = topology.now; talks = talks; listens = listens } in
             AreMasks room result.open result.silenced }
     {

@@ -1,13 +1,12 @@
 -- What a caller that stores frames needs of the word `IsFrame`.
-use Rattle.std.proofs.Common.{◌≡◌, ◌<◌, true, nat_lt, arith, ℕ, ℤ, List, length, get_or, set, replicate, pos, refl, inl, inr, subst, sym, rules, ◌∙◌}
+use Rattle.std.proofs.Common.{◌≡◌, ◌<◌, true, nat_lt, arith, ℕ, ℤ, List, length, get_or, replicate, pos, refl, inl, inr, subst, sym, rules}
 use Rattle.std.specs.Int.{w16}
 use Rattle.std.specs.Prelude.{FitsSigned, unsigned_abs}
 use Rattle.std.proofs.lemmas.Int.{ints}
 use Rattle.std.proofs.lemmas.Bool.{cases_lt}
 use Rattle.std.proofs.lemmas.Bool.Decides.{nat_tests}
 use Rattle.std.proofs.lemmas.List.{get_or_past}
-use Rattle.std.proofs.lemmas.List.Elements.{All-replicate, All-set}
-use Rattle.std.proofs.Math.ListN.{length-set}
+use Rattle.std.proofs.lemmas.List.Elements.{All-replicate}
 use Rattle.mg_g711.specs.declared.law.Law.{Law}
 use Rattle.mg_g711.specs.declared.law.Law.TheVariants.{Mu, A}
 use Rattle.mg_g711.specs.Law.{sample_of}
@@ -28,13 +27,6 @@ sample_fits samples i frame =
       | inl below ↦ frame.in_range i (pos 0) below
       | inr past ↦ subst (FitsSigned w16) (sym (get_or_past samples i (pos 0) past)) zero_fits
     ]
-
--- A frame with one sample changed is a frame.
-pub IsFrame-set : (samples : List ℤ) (i : ℕ) (v : ℤ) → IsFrame samples → FitsSigned w16 v → IsFrame (set samples i v)
-IsFrame-set samples i v frame fits = record {
-  whole = length-set samples i v ∙ frame.whole;
-  in_range = All-set (FitsSigned w16) samples i v fits frame.in_range;
-}
 
 -- Each byte is decoded to a sample of 16 bits.
 fits_by_size : (v : ℤ) → nat_lt (unsigned_abs v) 32768 ≡ true → FitsSigned w16 v

@@ -1,5 +1,5 @@
-pub mod FindLaws
-pub mod KeepLaws
-pub mod AckLaws
-pub mod PlaceLaws
-pub mod NewerLaws
+pub mod FindLemmas
+pub mod KeepLemmas
+pub mod AckLemmas
+pub mod PlaceLemmas
+pub mod NewerLemmas

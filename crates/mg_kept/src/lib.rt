@@ -14,14 +14,14 @@
 //! ```
 //!
 //! [`Kept::new`] takes the memory for all texts, and no other call takes any. The rules stand in
-//! `specs/KeptReplies.antt`, and [`laws`] says what follows from them.
+//! `specs/KeptReplies.antt`, and [`theorems`] says what follows from them.
 #![tactic(auto)]
 
 mod entry;
 mod kept;
-pub mod laws;
 #[cfg(test)]
 mod tests;
+pub mod theorems;
 
 pub use crate::kept::Kept;
 pub use mg_words::{KEPT_REPLIES, REPLY_LIMIT, SENDER_LIMIT};

@@ -1,4 +1,4 @@
-pub mod NumberLaws
-pub mod CommandLaws
-pub mod AskedLaws
-pub mod EndLaws
+pub mod NumberLemmas
+pub mod CommandLemmas
+pub mod AskedLemmas
+pub mod EndLemmas

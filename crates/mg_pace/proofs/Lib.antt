@@ -1,7 +1,7 @@
 pub mod AskedRows
-pub mod DueLaws
-pub mod InvocationLaws
-pub mod OneLaws
-pub mod ProgramLaws
-pub mod RunLaws
-pub mod StepLaws
+pub mod DueLemmas
+pub mod InvocationLemmas
+pub mod OneLemmas
+pub mod ProgramLemmas
+pub mod RunLemmas
+pub mod StepLemmas

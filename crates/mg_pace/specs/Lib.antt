@@ -4,5 +4,5 @@ pub mod Pace
 pub mod Text
 pub mod Run
 pub mod Program
-pub mod Laws
+pub mod Theorems
 pub mod aids

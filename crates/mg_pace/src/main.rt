@@ -1,11 +1,10 @@
-//! The program `mg_pace`: a pace for a gateway that reads script lines.
+//! The program `mg_pace`: a pace for a gateway that is driven by lines.
 //!
 //! It writes the line `tick` every 20 ms and lines `poll` between, by the monotonic clock. So
 //! `mg_pace | mg_bridge serve` is a gateway in real time.
 #![tactic(auto)]
 
 mod fault;
-mod laws;
 mod lines;
 mod options;
 mod pacer;
@@ -14,6 +13,7 @@ mod schedule;
 mod status;
 #[cfg(test)]
 mod tests;
+mod theorems;
 
 use crate::program::program;
 use mg_clock::SystemWatch;

@@ -6,7 +6,8 @@ use Rattle.std.proofs.lemmas.List.{length-replicate}
 use Rattle.std.proofs.lemmas.List.Elements.{All-cons, All-replicate}
 use Rattle.circular_buffer.specs.Buffer.{Buffer, buffer}
 use Rattle.mg_g711.specs.Frame.{IsFrame}
-use Rattle.mg_playout.specs.Places.{IsRingOfPlaces, empty_places, started_with}
+use Rattle.mg_playout.specs.Places.{empty_places, started_with}
+use Rattle.mg_playout.specs.aids.Ring.{IsRingOfPlaces}
 use Rattle.mg_words.specs.declared.limits.TheConstants.{MIN_DEPTH, MAX_DEPTH}
 
 -- places that start with a whole frame, after no last one

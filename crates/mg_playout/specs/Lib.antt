@@ -3,3 +3,4 @@ pub mod Places
 pub mod Played
 pub mod Playout
 pub mod Sequence
+pub mod aids

@@ -1,5 +1,5 @@
 -- What a play list has and gives, by sequence numbers (this project's own). No call is defined by
--- these words: the laws say by them what the steps of a play list come to.
+-- these words: the theorems say by them what the steps of a play list come to.
 use Rattle.std.specs.Prelude.{◌≡◌, ℕ, zero, suc, ◌<◌, ℤ, List, drop, Option, Some, None, IfSome}
 use Rattle.std.specs.Prelude.{if◌then◌else◌}
 use Rattle.mg_g711.specs.Frame.{IsFrame}

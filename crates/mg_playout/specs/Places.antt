@@ -1,9 +1,8 @@
 -- The places of a play list, of which each may have a frame (this project's own).
-use Rattle.std.specs.Prelude.{◌≡◌, ℕ, ◌+◌, ◌-◌, ◌≤◌, min, ℤ, Bool, List, ◌∷◌, ◌++◌, length, take, drop}
+use Rattle.std.specs.Prelude.{ℕ, ◌+◌, ◌-◌, ◌≤◌, min, ℤ, Bool, List, ◌∷◌, ◌++◌, length, take, drop}
 use Rattle.std.specs.Prelude.{replicate, slice_index_or, Option, Some, None, is_none, All, IfSome}
 use Rattle.std.specs.List.{list_all}
 use Rattle.mg_words.specs.Limits.{least_depth, greatest_depth}
-use Rattle.circular_buffer.specs.Buffer.{Buffer}
 use Rattle.mg_g711.specs.Frame.{IsFrame}
 
 -- the places from 0 on, as many as the depth. A frame is the list of its samples.
@@ -48,10 +47,3 @@ pub record KeptFrames : Type 0 where
 -- the frames of a ring, whose first item is the last frame
 abbrev pub kept_in : List (Option (List ℤ)) → KeptFrames
 kept_in items = record { last = slice_index_or items 0 None; places = drop 1 items }
-
--- what holds of the ring that keeps them
-pub record IsRingOfPlaces (ring : Buffer (Option (List ℤ))) : Type 0 where
-  pub capacity : ring.capacity ≡ greatest_depth + 1
-  pub at_least : least_depth + 1 ≤ length ring.items
-  pub at_most : length ring.items ≤ greatest_depth + 1
-  pub frames : All (λ item. IfSome item IsFrame) ring.items

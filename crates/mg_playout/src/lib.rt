@@ -26,10 +26,9 @@
 //! takes any.
 //!
 //! The rules are this project's own. They stand in `specs/Playout.antt`, and each call is one step of
-//! them. [`laws`] says what the steps come to.
+//! them. [`theorems`] says what the steps come to.
 #![tactic(auto)]
 
-pub mod laws;
 mod phase;
 mod placed;
 mod places;
@@ -39,6 +38,7 @@ mod sequence;
 mod source;
 #[cfg(test)]
 mod tests;
+pub mod theorems;
 mod turn;
 
 pub use mg_words::{FIRST_DEPTH, MAX_DEPTH, MIN_DEPTH};

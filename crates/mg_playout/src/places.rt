@@ -29,7 +29,8 @@ impl Model for Places {
 
     ghost Value = { KeptFrames };
 
-    ghost use Rattle.mg_playout.specs.Places.{IsRingOfPlaces, kept_in};
+    ghost use Rattle.mg_playout.specs.Places.{kept_in};
+    ghost use Rattle.mg_playout.specs.aids.Ring.{IsRingOfPlaces};
 
     ghost view = { λ p. kept_in p.ring.items };
 

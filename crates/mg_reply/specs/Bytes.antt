@@ -1,5 +1,5 @@
 -- Text with a bound on its length.
-use Rattle.std.specs.Prelude.{ℕ, ◌+◌, ◌-◌, List, ◌++◌, length, take}
+use Rattle.std.specs.Prelude.{ℕ, ◌-◌, List, ◌++◌, length}
 
 -- a text, and how many more bytes there is room for
 pub record Written : Type 0 where
@@ -9,7 +9,3 @@ pub record Written : Type 0 where
 -- the text with a part after it
 abbrev pub appended : Written → List ℕ → Written
 appended old part = record { text = old.text ++ part; room = old.room - length part }
-
--- the first bytes of the text alone
-abbrev pub cut_to : ℕ → Written → Written
-cut_to len old = record { text = take len old.text; room = old.room + (length old.text - len) }

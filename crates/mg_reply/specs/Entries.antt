@@ -1,10 +1,9 @@
 -- The entries of an action (RFC 3525, Annex B.2, actionReply).
-use Rattle.std.specs.Prelude.{ℕ, Bool, true, false, List, [], ◌∷◌, ◌++◌, map, Option, Some, None}
+use Rattle.std.specs.Prelude.{ℕ, Bool, true, false, List, [], ◌∷◌, ◌++◌, map}
 use Rattle.std.specs.Prelude.{codes}
 use Rattle.std.specs.List.{filter}
 use Rattle.mg_words.specs.Association.{association_text}
 use Rattle.mg_words.specs.CommandWord.{command_text}
-use Rattle.mg_words.specs.declared.context_id.ContextId.{ContextId}
 use Rattle.mg_reply.specs.declared.entry_kind.EntryKind.{EntryKind}
 use Rattle.mg_reply.specs.declared.entry_kind.EntryKind.TheVariants.{Triples, Commands, Faults}
 use Rattle.mg_reply.specs.declared.outcome.Outcome.{Outcome}
@@ -49,8 +48,3 @@ topology_entry (x ∷ xs) = (listed (codes "Topology{") (x ∷ xs) ++ codes "}")
 abbrev pub entries_of : List Item → List (List ℕ)
 entries_of items =
     topology_entry (texts_of Triples items) ++ (texts_of Commands items ++ texts_of Faults items)
-
--- the context of an action that ends with an item
-abbrev pub action_id : Item → Option ContextId
-action_id (Action id) = Some id
-action_id _ = None

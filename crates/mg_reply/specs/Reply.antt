@@ -1,6 +1,6 @@
 -- A reply by its items.
-use Rattle.std.specs.Prelude.{◌≡◌, ℕ, ◌+◌, ◌-◌, ◌*◌, ◌^◌, ◌<◌, ◌≤◌, Bool, true, false, ◌&&◌, ◌||◌}
-use Rattle.std.specs.Prelude.{◌==◌, not, List, [], ◌∷◌, ◌++◌, length, if◌then◌else◌}
+use Rattle.std.specs.Prelude.{◌≡◌, ℕ, ◌-◌, Bool, true, false, ◌&&◌, ◌||◌}
+use Rattle.std.specs.Prelude.{◌==◌, not, List, [], ◌∷◌, ◌++◌, if◌then◌else◌}
 use Rattle.mg_reply.specs.declared.item.Item.{Item}
 use Rattle.mg_reply.specs.declared.item.Item.TheVariants.{Fault, Action}
 
@@ -39,24 +39,15 @@ abbrev pub IsWhole : Answered → Type 0
 IsWhole r = is_whole r ≡ true
 
 abbrev pub marked : Answered → Answered
-marked r =
-    record {
-      number = r.number;
-      items = r.items;
-      room = r.room;
-      has_pending = r.has_pending;
-      is_long = true;
-    }
+marked r = record r { is_long = true }
 
 -- with an item more, which takes so much room
 abbrev pub with_item : Answered → Item → ℕ → Answered
 with_item r item size =
-    record {
-      number = r.number;
+    record r {
       items = r.items ++ item ∷ [];
       room = r.room - size;
       has_pending = not (is_action item);
-      is_long = r.is_long;
     }
 
 -- The end of an action that has items takes no room, any other item takes one place, and where
@@ -70,20 +61,3 @@ after_put r item =
 abbrev pub after_all : Answered → List Item → Answered
 after_all r [] = r
 after_all r (x ∷ xs) = after_all (after_put r x) xs
-
--- The room that items ask for, where some may wait for the end of their action: one place each, but
--- none for the end of an action that has items.
-abbrev pub places_of : Bool → List Item → ℕ
-places_of waits [] = 0
-places_of waits (Action id ∷ xs) = (if waits then 0 else 1) + places_of false xs
-places_of waits (_ ∷ xs) = 1 + places_of true xs
-
--- Which items wait is seen of the last, and there are twice as many places as there was room, so
--- that each item's action finds one
-pub record IsReply (number : ℕ) (items : List Item) (capacity room : ℕ)
-    (has_pending : Bool) : Type 0 where
-  pub in_range : number < 2 ^ 32
-  pub small : room ≤ 1600
-  pub reserved : 3200 ≤ capacity
-  pub pending : has_pending ≡ not (last_is_action true items)
-  pub used : length items + (if has_pending then 1 else 0) + 2 * room ≤ 3200

@@ -1,2 +1,4 @@
+pub mod Cut
 pub mod Draft
 pub mod Marks
+pub mod Room

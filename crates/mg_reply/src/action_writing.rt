@@ -26,7 +26,7 @@ fn put_context(draft: &mut Draft, id: ContextId)
     }
 }
 
-#[tactic(auto, using(crate::proofs::DraftLaws::joins), unfolding(crate::specs::Listed::listed))]
+#[tactic(auto, using(crate::proofs::DraftLemmas::joins), unfolding(crate::specs::Listed::listed))]
 fn put_outcome(draft: &mut Draft, outcome: Outcome)
     ensures value { draft.new ≡ drafted draft.old (outcome_text outcome) }
 {
@@ -51,7 +51,7 @@ fn put_association(draft: &mut Draft, association: Association)
     }
 }
 
-#[tactic(auto, using(crate::proofs::DraftLaws::joins))]
+#[tactic(auto, using(crate::proofs::DraftLemmas::joins))]
 fn put_triple(draft: &mut Draft, a: &RtpName, b: &RtpName, association: Association)
     ensures value { draft.new ≡ drafted draft.old (item_text (Item.Triple a.now b.now association)) }
 {
@@ -61,7 +61,7 @@ fn put_triple(draft: &mut Draft, a: &RtpName, b: &RtpName, association: Associat
     put_association(draft, association);
 }
 
-#[tactic(auto, using(crate::proofs::DraftLaws::joins))]
+#[tactic(auto, using(crate::proofs::DraftLemmas::joins))]
 fn put_command(draft: &mut Draft, word: CommandWord, term: &Term, outcome: Outcome)
     ensures value { draft.new ≡ drafted draft.old (item_text (Item.Command word term.now outcome)) }
 {
@@ -106,7 +106,7 @@ fn close(draft: &mut Draft, is_empty: bool)
 }
 
 /// An item with the mark before it, if it is of this kind. Tells whether the next part is the first.
-#[tactic(auto, using(crate::proofs::ListedLaws::one_other), unfolding(crate::specs::Listed::listed))]
+#[tactic(auto, using(crate::proofs::ListedLemmas::one_other), unfolding(crate::specs::Listed::listed))]
 fn put_if_of(
     draft: &mut Draft,
     opening: &[u8],
@@ -169,7 +169,7 @@ fn put_entries(draft: &mut Draft, items: &[Item])
 }
 
 /// An action with its entries, and a mark before it.
-#[tactic(auto, using(crate::proofs::DraftLaws::joins))]
+#[tactic(auto, using(crate::proofs::DraftLemmas::joins))]
 fn put_action(draft: &mut Draft, mark: &[u8], id: ContextId, items: &[Item])
     ensures value { draft.new ≡ drafted draft.old (mark.now ++ action_text id items.now) }
 {

@@ -1,5 +1,6 @@
 ghost use Rattle.std.specs.Prelude.{◌≡◌, ◌+◌, ◌≤◌, ◌++◌, [], length, take, IfOk};
-ghost use Rattle.mg_reply.specs.Bytes.{appended, cut_to};
+ghost use Rattle.mg_reply.specs.Bytes.{appended};
+ghost use Rattle.mg_reply.specs.aids.Cut.{cut_to};
 
 use crate::rtp_name::RtpName;
 use std::alloc::{AllocError, Global};

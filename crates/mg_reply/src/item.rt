@@ -1,5 +1,6 @@
 ghost use Rattle.std.specs.Prelude.{◌≡◌};
-ghost use Rattle.mg_reply.specs.Entries.{is_of, action_id};
+ghost use Rattle.mg_reply.specs.Entries.{is_of};
+ghost use Rattle.mg_reply.specs.aids.Room.{action_id};
 
 use crate::entry_kind::EntryKind;
 use crate::outcome::Outcome;

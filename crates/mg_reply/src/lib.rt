@@ -13,7 +13,7 @@
 //!
 //! The end of an action is put after the items that it owns, in whatever order they come: they are written as the
 //! topology, the commands and the errors. A reply that is one [`Item::Fault`] alone refuses the whole request. One with
-//! more items than it has room for, and one whose text would be longer than 16,000 bytes, is told so by
+//! more items than it has room for, and one whose text would be longer than 16,000 bytes, is reported as too long by
 //! [`write_reply`], which then writes nothing. [`theorems`] has what holds of replies as a whole.
 #![tactic(auto)]
 

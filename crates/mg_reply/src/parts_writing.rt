@@ -20,7 +20,7 @@ pub(crate) fn put_number(draft: &mut Draft, n: u64)
 }
 
 /// The mode and the depth of the play-out buffer.
-#[tactic(auto, using(crate::proofs::DraftLaws::joins), unfolding(crate::specs::Media::control_text))]
+#[tactic(auto, using(crate::proofs::DraftLemmas::joins), unfolding(crate::specs::Media::control_text))]
 fn put_control(draft: &mut Draft, control: Control)
     ensures value { draft.new ≡ drafted draft.old (control_text control) }
 {
@@ -31,7 +31,7 @@ fn put_control(draft: &mut Draft, control: Control)
     draft.put(b"}");
 }
 
-#[tactic(auto, using(crate::proofs::DraftLaws::joins), unfolding(crate::specs::Media::local_text))]
+#[tactic(auto, using(crate::proofs::DraftLemmas::joins), unfolding(crate::specs::Media::local_text))]
 fn put_local(draft: &mut Draft, chosen: &Chosen)
     ensures value { draft.new ≡ drafted draft.old (local_text chosen.now) }
 {
@@ -40,7 +40,7 @@ fn put_local(draft: &mut Draft, chosen: &Chosen)
     draft.put(b"}");
 }
 
-#[tactic(auto, using(crate::proofs::DraftLaws::joins), unfolding(crate::specs::Media::remote_text))]
+#[tactic(auto, using(crate::proofs::DraftLemmas::joins), unfolding(crate::specs::Media::remote_text))]
 fn put_remote(draft: &mut Draft, chosen: &Chosen)
     ensures value { draft.new ≡ drafted draft.old (remote_text chosen.now) }
 {
@@ -50,7 +50,7 @@ fn put_remote(draft: &mut Draft, chosen: &Chosen)
 }
 
 /// A Local after another part, if it is there.
-#[tactic(auto, using(crate::proofs::DraftLaws::joins), unfolding(crate::specs::Listed::listed))]
+#[tactic(auto, using(crate::proofs::DraftLemmas::joins), unfolding(crate::specs::Listed::listed))]
 fn put_next_local(draft: &mut Draft, local: Option<Chosen>)
     ensures value { draft.new ≡ drafted draft.old (listed (codes ",") (optional local_text local)) }
 {
@@ -64,7 +64,7 @@ fn put_next_local(draft: &mut Draft, local: Option<Chosen>)
 }
 
 /// A Remote after another part, if it is there.
-#[tactic(auto, using(crate::proofs::DraftLaws::joins), unfolding(crate::specs::Listed::listed))]
+#[tactic(auto, using(crate::proofs::DraftLemmas::joins), unfolding(crate::specs::Listed::listed))]
 fn put_next_remote(draft: &mut Draft, remote: Option<Chosen>)
     ensures value { draft.new ≡ drafted draft.old (listed (codes ",") (optional remote_text remote)) }
 {
@@ -78,7 +78,7 @@ fn put_next_remote(draft: &mut Draft, remote: Option<Chosen>)
 }
 
 /// The parts of a stream as an audit asks for it, in braces.
-#[tactic(auto, using(crate::proofs::StreamLaws::whole))]
+#[tactic(auto, using(crate::proofs::StreamLemmas::whole))]
 fn put_whole(draft: &mut Draft, control: Control, local: Option<Chosen>, remote: Option<Chosen>)
     ensures value { draft.new ≡ drafted draft.old (grouped (told_stream (Media.Whole control local remote))) }
 {
@@ -90,7 +90,7 @@ fn put_whole(draft: &mut Draft, control: Control, local: Option<Chosen>, remote:
 }
 
 /// The parts of a stream, in braces.
-#[tactic(auto, using(crate::proofs::DraftLaws::joins), unfolding(crate::specs::Listed::listed))]
+#[tactic(auto, using(crate::proofs::DraftLemmas::joins), unfolding(crate::specs::Listed::listed))]
 fn put_stream(draft: &mut Draft, media: Media)
     ensures value { draft.new ≡ drafted draft.old (grouped (told_stream media)) }
 {
@@ -108,7 +108,7 @@ fn put_stream(draft: &mut Draft, media: Media)
     }
 }
 
-#[tactic(auto, using(crate::proofs::DraftLaws::joins), unfolding(crate::specs::Media::media_text))]
+#[tactic(auto, using(crate::proofs::DraftLemmas::joins), unfolding(crate::specs::Media::media_text))]
 fn put_media(draft: &mut Draft, media: Media)
     ensures value { draft.new ≡ drafted draft.old (media_text media) }
 {
@@ -117,7 +117,7 @@ fn put_media(draft: &mut Draft, media: Media)
     draft.put(b"}");
 }
 
-#[tactic(auto, using(crate::proofs::DraftLaws::joins), unfolding(crate::specs::Media::statistics_text))]
+#[tactic(auto, using(crate::proofs::DraftLemmas::joins), unfolding(crate::specs::Media::statistics_text))]
 fn put_statistics(draft: &mut Draft, statistics: Stats)
     ensures value { draft.new ≡ drafted draft.old (statistics_text statistics) }
 {
@@ -133,7 +133,7 @@ fn put_statistics(draft: &mut Draft, statistics: Stats)
 }
 
 /// The parts that a command tells, in braces, if there is one.
-#[tactic(auto, using(crate::proofs::DraftLaws::joins), unfolding(crate::specs::Listed::listed))]
+#[tactic(auto, using(crate::proofs::DraftLemmas::joins), unfolding(crate::specs::Listed::listed))]
 pub(crate) fn put_parts(draft: &mut Draft, parts: Parts)
     ensures value { draft.new ≡ drafted draft.old (grouped (told_parts parts)) }
 {

@@ -20,7 +20,8 @@ pub struct Reply {
 }
 
 impl Model for Reply {
-    ghost use Rattle.mg_reply.specs.Reply.{Answered, IsReply};
+    ghost use Rattle.mg_reply.specs.Reply.{Answered};
+    ghost use Rattle.mg_reply.specs.aids.Room.{IsReply};
 
     ghost Value = { Answered };
 
@@ -64,7 +65,7 @@ impl Reply {
 
     /// Puts an item after the others. One that finds no room is dropped, and the reply is marked as too
     /// long.
-    #[tactic(auto, using(crate::proofs::ReplyLaws::last_items))]
+    #[tactic(auto, using(crate::proofs::ReplyLemmas::last_items))]
     pub fn put(&mut self, item: Item)
         ensures value { self.new ≡ after_put self.old item }
         ensures ended { is_action item ≡ true → IsWhole self.new }
@@ -98,7 +99,7 @@ impl Reply {
 
     /// Whether the reply can be written, or is told to be too long: one error alone, or actions of which the last
     /// has ended.
-    #[tactic(auto, using(crate::proofs::ReplyLaws::last_items))]
+    #[tactic(auto, using(crate::proofs::ReplyLemmas::last_items))]
     pub fn is_whole(&self) -> bool
         ensures value { result ≡ is_whole self.now }
     {

@@ -24,7 +24,7 @@ impl Model for RtpName {
 
 impl RtpName {
     /// The name of the termination with a number.
-    #[tactic(auto, using(crate::proofs::WrittenLaws::lengths))]
+    #[tactic(auto, using(crate::proofs::WrittenLemmas::lengths))]
     pub fn new(number: u32) -> Self
         ensures value { result ≡ rtp_name number }
     {

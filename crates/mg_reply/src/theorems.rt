@@ -9,9 +9,9 @@ pub fn no_proper_prefix()
     ensures prefix { NoProperPrefix }
 {}
 
-/// A reply is too long by the text of all items that were put alone, whether or not they found room, where each of
+/// Whether a reply is too long depends on the text of its items alone, whether or not they found room, where each of
 /// them has at least 10 bytes with its comma.
 pub fn too_long_by_text_alone()
-    ensures law { TextAlone }
+    ensures theorem { TextAlone }
     ensures kept { AllThere }
 {}

@@ -24,7 +24,7 @@ pub struct TooLong;
 pub const HEAD_LIMIT: usize = 33;
 
 /// Writes a port in plain decimal, which takes at most 5 bytes.
-#[tactic(auto, using(crate::proofs::WrittenLaws::lengths))]
+#[tactic(auto, using(crate::proofs::WrittenLemmas::lengths))]
 pub fn write_port(port: u16, out: &mut Bytes)
     requires room { 5 ≤ out.old.room }
     ensures value { out.new ≡ appended out.old (decimal port) }
@@ -44,7 +44,7 @@ pub fn write_address(address: [u8; 4], out: &mut Bytes)
 }
 
 /// Writes the head of a message from the gateway at this address and port, which takes at most 33 bytes.
-#[tactic(auto, using(crate::proofs::WrittenLaws::lengths))]
+#[tactic(auto, using(crate::proofs::WrittenLemmas::lengths))]
 pub fn write_head(address: [u8; 4], port: u16, out: &mut Bytes)
     requires room { 33 ≤ out.old.room }
     ensures value { out.new ≡ appended out.old (head_text address port) }
@@ -58,7 +58,7 @@ pub fn write_head(address: [u8; 4], port: u16, out: &mut Bytes)
 }
 
 /// Writes an error: its number and its text, which take at most 64 bytes.
-#[tactic(auto, using(crate::proofs::WrittenLaws::lengths))]
+#[tactic(auto, using(crate::proofs::WrittenLemmas::lengths))]
 pub fn write_error(number: ErrorNumber, out: &mut Bytes)
     requires room { 64 ≤ out.old.room }
     ensures value { out.new ≡ appended out.old (error_text number) }
@@ -67,7 +67,7 @@ pub fn write_error(number: ErrorNumber, out: &mut Bytes)
     out.push(number.descriptor().as_slice());
 }
 
-#[tactic(auto, using(crate::proofs::DraftLaws::joins))]
+#[tactic(auto, using(crate::proofs::DraftLemmas::joins))]
 fn put_items(draft: &mut Draft, items: &[Item])
     ensures value { draft.new ≡ drafted draft.old (items_text items.now) }
 {
@@ -77,7 +77,7 @@ fn put_items(draft: &mut Draft, items: &[Item])
     }
 }
 
-#[tactic(auto, using(crate::proofs::DraftLaws::joins))]
+#[tactic(auto, using(crate::proofs::DraftLemmas::joins))]
 fn put_reply(draft: &mut Draft, number: u32, items: &[Item])
     ensures value { draft.new ≡ drafted draft.old (reply_text number items.now) }
 {

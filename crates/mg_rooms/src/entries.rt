@@ -23,7 +23,7 @@ pub fn empty_table<T: Drop>(alloc: Global, len: usize) -> Result<Vec<Option<T>>,
 }
 
 /// The first place that is empty.
-#[tactic(auto, using(crate::proofs::TableLaws::position_within))]
+#[tactic(auto, using(crate::proofs::TableLemmas::position_within))]
 pub fn empty_place<T>(table: &[Option<T>]) -> Option<usize>
     ensures value { result ≡ position_from is_none 0 table.now }
     ensures in_range { IfSome result (λ place. place < length table.now) }

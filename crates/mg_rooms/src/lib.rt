@@ -21,7 +21,7 @@
 //! Contracts see a world: the terminations and contexts in the order of their numbers (`specs/Registry.antt`).
 //! Each call's contract is the outcome of its command on that world (`specs/Outcome.antt`), says that the
 //! world after it is sound (`specs/Sound.antt`), and what the command leaves as it was (`specs/Lasting.antt`).
-//! It gives back the termination with the room of its context. [`laws`] says when something is used up.
+//! Each call gives back the termination with the room of its context. [`theorems`] says when something is used up.
 #![tactic(auto)]
 
 mod changes;
@@ -29,7 +29,6 @@ mod checks;
 mod context;
 mod entries;
 mod hints;
-pub mod laws;
 mod limits;
 mod media_setting;
 mod member;
@@ -42,6 +41,7 @@ mod rooms;
 mod settings;
 mod tables;
 mod target;
+pub mod theorems;
 
 pub use crate::settings::{Settings, depth_within};
 pub use limits::Limits;

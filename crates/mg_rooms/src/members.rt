@@ -52,7 +52,7 @@ impl Members {
     }
 
     /// Lets a member leave.
-    #[tactic(auto, using(crate::proofs::MemberLaws::laws))]
+    #[tactic(auto, using(crate::proofs::MemberLemmas::rules))]
     pub(crate) fn leave(&mut self, number: u32)
         ensures value { self.new ≡ without number self.old }
     {

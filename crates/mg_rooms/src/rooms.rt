@@ -111,7 +111,7 @@ impl Rooms {
 
     /// Makes a termination in the action's context, and the context too where it is new (RFC 3525,
     /// section 7.2.1). The answer is the termination as it was made.
-    #[tactic(auto, using(crate::proofs::RoomsLaws::laws))]
+    #[tactic(auto, using(crate::proofs::RoomsLemmas::rules))]
     pub fn add(&mut self, target: Target, settings: &Settings) -> Result<Member, ErrorNumber>
         ensures outcome { Gives (λ m. m.record) self.old self.new result (add self.old target settings.now) }
         ensures refused { OnErr result (self.new ≡ self.old) }
@@ -127,7 +127,7 @@ impl Rooms {
 
     /// Changes a member of the action's context (RFC 3525, section 7.2.2). The answer is the termination
     /// as it is then.
-    #[tactic(auto, using(crate::proofs::RoomsLaws::laws))]
+    #[tactic(auto, using(crate::proofs::RoomsLemmas::rules))]
     pub fn modify(
         &mut self,
         target: Target,
@@ -148,7 +148,7 @@ impl Rooms {
     /// Takes a termination into the action's context, out of the one that it is in, which ends where it
     /// was the last there (RFC 3525, section 7.2.4). The answer is the termination as it was and as it is
     /// then.
-    #[tactic(auto, using(crate::proofs::RoomsLaws::laws))]
+    #[tactic(auto, using(crate::proofs::RoomsLemmas::rules))]
     pub fn move_to(
         &mut self,
         target: Target,
@@ -174,7 +174,7 @@ impl Rooms {
 
     /// Takes a member out of the action's context and ends it. The context ends with its last member
     /// (RFC 3525, section 7.2.3). The answer is the termination as it was.
-    #[tactic(auto, using(crate::proofs::RoomsLaws::laws), unfolding(crate::specs::Outcome::subtract))]
+    #[tactic(auto, using(crate::proofs::RoomsLemmas::rules), unfolding(crate::specs::Outcome::subtract))]
     pub fn subtract(&mut self, target: Target, number: u32) -> Result<Member, ErrorNumber>
         ensures outcome { Gives (λ m. m.record) self.old self.new result (subtract self.old target number) }
         ensures refused { OnErr result (self.new ≡ self.old) }

@@ -79,7 +79,7 @@ impl Settings {
 }
 
 /// What is chosen of a Local's alternatives, where it has any.
-#[tactic(auto, using(crate::proofs::SettingsLaws::laws))]
+#[tactic(auto, using(crate::proofs::SettingsLemmas::rules))]
 fn chosen_local(
     sessions: &Sessions,
     address: [u8; 4],
@@ -95,7 +95,7 @@ fn chosen_local(
 }
 
 /// What is chosen of a Remote's alternatives, where it has any.
-#[tactic(auto, using(crate::proofs::SettingsLaws::laws))]
+#[tactic(auto, using(crate::proofs::SettingsLemmas::rules))]
 fn chosen_remote(sessions: &Sessions) -> Result<Option<Chosen>, ErrorNumber>
     ensures value { result ≡ offered remote_choice sessions.now }
 {

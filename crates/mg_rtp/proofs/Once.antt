@@ -1,13 +1,17 @@
 -- Bytes are one packet, or have one fault, and not both.
-use Rattle.std.proofs.Common.{◌≡◌, ℕ, ◌*◌, ◌/◌, ◌^◌, ◌<◌, ◌≤◌, Bool, true, false, List, [], ◌++◌, length, get_or, take, drop, refl, sym, ap, subst, ◌∙◌, append_assoc, arith, inl, inr}
+use Rattle.std.proofs.Common.{◌≡◌, ℕ, ◌*◌, ◌/◌, ◌^◌, ◌<◌, ◌≤◌, Bool, true, false, List, [], ◌++◌, length, get_or, take, drop, Result, Ok, Err, refl, sym, ap, subst, ◌∙◌, append_assoc, arith, inl, inr}
 use Rattle.std.proofs.lemmas.List.{length-append}
 use Rattle.byteorder.specs.Endian.{big_bytes, big_number}
 use Rattle.byteorder.specs.Numbers.{big_number-reads_back}
+use Rattle.std.specs.Prelude.{◌↔◌, IfOk}
 use Rattle.mg_rtp.specs.declared.header.Header.{Header}
+use Rattle.mg_rtp.specs.declared.packet.Packet.{Packet}
 use Rattle.mg_rtp.specs.declared.rtp_fault.RtpFault.{RtpFault}
 use Rattle.mg_rtp.specs.declared.rtp_fault.RtpFault.TheVariants.{Short, Version, Extension, Padding}
 use Rattle.mg_rtp.specs.Header.{IsHeader, Layout, bit, first_byte, second_byte, header_bytes}
 use Rattle.mg_rtp.specs.Packet.{Begins, AreSources, IsExtension, IsPadding, IsPacket}
+use Rattle.mg_rtp.specs.Reading.{IsPacketReading}
+use Rattle.mg_rtp.specs.aids.Read.{reading_of}
 use Rattle.mg_rtp.specs.RtpFault.{EndsInExtension, HasBadPadding, LacksSources, LacksExtension, LacksPadding, IsFault}
 use Rattle.mg_rtp.proofs.Parts.{begins_with}
 use Rattle.mg_rtp.proofs.Joined.{same_behind, extension_once, extension_ends, padding_once, padding_counts}
@@ -211,3 +215,10 @@ no_fault bytes h p Extension a b =
     whole_extension bytes b a.layout h a.sources a.extension (p ++ a.padding)
     (begins_with bytes a.layout h _ _ (simp append_assoc) a.begins) a.are_sources a.is_extension
 no_fault bytes h p Padding a b = whole_padding bytes b h p a
+
+-- what a read comes to is the reading of the bytes
+pub is_reading : (bytes : List ℕ) (r : Result Packet RtpFault) →
+    IfOk r (λ packet. IsPacket bytes packet.header packet.payload.now)
+    → ((f : RtpFault) → (r ≡ Err f) ↔ IsFault bytes f) → IsPacketReading bytes (reading_of r)
+is_reading bytes (Ok packet) found fault = found
+is_reading bytes (Err f) found fault = (fault f).0 refl

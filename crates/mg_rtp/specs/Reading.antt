@@ -1,7 +1,6 @@
 -- What bytes are: a packet, or bytes with a fault.
 use Rattle.std.specs.Prelude.{ℕ, List, Result, Ok, Err}
 use Rattle.mg_rtp.specs.declared.header.Header.{Header}
-use Rattle.mg_rtp.specs.declared.packet.Packet.{Packet}
 use Rattle.mg_rtp.specs.declared.rtp_fault.RtpFault.{RtpFault}
 use Rattle.mg_rtp.specs.Packet.{IsPacket}
 use Rattle.mg_rtp.specs.RtpFault.{IsFault}
@@ -13,8 +12,3 @@ Reading = Result (Header × List ℕ) RtpFault
 abbrev pub IsPacketReading : List ℕ → Reading → Type 0
 IsPacketReading bytes (Ok p) = IsPacket bytes p.0 p.1
 IsPacketReading bytes (Err fault) = IsFault bytes fault
-
--- what was read
-abbrev pub reading_of : Result Packet RtpFault → Reading
-reading_of (Ok packet) = Ok (packet.header, packet.payload.now)
-reading_of (Err fault) = Err fault

@@ -2,7 +2,7 @@
 pub(crate) const HEADER_LEN: usize = 12;
 
 /// The version of RTP that is read and written.
-pub(crate) const VERSION: u8 = 2;
+pub(crate) const RTP_VERSION: u8 = 2;
 
 /// The fields of a packet's header.
 #[derive(Clone, Copy, Debug, PartialEq, Eq, Hash)]

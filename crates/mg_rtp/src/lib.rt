@@ -12,10 +12,10 @@
 #![tactic(auto)]
 
 mod header;
-pub mod laws;
 mod packet;
 mod reading;
 mod rtp_fault;
+pub mod theorems;
 mod writing;
 
 pub use header::Header;

@@ -5,7 +5,7 @@ ghost use Rattle.mg_rtp.specs.Header.{IsHeader, field_bytes};
 ghost use Rattle.mg_rtp.specs.Packet.{IsPacket, AreSources, IsExtension, IsPadding};
 ghost use Rattle.mg_rtp.specs.RtpFault.{IsFault, EndsInExtension, HasBadPadding};
 
-use crate::header::{HEADER_LEN, Header, VERSION};
+use crate::header::{HEADER_LEN, Header, RTP_VERSION};
 use crate::packet::Packet;
 use crate::rtp_fault::RtpFault;
 use byteorder::{BigEndian, ByteOrder};
@@ -43,7 +43,7 @@ pub fn read(bytes: &[u8]) -> Result<Packet<'_>, RtpFault>
     }
     let (head, rest) = bytes.split_at(HEADER_LEN);
     let first = head[0];
-    if first >> 6 != VERSION {
+    if first >> 6 != RTP_VERSION {
         return Err(RtpFault::Version);
     }
     let header = header_of(head);

@@ -2,7 +2,7 @@ ghost use Rattle.std.specs.Prelude.{◌≡◌, ◌<◌, ◌^◌, ◌++◌, lengt
 ghost use Rattle.mg_rtp.specs.Header.{header_bytes, plain};
 ghost use Rattle.mg_rtp.specs.Packet.{IsPacket};
 
-use crate::header::{HEADER_LEN, Header, VERSION};
+use crate::header::{HEADER_LEN, Header, RTP_VERSION};
 use byteorder::{BigEndian, ByteOrder};
 
 /// How many bytes of payload a packet that is written has: the 160 samples of 20 ms, a byte each.
@@ -46,7 +46,7 @@ fn head_of(header: Header) -> [u8; HEADER_LEN]
     ensures bytes { result ≡ header_bytes plain header }
 {
     let mut head = [0; HEADER_LEN];
-    head[0] = VERSION << 6;
+    head[0] = RTP_VERSION << 6;
     head[1] = u8::from(header.marker) << 7 | header.payload_type;
     BigEndian::write_u16(&mut head[2..4], header.sequence);
     BigEndian::write_u32(&mut head[4..8], header.timestamp);

@@ -1,5 +1,5 @@
 pub mod WhiteSteps
-pub mod QuoteLaws
-pub mod WordLaws
-pub mod JoinLaws
-pub mod BraceLaws
+pub mod QuoteLemmas
+pub mod WordLemmas
+pub mod JoinLemmas
+pub mod BraceLemmas

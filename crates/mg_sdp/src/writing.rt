@@ -40,7 +40,7 @@ fn payload_type(law: Law) -> &'static str
 
 /// The description of what the gateway serves itself, for a Local: four lines, each ended by CR LF, of at
 /// most 68 bytes in all.
-#[tactic(auto, using(crate::proofs::WrittenLaws::lengths))]
+#[tactic(auto, using(crate::proofs::WrittenLemmas::lengths))]
 pub fn write_local(chosen: &Chosen) -> ArrayVec<u8, TEXT_LIMIT>
     ensures value { result.items ≡ session_text chosen.now }
 {

@@ -1,7 +1,6 @@
 -- Prints one after another.
 use Rattle.std.proofs.Common.{◌≡◌, ℕ, Bool, true, false, List, [], ◌∷◌, ◌++◌, Option, refl, sym, ap, subst, ◌∙◌, append_assoc}
 use Rattle.std.proofs.KnownBytes.{Appends-nil, Appends-trans, Appends-kept, Keeps-refl, Keeps-trans}
-use Rattle.std.proofs.lemmas.List.{append-nil}
 use Rattle.std.proofs.lemmas.List.Concat.{flat_map-append}
 use Rattle.std.specs.Io.KnownBytes.{Keeps, Appends}
 use Rattle.mg_lines.specs.Streams.{WritesFront}
@@ -79,13 +78,4 @@ pub prints_nothing : (a : PrinterView) (x : Option (List ℕ)) (p : List Did) �
 prints_nothing a x p none = record {
   form = refl;
   puts = subst (λ (l : List ℕ). Puts a.has_failed a.has_failed l x x) (sym none) (puts_nothing a.has_failed x);
-}
-
--- one text
-pub prints_one : (a b : PrinterView) (x y : Option (List ℕ)) (did : Did) (text : List ℕ) → b.form ≡ a.form →
-    printed_text a.form did ≡ text → Puts a.has_failed b.has_failed text x y → Prints a b x y (did ∷ [])
-prints_one a b x y did text same is h = record {
-  form = same;
-  puts = subst (λ (l : List ℕ). Puts a.has_failed b.has_failed l x y) (sym (append-nil (printed_text a.form did) ∙ is))
-      h;
 }

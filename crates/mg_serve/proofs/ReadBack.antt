@@ -21,7 +21,7 @@ use Rattle.mg_ports.specs.declared.receipt.Receipt.TheVariants.{Came, Nothing, F
 use Rattle.mg_serve.specs.declared.command.LineCommand.{LineCommand}
 use Rattle.mg_serve.specs.declared.command.LineCommand.TheVariants.{Poll, Tick, Stats, Quit, Unknown}
 use Rattle.mg_serve.specs.declared.form.Form.TheVariants.{Recording}
-use Rattle.mg_serve.specs.Laws.{CutSessionsAreReadBack, ReplaysAreTheSession, SessionsAreReadBack, recorded}
+use Rattle.mg_serve.specs.Theorems.{CutSessionsAreReadBack, ReplaysAreTheSession, SessionsAreReadBack, recorded}
 use Rattle.mg_serve.specs.Lines.{line_command}
 use Rattle.mg_serve.specs.Serve.{opening}
 use Rattle.mg_serve.specs.Session.{Each, Comes, Does, EndsTurn, Happens, Session, SlotTurn, event_at, sends_of}
@@ -171,7 +171,7 @@ session_read config title lines next p valid h =
     (each_read (λ (line : List ℕ). Does config (line_command line))
     (λ line. does_read config valid (line_command line)) lines (start_of config) next p h)
 
--- ## The laws
+-- ## The theorems
 
 pub read_back : RecordingsAreRead → SessionsAreReadBack
 read_back law config title lines next p valid h =

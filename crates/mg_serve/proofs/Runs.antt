@@ -14,7 +14,7 @@ use Rattle.mg_ports.specs.declared.call.Call.TheVariants.{Receive}
 use Rattle.mg_ports.specs.declared.receipt.Receipt.TheVariants.{Came, Nothing, Failed}
 use Rattle.mg_serve.specs.declared.command.LineCommand.{LineCommand}
 use Rattle.mg_serve.specs.declared.command.LineCommand.TheVariants.{Poll, Tick, Stats, Quit, Unknown}
-use Rattle.mg_serve.specs.Laws.{SendsAreARun, is_send}
+use Rattle.mg_serve.specs.Theorems.{SendsAreARun, is_send}
 use Rattle.mg_serve.specs.Lines.{line_command}
 use Rattle.mg_serve.specs.Session.{Each, Comes, Does, EndsTurn, Happens, Session, SlotTurn, event_at, send_of, sends_of}
 use Rattle.mg_serve.specs.Trace.{Did, Called, Happened, Printed, Noted, calls_of, events_of_trace}

@@ -1,6 +1,6 @@
 -- The steps of a server.
-use Rattle.std.proofs.Common.{◌≡◌, ◌≢◌, ℕ, ◌+◌, ◌<◌, ◌⊎◌, inl, inr, Bool, true, false, List, [], ◌∷◌, ◌++◌, length, get_or, take, map, Option, refl, sym, ap, subst, ◌∙◌, arith, codes}
-use Rattle.std.proofs.lemmas.List.{append-nil, length_push, map_more}
+use Rattle.std.proofs.Common.{◌≡◌, ◌≢◌, ℕ, ◌+◌, ◌<◌, ◌⊎◌, inl, inr, Bool, true, false, List, [], ◌∷◌, ◌++◌, length, map, Option, refl, sym, ap, subst, ◌∙◌, arith, codes}
+use Rattle.std.proofs.lemmas.List.{append-nil, length_push}
 use Rattle.std.specs.List.{range_with_len}
 use Rattle.mg_engine.specs.declared.config.Config.{Config}
 use Rattle.mg_words.specs.declared.peer.Peer.{Peer}
@@ -15,7 +15,6 @@ use Rattle.mg_words.specs.Leads.{Leads}
 use Rattle.mg_ports.specs.declared.call.Call.{Call}
 use Rattle.mg_ports.specs.declared.call.Call.TheVariants.{Receive}
 use Rattle.mg_ports.specs.declared.receipt.Receipt.TheVariants.{Came, Nothing, Failed}
-use Rattle.mg_ports.specs.Calls.{Told}
 use Rattle.mg_serve.specs.declared.command.LineCommand.{LineCommand}
 use Rattle.mg_serve.specs.declared.command.LineCommand.TheVariants.{Poll, Tick, Stats, Quit, Unknown}
 use Rattle.mg_serve.specs.declared.form.Form.{Form}
@@ -27,7 +26,7 @@ use Rattle.mg_serve.specs.aids.Driving.{Finished, Received}
 use Rattle.mg_serve.specs.aids.Printing.{Puts}
 use Rattle.mg_serve.specs.aids.Outside.{Outside, LeadsByTrace, TellsTrace}
 use Rattle.mg_serve.proofs.Printing.{output_both}
-use Rattle.mg_serve.proofs.Taking.{called, told_both, tells_both, each_more, takes_after}
+use Rattle.mg_serve.proofs.Taking.{called, tells_both, each_more, takes_after}
 
 -- what a datagram at a slot does: it is its event, or found no memory
 abbrev pub Enters : Config → ℕ → Peer → List ℕ → World → List Did → World → Type 0
@@ -48,18 +47,6 @@ control_answered config source bytes sent old new x y z h printed told w stands 
       inl (sent, step, refl),
       held,
     )
-
--- one that found no memory
-pub control_unread : (config : Config) (source : Peer) (bytes : List ℕ) (old new : CoreState) (x y : Outside) →
-    new ≡ old → TellsTrace x y (Noted (codes "no memory for a control datagram") ∷ []) →
-    LeadsByTrace old new x y (Enters config 0 source bytes)
-control_unread config source bytes old new x y is noted w stands = (
-  Noted (codes "no memory for a control datagram") ∷ [],
-  w,
-  noted,
-  inr (refl, refl, refl),
-  subst (λ (s : CoreState). StandsFor s w) (sym is) stands,
-)
 
 -- a media datagram, which has no call
 pub media_taken : (config : Config) (slot : ℕ) (source : Peer) (bytes : List ℕ) (old new : CoreState)
@@ -155,13 +142,6 @@ tick_sent config old new outbox x y z sent after printed told w stands = (
   ),
   after w stands,
 )
-
--- a packet more was sent
-pub packets_more : (x y z : Option (List Call)) (f : Datagram → Call) (xs : List Datagram) (i : ℕ) (d : Datagram) →
-    i < length xs → Told x y (map f (take i xs)) → Told y z (f (get_or xs i d) ∷ []) →
-    Told x z (map f (take (i + 1) xs))
-packets_more x y z f xs i d lt h k = subst (λ (l : List Call). Told x z l) (sym (map_more f xs i d lt))
-    (told_both x y z (map f (take i xs)) (f (get_or xs i d) ∷ []) h k)
 
 -- ## The last line
 

@@ -2,5 +2,5 @@ pub mod Trace
 pub mod Lines
 pub mod Session
 pub mod Serve
-pub mod Laws
+pub mod Theorems
 pub mod aids

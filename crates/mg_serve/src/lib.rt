@@ -8,13 +8,12 @@
 //!
 //! [`serve`] is proved for any [`Ports`](mg_ports::Ports): at every exit the lines that were read whole and what was
 //! done for them are a session (`specs/Session.antt`). So it drops no datagram that it received, takes the ports in
-//! their order, and sends each answer and each packet once; [`laws`] says that what it sends is what a run of the
+//! their order, and sends each answer and each packet once; [`theorems`] says that what it sends is what a run of the
 //! gateway's events sends, and that a recording of it is a script of these events.
 #![tactic(auto)]
 
 mod command;
 mod form;
-pub mod laws;
 mod line;
 mod line_driver;
 mod output;
@@ -23,8 +22,9 @@ mod printer;
 mod reports;
 mod server;
 mod serving;
+pub mod theorems;
 
-// A law can name a line's command in a contract only if the type is exported.
+// A theorem can name a line's command in a contract only if the type is exported.
 #[doc(hidden)]
 pub use crate::command::LineCommand;
 // The same holds of what a session prints.

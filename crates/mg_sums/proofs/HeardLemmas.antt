@@ -4,7 +4,7 @@ use Rattle.std.specs.Prelude.{All, IsTrue, filter, unsigned_abs}
 use Rattle.std.specs.List.{range_with_len}
 use Rattle.std.proofs.Math.ListN.{get_or-append}
 use Rattle.std.proofs.lemmas.Int.{ints}
-use Rattle.std.proofs.lemmas.Bool.{cases_lt}
+use Rattle.std.proofs.lemmas.Bool.{cases_lt, or_right}
 use Rattle.std.proofs.lemmas.Bool.Decides.{nat_tests}
 use Rattle.std.proofs.lemmas.List.{get_or_past}
 use Rattle.std.proofs.lemmas.List.FromFn.{length-range_with_len, fill_by_all}
@@ -97,16 +97,12 @@ mix_is kept room out mix rest are long limits differs =
     limits i l ∙ ap nearest_sample heard)
 
 -- All rows of a room, in any order.
-later_true : (a b : Bool) → b ≡ true → (a || b) ≡ true
-later_true true b h = refl
-later_true false b h = h
-
 among_at : (rows : List ℕ) (k j : ℕ) → j < length rows → get_or rows j k ≡ k → is_among rows k ≡ true
 among_at [] k j l e = absurd (omega arith)
 among_at (r ∷ rs) k zero l e = let here : (k == r) ≡ true = grind (arith, nat_tests) in
     ap (λ (b : Bool). b || is_among rs k) here
 among_at (r ∷ rs) k (suc j) l e = let later = among_at rs k j (omega arith) e in
-    later_true (k == r) (is_among rs k) later
+    or_right (k == r) (is_among rs k) later
 
 bool_same : (a b : Bool) → (a ≡ true → b ≡ true) → (b ≡ true → a ≡ true) → a ≡ b
 bool_same true b h g = sym (h refl)

@@ -14,7 +14,7 @@ use Rattle.mg_words.specs.Limits.{context_limit, termination_limit}
 use Rattle.mg_g711.specs.Frame.{IsFrame}
 use Rattle.mg_g711.proofs.Frames.{sample_fits, silence_is_frame}
 use Rattle.mg_sums.specs.Samples.{sample, sum_of, silence}
-use Rattle.mg_sums.specs.Sums.{SumsState, AreValidSums, first_sums, frame_of_row, is_room, is_joined, room_of}
+use Rattle.mg_sums.specs.Sums.{SumsState, AreValidSums, first_sums, is_room, is_joined, room_of}
 use Rattle.mg_sums.specs.Sums.{sample_in, joined_rows, total_of}
 use Rattle.mg_sums.specs.aids.Totals.{total_limit, AreTotals}
 use Rattle.mg_sums.proofs.SumLemmas.{sum_of-filter, sum_of-near, sum_of-changed, sum_of-same, sum_of-none}
@@ -279,10 +279,6 @@ silent i = elim (cases_lt i 160) [
 pub first_rooms : (row : ℕ) → room_of first_sums row ≡ None
 unfolding first_sums
 first_rooms row = joined_nowhere termination_limit row
-
-pub first_frames : (row : ℕ) → row < termination_limit → frame_of_row first_sums row ≡ silence
-unfolding first_sums
-first_frames row l = get_or-replicate termination_limit row silence [] l
 
 pub first_total : (room i : ℕ) → total_of first_sums room i ≡ pos 0
 first_total room i = total_is first_sums room i ∙

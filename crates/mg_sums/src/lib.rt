@@ -22,17 +22,16 @@
 //! ```
 //!
 //! [`Sums::work`] counts the calls of three row kernels: to add a row, to take one away, and to write the difference of
-//! two. No other module sees the fields of a row; elsewhere frames and totals are read by [`Sums::frame`] and
+//! two. No module but `rows` sees the fields of a row; elsewhere frames and totals are read by [`Sums::frame`] and
 //! [`Sums::total`]. To join or to leave takes one call, to set the frame of a row that is joined two, and a mix one and
 //! one more for each row that is silenced.
 //!
 //! [`Sums::new`] takes all memory, and no other call takes any. What a total and a mix are stands
-//! in `specs/Sums.antt`, and [`laws`] has what follows from it. The sums run on the vectors of
+//! in `specs/Sums.antt`, and [`theorems`] has what follows from it. The sums run on the vectors of
 //! [`kernels`].
 #![tactic(auto)]
 
 pub mod kernels;
-pub mod laws;
 mod ranges;
 mod room;
 mod row;
@@ -40,6 +39,7 @@ mod rows;
 mod sums;
 #[cfg(test)]
 mod tests;
+pub mod theorems;
 
 pub use mg_words::{CONTEXTS, TERMINATIONS};
 pub use room::Room;

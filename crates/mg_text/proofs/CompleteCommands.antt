@@ -23,7 +23,7 @@ use Rattle.mg_text.specs.aids.Words.{head_of}
 use Rattle.mg_text.proofs.Complete.{Stops, mark_read, after_read, after_other, word_read, span_other, worded_read, inside_read, term_read, filled_read, mark_shorter, span_shorter, worded_shorter, group_shorter, content_shorter, braced_read, braced_shorter, optional_braced_read, optional_braced_shorter, any_braced_read, any_braced_shorter, each_word_read, each_word_shorter, each_word_begins}
 use Rattle.mg_text.proofs.SoundCommands.{IsAssignedContent}
 use Rattle.mg_text.proofs.CompleteMedia.{media_part_read, media_part_shorter}
-use Rattle.mg_text.proofs.WordLaws.{worded_head}
+use Rattle.mg_text.proofs.WordLemmas.{worded_head}
 
 audit_words_read : (source : List ℕ) (xs : List AuditWord) (ts rest : List Token) →
     IsAnyBraced (IsWorded (by_keyword audit_word_named) source) xs ts rest → audit_words_at source ts ≡ Ok (xs, rest)

@@ -37,10 +37,10 @@ use Rattle.mg_text.specs.Production.{◌or◌}
 use Rattle.mg_text.specs.Grammar.{IsWordThat, IsWorded, IsName, IsListed, IsCommand, IsTriple, IsContextProperty, IsParts, IsAction, IsAnswer, IsItem, IsSequence, body_of, IsItems, IsBody, IsText}
 use Rattle.mg_text.specs.aids.Words.{head_of}
 use Rattle.mg_text.specs.aids.Parts.{kept}
-use Rattle.mg_text.proofs.KeywordLaws.{named_is}
+use Rattle.mg_text.proofs.KeywordLemmas.{named_is}
 use Rattle.mg_text.proofs.Complete.{Stops, at_comma, at_close, mark_read, after_read, after_other, word_read, named_read, worded_read, group_read, term_read, mark_shorter, span_shorter, worded_shorter, group_shorter, items_shorter, items_read, braced_read, braced_shorter, each_word_read, each_word_shorter}
 use Rattle.mg_text.proofs.CompleteCommands.{command_read, command_shorter}
-use Rattle.mg_text.proofs.WordLaws.{association_means, worded_head}
+use Rattle.mg_text.proofs.WordLemmas.{association_means, worded_head}
 
 triple_read : (source : List ℕ) (ts : List Token) (x : NamedTriple) (rest : List Token) → Stops rest →
     IsTriple source x ts rest → triple_at source ts ≡ Ok (x, rest)

@@ -22,11 +22,11 @@ use Rattle.mg_text.specs.aids.Reading.{after_mark}
 use Rattle.mg_text.specs.aids.Media.{value_at, optional_value_at, switched_at, mode_part_at, package_part_at, control_named, control_at, stream_part_at, numbered_at, media_part_at}
 use Rattle.mg_text.specs.Production.{◌▹◌}
 use Rattle.mg_text.specs.Grammar.{IsMark, IsWorded, IsName, IsOptionalAssigned, IsValue, has_slash, IsControlPart, IsStreamPart, IsMediaPart}
-use Rattle.mg_text.proofs.KeywordLaws.{no_slash}
+use Rattle.mg_text.proofs.KeywordLemmas.{no_slash}
 use Rattle.mg_text.proofs.Complete.{Stops, mark_read, after_read, span_read, word_read, worded_read, inside_read, filled_read, mark_shorter, span_shorter, worded_shorter, group_shorter, content_shorter, braced_read, braced_shorter}
 use Rattle.mg_words.specs.Mode.{mode_text}
 use Rattle.mg_text.specs.Keyword.{long_word}
-use Rattle.mg_text.proofs.WordLaws.{mode_means}
+use Rattle.mg_text.proofs.WordLemmas.{mode_means}
 
 value_read : (source : List ℕ) (v : PropertyValue) (ts rest : List Token) → IsValue v ts rest →
     value_at source ts ≡ Ok (v, rest)

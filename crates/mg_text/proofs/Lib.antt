@@ -1,5 +1,5 @@
 pub mod GroupSteps
-pub mod ScanLaws
+pub mod ScanLemmas
 pub mod ListSteps
 pub mod PartSteps
 pub mod SequenceSteps
@@ -12,9 +12,9 @@ pub mod CompleteMedia
 pub mod CompleteCommands
 pub mod CompleteItems
 pub mod CountSteps
-pub mod ReadLaws
+pub mod ReadLemmas
 pub mod OneReading
-pub mod ProperLaws
-pub mod KeywordLaws
-pub mod SenderLaws
-pub mod WordLaws
+pub mod ProperLemmas
+pub mod KeywordLemmas
+pub mod SenderLemmas
+pub mod WordLemmas

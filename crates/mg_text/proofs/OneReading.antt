@@ -10,11 +10,11 @@ use Rattle.mg_text.specs.aids.Text.{version_at, text_at, is_within}
 use Rattle.mg_text.specs.Message.{AreTokens, IsTree, IsMessage, AsksTooMuch, IsTooMany, HasOtherVersion, requests_in, commands_in, items_of}
 use Rattle.mg_text.specs.MessageReading.{MessageReading, Read, TooMany, OtherVersion, NoMessage, IsNoMessage}
 use Rattle.mg_text.specs.MessageReading.{IsMessageReading}
-use Rattle.mg_text.proofs.ScanLaws.{one_scan}
+use Rattle.mg_text.proofs.ScanLemmas.{one_scan}
 use Rattle.mg_text.proofs.Sound.{ok_is, worded_found}
 use Rattle.mg_text.proofs.SoundItems.{text_found}
 use Rattle.mg_text.proofs.CompleteItems.{head_read, text_read}
-use Rattle.mg_text.proofs.ReadLaws.{headed, told, at_most_one, served_counts, refused_counts}
+use Rattle.mg_text.proofs.ReadLemmas.{headed, told, at_most_one, served_counts, refused_counts}
 
 -- ## At most one
 

@@ -6,6 +6,7 @@ use Rattle.mg_scan.specs.declared.kind.TokenKind.TheVariants.{Word, Open, Close,
 use Rattle.mg_scan.specs.declared.span.Span.{Span}
 use Rattle.mg_scan.specs.declared.token.Token.{Token}
 use Rattle.mg_scan.specs.Span.{text_of}
+use Rattle.mg_scan.proofs.JoinLemmas.{chosen}
 use Rattle.mg_text.specs.declared.keyword.Keyword.{Keyword}
 use Rattle.mg_words.specs.Term.{is_term}
 use Rattle.mg_text.specs.Keyword.{is_named}
@@ -125,11 +126,6 @@ worded_found meaning source ts x e =
     let w = bind_ok (word_at source ts) _ x e in
     let g = worded-cases (meaning (text_of source w.0.0)) w.0.1 w.0.0.start x w.2 in
     (w.0.0, g.0, subst (λ (r : List Token). IsWord w.0.0 ts r) g.1 (word_found source ts w.0 w.1))
-
--- one side or the other of a test
-pub chosen : {A : Type 0} (b : Bool) (x y z : A) → cond b x y ≡ z → ((b ≡ true) × (x ≡ z)) ⊎ ((b ≡ false) × (y ≡ z))
-chosen true x y z e = inl (refl, e)
-chosen false x y z e = inr (refl, e)
 
 -- balanced tokens and a closing brace, once for each open brace and once more
 abbrev Closes : ℕ → List Token → List Token → Type 0

@@ -22,7 +22,7 @@ use Rattle.mg_text.specs.Production.{Production, ◌▹◌, ◌or◌}
 use Rattle.mg_text.specs.Grammar.{IsMark, IsWorded, IsAnyBraced, IsGroup, IsContent, IsOptionalGroup, IsOtherContent, keyword_for, IsMediaPart, IsAudit, IsDescriptor, IsOptionalAudit, IsSkipped, IsDescribed, IsCommand}
 use Rattle.mg_text.proofs.Sound.{bind_ok, ok_is, mark_found, after_found, if_some_ok, word_found, worded_found, term_found, group_found, filled_found, braced_found, any_braced_found, optional_braced_found, IsSpelled}
 use Rattle.mg_text.proofs.SoundMedia.{media_part_found}
-use Rattle.mg_text.proofs.WordLaws.{head_worded}
+use Rattle.mg_text.proofs.WordLemmas.{head_worded}
 
 audit_words_found : (source : List ℕ) (ts : List Token) (x : List AuditWord × List Token) →
     audit_words_at source ts ≡ Ok x → IsAnyBraced (IsWorded (by_keyword audit_word_named) source) x.0 ts x.1

@@ -31,10 +31,11 @@ use Rattle.mg_text.specs.aids.Requests.{triple_at, priority_at, emergency_at, pr
 use Rattle.mg_text.specs.aids.Text.{sender_at, text_at}
 use Rattle.mg_text.specs.Grammar.{IsMark, IsWordThat, IsWorded, IsGroup, IsCommand, IsTriple, IsContextProperty, IsParts, IsAction, IsItem, IsSequence, body_of, IsBody, IsText}
 use Rattle.mg_text.specs.aids.Parts.{kept}
-use Rattle.mg_text.proofs.Sound.{bind_ok, guard_ok, ok_is, mark_found, after_found, if_some_ok, chosen, word_found, named_found, worded_found, term_found, group_at_found, items_found, braced_found, IsSpelled}
+use Rattle.mg_scan.proofs.JoinLemmas.{chosen}
+use Rattle.mg_text.proofs.Sound.{bind_ok, guard_ok, ok_is, mark_found, after_found, if_some_ok, word_found, named_found, worded_found, term_found, group_at_found, items_found, braced_found, IsSpelled}
 use Rattle.mg_text.proofs.SoundCommands.{command_found}
-use Rattle.mg_text.proofs.KeywordLaws.{context_is}
-use Rattle.mg_text.proofs.WordLaws.{association_is_meant}
+use Rattle.mg_text.proofs.KeywordLemmas.{context_is}
+use Rattle.mg_text.proofs.WordLemmas.{association_is_meant}
 
 triple_found : (source : List ℕ) (ts : List Token) (x : NamedTriple × List Token) → triple_at source ts ≡ Ok x →
     IsTriple source x.0 ts x.1

@@ -22,8 +22,9 @@ use Rattle.mg_text.specs.aids.Reading.{mark_at, after_mark, span_at, word_at, me
 use Rattle.mg_text.specs.aids.Reading.{after_group, filled_at, braced_at, place_of_rest}
 use Rattle.mg_text.specs.aids.Media.{value_kinded, value_at, optional_value_at, switched_at, mode_part_at, package_part_at, control_named, control_at, stream_named, stream_part_at, numbered_at, media_named, media_part_at}
 use Rattle.mg_text.specs.Grammar.{IsSpan, IsWord, IsWorded, IsOptionalAssigned, IsValue, has_slash, IsControlPart, IsStreamPart, IsMediaPart}
-use Rattle.mg_text.proofs.Sound.{bind_ok, ok_is, mark_found, after_found, if_some_ok, chosen, token_is, span_found, word_found, worded_found, group_found, filled_found, braced_found, IsSpelled}
-use Rattle.mg_text.proofs.WordLaws.{mode_is_meant}
+use Rattle.mg_scan.proofs.JoinLemmas.{chosen}
+use Rattle.mg_text.proofs.Sound.{bind_ok, ok_is, mark_found, after_found, if_some_ok, token_is, span_found, word_found, worded_found, group_found, filled_found, braced_found, IsSpelled}
+use Rattle.mg_text.proofs.WordLemmas.{mode_is_meant}
 
 value_kinded_found : (source : List ℕ) (k : TokenKind) (w : Span) (t : Token) (ts : List Token)
     (x : PropertyValue × List Token) → t.kind ≡ k → t.span ≡ w → value_kinded source k w ts ≡ Ok x →

@@ -163,7 +163,7 @@ impl Keyword {
 
 /// The same where both words have one length. It is kept out of [`same_word`], which most words end by their length.
 #[inline(never)]
-#[tactic(auto, using(crate::proofs::KeywordLaws::exact))]
+#[tactic(auto, using(crate::proofs::KeywordLemmas::exact))]
 fn same_letters(a: &[u8], b: &[u8]) -> bool
     ensures value { result ≡ str_eq_ignore_ascii_case a.now b.now }
 {
@@ -171,7 +171,7 @@ fn same_letters(a: &[u8], b: &[u8]) -> bool
 }
 
 /// Whether two words are the same but for the case of their letters.
-#[tactic(auto, using(crate::proofs::KeywordLaws::same_len))]
+#[tactic(auto, using(mg_words::proofs::CutLemmas::same_len))]
 pub fn same_word(a: &[u8], b: &[u8]) -> bool
     ensures value { result ≡ str_eq_ignore_ascii_case a.now b.now }
 {

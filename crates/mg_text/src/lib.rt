@@ -2,11 +2,11 @@
 //!
 //! [`read`] turns the bytes of a datagram into a [`Message`], or says why they are none. The tree keeps the
 //! places of its texts in the source, and copies none of them. Replies are put together in a [`Reply`] and
-//! written by [`write_reply`] into [`Bytes`], both of which stand in the crate `mg_reply`:
+//! written by [`write_reply`] into [`Bytes`], which are of the crate `mg_reply`:
 //!
 //! ```rust
 //! let message = read(alloc, b"MEGACO/1 [127.0.0.1]:2945 Transaction=1{Context=-{AuditValue=ROOT}}")?;
-//! assert_eq!(rt; message.sender.text(source), b"[127.0.0.1]:2945");
+//! assert_eq!(rt; message.sender.text(source), b"[127.0.0.1]:2945".as_slice());
 //! ```
 //!
 //! A message is read whole or not at all. The tree keeps requests and acknowledgements in the order of the
@@ -28,7 +28,6 @@ mod from_word;
 mod group;
 mod head;
 mod keyword;
-pub mod laws;
 mod lists;
 mod marks;
 mod media;
@@ -39,6 +38,7 @@ mod scanning;
 mod sender;
 mod sequence;
 mod streams;
+pub mod theorems;
 mod tree_list;
 mod words;
 

@@ -6,7 +6,7 @@ use Rattle.mg_topology.specs.declared.mask.TheConstants.{SEATS}
 use Rattle.mg_topology.specs.declared.triple.Triple.{Triple}
 use Rattle.mg_topology.specs.Mask.{has_seat}
 use Rattle.mg_topology.specs.Triple.{speaks_of, word_of}
-use Rattle.mg_topology.specs.aids.Word.{word_after}
+use Rattle.mg_topology.specs.aids.Word.{after_triple}
 use Rattle.mg_topology.specs.Edits.{TopologyEdit, Enter, Leave, Apply, is_held, last_word, allows, lets_hear, apply_all}
 use Rattle.mg_topology.specs.Topology.{TopologyState, holds, hears, StandsFor}
 use Rattle.mg_topology.proofs.MaskLemmas.{has_seat-inside}
@@ -100,12 +100,12 @@ applied_word triple o t l false = refl
 
 pub apply_stands : (k k' : TopologyState) (triple : Triple) (es : List TopologyEdit) → k'.held ≡ k.held
     → ((t l : ℕ) → l < SEATS → has_seat (slice_index k'.rows l) t ≡
-    word_after triple t l (has_seat (slice_index k.rows l) t))
+    after_triple triple t l (has_seat (slice_index k.rows l) t))
     → StandsFor k es → StandsFor k' (Apply triple ∷ es)
 apply_stands k k' triple es held row h =
     stands_from k' (Apply triple ∷ es)
     (λ s. ap (λ m. nat_lt s SEATS && has_seat m s) held ∙ h.seats s)
-    (λ t l p q d. row t l (held_below k es l h q) ∙ ap (word_after triple t l) (row_from k es t l h p q d)
+    (λ t l p q d. row t l (held_below k es l h q) ∙ ap (after_triple triple t l) (row_from k es t l h p q d)
     ∙ applied_word triple (last_word es t l) t l (speaks_of triple t l))
 
 -- ---- triples in order

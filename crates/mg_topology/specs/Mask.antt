@@ -4,7 +4,7 @@ use Rattle.std.specs.Int.{bit_at}
 use Rattle.std.specs.List.{filter, range_with_len}
 
 -- Seats are the numbers below it: a mask has so many bits, and a context no more members
--- (`each_member_has_a_seat` in src/laws.rt).
+-- (`each_member_has_a_seat` in src/theorems.rt).
 abbrev pub seat_limit : ℕ
 seat_limit = 64
 

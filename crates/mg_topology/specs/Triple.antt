@@ -38,6 +38,6 @@ is_oneway Isolate = false
 is_oneway Oneway = true
 is_oneway Bothway = false
 
--- the same as `Overlaps`, as a test (`overlap_is_a_common_seat` in src/laws.rt)
+-- the same as `Overlaps`, as a test (`overlap_is_a_common_seat` in src/theorems.rt)
 abbrev pub overlaps : Triple → Bool
 overlaps triple = is_oneway triple.association && not (is_disjoint triple.first triple.second)

@@ -22,17 +22,17 @@
 //! A topology keeps bits and no history. So its contracts speak of each list of edits that it stood
 //! for before a call, and say which list it stands for afterwards (`StandsFor` in
 //! `specs/Topology.antt`). What a list of edits means stands in `specs/Edits.antt`, by looking
-//! backwards over the list, and [`laws`] has what follows from that alone.
+//! backwards over the list, and [`theorems`] has what follows from that alone.
 //!
 //! Sets of seats are bit masks, and [`mask`] has the only functions that touch their bits.
 #![tactic(auto)]
 
-pub mod laws;
 pub mod mask;
 mod overlap;
 mod seats;
 #[cfg(test)]
 mod tests;
+pub mod theorems;
 mod topology;
 mod triple;
 

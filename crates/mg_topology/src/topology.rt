@@ -2,7 +2,7 @@ ghost use Rattle.std.specs.Prelude.{◌≡◌, ℕ, ◌<◌, ◌↔◌, ◌∷�
 ghost use Rattle.std.specs.List.{list_any};
 ghost use Rattle.mg_topology.specs.Mask.{has_seat};
 ghost use Rattle.mg_topology.specs.Triple.{overlaps, Overlaps};
-ghost use Rattle.mg_topology.specs.aids.Word.{word_after};
+ghost use Rattle.mg_topology.specs.aids.Word.{after_triple};
 
 use crate::mask::{self, Mask, SEATS};
 use crate::{Overlap, Triple};
@@ -167,7 +167,7 @@ fn let_all_hear(rows: &mut [Mask; SEATS], seat: usize)
 fn apply_to_rows(rows: &mut [Mask; SEATS], triple: &Triple)
     ensures { (talker listener : ℕ) → listener < SEATS →
         has_seat (slice_index rows.new listener) talker ≡
-        word_after triple.now talker listener (has_seat (slice_index rows.old listener) talker) }
+        after_triple triple.now talker listener (has_seat (slice_index rows.old listener) talker) }
 {
     for (listener, row) in rows.iter_mut().enumerate() {
         *row = triple.row_after(*row, listener);

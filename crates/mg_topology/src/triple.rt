@@ -37,7 +37,7 @@ impl Default for Triple {
 
 impl Triple {
     ghost use Rattle.mg_topology.specs.Triple.{overlaps, Overlaps};
-    ghost use Rattle.mg_topology.specs.aids.Word.{word_after};
+    ghost use Rattle.mg_topology.specs.aids.Word.{after_triple};
 
     /// Whether it is a Oneway triple with a seat in both of its sets, which a topology refuses.
     pub fn overlaps(&self) -> bool
@@ -54,7 +54,7 @@ impl Triple {
     pub(crate) fn row_after(&self, row: Mask, listener: usize) -> Mask
         requires { listener < SEATS }
         ensures { (talker : ℕ) →
-            has_seat result talker ≡ word_after self.now talker listener (has_seat row talker) }
+            has_seat result talker ≡ after_triple self.now talker listener (has_seat row talker) }
     {
         let forward = across(self.second, listener, self.first);
         let backward = across(self.first, listener, self.second);

@@ -1,6 +1,7 @@
+pub mod DecimalLemmas
 pub mod DigitSteps
-pub mod CutLaws
-pub mod TermLaws
-pub mod AddressLaws
-pub mod ErrorLaws
-pub mod WordByteLaws
+pub mod CutLemmas
+pub mod TermLemmas
+pub mod AddressLemmas
+pub mod ErrorLemmas
+pub mod WordByteLemmas

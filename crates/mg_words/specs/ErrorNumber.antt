@@ -1,4 +1,4 @@
--- The numbers and texts of errors: this gateway's own table.
+-- The numbers of errors, from the standard's list of error codes, and this gateway's texts.
 use Rattle.std.specs.Prelude.{ℕ, List, ◌++◌, codes, decimal}
 use Rattle.mg_words.specs.declared.error_number.ErrorNumber.{ErrorNumber}
 use Rattle.mg_words.specs.declared.error_number.ErrorNumber.TheVariants as errors

@@ -44,7 +44,7 @@ fn push_number(out: &mut ArrayVec<u8, ADDRESS_LIMIT>, n: u8)
 
 /// An IPv4 address as it is written: four numbers in plain decimal with dots between them, of at most 15
 /// bytes in all.
-#[tactic(auto, using(crate::proofs::AddressLaws::lengths))]
+#[tactic(auto, using(crate::proofs::AddressLemmas::lengths))]
 pub fn address_text(address: [u8; 4]) -> ArrayVec<u8, ADDRESS_LIMIT>
     ensures value { result.items ≡ address_text address }
     ensures short { length result.items ≤ ADDRESS_LIMIT }

@@ -7,8 +7,8 @@ use itoa::Buffer;
 /// The bytes of the longest descriptor of an error.
 pub const ERROR_LIMIT: usize = 64;
 
-/// Why a message, an action or a command was refused. The numbers and texts are this gateway's own table,
-/// in the range that RFC 3525, section 14.3, leaves to errors.
+/// Why a message, an action or a command was refused. The numbers are from the standard's list of error codes
+/// (RFC 3525, section 14.2; H.248.8), the texts this gateway's own.
 #[derive(Clone, Copy, Debug, PartialEq, Eq)]
 pub enum ErrorNumber {
     /// A message that is not of the grammar.
@@ -102,7 +102,7 @@ impl ErrorNumber {
 
     /// The descriptor as it is written: the number, and its text in quotation marks and braces, of at most 64
     /// bytes in all.
-    #[tactic(auto, using(crate::proofs::ErrorLaws::parts), unfolding(crate::specs::ErrorNumber::error_text))]
+    #[tactic(auto, using(crate::proofs::ErrorLemmas::parts), unfolding(crate::specs::ErrorNumber::error_text))]
     pub fn descriptor(self) -> ArrayVec<u8, ERROR_LIMIT>
         ensures value { result.items ≡ error_text self }
         ensures short { length result.items ≤ ERROR_LIMIT }

@@ -1,5 +1,5 @@
 //! The words of the protocol (Megaco, RFC 3525), each once for all crates: modes, associations, commands,
-//! contexts, names of terminations, errors and counters, with the text of each; the numbers, ports and IPv4
+//! contexts, names of terminations and errors, with the text of each, and counters; the numbers, ports and IPv4
 //! addresses that stand in control messages, session descriptions and scripts; and the limits of this gateway.
 //!
 //! Each reader takes a whole text and answers the value that it stands for, or `None` where it stands for

@@ -19,7 +19,7 @@ pub fn cut(byte: u8, text: &[u8]) -> Option<(&[u8], &[u8])>
 }
 
 /// What stands after a prefix, in letters of any case, or `None` where the text has another front.
-#[tactic(auto, unfolding(crate::specs::Cut::after_prefix), using(crate::proofs::CutLaws::too_short))]
+#[tactic(auto, unfolding(crate::specs::Cut::after_prefix), using(crate::proofs::CutLemmas::too_short))]
 pub fn after_prefix<'a>(prefix: &[u8], text: &'a [u8]) -> Option<&'a [u8]>
     ensures value { MatchOption result (after_prefix prefix.now text.now ≡ None)
         (λ rest. after_prefix prefix.now text.now ≡ Some rest.now) }

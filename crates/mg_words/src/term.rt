@@ -78,7 +78,7 @@ impl Term {
     }
 
     /// The name of the termination with a number: `RTP/` and the number.
-    #[tactic(auto, using(crate::proofs::TermLaws::names))]
+    #[tactic(auto, using(crate::proofs::TermLemmas::names))]
     pub fn rtp(number: u32) -> Self
         ensures value { result ≡ rtp_name number }
     {

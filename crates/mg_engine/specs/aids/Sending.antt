@@ -34,13 +34,13 @@ abbrev pub sample_at : List (List ℤ) → ℕ → ℕ → ℤ
 sample_at frames slot i = sample_in frames i slot
 
 -- whether the speech of one on a place goes to one on another; nowhere else does any
-abbrev pub flows_between : List flow.Room → Option Place → Option Place → Bool
+abbrev pub flows_between : List flow.RoomFlows → Option Place → Option Place → Bool
 flows_between table (Some p) (Some q) = flow.flows table p q
 flows_between table (Some p) None = false
 flows_between table None q = false
 
 -- whether one on a place is silenced for one on another
-abbrev pub is_silenced_between : List flow.Room → Option Place → Option Place → Bool
+abbrev pub is_silenced_between : List flow.RoomFlows → Option Place → Option Place → Bool
 is_silenced_between table (Some p) (Some q) = flow.is_silenced table p q
 is_silenced_between table (Some p) None = false
 is_silenced_between table None q = false

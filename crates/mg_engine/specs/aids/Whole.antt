@@ -17,7 +17,7 @@ use Rattle.mg_engine.specs.aids.Seating.{AreSeated, place_count}
 -- each member is on its place, there is a row for each termination that there can be, and the rows
 -- of those who talk are joined to their rooms
 pub record IsWholeEngine (config : Config) (rooms : rooms.Registry) (pool : Limits)
-    (kept : List media.SlotMedia) (slots : List ℕ) (flows : List flow.Room)
+    (kept : List media.SlotMedia) (slots : List ℕ) (flows : List flow.RoomFlows)
     (seating : List ℕ) (rows : List (Option ℕ)) : Type 0 where
   pub sound : IsSound rooms
   pub limits : rooms.limits ≡ limits_of config

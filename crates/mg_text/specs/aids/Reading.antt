@@ -1,5 +1,5 @@
 -- Reading tokens from left to right, with the first fault: what the readers of the code compute.
--- The grammar is a relation of its own, and laws join the two.
+-- The grammar is a relation of its own, and lemmas join the two.
 use Rattle.std.specs.Prelude.{◌≡◌, ℕ, zero, suc, ◌-◌, ◌==◌, Bool, true, false, List, [], ◌∷◌}
 use Rattle.std.specs.Prelude.{length, Option, Some, None, Result, Ok, Err, if◌then◌else◌}
 use Rattle.mg_scan.specs.declared.kind.TokenKind.{TokenKind}

@@ -1,5 +1,5 @@
 -- What single words stand for, case by case. The grammar tells modes, associations and commands by
--- their long words; `proofs/WordLaws` says that both are the same.
+-- their long words; `proofs/WordLemmas` says that both are the same.
 use Rattle.std.specs.Prelude.{Bool, true, false, List, ℕ, Option, Some, None, codes}
 use Rattle.std.specs.Option.{option_map, option_map_or}
 use Rattle.mg_words.specs.Cut.{after_prefix}

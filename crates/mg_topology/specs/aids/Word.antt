@@ -4,6 +4,6 @@ use Rattle.mg_topology.specs.declared.triple.Triple.{Triple}
 use Rattle.mg_topology.specs.Triple.{speaks_of, word_of}
 
 -- what holds of a pair after the triple, by what held before
-abbrev pub word_after : Triple → ℕ → ℕ → Bool → Bool
-word_after triple talker listener before =
+abbrev pub after_triple : Triple → ℕ → ℕ → Bool → Bool
+after_triple triple talker listener before =
     if speaks_of triple talker listener then word_of triple talker listener else before

@@ -1,9 +1,9 @@
 use Rattle.std.proofs.Common.{◌∙◌, map, sym, true≢false}
 use Rattle.clap.specs.Words.{found_of, kind_of, rows_of}
 use Rattle.mg_options.specs.Asked.{IsRefused}
-use Rattle.mg_options.proofs.AskedLaws.{asks_none, passed_on}
+use Rattle.mg_options.proofs.AskedLemmas.{asks_none, passed_on}
 use Rattle.mg_bridge.specs.Options.{asked, command_line}
-use Rattle.mg_bridge.proofs.InvocationLaws.{asks_run, is_simple_line, meets_subcommand, memory_passed_on, refuses}
+use Rattle.mg_bridge.proofs.InvocationLemmas.{asks_run, is_simple_line, meets_subcommand, memory_passed_on, refuses}
 use Rattle.mg_bridge.proofs.options.asked_run.Goals as goal
 
 pub returns-in_err-matches-clause-refused : goal.returns-in_err-matches-clause-refused

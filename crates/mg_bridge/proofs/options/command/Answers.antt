@@ -2,7 +2,7 @@ use Rattle.std.proofs.Common.{◌≡◌, ◌∙◌, true, ap, refl, codes}
 use Rattle.clap.specs.Words.{Shape}
 use Rattle.clap.specs.Simple.{app_of_fields, on_top}
 use Rattle.mg_bridge.specs.Options.{command_line, live_line, options, replay_line, sockets_line}
-use Rattle.mg_options.proofs.CommandLaws.{adds_subcommand}
+use Rattle.mg_options.proofs.CommandLemmas.{adds_subcommand}
 use Rattle.mg_bridge.proofs.options.command.Goals as goal
 
 replay_is_plain : replay_line.top.is_plain ≡ true

@@ -1,7 +1,7 @@
 use Rattle.std.proofs.Common.{◌∙◌, ap, refl}
 use Rattle.clap.specs.Words.{rule_of}
 use Rattle.mg_bridge.specs.Options.{options}
-use Rattle.mg_options.proofs.CommandLaws.{adds_rule}
+use Rattle.mg_options.proofs.CommandLemmas.{adds_rule}
 use Rattle.mg_bridge.proofs.options.live.Goals as goal
 
 pub returns-clause-app : goal.returns-clause-app

@@ -1,6 +1,6 @@
 use Rattle.std.proofs.Common.{◌∙◌, ap, refl}
 use Rattle.clap.specs.Words.{rule_of}
-use Rattle.mg_options.proofs.CommandLaws.{adds_rule}
+use Rattle.mg_options.proofs.CommandLemmas.{adds_rule}
 use Rattle.mg_bridge.proofs.options.on_sockets.Goals as goal
 
 pub returns-clause-app : goal.returns-clause-app

@@ -1,5 +1,5 @@
 use Rattle.clap.specs.Words.{found_of, rows_of}
-use Rattle.mg_bridge.proofs.InvocationLaws.{named_or_standard, refuses_address, refuses_control, refuses_controllers, run_is}
+use Rattle.mg_bridge.proofs.InvocationLemmas.{named_or_standard, refuses_address, refuses_control, refuses_controllers, run_is}
 use Rattle.mg_bridge.proofs.options.run_in.Goals as goal
 
 pub returns-in-Err-clause-refused : goal.returns-in-Err-clause-refused

@@ -1,6 +1,6 @@
 use Rattle.std.proofs.Common.{◌∙◌, ap, arith, length, sym}
 use Rattle.std.proofs.lemmas.List.{length-set}
-use Rattle.mg_bridge.proofs.ReadinessLaws.{below_set, still_set}
+use Rattle.mg_bridge.proofs.ReadinessLemmas.{below_set, still_set}
 use Rattle.mg_bridge.proofs.readiness.set_all.Goals as goal
 
 pub loop-slot-init : goal.loop-slot-init

@@ -3,7 +3,7 @@ use Rattle.std.proofs.lemmas.List.{length-set, nil_from_length}
 use Rattle.mio.specs.Events.{items}
 use Rattle.mio.specs.declared.event.event.Event.{Event}
 use Rattle.mg_bridge.specs.Readiness.{AreTold}
-use Rattle.mg_bridge.proofs.ReadinessLaws.{one_told, still_set}
+use Rattle.mg_bridge.proofs.ReadinessLemmas.{one_told, still_set}
 use Rattle.mg_bridge.proofs.readiness.set_told.Goals as goal
 
 pub loop-event-init : goal.loop-event-init

@@ -1,6 +1,6 @@
 use Rattle.mio.specs.Events.{items}
 use Rattle.mg_bridge.specs.Readiness.{AreStillReady}
-use Rattle.mg_bridge.proofs.ReadinessLaws.{LeavesToTell}
+use Rattle.mg_bridge.proofs.ReadinessLemmas.{LeavesToTell}
 use Rattle.mg_bridge.proofs.readiness.set_told.Given as goal
 
 abbrev pub invariant-loop-event : goal.invariant-loop-event

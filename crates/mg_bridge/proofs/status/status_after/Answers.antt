@@ -1,6 +1,6 @@
 use Rattle.std.proofs.Common.{◌∙◌, sym, ap}
 use Rattle.mg_bridge.specs.Status.{status_of}
-use Rattle.mg_bridge.proofs.EndLaws.{fault_is_told}
+use Rattle.mg_bridge.proofs.EndLemmas.{fault_is_told}
 use Rattle.mg_bridge.proofs.status.status_after.Goals.{in-Err, in_default}
 use Rattle.mg_bridge.proofs.status.status_after.Goals as goal
 

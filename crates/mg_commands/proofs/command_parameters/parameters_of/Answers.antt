@@ -1,5 +1,5 @@
 use Rattle.std.proofs.Common.{◌∙◌}
-use Rattle.mg_commands.proofs.ParameterLaws.{parts_ask, part_taken, all_taken}
+use Rattle.mg_commands.proofs.ParameterLemmas.{parts_ask, part_taken, all_taken}
 use Rattle.mg_commands.proofs.command_parameters.parameters_of.Goals as goal
 
 pub loop-part-preserved : goal.loop-part-preserved

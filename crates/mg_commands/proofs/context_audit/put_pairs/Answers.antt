@@ -6,7 +6,7 @@ use Rattle.mg_engine.specs.declared.seated_member.SeatedMember.{SeatedMember}
 use Rattle.mg_engine.specs.Place.{IsOnSeat}
 use Rattle.mg_reply.specs.Reply.{after_all}
 use Rattle.mg_commands.specs.ContextProperties.{audit_pair}
-use Rattle.mg_commands.proofs.PutLaws.{numbers, seated_told, members_told}
+use Rattle.mg_commands.proofs.PutLemmas.{numbers, seated_told, members_told}
 use Rattle.mg_commands.proofs.context_audit.put_pairs.Goals as goal
 
 pub put_pairs_of-requires-clause-first : goal.put_pairs_of-requires-clause-first

@@ -1,7 +1,7 @@
 use Rattle.std.proofs.Common.{sym, ◌∙◌}
 use Rattle.mg_commands.specs.aids.Levels.{descriptor_level}
 use Rattle.mg_commands.proofs.FaultSteps.{walk_hit, walk_end}
-use Rattle.mg_commands.proofs.LevelLaws.{levels_are_parts}
+use Rattle.mg_commands.proofs.LevelLemmas.{levels_are_parts}
 use Rattle.mg_commands.proofs.descriptor_fault.descriptors_fault.Goals as goal
 
 pub returns-in-Some : goal.returns-in-Some

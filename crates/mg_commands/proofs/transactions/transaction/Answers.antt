@@ -1,5 +1,5 @@
-use Rattle.mg_commands.proofs.RunLaws.{request_ran, request_paid}
-use Rattle.mg_commands.proofs.WideLaws.{items_are_wide, items_are_whole}
+use Rattle.mg_commands.proofs.RunLemmas.{request_ran, request_paid}
+use Rattle.mg_commands.proofs.WideLemmas.{items_are_wide, items_are_whole}
 use Rattle.mg_commands.proofs.transactions.transaction.Goals as goal
 
 pub returns-clause-ran : goal.returns-clause-ran

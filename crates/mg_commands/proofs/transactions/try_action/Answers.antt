@@ -2,7 +2,7 @@ use Rattle.std.proofs.Common.{sym, ap, ◌∙◌}
 use Rattle.mg_words.specs.declared.context_id.ContextId.{ContextId}
 use Rattle.mg_reply.specs.declared.item.Item.TheVariants as replies
 use Rattle.mg_reply.specs.Reply.{after_put}
-use Rattle.mg_commands.proofs.RunLaws.{action_refused, action_stopped, action_finished}
+use Rattle.mg_commands.proofs.RunLemmas.{action_refused, action_stopped, action_finished}
 use Rattle.mg_commands.proofs.transactions.try_action.Goals as goal
 use Rattle.mg_commands.proofs.transactions.try_action.Goals.{then-were_done, else-were_done}
 

@@ -1,5 +1,5 @@
 use Rattle.mg_commands.specs.aids.Runs.{transaction_kept}
-use Rattle.mg_commands.proofs.RunLaws.{actions_go_on, actions_stop, actions_finish}
+use Rattle.mg_commands.proofs.RunLemmas.{actions_go_on, actions_stop, actions_finish}
 use Rattle.mg_commands.proofs.transactions.try_actions.Goals as goal
 
 pub returns-then-not-try_action-clause-ran : goal.returns-then-not-try_action-clause-ran

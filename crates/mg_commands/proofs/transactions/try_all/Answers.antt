@@ -1,4 +1,4 @@
-use Rattle.mg_commands.proofs.RunLaws.{all_refused}
+use Rattle.mg_commands.proofs.RunLemmas.{all_refused}
 use Rattle.mg_commands.proofs.transactions.try_all.Goals as goal
 
 pub returns-in-Err : goal.returns-in-Err

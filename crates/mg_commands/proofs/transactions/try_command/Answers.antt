@@ -1,7 +1,7 @@
 use Rattle.std.proofs.Common.{sym, ap, ◌∙◌}
 use Rattle.mg_commands.specs.Name.{name_of}
 use Rattle.mg_commands.specs.aids.Runs.{action_kept}
-use Rattle.mg_commands.proofs.RunLaws.{command_for_one, command_refused}
+use Rattle.mg_commands.proofs.RunLemmas.{command_for_one, command_refused}
 use Rattle.mg_commands.proofs.transactions.try_command.Goals as goal
 
 pub returns-in_default : goal.returns-in_default

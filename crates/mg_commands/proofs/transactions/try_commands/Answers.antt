@@ -1,6 +1,6 @@
 use Rattle.std.proofs.Common.{◌≡◌, Bool, ◌||◌, ap, sym, ◌∙◌}
 use Rattle.mg_commands.specs.aids.Runs.{action_kept}
-use Rattle.mg_commands.proofs.RunLaws.{commands_go_on, commands_stop, commands_finish}
+use Rattle.mg_commands.proofs.RunLemmas.{commands_go_on, commands_stop, commands_finish}
 use Rattle.mg_commands.proofs.transactions.try_commands.Goals as goal
 use Rattle.mg_commands.proofs.transactions.try_commands.Goals.{then-command, else-command}
 

@@ -1,6 +1,6 @@
 use Rattle.std.proofs.Common.{◌≡◌, Bool, ◌&&◌, refl, ap, sym, ◌∙◌}
 use Rattle.mg_commands.specs.aids.Runs.{action_kept}
-use Rattle.mg_commands.proofs.RunLaws.{members_go_on, members_finish}
+use Rattle.mg_commands.proofs.RunLemmas.{members_go_on, members_finish}
 use Rattle.mg_commands.proofs.transactions.try_members.Goals as goal
 use Rattle.mg_commands.proofs.transactions.try_members.Goals.{then-were_done, else-were_done}
 

@@ -3,7 +3,7 @@ use Rattle.mg_reply.specs.declared.item.Item.TheVariants.{Command}
 use Rattle.mg_reply.specs.declared.outcome.Outcome.TheVariants.{Failed}
 use Rattle.mg_reply.specs.Reply.{after_put}
 use Rattle.mg_commands.specs.Name.{written_as}
-use Rattle.mg_commands.proofs.RunLaws.{name_done, name_failed}
+use Rattle.mg_commands.proofs.RunLemmas.{name_done, name_failed}
 use Rattle.mg_commands.proofs.transactions.try_name.Goals as goal
 
 pub returns-in-Ok : goal.returns-in-Ok

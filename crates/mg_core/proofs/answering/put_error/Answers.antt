@@ -2,7 +2,7 @@ use Rattle.std.proofs.Common.{◌+◌, length, ap, arith}
 use Rattle.mg_reply.specs.Bytes.{Written}
 use Rattle.mg_reply.specs.Written.{head_text}
 use Rattle.mg_words.specs.ErrorNumber.{error_text}
-use Rattle.mg_core.proofs.AnswerLaws.{appended-total}
+use Rattle.mg_core.proofs.AnswerLemmas.{appended-total}
 use Rattle.mg_core.proofs.answering.put_error.Goals as goal
 
 pub returns-clause-total : goal.returns-clause-total

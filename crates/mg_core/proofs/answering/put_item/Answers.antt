@@ -4,8 +4,8 @@ use Rattle.mg_core.specs.declared.state.CoreState.{CoreState}
 use Rattle.mg_core.specs.Answer.{without_ranges}
 use Rattle.mg_reply.specs.Bytes.{Written}
 use Rattle.mg_core.specs.Work.{edits_by_item}
-use Rattle.mg_core.proofs.ReplyLaws.{request_put, ranges_taken}
-use Rattle.mg_core.proofs.WorkLaws.{nothing_paid}
+use Rattle.mg_core.proofs.ReplyLemmas.{request_put, ranges_taken}
+use Rattle.mg_core.proofs.WorkLemmas.{nothing_paid}
 use Rattle.mg_core.proofs.answering.put_item.Goals as goal
 
 pub returns-in-Request-clause-ran : goal.returns-in-Request-clause-ran

@@ -3,8 +3,8 @@ use Rattle.mg_text.specs.declared.body.MessageItem.{MessageItem}
 use Rattle.mg_text.specs.Message.{requests_in}
 use Rattle.mg_core.specs.Answer.{replied_to}
 use Rattle.mg_core.specs.Work.{edits_by_items}
-use Rattle.mg_core.proofs.WorkLaws.{one_more, all_paid}
-use Rattle.mg_core.proofs.ReplyLaws.{items_more, items_end, requests_from}
+use Rattle.mg_core.proofs.WorkLemmas.{one_more, all_paid}
+use Rattle.mg_core.proofs.ReplyLemmas.{items_more, items_end, requests_from}
 use Rattle.mg_core.proofs.answering.put_replies.Goals as goal
 
 pub loop-item-preserved : goal.loop-item-preserved

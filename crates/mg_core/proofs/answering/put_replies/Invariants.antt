@@ -2,8 +2,8 @@ use Rattle.std.proofs.Common.{◌≡◌, ◌+◌, ◌*◌, ◌≤◌, [], drop, 
 use Rattle.mg_text.specs.Message.{requests_in}
 use Rattle.mg_core.specs.Answer.{replied_to}
 use Rattle.mg_core.specs.Work.{edits_by_items}
-use Rattle.mg_core.proofs.ReplyLaws.{IsUnderWay}
-use Rattle.mg_core.proofs.WorkLaws.{IsPaidSoFar}
+use Rattle.mg_core.proofs.ReplyLemmas.{IsUnderWay}
+use Rattle.mg_core.proofs.WorkLemmas.{IsPaidSoFar}
 use Rattle.mg_core.proofs.answering.put_replies.Given as goal
 
 abbrev pub invariant-loop-item : goal.invariant-loop-item

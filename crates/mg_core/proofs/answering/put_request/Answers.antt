@@ -2,8 +2,8 @@ use Rattle.std.proofs.Common.{ap, refl}
 use Rattle.mg_reply.specs.Bytes.{Written}
 use Rattle.mg_text.specs.declared.body.MessageItem.TheVariants.{Request}
 use Rattle.mg_core.specs.Work.{edits_by_item}
-use Rattle.mg_core.proofs.ReplyLaws.{request_again, request_new}
-use Rattle.mg_core.proofs.WorkLaws.{nothing_paid, request_paid}
+use Rattle.mg_core.proofs.ReplyLemmas.{request_again, request_new}
+use Rattle.mg_core.proofs.WorkLemmas.{nothing_paid, request_paid}
 use Rattle.mg_core.proofs.answering.put_request.Goals as goal
 
 pub returns-in-Some-clause-ran : goal.returns-in-Some-clause-ran

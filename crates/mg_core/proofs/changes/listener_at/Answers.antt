@@ -1,7 +1,7 @@
 use Rattle.std.proofs.Common.{◌∙◌, ap, sym, add-one}
 use Rattle.std.proofs.lemmas.Bool.{ne_eqb, eq-eqb}
 use Rattle.mg_core.specs.Flows.{Listener}
-use Rattle.mg_core.proofs.ChangeLaws.{found_at, none_more}
+use Rattle.mg_core.proofs.ChangeLemmas.{found_at, none_more}
 use Rattle.mg_core.proofs.changes.listener_at.Goals as goal
 
 pub returns-then-x-number : goal.returns-then-x-number

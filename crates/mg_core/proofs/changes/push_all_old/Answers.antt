@@ -1,5 +1,5 @@
 use Rattle.mg_core.specs.Flows.{told_of_old}
-use Rattle.mg_core.proofs.ChangeLaws.{short_more, text_more}
+use Rattle.mg_core.proofs.ChangeLemmas.{short_more, text_more}
 use Rattle.mg_core.proofs.changes.push_all_old.Goals as goal
 
 pub loop-old-preserved : goal.loop-old-preserved

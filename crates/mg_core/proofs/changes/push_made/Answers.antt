@@ -1,6 +1,6 @@
 use Rattle.std.proofs.Common.{codes, decimal, ◌++◌}
 use Rattle.mg_core.specs.Flows.{line_head}
-use Rattle.mg_core.proofs.ChangeLaws.{three_parts}
+use Rattle.mg_core.proofs.ChangeLemmas.{three_parts}
 use Rattle.mg_core.proofs.changes.push_made.Goals as goal
 
 pub returns-clause-value : goal.returns-clause-value

@@ -1,4 +1,4 @@
-use Rattle.mg_reply.proofs.WrittenLaws.{after}
+use Rattle.mg_reply.proofs.WrittenLemmas.{after}
 use Rattle.mg_core.proofs.changes.push_place.Goals as goal
 
 pub returns-clause-value : goal.returns-clause-value

@@ -4,7 +4,7 @@ use Rattle.mg_words.specs.Limits.{member_limit}
 use Rattle.mg_rooms.specs.Registry.{Registry}
 use Rattle.mg_rooms.specs.Sound.{IsSound}
 use Rattle.mg_engine.specs.Flow.{flow}
-use Rattle.mg_core.proofs.ListenerLaws.{is_taken, not_taken, talkers_few}
+use Rattle.mg_core.proofs.ListenerLemmas.{is_taken, not_taken, talkers_few}
 use Rattle.mg_core.proofs.listener.talkers_of.Goals as goal
 
 pub loop-place-preserved-then-not-flow : goal.loop-place-preserved-then-not-flow

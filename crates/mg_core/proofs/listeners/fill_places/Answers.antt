@@ -2,7 +2,7 @@ use Rattle.std.proofs.Common.{◌<◌, ◌∙◌, length, arith}
 use Rattle.std.proofs.lemmas.List.{length-set}
 use Rattle.std.proofs.lemmas.Option.{get_or_from_slice_get}
 use Rattle.mg_core.specs.Flows.{listener_of}
-use Rattle.mg_core.proofs.ListenerLaws.{place_filled}
+use Rattle.mg_core.proofs.ListenerLemmas.{place_filled}
 use Rattle.mg_core.proofs.listeners.fill_places.Goals as goal
 
 pub loop-place-preserved : goal.loop-place-preserved

@@ -1,5 +1,5 @@
 use Rattle.std.proofs.lemmas.Result.{err_from_is_err_and}
-use Rattle.mg_core.proofs.ScriptLaws.{not_started}
+use Rattle.mg_core.proofs.ScriptLemmas.{not_started}
 use Rattle.mg_core.proofs.running.run.Goals as goal
 
 pub returns-in_err-runner-clause-script : goal.returns-in_err-runner-clause-script

@@ -1,5 +1,5 @@
 use Rattle.std.proofs.lemmas.Result.{err_from_is_err_and}
-use Rattle.mg_core.proofs.ScriptLaws.{not_bad, script_fault, script_done}
+use Rattle.mg_core.proofs.ScriptLemmas.{not_bad, script_fault, script_done}
 use Rattle.mg_core.proofs.running.run_whole.Goals as goal
 
 pub returns-in_err-take_all-clause-script : goal.returns-in_err-take_all-clause-script

@@ -2,7 +2,7 @@ use Rattle.std.proofs.Common.{◌≡◌, ◌-◌, ◌∷◌, [], List, length, l
 use Rattle.std.specs.List.{refill}
 use Rattle.std.proofs.Math.ListN.{set}
 use Rattle.mg_engine.specs.declared.datagram.Datagram.{Datagram}
-use Rattle.mg_engine.proofs.OutboxLaws.{refilled, last_set}
+use Rattle.mg_engine.proofs.OutboxLemmas.{refilled, last_set}
 use Rattle.mg_engine.proofs.datagram.push_payload.Goals as goal
 
 -- what is read past the end of a list

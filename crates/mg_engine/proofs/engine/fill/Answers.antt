@@ -11,9 +11,9 @@ use Rattle.mg_engine.specs.Stands.{EngineState}
 use Rattle.mg_engine.specs.Tick.{sent_to}
 use Rattle.mg_engine.specs.Work.{RisesAtMost}
 use Rattle.mg_engine.specs.aids.Sending.{packet_now, sending_work_now, with_mixes}
-use Rattle.mg_engine.proofs.SendingLaws.{nobody, one_more}
-use Rattle.mg_engine.proofs.ShareLaws.{none_shared}
-use Rattle.mg_engine.proofs.WorkLaws.{rises_twice, stays}
+use Rattle.mg_engine.proofs.SendingLemmas.{nobody, one_more}
+use Rattle.mg_engine.proofs.ShareLemmas.{none_shared}
+use Rattle.mg_engine.proofs.WorkLemmas.{rises_twice, stays}
 use Rattle.mg_engine.proofs.engine.fill.Goals as goal
 
 pub held_at-slot-requires : goal.held_at-slot-requires

@@ -2,8 +2,8 @@ use Rattle.std.proofs.Common.{◌≢◌, ℕ, ◌<◌, ◌+◌, ◌*◌, get_or,
 use Rattle.std.specs.Int.{from_bool}
 use Rattle.std.proofs.lemmas.Bool.{cases_eq}
 use Rattle.mg_engine.specs.aids.MediaSteps as media_steps
-use Rattle.mg_engine.proofs.ConcealLaws.{counted_more}
-use Rattle.mg_engine.proofs.WorkLaws.{rises_twice, stays}
+use Rattle.mg_engine.proofs.ConcealLemmas.{counted_more}
+use Rattle.mg_engine.proofs.WorkLemmas.{rises_twice, stays}
 use Rattle.mg_engine.proofs.engine.play_slots.Goals as goal
 
 pub loop-slot-init : goal.loop-slot-init

@@ -3,7 +3,7 @@ use Rattle.std.specs.Prelude.{count_by}
 use Rattle.mg_engine.specs.Stands.{media_at}
 use Rattle.mg_engine.specs.Work.{RisesAtMost}
 use Rattle.mg_engine.specs.aids.Playing.{IsPlayed}
-use Rattle.mg_engine.proofs.ConcealLaws.{conceals_slot}
+use Rattle.mg_engine.proofs.ConcealLemmas.{conceals_slot}
 use Rattle.mg_engine.proofs.engine.play_slots.Given as goal
 
 abbrev pub invariant-loop-slot : goal.invariant-loop-slot

@@ -1,5 +1,5 @@
 use Rattle.std.proofs.Common.{arith}
-use Rattle.mg_engine.proofs.WorkLaws.{rises_twice}
+use Rattle.mg_engine.proofs.WorkLemmas.{rises_twice}
 use Rattle.mg_engine.proofs.joining.join_if_talking.Goals as goal
 
 pub returns-clause-work : goal.returns-clause-work

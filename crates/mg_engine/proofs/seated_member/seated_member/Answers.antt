@@ -2,7 +2,7 @@ use Rattle.std.proofs.Common.{Option, subst}
 use Rattle.std.specs.Prelude.{IfSome}
 use Rattle.mg_rooms.specs.declared.member.Member.{Member}
 use Rattle.mg_rooms.specs.Member.{IsThereAs}
-use Rattle.mg_engine.proofs.PlaceLaws.{on_its_place}
+use Rattle.mg_engine.proofs.PlaceLemmas.{on_its_place}
 use Rattle.mg_engine.proofs.seated_member.seated_member.Goals as goal
 
 pub returns-clause-place : goal.returns-clause-place

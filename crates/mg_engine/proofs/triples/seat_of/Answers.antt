@@ -1,5 +1,5 @@
 use Rattle.std.proofs.Common.{sym, ap, ◌∙◌, eqb, ℕ}
-use Rattle.mg_engine.proofs.TripleLaws.{matches_number}
+use Rattle.mg_engine.proofs.TripleLemmas.{matches_number}
 use Rattle.mg_engine.proofs.triples.seat_of.Goals as goal
 
 pub returns-then-record-context-clause-some : goal.returns-then-record-context-clause-some

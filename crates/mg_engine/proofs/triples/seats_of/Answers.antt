@@ -1,5 +1,5 @@
 use Rattle.std.proofs.Common.{refl}
-use Rattle.mg_engine.proofs.TripleLaws.{matches_every}
+use Rattle.mg_engine.proofs.TripleLemmas.{matches_every}
 use Rattle.mg_engine.proofs.triples.seats_of.Goals as goal
 
 pub returns-in-Every-clause-some : goal.returns-in-Every-clause-some

@@ -2,8 +2,8 @@ use Rattle.std.proofs.Common.{sym, ◌∙◌, refl}
 use Rattle.mg_topology.specs.declared.triple.Triple.{Triple}
 use Rattle.mg_rooms.specs.Registry.{members_at}
 use Rattle.mg_engine.specs.aids.Triples.{IsMatched}
-use Rattle.mg_engine.proofs.MemberLaws.{neither}
-use Rattle.mg_engine.proofs.TripleLaws.{overlaps_are, not_barred}
+use Rattle.mg_engine.proofs.MemberLemmas.{neither}
+use Rattle.mg_engine.proofs.TripleLemmas.{overlaps_are, not_barred}
 use Rattle.mg_engine.proofs.triples.triple_of.Goals as goal
 
 pub returns-then-overlaps : goal.returns-then-overlaps

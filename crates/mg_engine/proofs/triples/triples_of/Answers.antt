@@ -4,7 +4,7 @@ use Rattle.mg_topology.specs.declared.triple.Triple.{Triple}
 use Rattle.mg_topology.specs.Triple.{Overlaps}
 use Rattle.mg_rooms.specs.Registry.{members_at}
 use Rattle.mg_engine.specs.aids.Triples.{AreMatched}
-use Rattle.mg_engine.proofs.TripleLaws.{checked_to, matched_to, none_overlaps}
+use Rattle.mg_engine.proofs.TripleLemmas.{checked_to, matched_to, none_overlaps}
 use Rattle.mg_engine.proofs.triples.triples_of.Goals as goal
 
 pub loop-triple-preserved : goal.loop-triple-preserved

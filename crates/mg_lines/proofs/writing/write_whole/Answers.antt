@@ -1,7 +1,7 @@
 use Rattle.std.proofs.Common.{◌-◌, length, take, drop, sym, ap, arith}
 use Rattle.std.proofs.lemmas.List.{take_rest, take-append-drop, length-drop}
 use Rattle.std.proofs.lemmas.Result.{err_from_is_err_and}
-use Rattle.mg_lines.proofs.WriterLaws.{front_more, stops}
+use Rattle.mg_lines.proofs.WriterLemmas.{front_more, stops}
 use Rattle.mg_lines.proofs.writing.write_whole.Goals as goal
 
 pub returns-in_err-at : goal.returns-in_err-at

@@ -1,7 +1,7 @@
 use Rattle.std.proofs.Common.{refl}
 use Rattle.std.specs.Str.Parse.{ParsesUnsigned, ExplainsUnsignedError, HasUnsignedDigitsIfOk}
 use Rattle.clap.specs.Words.{found_of}
-use Rattle.mg_options.proofs.NumberLaws.{given_is}
+use Rattle.mg_options.proofs.NumberLemmas.{given_is}
 use Rattle.mg_options.proofs.value.long_value.Goals as goal
 
 pub returns : goal.returns

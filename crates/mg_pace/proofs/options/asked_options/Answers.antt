@@ -1,9 +1,9 @@
 use Rattle.std.proofs.Common.{◌∙◌, Ok, map, sym, ap}
 use Rattle.clap.specs.Words.{found_of, kind_of, rows_of}
 use Rattle.mg_options.specs.Asked.{IsRefused}
-use Rattle.mg_options.proofs.AskedLaws.{asks_none, passed_on}
+use Rattle.mg_options.proofs.AskedLemmas.{asks_none, passed_on}
 use Rattle.mg_pace.specs.Options.{asked, command_line}
-use Rattle.mg_pace.proofs.InvocationLaws.{asks_run, few_polls, is_simple_line, some_polls}
+use Rattle.mg_pace.proofs.InvocationLemmas.{asks_run, few_polls, is_simple_line, some_polls}
 use Rattle.mg_pace.proofs.options.asked_options.Goals as goal
 
 pub returns-in_err-matches-clause-refused : goal.returns-in_err-matches-clause-refused

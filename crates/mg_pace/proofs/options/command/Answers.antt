@@ -1,5 +1,5 @@
 use Rattle.std.proofs.Common.{refl}
-use Rattle.mg_options.proofs.CommandLaws.{adds_rule}
+use Rattle.mg_options.proofs.CommandLemmas.{adds_rule}
 use Rattle.mg_pace.specs.Options.{command_line}
 use Rattle.mg_pace.proofs.options.command.Goals as goal
 

@@ -1,7 +1,7 @@
 use Rattle.std.proofs.Common.{Bool, Ok, subst}
 use Rattle.std.proofs.lemmas.Result.{err_from_is_err_and}
 use Rattle.mg_pace.specs.aids.Steps.{Turns}
-use Rattle.mg_pace.proofs.RunLaws.{so_far_start, so_far_more, run_done, run_cut}
+use Rattle.mg_pace.proofs.RunLemmas.{so_far_start, so_far_more, run_done, run_cut}
 use Rattle.mg_pace.proofs.pacer.pace.Goals as goal
 
 pub loop-turn-init : goal.loop-turn-init

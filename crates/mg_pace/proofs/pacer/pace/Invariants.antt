@@ -1,4 +1,4 @@
-use Rattle.mg_pace.proofs.RunLaws.{SoFar}
+use Rattle.mg_pace.proofs.RunLemmas.{SoFar}
 use Rattle.mg_pace.proofs.pacer.pace.Given as goal
 
 abbrev pub invariant-loop-turn : goal.invariant-loop-turn

@@ -1,8 +1,8 @@
 use Rattle.std.proofs.Common.{inl, inr}
 use Rattle.clap.specs.Words.{kind_of}
-use Rattle.mg_options.proofs.EndLaws.{done_is_small, told_is_small}
+use Rattle.mg_options.proofs.EndLemmas.{done_is_small, told_is_small}
 use Rattle.mg_options.specs.declared.status.Status.TheVariants.{Done}
-use Rattle.mg_pace.proofs.ProgramLaws.{run_is_small}
+use Rattle.mg_pace.proofs.ProgramLemmas.{run_is_small}
 use Rattle.mg_pace.proofs.program.program.Goals.{in-Ok, in-Err+in-Some-1, in-Err+in-None-1}
 use Rattle.mg_pace.proofs.program.program.Goals as goal
 

@@ -1,8 +1,8 @@
 use Rattle.std.proofs.Common.{◌++◌, ◌∙◌, ◌+◌, [], take, drop, sym, ap, arith, codes}
 use Rattle.mg_reply.specs.aids.Draft.{drafted}
-use Rattle.mg_reply.specs.Entries.{action_id}
+use Rattle.mg_reply.specs.aids.Room.{action_id}
 use Rattle.mg_reply.specs.Written.{action_text, actions_text}
-use Rattle.mg_reply.proofs.ActionLaws.{goes_on, action_ends, all_done, none_pending}
+use Rattle.mg_reply.proofs.ActionLemmas.{goes_on, action_ends, all_done, none_pending}
 use Rattle.mg_reply.proofs.action_writing.put_actions.Goals as goal
 
 pub loop-i-preserved-in_default : goal.loop-i-preserved-in_default

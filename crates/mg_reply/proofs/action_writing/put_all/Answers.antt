@@ -3,7 +3,7 @@ use Rattle.mg_reply.specs.aids.Draft.{drafted}
 use Rattle.mg_reply.specs.Listed.{listed}
 use Rattle.mg_reply.specs.aids.Marks.{has_no_part, mark_of}
 use Rattle.mg_reply.specs.Entries.{texts_of}
-use Rattle.mg_reply.proofs.ListedLaws.{all_step, first_step, all_end}
+use Rattle.mg_reply.proofs.ListedLemmas.{all_step, first_step, all_end}
 use Rattle.mg_reply.proofs.action_writing.put_all.Goals as goal
 
 pub loop-item-preserved : goal.loop-item-preserved

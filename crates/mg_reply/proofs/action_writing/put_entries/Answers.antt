@@ -4,8 +4,8 @@ use Rattle.mg_reply.specs.aids.Draft.{drafted}
 use Rattle.mg_reply.specs.Listed.{listed}
 use Rattle.mg_reply.specs.aids.Marks.{has_no_part, mark_of, closing}
 use Rattle.mg_reply.specs.Entries.{texts_of, topology_entry}
-use Rattle.mg_reply.proofs.DraftLaws.{four_parts}
-use Rattle.mg_reply.proofs.ListedLaws.{entries_are}
+use Rattle.mg_reply.proofs.DraftLemmas.{four_parts}
+use Rattle.mg_reply.proofs.ListedLemmas.{entries_are}
 use Rattle.mg_reply.proofs.action_writing.put_entries.Goals as goal
 
 pub returns : goal.returns

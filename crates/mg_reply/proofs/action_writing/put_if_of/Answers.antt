@@ -2,8 +2,8 @@ use Rattle.std.proofs.Common.{◌≡◌, ◌∙◌, true, ap, sym}
 use Rattle.mg_reply.specs.aids.Draft.{drafted}
 use Rattle.mg_reply.specs.aids.Marks.{mark_of}
 use Rattle.mg_reply.specs.Entries.{is_of, item_text}
-use Rattle.mg_reply.proofs.DraftLaws.{then}
-use Rattle.mg_reply.proofs.ListedLaws.{one_of}
+use Rattle.mg_reply.proofs.DraftLemmas.{then}
+use Rattle.mg_reply.proofs.ListedLemmas.{one_of}
 use Rattle.mg_reply.proofs.action_writing.put_if_of.Goals as goal
 
 pub returns-clause-value : goal.returns-clause-value

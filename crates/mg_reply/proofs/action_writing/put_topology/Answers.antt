@@ -4,8 +4,8 @@ use Rattle.mg_reply.specs.aids.Draft.{drafted}
 use Rattle.mg_reply.specs.Listed.{listed}
 use Rattle.mg_reply.specs.aids.Marks.{has_no_part, closing}
 use Rattle.mg_reply.specs.Entries.{texts_of}
-use Rattle.mg_reply.proofs.DraftLaws.{then}
-use Rattle.mg_reply.proofs.ListedLaws.{topology_is}
+use Rattle.mg_reply.proofs.DraftLemmas.{then}
+use Rattle.mg_reply.proofs.ListedLemmas.{topology_is}
 use Rattle.mg_reply.proofs.action_writing.put_topology.Goals as goal
 
 pub returns-clause-value : goal.returns-clause-value

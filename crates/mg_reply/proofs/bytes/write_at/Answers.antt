@@ -1,5 +1,5 @@
 use Rattle.std.proofs.Common.{rules, ◌≡◌, length, take, ap, ◌∙◌, arith}
-use Rattle.mg_reply.proofs.BytesLaws.{part_seen}
+use Rattle.mg_reply.proofs.BytesLemmas.{part_seen}
 use Rattle.mg_reply.proofs.bytes.write_at.Goals as goal
 
 pub returns : goal.returns

@@ -2,8 +2,8 @@ use Rattle.std.proofs.Common.{◌∙◌, ap, sym, codes}
 use Rattle.mg_reply.specs.aids.Draft.{drafted}
 use Rattle.mg_reply.specs.Listed.{listed}
 use Rattle.mg_reply.specs.Media.{remote_text, optional}
-use Rattle.mg_reply.proofs.DraftLaws.{then}
-use Rattle.mg_reply.proofs.ListedLaws.{listed-one}
+use Rattle.mg_reply.proofs.DraftLemmas.{then}
+use Rattle.mg_reply.proofs.ListedLemmas.{listed-one}
 use Rattle.mg_reply.proofs.parts_writing.put_next_remote.Goals as goal
 
 pub returns-in-Some : goal.returns-in-Some

@@ -1,6 +1,6 @@
 use Rattle.std.proofs.Common.{◌++◌, codes, decimal}
 use Rattle.mg_reply.specs.Media.{statistics_text}
-use Rattle.mg_reply.proofs.DraftLaws.{then}
+use Rattle.mg_reply.proofs.DraftLemmas.{then}
 use Rattle.mg_reply.proofs.parts_writing.put_statistics.Goals as goal
 
 pub returns : goal.returns

@@ -1,4 +1,4 @@
-use Rattle.mg_reply.proofs.PrefixLaws.{no_proper_prefix}
+use Rattle.mg_reply.proofs.PrefixLemmas.{no_proper_prefix}
 use Rattle.mg_reply.proofs.theorems.no_proper_prefix.Goals as goal
 
 pub returns : goal.returns

@@ -1,7 +1,7 @@
 use Rattle.std.proofs.Common.{length, refl, sym, ◌∙◌}
 use Rattle.std.proofs.lemmas.Bool.{ltb-true}
 use Rattle.std.proofs.lemmas.Option.{slice_get_read}
-use Rattle.mg_rooms.proofs.HintLaws.{found_here}
+use Rattle.mg_rooms.proofs.HintLemmas.{found_here}
 use Rattle.mg_rooms.proofs.entries.room_of.Goals as goal
 
 pub returns-in-Some-clause-value : goal.returns-in-Some-clause-value

@@ -15,7 +15,7 @@ returns-in_err-rest c =
     let head = c.split_at.result.0.now in
     let h = c.header_of-header.result in
     let begins = begins_at bytes head c.split_at.result.1.now h (λ i. omega (arith, c.type_inv.bytes i))
-    c.if-bytes-lt-HEADER_LEN.false c.split_at.ensures.front c.split_at.ensures.back c.if-first-ne-VERSION.false
+    c.if-bytes-lt-HEADER_LEN.false c.split_at.ensures.front c.split_at.ensures.back c.if-first-ne-RTP_VERSION.false
     c.header_of-header.ensures.fields c.header_of-header.ensures.within in
     let r = c.from_residual.result in
     let p = err_from_is_err_and r c.from_residual.ensures.1 in
@@ -40,7 +40,7 @@ returns-in_err-rest-2 c =
     let head = c.split_at.result.0.now in
     let h = c.header_of-header.result in
     let begins = begins_at bytes head c.split_at.result.1.now h (λ i. omega (arith, c.type_inv.bytes i))
-    c.if-bytes-lt-HEADER_LEN.false c.split_at.ensures.front c.split_at.ensures.back c.if-first-ne-VERSION.false
+    c.if-bytes-lt-HEADER_LEN.false c.split_at.ensures.front c.split_at.ensures.back c.if-first-ne-RTP_VERSION.false
     c.header_of-header.ensures.fields c.header_of-header.ensures.within in
     let sources = c.in_ok-rest.ensures.ok in
     let r = c.from_residual-in_err-rest-2.result in
@@ -68,7 +68,7 @@ returns-in_err-payload c =
     let head = c.split_at.result.0.now in
     let h = c.header_of-header.result in
     let begins = begins_at bytes head c.split_at.result.1.now h (λ i. omega (arith, c.type_inv.bytes i))
-    c.if-bytes-lt-HEADER_LEN.false c.split_at.ensures.front c.split_at.ensures.back c.if-first-ne-VERSION.false
+    c.if-bytes-lt-HEADER_LEN.false c.split_at.ensures.front c.split_at.ensures.back c.if-first-ne-RTP_VERSION.false
     c.header_of-header.ensures.fields c.header_of-header.ensures.within in
     let sources = c.in_ok-rest.ensures.ok in
     let extension = c.in_ok-rest-2.ensures.ok in
@@ -99,7 +99,7 @@ returns c =
     let head = c.split_at.result.0.now in
     let h = c.header_of-header.result in
     let begins = begins_at bytes head c.split_at.result.1.now h (λ i. omega (arith, c.type_inv.bytes i))
-    c.if-bytes-lt-HEADER_LEN.false c.split_at.ensures.front c.split_at.ensures.back c.if-first-ne-VERSION.false
+    c.if-bytes-lt-HEADER_LEN.false c.split_at.ensures.front c.split_at.ensures.back c.if-first-ne-RTP_VERSION.false
     c.header_of-header.ensures.fields c.header_of-header.ensures.within in
     let sources = c.in_ok-rest.ensures.ok in
     let extension = c.in_ok-rest-2.ensures.ok in

@@ -1,4 +1,4 @@
-use Rattle.mg_scan.proofs.QuoteLaws.{none_closes, other_ends, quote_closes}
+use Rattle.mg_scan.proofs.QuoteLemmas.{none_closes, other_ends, quote_closes}
 use Rattle.mg_scan.proofs.first.quoted_at.Goals as goal
 
 pub returns-in-Some : goal.returns-in-Some

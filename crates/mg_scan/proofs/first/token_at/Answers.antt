@@ -1,5 +1,5 @@
 use Rattle.std.proofs.Common.{sym, arith}
-use Rattle.mg_scan.proofs.WordLaws.{word_token}
+use Rattle.mg_scan.proofs.WordLemmas.{word_token}
 use Rattle.mg_scan.proofs.first.token_at.Goals as goal
 
 pub returns-in-len1-up : goal.returns-in-len1-up

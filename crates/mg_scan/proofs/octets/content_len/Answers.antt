@@ -1,5 +1,5 @@
 use Rattle.std.proofs.Common.{sym, ◌∙◌, inl, inr, refl, length, arith, length-drop, ap}
-use Rattle.mg_scan.proofs.BraceLaws.{closes, passes, runs_out, not_escaped, is_escaped}
+use Rattle.mg_scan.proofs.BraceLemmas.{closes, passes, runs_out, not_escaped, is_escaped}
 use Rattle.mg_scan.proofs.octets.content_len.Goals as goal
 use Rattle.mg_scan.proofs.octets.content_len.Goals.{then-n-eq0-via-then-n-eq0, then-n-eq0-via-else-n-eq0+then-rest-n-ne-ESCAPE}
 

@@ -1,6 +1,6 @@
 use Rattle.std.proofs.Common.{◌≡◌, ◌-◌, ◌≤◌, false, length, drop}
 use Rattle.mg_scan.specs.Tokens.{content_len}
-use Rattle.mg_scan.proofs.BraceLaws.{moved}
+use Rattle.mg_scan.proofs.BraceLemmas.{moved}
 use Rattle.mg_scan.proofs.octets.content_len.Given as goal
 
 abbrev pub invariant-loop-n : goal.invariant-loop-n

@@ -4,7 +4,7 @@ use Rattle.std.proofs.lemmas.Result.{err_from_is_err_and}
 use Rattle.mg_sdp.specs.Lines.{is_line}
 use Rattle.mg_sdp.specs.Sessions.{sessions_of}
 use Rattle.mg_sdp.specs.aids.LinesLeft.{lines_left}
-use Rattle.mg_sdp.proofs.ReaderLaws.{read_on, line_fault, content_read, sessions_read, sessions_fault}
+use Rattle.mg_sdp.proofs.ReaderLemmas.{read_on, line_fault, content_read, sessions_read, sessions_fault}
 use Rattle.mg_sdp.proofs.reader.read_sessions.Goals as goal
 
 pub returns-in_err-read : goal.returns-in_err-read

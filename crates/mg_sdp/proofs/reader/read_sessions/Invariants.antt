@@ -2,7 +2,7 @@ use Rattle.std.proofs.Common.{◌≡◌}
 use Rattle.mg_sdp.specs.Lines.{content_lines}
 use Rattle.mg_sdp.specs.aids.LinesLeft.{lines_left}
 use Rattle.mg_sdp.specs.aids.Reader.{progress_at_start}
-use Rattle.mg_sdp.proofs.ReaderLaws.{read_on}
+use Rattle.mg_sdp.proofs.ReaderLemmas.{read_on}
 use Rattle.mg_sdp.proofs.reader.read_sessions.Given as goal
 
 -- reading on gives what reading from the start does

@@ -1,5 +1,5 @@
 use Rattle.std.proofs.Common.{sym, ◌∙◌}
-use Rattle.mg_sdp.proofs.GroupLaws.{alternatives_same}
+use Rattle.mg_sdp.proofs.GroupLemmas.{alternatives_same}
 use Rattle.mg_sdp.proofs.theorems.alternatives_are_told_apart.Goals as goal
 
 pub returns : goal.returns

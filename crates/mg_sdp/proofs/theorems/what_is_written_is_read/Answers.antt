@@ -1,5 +1,5 @@
 use Rattle.std.proofs.Common.{arith, rules}
-use Rattle.mg_sdp.proofs.ReadBackLaws.{text_read}
+use Rattle.mg_sdp.proofs.ReadBackLemmas.{text_read}
 use Rattle.mg_sdp.proofs.theorems.what_is_written_is_read.Goals as goal
 
 pub returns-clause-read : goal.returns-clause-read

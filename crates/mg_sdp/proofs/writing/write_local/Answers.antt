@@ -1,4 +1,4 @@
-use Rattle.mg_sdp.proofs.WrittenLaws.{parts_joined}
+use Rattle.mg_sdp.proofs.WrittenLemmas.{parts_joined}
 use Rattle.mg_sdp.proofs.writing.write_local.Goals as goal
 
 pub returns : goal.returns

@@ -1,5 +1,5 @@
 use Rattle.std.proofs.Common.{arith}
-use Rattle.mg_text.proofs.KeywordLaws.{by_letter, no_letter}
+use Rattle.mg_text.proofs.KeywordLemmas.{by_letter, no_letter}
 use Rattle.mg_text.proofs.keyword.keyword_of.Goals as goal
 use Rattle.std.proofs.Common.{sym}
 

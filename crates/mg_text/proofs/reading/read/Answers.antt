@@ -1,5 +1,5 @@
 use Rattle.std.proofs.Common.{length, arith}
-use Rattle.mg_text.proofs.ReadLaws.{answer_found, answer_proper, answer_sender, answer_only, answer_many, answer_many_only, answer_version, answer_version_only, answer_syntax}
+use Rattle.mg_text.proofs.ReadLemmas.{answer_found, answer_proper, answer_sender, answer_only, answer_many, answer_many_only, answer_version, answer_version_only, answer_syntax}
 use Rattle.mg_text.proofs.reading.read.Goals as goal
 
 pub returns-clause-found : goal.returns-clause-found

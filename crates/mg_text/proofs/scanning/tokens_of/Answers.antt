@@ -1,5 +1,5 @@
 use Rattle.std.proofs.Common.{◌∙◌}
-use Rattle.mg_text.proofs.ScanLaws.{Reaches-push}
+use Rattle.mg_text.proofs.ScanLemmas.{Reaches-push}
 use Rattle.mg_text.proofs.scanning.tokens_of.Goals as goal
 
 pub loop-token-preserved : goal.loop-token-preserved

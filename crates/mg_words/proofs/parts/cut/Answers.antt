@@ -1,4 +1,4 @@
-use Rattle.mg_words.proofs.CutLaws.{none_cut, first_cut}
+use Rattle.mg_words.proofs.CutLemmas.{none_cut, first_cut}
 use Rattle.mg_words.proofs.parts.cut.Goals as goal
 
 pub returns-in-Some : goal.returns-in-Some

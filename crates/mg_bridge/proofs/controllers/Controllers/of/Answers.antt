@@ -1,7 +1,7 @@
 use Rattle.std.proofs.Common.{◌∙◌, [], ◌∷◌, ap, arith, length, length-append, map, drop, refl, sym, ◌+◌}
 use Rattle.mg_words.specs.Address.{address_of}
 use Rattle.mg_bridge.specs.Controllers.{all_named}
-use Rattle.mg_bridge.proofs.ControllerLaws.{next_read, none_read, then_named}
+use Rattle.mg_bridge.proofs.ControllerLemmas.{next_read, none_read, then_named}
 use Rattle.mg_bridge.proofs.controllers.Controllers.of.Goals as goal
 
 pub loop-text-init : goal.loop-text-init

@@ -1,6 +1,6 @@
 use Rattle.std.proofs.Common.{◌≡◌, drop, length, map}
 use Rattle.mg_bridge.specs.Controllers.{all_named}
-use Rattle.mg_bridge.proofs.ControllerLaws.{then_named}
+use Rattle.mg_bridge.proofs.ControllerLemmas.{then_named}
 use Rattle.mg_bridge.proofs.controllers.Controllers.of.Given as goal
 
 abbrev pub invariant-loop-text : goal.invariant-loop-text

@@ -1,6 +1,6 @@
 use Rattle.std.proofs.Common.{take}
 use Rattle.mg_clock.specs.Reading.{lines_at, clock_seen}
-use Rattle.mg_clock.proofs.ReadingLaws.{given_more}
+use Rattle.mg_clock.proofs.ReadingLemmas.{given_more}
 use Rattle.mg_clock.proofs.clock_lines.ClockLines.fill.Goals as goal
 
 pub returns-clause-text : goal.returns-clause-text

@@ -3,7 +3,7 @@ use Rattle.std.proofs.lemmas.Result.{err_from_is_err_and}
 use Rattle.mg_reply.specs.Bytes.{Written}
 use Rattle.mg_core.specs.declared.event.Event.TheVariants.{Control}
 use Rattle.mg_core.specs.Run.{answer_line}
-use Rattle.mg_core.proofs.LineLaws.{silent_steps, answer_steps}
+use Rattle.mg_core.proofs.LineLemmas.{silent_steps, answer_steps}
 use Rattle.mg_core.proofs.line_runner.LineRunner.take_control.Goals as goal
 
 pub returns-in_err-write_whole-in-Send : goal.returns-in_err-write_whole-in-Send

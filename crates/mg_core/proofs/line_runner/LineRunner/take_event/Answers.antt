@@ -2,8 +2,8 @@ use Rattle.std.proofs.Common.{◌∙◌, Ok, sym, ap}
 use Rattle.std.proofs.lemmas.Result.{err_from_is_err_and}
 use Rattle.mg_core.specs.CoreView.{CoreView}
 use Rattle.mg_core.specs.declared.event.Event.TheVariants.{Control, Media, Tick}
-use Rattle.mg_core.proofs.LineLaws.{changed_steps, cut_steps, quiet_steps, silent_steps}
-use Rattle.mg_core.proofs.QuietLaws.{media_keeps_quiet, tick_keeps_quiet}
+use Rattle.mg_core.proofs.LineLemmas.{changed_steps, cut_steps, quiet_steps, silent_steps}
+use Rattle.mg_core.proofs.QuietLemmas.{media_keeps_quiet, tick_keeps_quiet}
 use Rattle.mg_core.proofs.line_runner.LineRunner.take_event.Goals as goal
 
 pub returns-in_err-take_control-in-Control : goal.returns-in_err-take_control-in-Control

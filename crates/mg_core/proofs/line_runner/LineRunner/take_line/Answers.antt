@@ -2,8 +2,8 @@ use Rattle.std.proofs.Common.{◌≡◌, Some, None, Ok, Err, ap, ◌∙◌}
 use Rattle.std.proofs.lemmas.Result.{err_from_is_err_and}
 use Rattle.mg_core.specs.declared.fault.LineFault.{LineFault}
 use Rattle.mg_core.specs.Script.{event_of}
-use Rattle.mg_core.proofs.LineLaws.{an_event_or_none, line_steps, comment_ran, same_steps}
-use Rattle.mg_core.proofs.RunLaws.{Followed}
+use Rattle.mg_core.proofs.LineLemmas.{an_event_or_none, line_steps, comment_ran, same_steps}
+use Rattle.mg_core.proofs.RunLemmas.{Followed}
 use Rattle.mg_core.proofs.line_runner.LineRunner.take_line.Goals as goal
 
 pub returns-in_err-take_event-in-Ok-Some : goal.returns-in_err-take_event-in-Ok-Some

@@ -4,7 +4,7 @@ use Rattle.mg_engine.specs.declared.datagram.Datagram.{Datagram}
 use Rattle.mg_core.specs.Run.{lines_for}
 use Rattle.mg_core.specs.Step.{Packet}
 use Rattle.mg_core.specs.World.{capped}
-use Rattle.mg_core.proofs.LineLaws.{sent_at_once, tick_steps}
+use Rattle.mg_core.proofs.LineLemmas.{sent_at_once, tick_steps}
 use Rattle.mg_core.proofs.line_runner.LineRunner.take_tick.Goals as goal
 
 pub returns : goal.returns

@@ -2,15 +2,15 @@ use Rattle.std.proofs.Common.{ℕ, ◌*◌, refl, sym, ap, subst, ◌∙◌}
 use Rattle.mg_text.specs.MessageReading.{Read}
 use Rattle.mg_engine.specs.Stands.{EngineState}
 use Rattle.mg_engine.specs.Work.{RisesAtMost}
-use Rattle.mg_engine.proofs.WorkLaws.{stays}
+use Rattle.mg_engine.proofs.WorkLemmas.{stays}
 use Rattle.mg_core.specs.CoreView.{CoreView}
 use Rattle.mg_core.specs.declared.answer.Answer.TheVariants.{Send}
 use Rattle.mg_core.specs.declared.state.CoreState.{CoreState}
 use Rattle.mg_core.specs.Step.{told}
 use Rattle.mg_core.specs.Work.{edits_by}
 use Rattle.mg_core.specs.World.{StandsFor, with_control}
-use Rattle.mg_core.proofs.AnswerLaws.{is_refused}
-use Rattle.mg_core.proofs.HeadlineLaws.{goes_on}
+use Rattle.mg_core.proofs.AnswerLemmas.{is_refused}
+use Rattle.mg_core.proofs.HeadlineLemmas.{goes_on}
 use Rattle.mg_core.proofs.machine.Core.control.Goals as goal
 
 pub returns-in-Ok-clause-answered : goal.returns-in-Ok-clause-answered

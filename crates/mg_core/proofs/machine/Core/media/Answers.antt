@@ -3,7 +3,7 @@ use Rattle.mg_engine.specs.Stands.{EngineState}
 use Rattle.mg_core.specs.CoreView.{CoreView}
 use Rattle.mg_core.specs.declared.event.Event.TheVariants.{Media}
 use Rattle.mg_core.specs.World.{StandsFor, with_taken}
-use Rattle.mg_core.proofs.HeadlineLaws.{goes_on}
+use Rattle.mg_core.proofs.HeadlineLemmas.{goes_on}
 use Rattle.mg_core.proofs.machine.Core.media.Goals as goal
 
 pub returns-clause-taken : goal.returns-clause-taken

@@ -6,7 +6,7 @@ use Rattle.mg_core.specs.CoreView.{CoreView}
 use Rattle.mg_core.specs.declared.event.Event.TheVariants.{Tick}
 use Rattle.mg_core.specs.Step.{Packet}
 use Rattle.mg_core.specs.World.{StandsFor, world_after_tick, with_tick}
-use Rattle.mg_core.proofs.HeadlineLaws.{goes_on}
+use Rattle.mg_core.proofs.HeadlineLemmas.{goes_on}
 use Rattle.mg_core.proofs.machine.Core.tick.Goals as goal
 
 pub returns-clause-next : goal.returns-clause-next

@@ -1,7 +1,7 @@
 use Rattle.std.proofs.Common.{Ok, Err, take, length-take, arith}
 use Rattle.std.proofs.KnownBytes.{Keeps-refl}
 use Rattle.std.proofs.lemmas.Result.{err_from_is_err_and}
-use Rattle.mg_core.proofs.RunLaws.{comes_start, comes_bytes, comes_fault, comes_end, comes_unread}
+use Rattle.mg_core.proofs.RunLemmas.{comes_start, comes_bytes, comes_fault, comes_end, comes_unread}
 use Rattle.mg_core.proofs.script_runner.ScriptRunner.take_all.Goals as goal
 
 pub loop-init : goal.loop-init

@@ -2,7 +2,7 @@ use Rattle.std.proofs.Common.{◌*◌, ◌≤◌}
 use Rattle.mg_engine.specs.declared.config.Config.{Config}
 use Rattle.mg_core.specs.declared.shown.Shown.{Shown}
 use Rattle.mg_core.specs.World.{start_of}
-use Rattle.mg_core.proofs.RunLaws.{Comes, Followed}
+use Rattle.mg_core.proofs.RunLemmas.{Comes, Followed}
 use Rattle.mg_core.proofs.script_runner.ScriptRunner.take_all.Given as goal
 
 abbrev pub invariant-loop : goal.invariant-loop

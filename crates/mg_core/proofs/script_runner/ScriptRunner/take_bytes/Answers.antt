@@ -1,6 +1,6 @@
 use Rattle.std.proofs.Common.{◌+◌, arith}
 use Rattle.std.proofs.lemmas.Result.{err_from_is_err_and}
-use Rattle.mg_core.proofs.RunLaws.{index_start, index_plain, index_line, index_stop, index_long}
+use Rattle.mg_core.proofs.RunLemmas.{index_start, index_plain, index_line, index_stop, index_long}
 use Rattle.mg_core.proofs.script_runner.ScriptRunner.take_bytes.Goals as goal
 
 pub loop-b-init : goal.loop-b-init

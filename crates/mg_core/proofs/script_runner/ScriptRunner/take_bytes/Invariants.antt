@@ -1,6 +1,6 @@
 use Rattle.std.proofs.Common.{◌+◌, ◌≤◌, take, Ok}
 use Rattle.mg_core.specs.declared.shown.Shown.{Shown}
-use Rattle.mg_core.proofs.RunLaws.{HasRun}
+use Rattle.mg_core.proofs.RunLemmas.{HasRun}
 use Rattle.mg_core.proofs.script_runner.ScriptRunner.take_bytes.Given as goal
 
 abbrev pub invariant-loop-b : goal.invariant-loop-b

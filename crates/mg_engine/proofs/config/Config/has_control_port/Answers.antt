@@ -1,5 +1,5 @@
 use Rattle.std.proofs.lemmas.Bool.{le-leb, leb-true}
-use Rattle.mg_engine.proofs.PortLaws.{apart_is, far_is}
+use Rattle.mg_engine.proofs.PortLemmas.{apart_is, far_is}
 use Rattle.mg_engine.proofs.config.Config.has_control_port.Goals as goal
 
 pub returns : goal.returns

@@ -6,16 +6,16 @@ use Rattle.mg_engine.specs.aids.MediaSteps as media_steps
 use Rattle.mg_engine.specs.Outcome.{added, done_with}
 use Rattle.mg_engine.specs.Place.{member_place}
 use Rattle.mg_engine.specs.Stands.{EngineState, StandsFor}
-use Rattle.mg_engine.proofs.OutcomeLaws.{add_adds}
-use Rattle.mg_engine.proofs.EditLaws.{slots_kept, room_left, whole_added, unknown_before, begun_tuned, added_stands}
-use Rattle.mg_engine.proofs.MemberLaws.{no_record, same_others, carry, hears_carry, unknown, hears_some, free_place, has_entered, hears_entered}
+use Rattle.mg_engine.proofs.OutcomeLemmas.{add_adds}
+use Rattle.mg_engine.proofs.EditLemmas.{slots_kept, room_left, whole_added, unknown_before, begun_tuned, added_stands}
+use Rattle.mg_engine.proofs.MemberLemmas.{no_record, same_others, carry, hears_carry, unknown, hears_some, free_place, has_entered, hears_entered}
 use Rattle.mg_engine.specs.Work.{RisesAtMost}
 use Rattle.mg_engine.specs.aids.Joined.{SetsRow, room_for}
-use Rattle.mg_engine.proofs.JoinedLaws.{joined_changed}
-use Rattle.mg_engine.proofs.WorkLaws.{rises_twice}
-use Rattle.mg_engine.proofs.PlaceLaws.{on_its_place, member_within, within}
-use Rattle.mg_engine.proofs.SeatingLaws.{carry_seats, seated_put}
-use Rattle.mg_engine.proofs.LeftAloneLaws.{add_alone, sound_as}
+use Rattle.mg_engine.proofs.JoinedLemmas.{joined_changed}
+use Rattle.mg_engine.proofs.WorkLemmas.{rises_twice}
+use Rattle.mg_engine.proofs.PlaceLemmas.{on_its_place, member_within, within}
+use Rattle.mg_engine.proofs.SeatingLemmas.{carry_seats, seated_put}
+use Rattle.mg_engine.proofs.LeftAloneLemmas.{add_alone, sound_as}
 use Rattle.mg_engine.proofs.engine.Engine.add.Goals as goal
 
 pub begin-requires : goal.begin-requires

@@ -12,7 +12,7 @@ use Rattle.mg_engine.specs.aids.MediaSteps as media_steps
 use Rattle.mg_engine.specs.Media.{idle}
 use Rattle.mg_engine.specs.aids.Sending.{mixed_now, packet_now}
 use Rattle.mg_engine.specs.Stands.{EngineState}
-use Rattle.mg_engine.proofs.SendingLaws.{packet_is}
+use Rattle.mg_engine.proofs.SendingLemmas.{packet_is}
 use Rattle.mg_engine.proofs.engine.Engine.address.Goals as goal
 
 pub returns-clause-put : goal.returns-clause-put

@@ -3,7 +3,7 @@ use Rattle.mg_rooms.specs.declared.limits.Limits.{Limits}
 use Rattle.mg_engine.specs.Arrival.{at_port}
 use Rattle.mg_engine.specs.aids.Ports.{slot_of}
 use Rattle.mg_engine.specs.Stands.{EngineState}
-use Rattle.mg_engine.proofs.PoolLaws.{at_slot_of, at_no_slot}
+use Rattle.mg_engine.proofs.PoolLemmas.{at_slot_of, at_no_slot}
 use Rattle.mg_engine.proofs.engine.Engine.at_port.Goals as goal
 
 pub returns-in-Some-clause-value : goal.returns-in-Some-clause-value

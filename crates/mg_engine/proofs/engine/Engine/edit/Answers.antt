@@ -3,7 +3,7 @@ use Rattle.mg_engine.specs.declared.done.Done.TheVariants.{Termination, Topology
 use Rattle.mg_engine.specs.declared.edit.Edit.{Edit}
 use Rattle.mg_engine.specs.LeftAlone.{IsEditElsewhere}
 use Rattle.mg_engine.specs.Outcome.{outcome, add, modify, move_to, subtract, apply_triples}
-use Rattle.mg_engine.proofs.LeftAloneLaws.{as_done}
+use Rattle.mg_engine.proofs.LeftAloneLemmas.{as_done}
 use Rattle.mg_engine.proofs.engine.Engine.edit.Goals as goal
 
 pub returns-in_ok-made-in-Add-clause-others : goal.returns-in_ok-made-in-Add-clause-others

@@ -2,8 +2,8 @@ use Rattle.std.proofs.Common.{ℕ, length, sym, ap, subst, ◌∙◌, arith}
 use Rattle.mg_rooms.specs.declared.limits.Limits.{Limits}
 use Rattle.mg_engine.specs.Stands.{EngineState, StandsFor}
 use Rattle.mg_engine.specs.aids.Sending.{IsEnded}
-use Rattle.mg_engine.proofs.HeldLaws.{held_below, held_apart, held_at}
-use Rattle.mg_engine.proofs.TickLaws.{AreEnded, ended_stands}
+use Rattle.mg_engine.proofs.HeldLemmas.{held_below, held_apart, held_at}
+use Rattle.mg_engine.proofs.TickLemmas.{AreEnded, ended_stands}
 use Rattle.mg_engine.proofs.engine.Engine.end_all.Goals as goal
 
 pub end_slots-requires : goal.end_slots-requires

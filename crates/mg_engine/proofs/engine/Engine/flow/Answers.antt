@@ -4,8 +4,8 @@ use Rattle.mg_flow.specs.declared.place.Place.{Place}
 use Rattle.mg_flow.specs.Table as table
 use Rattle.mg_engine.specs.Place.{member_place}
 use Rattle.mg_engine.specs.Stands.{EngineState, StandsFor}
-use Rattle.mg_engine.proofs.FlowLaws.{flow_places}
-use Rattle.mg_engine.proofs.PlaceLaws.{on_its_place}
+use Rattle.mg_engine.proofs.FlowLemmas.{flow_places}
+use Rattle.mg_engine.proofs.PlaceLemmas.{on_its_place}
 use Rattle.mg_engine.proofs.engine.Engine.flow.Goals as goal
 
 pub open-requires : goal.open-requires

@@ -1,6 +1,6 @@
 use Rattle.std.proofs.Common.{sym, subst}
 use Rattle.mg_engine.specs.Stands.{EngineState, StandsFor}
-use Rattle.mg_engine.proofs.FlowLaws.{tells}
+use Rattle.mg_engine.proofs.FlowLemmas.{tells}
 use Rattle.mg_engine.proofs.engine.Engine.flows.Goals as goal
 
 pub returns-clause-told : goal.returns-clause-told

@@ -3,8 +3,8 @@ use Rattle.mg_flow.specs.declared.place.Place.{Place}
 use Rattle.mg_flow.specs.Table as table
 use Rattle.mg_engine.specs.Place.{member_place}
 use Rattle.mg_engine.specs.Stands.{EngineState, StandsFor}
-use Rattle.mg_engine.proofs.FlowLaws.{hears_places}
-use Rattle.mg_engine.proofs.PlaceLaws.{on_its_place}
+use Rattle.mg_engine.proofs.FlowLemmas.{hears_places}
+use Rattle.mg_engine.proofs.PlaceLemmas.{on_its_place}
 use Rattle.mg_engine.proofs.engine.Engine.hears.Goals as goal
 
 pub returns-in-Some-Some : goal.returns-in-Some-Some

@@ -3,7 +3,7 @@ use Rattle.mg_flow.specs.declared.place.Place.{Place}
 use Rattle.mg_flow.specs.Table as table
 use Rattle.mg_engine.specs.Place.{IsOnSeat, seated_place}
 use Rattle.mg_engine.specs.Stands.{EngineState, StandsFor}
-use Rattle.mg_engine.proofs.FlowLaws.{hears_places}
+use Rattle.mg_engine.proofs.FlowLemmas.{hears_places}
 use Rattle.mg_engine.proofs.engine.Engine.hears_seated.Goals as goal
 
 pub returns : goal.returns

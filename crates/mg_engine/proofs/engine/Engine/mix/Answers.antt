@@ -9,8 +9,8 @@ use Rattle.mg_sums.specs.Samples.{nearest_sample}
 use Rattle.mg_engine.specs.Place.{IsOnPlace}
 use Rattle.mg_engine.specs.Stands.{EngineState}
 use Rattle.mg_engine.specs.aids.Sending.{heard_now, silenced_now}
-use Rattle.mg_engine.proofs.MaskLaws.{seats_there}
-use Rattle.mg_engine.proofs.MixLaws.{IsLeftAndHeard, left_out, how_many, mix_is}
+use Rattle.mg_engine.proofs.MaskLemmas.{seats_there}
+use Rattle.mg_engine.proofs.MixLemmas.{IsLeftAndHeard, left_out, how_many, mix_is}
 use Rattle.mg_engine.proofs.engine.Engine.mix.Goals as goal
 
 pub silenced-requires : goal.silenced-requires

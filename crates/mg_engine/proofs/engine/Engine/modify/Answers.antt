@@ -8,14 +8,14 @@ use Rattle.mg_engine.specs.Outcome.{modified, media_with, done_with}
 use Rattle.mg_engine.specs.Place.{member_place}
 use Rattle.mg_engine.specs.Stands.{EngineState, StandsFor}
 use Rattle.mg_engine.specs.Work.{RisesAtMost}
-use Rattle.mg_engine.proofs.OutcomeLaws.{modify_changes}
-use Rattle.mg_engine.proofs.EditLaws.{slots_kept, whole_changed, changed_at, changed_stands}
-use Rattle.mg_engine.proofs.MemberLaws.{same_others, stayed_at, has_mode, hears_mode}
-use Rattle.mg_engine.proofs.JoinedLaws.{joined_changed}
-use Rattle.mg_engine.proofs.WorkLaws.{rises_less}
-use Rattle.mg_engine.proofs.PlaceLaws.{on_its_place, member_within}
-use Rattle.mg_engine.proofs.SeatingLaws.{seated_mode}
-use Rattle.mg_engine.proofs.LeftAloneLaws.{modify_alone}
+use Rattle.mg_engine.proofs.OutcomeLemmas.{modify_changes}
+use Rattle.mg_engine.proofs.EditLemmas.{slots_kept, whole_changed, changed_at, changed_stands}
+use Rattle.mg_engine.proofs.MemberLemmas.{same_others, stayed_at, has_mode, hears_mode}
+use Rattle.mg_engine.proofs.JoinedLemmas.{joined_changed}
+use Rattle.mg_engine.proofs.WorkLemmas.{rises_less}
+use Rattle.mg_engine.proofs.PlaceLemmas.{on_its_place, member_within}
+use Rattle.mg_engine.proofs.SeatingLemmas.{seated_mode}
+use Rattle.mg_engine.proofs.LeftAloneLemmas.{modify_alone}
 use Rattle.mg_engine.proofs.engine.Engine.modify.Goals as goal
 
 pub tune-requires : goal.tune-requires

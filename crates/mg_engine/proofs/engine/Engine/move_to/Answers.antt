@@ -9,14 +9,14 @@ use Rattle.mg_engine.specs.Outcome.{moved, media_with, done_with}
 use Rattle.mg_engine.specs.Place.{member_place}
 use Rattle.mg_engine.specs.Stands.{EngineState, StandsFor}
 use Rattle.mg_engine.specs.Work.{RisesAtMost}
-use Rattle.mg_engine.proofs.OutcomeLaws.{move_changes}
-use Rattle.mg_engine.proofs.EditLaws.{slots_kept, whole_changed, changed_at, changed_stands}
-use Rattle.mg_engine.proofs.MemberLaws.{Hears, same_others, carry, hears_carry, has_left, hears_left, free_place, has_entered, hears_entered}
-use Rattle.mg_engine.proofs.JoinedLaws.{joined_changed}
-use Rattle.mg_engine.proofs.WorkLaws.{rises_less}
-use Rattle.mg_engine.proofs.PlaceLaws.{on_its_place, member_within, within}
-use Rattle.mg_engine.proofs.SeatingLaws.{carry_seats, seated_put}
-use Rattle.mg_engine.proofs.LeftAloneLaws.{move_alone, sound_as}
+use Rattle.mg_engine.proofs.OutcomeLemmas.{move_changes}
+use Rattle.mg_engine.proofs.EditLemmas.{slots_kept, whole_changed, changed_at, changed_stands}
+use Rattle.mg_engine.proofs.MemberLemmas.{Hears, same_others, carry, hears_carry, has_left, hears_left, free_place, has_entered, hears_entered}
+use Rattle.mg_engine.proofs.JoinedLemmas.{joined_changed}
+use Rattle.mg_engine.proofs.WorkLemmas.{rises_less}
+use Rattle.mg_engine.proofs.PlaceLemmas.{on_its_place, member_within, within}
+use Rattle.mg_engine.proofs.SeatingLemmas.{carry_seats, seated_put}
+use Rattle.mg_engine.proofs.LeftAloneLemmas.{move_alone, sound_as}
 use Rattle.mg_engine.proofs.engine.Engine.move_to.Goals as goal
 
 pub tune-requires : goal.tune-requires

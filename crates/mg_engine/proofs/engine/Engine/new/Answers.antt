@@ -3,8 +3,8 @@ use Rattle.std.proofs.lemmas.List.{length-replicate}
 use Rattle.mg_rooms.specs.Registry as rooms
 use Rattle.mg_engine.specs.aids.Seating.{place_count}
 use Rattle.mg_sums.specs.Sums.{SumsState, first_sums}
-use Rattle.mg_engine.proofs.JoinedLaws.{joined_nowhere}
-use Rattle.mg_engine.proofs.MemberLaws.{has_nobody, nobody_seated}
+use Rattle.mg_engine.proofs.JoinedLemmas.{joined_nowhere}
+use Rattle.mg_engine.proofs.MemberLemmas.{has_nobody, nobody_seated}
 use Rattle.mg_engine.proofs.engine.Engine.new.Goals as goal
 
 pub invariant_of-result : goal.invariant_of-result

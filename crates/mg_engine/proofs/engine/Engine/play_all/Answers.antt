@@ -3,9 +3,9 @@ use Rattle.mg_rooms.specs.declared.limits.Limits.{Limits}
 use Rattle.mg_engine.specs.Stands.{EngineState, StandsFor}
 use Rattle.mg_engine.specs.Work.{RisesAtMost}
 use Rattle.mg_engine.specs.aids.Playing.{IsPlayed}
-use Rattle.mg_engine.proofs.ConcealLaws.{concealed_is}
-use Rattle.mg_engine.proofs.HeldLaws.{many, held_below, held_apart, held_at}
-use Rattle.mg_engine.proofs.TickLaws.{ArePlayed, played_stands}
+use Rattle.mg_engine.proofs.ConcealLemmas.{concealed_is}
+use Rattle.mg_engine.proofs.HeldLemmas.{many, held_below, held_apart, held_at}
+use Rattle.mg_engine.proofs.TickLemmas.{ArePlayed, played_stands}
 use Rattle.mg_engine.proofs.engine.Engine.play_all.Goals as goal
 
 pub play_slots-requires : goal.play_slots-requires

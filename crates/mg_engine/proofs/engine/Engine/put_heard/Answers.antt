@@ -8,8 +8,8 @@ use Rattle.mg_engine.specs.Place.{IsOnPlace}
 use Rattle.mg_engine.specs.Stands.{EngineState}
 use Rattle.mg_engine.specs.aids.Sending.{heard_now, silenced_now, with_mixes}
 use Rattle.mg_engine.specs.aids.Shares.{AreShared, IsShared, packet_at, shares_in}
-use Rattle.mg_engine.proofs.MaskLaws.{payload_is_on}
-use Rattle.mg_engine.proofs.ShareLaws.{still_shared, now_shared}
+use Rattle.mg_engine.proofs.MaskLemmas.{payload_is_on}
+use Rattle.mg_engine.proofs.ShareLemmas.{still_shared, now_shared}
 use Rattle.mg_engine.specs.Work.{RisesAtMost}
 use Rattle.mg_engine.proofs.engine.Engine.put_heard.Goals as goal
 

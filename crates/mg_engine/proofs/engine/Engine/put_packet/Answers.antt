@@ -11,7 +11,7 @@ use Rattle.mg_engine.specs.Tick.{sent_to}
 use Rattle.mg_engine.specs.Work.{RisesAtMost}
 use Rattle.mg_engine.specs.aids.Sending.{mixed_now, packet_now, mix_work_now, sending_work_now}
 use Rattle.mg_engine.specs.aids.Shares.{AreShared}
-use Rattle.mg_engine.proofs.SendingLaws.{found_is}
+use Rattle.mg_engine.proofs.SendingLemmas.{found_is}
 use Rattle.mg_engine.proofs.engine.Engine.put_packet.Goals as goal
 
 pub address-requires-clause-last : goal.address-requires-clause-last

@@ -5,9 +5,9 @@ use Rattle.mg_rooms.specs.Registry.{record_at, context_at}
 use Rattle.mg_sums.specs.Samples.{nearest_sample}
 use Rattle.mg_engine.specs.Stands.{EngineState}
 use Rattle.mg_engine.specs.aids.Sending.{sample_at, heard_now, mixed_now}
-use Rattle.mg_engine.proofs.MaskLaws.{somewhere}
-use Rattle.mg_engine.proofs.ShareLaws.{still_shared}
-use Rattle.mg_engine.proofs.SumLaws.{list_is}
+use Rattle.mg_engine.proofs.MaskLemmas.{somewhere}
+use Rattle.mg_engine.proofs.ShareLemmas.{still_shared}
+use Rattle.mg_engine.proofs.SumLemmas.{list_is}
 use Rattle.mg_engine.proofs.engine.Engine.put_payload.Goals as goal
 
 pub returns-then-is_loopback-clause-put : goal.returns-then-is_loopback-clause-put

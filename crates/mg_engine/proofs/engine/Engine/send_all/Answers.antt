@@ -2,9 +2,9 @@ use Rattle.std.proofs.Common.{ℕ, sym, ap, subst, ◌∙◌}
 use Rattle.std.specs.Prelude.{sum_by}
 use Rattle.mg_engine.specs.Stands.{EngineState, StandsFor}
 use Rattle.mg_engine.specs.Work.{RisesAtMost, sending_work}
-use Rattle.mg_engine.proofs.CostLaws.{all_work_is}
-use Rattle.mg_engine.proofs.SentLaws.{packets_are}
-use Rattle.mg_engine.proofs.TickLaws.{mixed_stands}
+use Rattle.mg_engine.proofs.CostLemmas.{all_work_is}
+use Rattle.mg_engine.proofs.SentLemmas.{packets_are}
+use Rattle.mg_engine.proofs.TickLemmas.{mixed_stands}
 use Rattle.mg_engine.proofs.engine.Engine.send_all.Goals as goal
 
 pub returns-clause-sent : goal.returns-clause-sent

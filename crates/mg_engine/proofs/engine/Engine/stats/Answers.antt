@@ -5,8 +5,8 @@ use Rattle.mg_words.specs.declared.stats.Stats.{Stats}
 use Rattle.mg_engine.specs.Gateway.{TerminationMedia, media_of}
 use Rattle.mg_engine.specs.Media as media
 use Rattle.mg_engine.specs.Stands.{EngineState, StandsFor, media_at}
-use Rattle.mg_engine.proofs.EditLaws.{none_too}
-use Rattle.mg_engine.proofs.GatewayLaws.{has_media, with_slot, with_no_slot}
+use Rattle.mg_engine.proofs.EditLemmas.{none_too}
+use Rattle.mg_engine.proofs.GatewayLemmas.{has_media, with_slot, with_no_slot}
 use Rattle.mg_engine.proofs.engine.Engine.stats.Goals as goal
 
 pub returns-in-Some : goal.returns-in-Some

@@ -6,14 +6,14 @@ use Rattle.mg_engine.specs.Place.{member_place}
 use Rattle.mg_engine.specs.Stands.{EngineState, StandsFor}
 use Rattle.mg_engine.specs.Work.{RisesAtMost}
 use Rattle.mg_engine.specs.aids.Joined.{SetsRow}
-use Rattle.mg_engine.proofs.OutcomeLaws.{subtract_removes}
-use Rattle.mg_engine.proofs.EditLaws.{whole_removed, removed_stands, gone}
-use Rattle.mg_engine.proofs.MemberLaws.{same_others, carry, hears_carry, has_left, hears_left, members_all, hears_all}
-use Rattle.mg_engine.proofs.JoinedLaws.{joined_left}
-use Rattle.mg_engine.proofs.WorkLaws.{rises_less}
-use Rattle.mg_engine.proofs.PlaceLaws.{on_its_place}
-use Rattle.mg_engine.proofs.SeatingLaws.{carry_seats, seated_all}
-use Rattle.mg_engine.proofs.LeftAloneLaws.{subtract_alone, sound_as}
+use Rattle.mg_engine.proofs.OutcomeLemmas.{subtract_removes}
+use Rattle.mg_engine.proofs.EditLemmas.{whole_removed, removed_stands, gone}
+use Rattle.mg_engine.proofs.MemberLemmas.{same_others, carry, hears_carry, has_left, hears_left, members_all, hears_all}
+use Rattle.mg_engine.proofs.JoinedLemmas.{joined_left}
+use Rattle.mg_engine.proofs.WorkLemmas.{rises_less}
+use Rattle.mg_engine.proofs.PlaceLemmas.{on_its_place}
+use Rattle.mg_engine.proofs.SeatingLemmas.{carry_seats, seated_all}
+use Rattle.mg_engine.proofs.LeftAloneLemmas.{subtract_alone, sound_as}
 use Rattle.mg_engine.proofs.engine.Engine.subtract.Goals as goal
 
 pub vacate-requires : goal.vacate-requires

@@ -4,8 +4,8 @@ use Rattle.mg_rooms.specs.Registry.{record_at, context_at}
 use Rattle.mg_engine.specs.Gateway.{TerminationMedia}
 use Rattle.mg_engine.specs.aids.Found.{frame_in}
 use Rattle.mg_engine.specs.Stands.{EngineState, StandsFor}
-use Rattle.mg_engine.proofs.GatewayLaws.{has_media}
-use Rattle.mg_engine.proofs.TotalLaws.{total_is}
+use Rattle.mg_engine.proofs.GatewayLemmas.{has_media}
+use Rattle.mg_engine.proofs.TotalLemmas.{total_is}
 use Rattle.mg_engine.proofs.engine.Engine.sums.Goals as goal
 
 pub returns-clause-told : goal.returns-clause-told

@@ -5,7 +5,7 @@ use Rattle.std.specs.List.{slice_get}
 use Rattle.mg_rooms.specs.Registry.{Registry, holder_of}
 use Rattle.mg_rooms.specs.Sound.{IsSound}
 use Rattle.mg_engine.specs.Stands.{EngineState}
-use Rattle.mg_engine.proofs.SendingLaws.{nobody}
+use Rattle.mg_engine.proofs.SendingLemmas.{nobody}
 use Rattle.mg_engine.proofs.engine.Engine.termination.Goals as goal
 
 -- the termination on a place is found by its slot

@@ -4,8 +4,8 @@ use Rattle.mg_rooms.specs.Registry as rooms
 use Rattle.mg_sums.specs.Sums.{SumsState}
 use Rattle.mg_engine.specs.Tick.{all_played}
 use Rattle.mg_engine.specs.Work.{sending_work, tick_work}
-use Rattle.mg_engine.proofs.TickLaws.{played_old}
-use Rattle.mg_engine.proofs.WorkLaws.{rises_twice}
+use Rattle.mg_engine.proofs.TickLemmas.{played_old}
+use Rattle.mg_engine.proofs.WorkLemmas.{rises_twice}
 use Rattle.mg_engine.proofs.engine.Engine.tick.Goals as goal
 
 pub returns-clause-concealed : goal.returns-clause-concealed

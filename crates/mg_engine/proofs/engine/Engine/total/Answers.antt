@@ -3,7 +3,7 @@ use Rattle.std.proofs.lemmas.Int.{to_z-of_z}
 use Rattle.mg_rooms.specs.Registry.{context_at}
 use Rattle.mg_sums.specs.Sums.{total_of}
 use Rattle.mg_engine.specs.Stands.{EngineState, StandsFor}
-use Rattle.mg_engine.proofs.TotalLaws.{context_with, total_is, total_there}
+use Rattle.mg_engine.proofs.TotalLemmas.{context_with, total_is, total_there}
 use Rattle.mg_engine.proofs.engine.Engine.total.Goals as goal
 
 pub returns : goal.returns

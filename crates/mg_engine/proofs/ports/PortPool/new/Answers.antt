@@ -1,6 +1,6 @@
 use Rattle.std.proofs.Common.{◌≡◌, ℕ, ◌+◌, ◌*◌, eqb, cond, Option, Some, sym, ap, ◌∙◌, arith}
 use Rattle.mg_engine.specs.aids.Ports.{slot_of}
-use Rattle.mg_engine.proofs.PoolLaws.{slot_more, slot_below}
+use Rattle.mg_engine.proofs.PoolLemmas.{slot_more, slot_below}
 use Rattle.mg_engine.proofs.ports.PortPool.new.Goals as goal
 
 pub loop-slot-preserved : goal.loop-slot-preserved

@@ -1,6 +1,6 @@
 use Rattle.std.proofs.Common.{◌≡◌, ℕ, ◌≤◌, nat_eq}
 use Rattle.indexmap.specs.IndexMap.{get}
-use Rattle.mg_engine.proofs.PoolLaws.{slot_below}
+use Rattle.mg_engine.proofs.PoolLemmas.{slot_below}
 use Rattle.mg_engine.proofs.ports.PortPool.new.Given as goal
 
 abbrev pub invariant-loop-slot : goal.invariant-loop-slot

@@ -1,6 +1,6 @@
 use Rattle.std.proofs.Common.{[], length-append, arith}
 use Rattle.std.proofs.lemmas.List.Elements.{All-push}
-use Rattle.mg_flow.specs.aids.Room.{IsVacant}
+use Rattle.mg_flow.specs.aids.RoomFlows.{IsVacant}
 use Rattle.mg_flow.proofs.TableLemmas.{new_stands}
 use Rattle.mg_flow.proofs.flow_table.FlowTable.new.Goals as goal
 

@@ -1,5 +1,5 @@
 use Rattle.std.proofs.Common.{◌≡◌, length, All}
-use Rattle.mg_flow.specs.aids.Room.{IsVacant}
+use Rattle.mg_flow.specs.aids.RoomFlows.{IsVacant}
 use Rattle.mg_flow.proofs.flow_table.FlowTable.new.Given as goal
 
 -- so many rooms are made, and nobody has entered one

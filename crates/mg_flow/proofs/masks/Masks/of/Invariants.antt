@@ -1,6 +1,6 @@
 use Rattle.std.proofs.Common.{◌≡◌, ℕ, ◌<◌, length, slice_index}
 use Rattle.mg_topology.specs.Mask.{seat_limit, has_seat}
-use Rattle.mg_flow.specs.aids.Room.{flows_to, is_kept_from}
+use Rattle.mg_flow.specs.aids.RoomFlows.{flows_to, is_kept_from}
 use Rattle.mg_flow.proofs.masks.Masks.of.Given as goal
 
 -- the masks of the listeners so far are written

@@ -1,5 +1,5 @@
 use Rattle.std.proofs.Common.{◌≡◌, length, drop, ap, ◌∙◌, arith}
-use Rattle.mg_kept.proofs.PlaceLaws.{written_back, some_stay}
+use Rattle.mg_kept.proofs.PlaceLemmas.{written_back, some_stay}
 use Rattle.mg_kept.proofs.kept.Kept.ack.Goals as goal
 
 pub invariant_of-self : goal.invariant_of-self

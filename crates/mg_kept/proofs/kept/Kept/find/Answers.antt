@@ -1,6 +1,6 @@
 use Rattle.std.proofs.Common.{take, refl, sym, add-one, arith}
 use Rattle.mg_kept.specs.KeptReplies.{is_reply_to}
-use Rattle.mg_kept.proofs.FindLaws.{found_at, none_more}
+use Rattle.mg_kept.proofs.FindLemmas.{found_at, none_more}
 use Rattle.mg_kept.proofs.kept.Kept.find.Goals as goal
 
 pub returns-then-is_reply_to-clause-value : goal.returns-then-is_reply_to-clause-value

@@ -1,5 +1,5 @@
 use Rattle.std.proofs.Common.{◌∙◌}
-use Rattle.mg_kept.proofs.PlaceLaws.{one_more}
+use Rattle.mg_kept.proofs.PlaceLemmas.{one_more}
 use Rattle.mg_kept.proofs.kept.Kept.keep.Goals as goal
 
 pub invariant_of-self : goal.invariant_of-self

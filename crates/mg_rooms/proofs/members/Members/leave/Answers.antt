@@ -1,4 +1,4 @@
-use Rattle.mg_rooms.proofs.MemberLaws.{without_none}
+use Rattle.mg_rooms.proofs.MemberLemmas.{without_none}
 use Rattle.mg_rooms.proofs.members.Members.leave.Goals as goal
 
 pub returns-in_default : goal.returns-in_default

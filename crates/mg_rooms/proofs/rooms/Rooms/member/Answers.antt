@@ -1,5 +1,5 @@
 use Rattle.std.proofs.Common.{sym}
-use Rattle.mg_rooms.proofs.StateLaws.{is_in_a_context}
+use Rattle.mg_rooms.proofs.StateLemmas.{is_in_a_context}
 use Rattle.mg_rooms.proofs.rooms.Rooms.member.Goals as goal
 
 pub member_of-requires : goal.member_of-requires

@@ -1,6 +1,6 @@
 use Rattle.std.proofs.Common.{sym, subst}
 use Rattle.mg_rooms.specs.Sound.{IsSound}
-use Rattle.mg_rooms.proofs.SoundLaws.{sound_if, modify_leaves, there_as}
+use Rattle.mg_rooms.proofs.SoundLemmas.{sound_if, modify_leaves, there_as}
 use Rattle.mg_rooms.proofs.rooms.Rooms.modify.Goals as goal
 
 pub returns-in_err-changed-clause-sound : goal.returns-in_err-changed-clause-sound

@@ -3,9 +3,9 @@ use Rattle.mg_rooms.specs.Outcome as commands
 use Rattle.mg_rooms.specs.Sound.{IsSound}
 use Rattle.mg_rooms.specs.declared.record.Record.{Record}
 use Rattle.mg_rooms.specs.declared.moved.Moved.{Moved}
-use Rattle.mg_rooms.proofs.RoomsLaws.{gives_refusal}
-use Rattle.mg_rooms.proofs.StateLaws.{is_in_a_context}
-use Rattle.mg_rooms.proofs.SoundLaws.{sound_if, named_is, unnamed, move_leaves, there_as}
+use Rattle.mg_rooms.proofs.RoomsLemmas.{gives_refusal}
+use Rattle.mg_rooms.proofs.StateLemmas.{is_in_a_context}
+use Rattle.mg_rooms.proofs.SoundLemmas.{sound_if, named_is, unnamed, move_leaves, there_as}
 use Rattle.mg_rooms.proofs.rooms.Rooms.move_to.Goals as goal
 
 pub returns-in_err-old-clause-outcome : goal.returns-in_err-old-clause-outcome

@@ -1,5 +1,5 @@
 use Rattle.std.proofs.Common.{sym}
-use Rattle.mg_rooms.proofs.SoundLaws.{sound_if, subtract_ends}
+use Rattle.mg_rooms.proofs.SoundLemmas.{sound_if, subtract_ends}
 use Rattle.mg_rooms.proofs.rooms.Rooms.subtract.Goals as goal
 
 pub returns-in_err-old-clause-sound : goal.returns-in_err-old-clause-sound

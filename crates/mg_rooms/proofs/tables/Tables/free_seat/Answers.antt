@@ -1,5 +1,5 @@
 use Rattle.std.proofs.Common.{◌∙◌}
-use Rattle.mg_rooms.proofs.CallLaws.{free_seat_is}
+use Rattle.mg_rooms.proofs.CallLemmas.{free_seat_is}
 use Rattle.mg_rooms.proofs.tables.Tables.free_seat.Goals as goal
 
 pub returns-in_err-seat : goal.returns-in_err-seat

@@ -1,5 +1,5 @@
 use Rattle.std.proofs.Common.{None, Some}
-use Rattle.mg_rooms.proofs.CallLaws.{free_slot_is}
+use Rattle.mg_rooms.proofs.CallLemmas.{free_slot_is}
 use Rattle.mg_rooms.proofs.tables.Tables.free_slot.Goals as goal
 
 pub returns-in_err-slot-clause-value : goal.returns-in_err-slot-clause-value

@@ -1,5 +1,5 @@
 use Rattle.std.proofs.Common.{arith, length, ◌<◌, ◌≤◌}
-use Rattle.mg_rooms.proofs.CallLaws.{at_slot_is, at_slot_past}
+use Rattle.mg_rooms.proofs.CallLemmas.{at_slot_is, at_slot_past}
 use Rattle.mg_rooms.proofs.tables.Tables.held.Goals as goal
 
 pub returns-then-slot-len-clause-value : goal.returns-then-slot-len-clause-value

@@ -1,6 +1,6 @@
 use Rattle.std.proofs.Common.{ap, arith}
 use Rattle.mg_rooms.specs.aids.Tables.{world_of}
-use Rattle.mg_rooms.proofs.CallLaws.{with_more, slot_is_empty, inserted_kept, inserted_is}
+use Rattle.mg_rooms.proofs.CallLemmas.{with_more, slot_is_empty, inserted_kept, inserted_is}
 use Rattle.mg_rooms.proofs.tables.Tables.insert.Goals as goal
 
 pub index_mut-requires : goal.index_mut-requires

@@ -1,6 +1,6 @@
 use Rattle.std.proofs.Common.{ap}
 use Rattle.mg_rooms.specs.aids.Tables.{world_of}
-use Rattle.mg_rooms.proofs.CallLaws.{may_enter, entered_there, unchanged_context, with_contexts, with_last}
+use Rattle.mg_rooms.proofs.CallLemmas.{may_enter, entered_there, unchanged_context, with_contexts, with_last}
 use Rattle.mg_rooms.proofs.tables.Tables.join.Goals as goal
 
 pub enter_entry-requires : goal.enter_entry-requires

@@ -2,7 +2,7 @@ use Rattle.std.proofs.Common.{ap}
 use Rattle.mg_rooms.specs.aids.Tables.{world_of}
 use Rattle.mg_rooms.specs.Changes.{with_members}
 use Rattle.mg_rooms.specs.Members.{without}
-use Rattle.mg_rooms.proofs.CallLaws.{left_there, unchanged_context, with_contexts}
+use Rattle.mg_rooms.proofs.CallLemmas.{left_there, unchanged_context, with_contexts}
 use Rattle.mg_rooms.proofs.tables.Tables.leave.Goals as goal
 
 pub invariant_of-self : goal.invariant_of-self

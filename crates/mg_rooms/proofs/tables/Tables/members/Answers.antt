@@ -1,6 +1,6 @@
 use Rattle.std.proofs.Common.{sym, ◌∙◌, ap}
 use Rattle.mg_rooms.specs.aids.Found.{members_of}
-use Rattle.mg_rooms.proofs.CallLaws.{context_some, context_none}
+use Rattle.mg_rooms.proofs.CallLemmas.{context_some, context_none}
 use Rattle.mg_rooms.proofs.tables.Tables.members.Goals as goal
 
 pub returns-in-Some-index-clause-value : goal.returns-in-Some-index-clause-value

@@ -1,5 +1,5 @@
 use Rattle.mg_words.specs.declared.error_number.ErrorNumber.TheVariants.{UnknownTermination}
-use Rattle.mg_rooms.proofs.RegistryLaws.{found_there}
+use Rattle.mg_rooms.proofs.RegistryLemmas.{found_there}
 use Rattle.mg_rooms.proofs.tables.Tables.named.Goals as goal
 
 pub returns-clause-there : goal.returns-clause-there

@@ -1,7 +1,7 @@
 use Rattle.std.proofs.Common.{refl}
 use Rattle.mg_rooms.specs.declared.record.Record.{Record}
-use Rattle.mg_rooms.proofs.OrderLaws.{in_order-empty}
-use Rattle.mg_rooms.proofs.TableLaws.{IsTable-empty}
+use Rattle.mg_rooms.proofs.OrderLemmas.{in_order-empty}
+use Rattle.mg_rooms.proofs.TableLemmas.{IsTable-empty}
 use Rattle.mg_words.specs.declared.limits.TheConstants.{CONTEXTS}
 use Rattle.mg_rooms.proofs.tables.Tables.new.Goals as goal
 

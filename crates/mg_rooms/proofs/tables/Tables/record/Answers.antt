@@ -1,4 +1,4 @@
-use Rattle.mg_rooms.proofs.CallLaws.{record_some, record_none}
+use Rattle.mg_rooms.proofs.CallLemmas.{record_some, record_none}
 use Rattle.mg_rooms.proofs.tables.Tables.record.Goals as goal
 
 pub returns-in_err-slot-clause-value : goal.returns-in_err-slot-clause-value

@@ -1,6 +1,6 @@
 use Rattle.std.proofs.Common.{ap, None}
 use Rattle.mg_rooms.specs.aids.Tables.{world_of}
-use Rattle.mg_rooms.proofs.CallLaws.{removed_is, removed_kept, with_terminations, unchanged_termination}
+use Rattle.mg_rooms.proofs.CallLemmas.{removed_is, removed_kept, with_terminations, unchanged_termination}
 use Rattle.mg_rooms.proofs.tables.Tables.remove.Goals as goal
 
 pub invariant_of-self : goal.invariant_of-self

@@ -1,7 +1,7 @@
 use Rattle.std.proofs.Common.{List, Option, Some, ap, sym, subst}
 use Rattle.mg_rooms.specs.declared.record.Record.{Record}
 use Rattle.mg_rooms.specs.aids.Tables.{world_of, HoldsOnce}
-use Rattle.mg_rooms.proofs.CallLaws.{replaced_kept, replaced_is, with_terminations, unchanged_termination}
+use Rattle.mg_rooms.proofs.CallLemmas.{replaced_kept, replaced_is, with_terminations, unchanged_termination}
 use Rattle.mg_rooms.proofs.tables.Tables.replace.Goals as goal
 
 pub slot_of-requires : goal.slot_of-requires

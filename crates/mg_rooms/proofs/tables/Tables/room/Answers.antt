@@ -1,6 +1,6 @@
 use Rattle.std.proofs.Common.{ap, option_map}
 use Rattle.mg_rooms.specs.declared.context.Context.{Context}
-use Rattle.mg_rooms.proofs.CallLaws.{room_some, context_none}
+use Rattle.mg_rooms.proofs.CallLemmas.{room_some, context_none}
 use Rattle.mg_rooms.proofs.tables.Tables.room.Goals as goal
 
 pub returns-in_err-room : goal.returns-in_err-room

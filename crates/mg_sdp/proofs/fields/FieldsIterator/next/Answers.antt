@@ -1,7 +1,7 @@
 use Rattle.std.proofs.Common.{◌≡◌, ◌<◌, ◌∷◌, length, ap, ◌∙◌, rules}
 use Rattle.std.proofs.lemmas.List.{nil_from_length}
 use Rattle.mg_sdp.specs.Fields.{fields_of}
-use Rattle.mg_sdp.proofs.FieldLaws.{no_field, field_step, fields_none}
+use Rattle.mg_sdp.proofs.FieldLemmas.{no_field, field_step, fields_none}
 use Rattle.mg_sdp.proofs.fields.FieldsIterator.next.Goals as goal
 
 pub returns-then-is_empty-clause-steps : goal.returns-then-is_empty-clause-steps

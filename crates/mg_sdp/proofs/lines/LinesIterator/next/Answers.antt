@@ -1,7 +1,7 @@
 use Rattle.std.proofs.Common.{◌≡◌, ◌<◌, ◌∷◌, length, ap, ◌∙◌, rules}
 use Rattle.std.proofs.lemmas.List.{nil_from_length}
 use Rattle.mg_sdp.specs.Lines.{content_lines}
-use Rattle.mg_sdp.proofs.LineLaws.{no_line, line_step, lines_none}
+use Rattle.mg_sdp.proofs.LineLemmas.{no_line, line_step, lines_none}
 use Rattle.mg_sdp.proofs.lines.LinesIterator.next.Goals as goal
 
 pub returns-then-is_empty-clause-steps : goal.returns-then-is_empty-clause-steps

@@ -1,0 +1,726 @@
+-- Lines one after another, and the bytes that they come in.
+use Rattle.std.proofs.Common.{◌≡◌, ◌≢◌, ℕ, ◌+◌, ◌-◌, ◌<◌, ◌≤◌, Bool, true, false, cond, eqb, List, [], ◌∷◌, ◌++◌, length, get_or, take, drop, Option, Some, None, Result, Ok, Err, refl, sym, ap, subst, ◌∙◌, append_assoc, length-append, length-take, arith}
+use Rattle.std.proofs.lemmas.Grind.{flat_map-append}
+use Rattle.std.proofs.lemmas.List.{append-nil, take-append-drop, take_more, drop_more}
+use Rattle.std.proofs.lemmas.Bool.{ne_eqb, lt-ltb}
+use Rattle.std.specs.Prelude.{slice_index, OnOk}
+use Rattle.mg_words.specs.OptionSteps.{◌>>=◌}
+use Rattle.std.proofs.KnownBytes.{Consumes-nil, Consumes-trans, Consumes-kept}
+use Rattle.std.specs.Io.KnownBytes.{Keeps, Consumes, IsAtEnd}
+use Rattle.mg_engine.specs.declared.config.Config.{Config}
+use Rattle.mg_core.specs.declared.state.CoreState.{CoreState}
+use Rattle.mg_core.specs.World.{World, StandsFor, start_of}
+use Rattle.mg_core.specs.declared.event.Event.{Event}
+use Rattle.mg_core.specs.declared.line_runner.LineRunner.{LineRunner}
+use Rattle.mg_core.specs.declared.shown.Shown.{Shown}
+use Rattle.mg_core.specs.declared.shown.Shown.TheVariants as shows
+use Rattle.mg_core.specs.declared.fault.LineFault.{LineFault}
+use Rattle.mg_core.specs.declared.fault.LineFault.TheVariants as faults
+use Rattle.mg_core.specs.declared.fault.ScriptFault.{ScriptFault}
+use Rattle.mg_lines.specs.Lines.{without_return, lines_after, lines_of}
+use Rattle.mg_core.specs.Script.{event_of, events_of, then_all}
+use Rattle.mg_core.specs.Step.{Sent, Run}
+use Rattle.mg_core.specs.Flows.{changes_by}
+use Rattle.mg_core.specs.Run.{IsShownText, TellsChanges, Ran, HasRead, RanBeforeMore, HasBadAfter}
+use Rattle.mg_core.specs.Run.{RanAllRead, lines_for, line_of}
+use Rattle.mg_core.specs.aids.Steps.{Follows, LeadsOn, AllRan, LineRan, BytesRan, Finishes, RanCounted, after_sent, script_fault_of}
+use Rattle.mg_lines.proofs.WriterLemmas.{appends_then, appends_keeps}
+use Rattle.mg_core.proofs.LineLemmas.{no_text, same_appends, sent_both}
+
+-- ## Lines and events one after another
+
+before_both : (e : Option Event) (l fs : List Event) → then_all e (l ++ fs) ≡ then_all e l ++ fs
+before_both None l fs = refl
+before_both (Some e) l fs = refl
+
+abbrev events_are : List Event → Option (List Event)
+events_are es = Some es
+
+are_same : (a b : List Event) → events_are a ≡ events_are b → a ≡ b
+are_same a b h = cc h
+
+events_step : (o : Option (Option Event)) (p all : Option (List Event)) (es fs : List Event) →
+    (o >>= λ e. p >>= λ l. Some (then_all e l)) ≡ Some es → ((l : List Event) → p ≡ Some l → all ≡ Some (l ++ fs)) →
+    (o >>= λ e. all >>= λ l. Some (then_all e l)) ≡ Some (es ++ fs)
+events_step None p all es fs h k = absurd (cc h)
+events_step (Some e) None all es fs h k = absurd (cc h)
+events_step (Some e) (Some l) all es fs h k =
+    rw (k l refl) (ap events_are (before_both e l fs ∙ ap (λ (x : List Event). x ++ fs) (are_same (then_all e l) es h)))
+
+pub events_both : (xs ys : List (List ℕ)) (es fs : List Event) → events_of xs ≡ Some es → events_of ys ≡ Some fs →
+    events_of (xs ++ ys) ≡ Some (es ++ fs)
+unfolding events_of
+events_both [] ys es fs h k = k ∙ ap (λ (x : List Event). events_are (x ++ fs)) (are_same [] es h)
+events_both (x ∷ xs) ys es fs h k = events_step (event_of x) (events_of xs) (events_of (xs ++ ys)) es fs h
+    (λ l is. events_both xs ys l fs is k)
+
+pub run_both : (w v u : World) (es fs : List Event) (a b : List Sent) → Run w es a v → Run v fs b u →
+    Run w (es ++ fs) (a ++ b) u
+run_both w v u [] fs a b h k = subst (λ (x : World). Run x fs (a ++ b) u) h.1
+    (subst (λ (l : List Sent). Run v fs l u) (ap (λ (l : List Sent). l ++ b) (sym h.0)) k)
+run_both w v u (e ∷ es) fs a b h k = (
+  h.0,
+  h.1 ++ b,
+  h.2,
+  h.3,
+  run_both h.2 v u es fs h.1 b h.4 k,
+  ap (λ (l : List Sent). l ++ b) h.5 ∙
+      append_assoc h.0 h.1 b,
+)
+
+lines_both : (a b : List Sent) → lines_for (a ++ b) ≡ lines_for a ++ lines_for b
+lines_both a b = flat_map-append line_of a b
+
+tells_both : (w v u : World) (es fs : List Event) (s t : List ℕ) → TellsChanges w es s v → TellsChanges v fs t u →
+    TellsChanges w (es ++ fs) (s ++ t) u
+tells_both w v u [] fs s t h k = subst (λ (x : World). TellsChanges x fs (s ++ t) u) h.1
+    (subst (λ (l : List ℕ). TellsChanges v fs l u) (ap (λ (l : List ℕ). l ++ t) (sym h.0)) k)
+tells_both w v u (e ∷ es) fs s t h k = (
+  h.0,
+  h.1 ++ t,
+  h.2,
+  h.3,
+  tells_both h.2 v u es fs h.1 t h.4 k,
+  ap (λ (l : List ℕ). l ++ t) h.5 ∙ append_assoc (lines_for h.0) (changes_by w h.2 ++ h.1) t ∙
+      ap (λ (l : List ℕ). lines_for h.0 ++ l) (append_assoc (changes_by w h.2) h.1 t),
+)
+
+texts_both : (shown : Shown) (w v u : World) (es fs : List Event) (a b : List Sent) (s t : List ℕ) →
+    IsShownText shown w es a s v → IsShownText shown v fs b t u → IsShownText shown w (es ++ fs) (a ++ b) (s ++ t) u
+texts_both shows.Sent w v u es fs a b s t h k =
+    ap (λ (l : List ℕ). l ++ t) h ∙ ap (λ (l : List ℕ). lines_for a ++ l) k ∙ sym (lines_both a b)
+texts_both shows.SentAndFlows w v u es fs a b s t h k = tells_both w v u es fs s t h k
+
+-- a runner whose core stands for the world, and that keeps its terminations
+abbrev pub Followed : Shown → LineRunner → World → Type 0
+Followed shown r w = Follows shown r.core.state r.watched w
+
+on_ok : {E A B : Type 0} (r : Result (Unit {0}) E) → (A → B) → OnOk r A → OnOk r B
+on_ok (Ok done) f a = f a
+on_ok (Err e) f a = tt
+
+module _ (shown : Shown) where
+  ran_both : (w v u : World) (xs ys : List (List ℕ)) (a b c : Option (List ℕ)) → Ran shown w xs v a b →
+      Ran shown v ys u b c →
+      Ran shown w (xs ++ ys) u a c
+  ran_both w v u xs ys a b c h k = record {
+    events = h.events ++ k.events;
+    sent = h.sent ++ k.sent;
+    text = h.text ++ k.text;
+    are = events_both xs ys h.events k.events h.are k.are;
+    run = run_both w v u h.events k.events h.sent k.sent h.run k.run;
+    is_text = texts_both shown w v u h.events k.events h.sent k.sent h.text k.text h.is_text k.is_text;
+    written = appends_then a b c h.text k.text h.written k.written;
+  }
+
+  -- nothing more was written, and the world is as it was
+  ran_kept : (w v u : World) (xs : List (List ℕ)) (a b c : Option (List ℕ)) → Ran shown w xs v a b → Keeps b c → u ≡ v →
+      Ran shown w xs u a c
+  ran_kept w v u xs a b c h k same = subst (λ (x : World). Ran shown w xs x a c) (sym same)
+      (record {
+        events = h.events;
+        sent = h.sent;
+        text = h.text;
+        are = h.are;
+        run = h.run;
+        is_text = h.is_text;
+        written = appends_keeps a b c h.text h.written k;
+      })
+
+  -- the same with what was sent counted
+
+  counted_both : (w v u : World) (xs ys : List (List ℕ)) (s t z : ℕ) (a b c : Option (List ℕ)) →
+      RanCounted shown w xs v s t a b → RanCounted shown v ys u t z b c → RanCounted shown w (xs ++ ys) u s z a c
+  unfolding ran_both
+  counted_both w v u xs ys s t z a b c h k = record {
+    ran = ran_both w v u xs ys a b c h.ran k.ran;
+    counted = k.counted ∙ ap (λ (n : ℕ). after_sent n k.ran.sent) h.counted ∙ sym (sent_both s h.ran.sent k.ran.sent);
+  }
+
+  counted_kept : (w v u : World) (xs : List (List ℕ)) (s t : ℕ) (a b c : Option (List ℕ)) →
+      RanCounted shown w xs v s t a b →
+      Keeps b c → u ≡ v → RanCounted shown w xs u s t a c
+  counted_kept w v u xs s t a b c h k same =
+      subst (λ (x : World). RanCounted shown w xs x s t a c) (sym same)
+      (record {
+        ran = record {
+          events = h.ran.events;
+          sent = h.ran.sent;
+          text = h.ran.text;
+          are = h.ran.are;
+          run = h.ran.run;
+          is_text = h.ran.is_text;
+          written = appends_keeps a b c h.ran.text h.ran.written k;
+        };
+        counted = h.counted;
+      })
+
+  counted_nothing : (w : World) (s t : ℕ) (a : Option (List ℕ)) → t ≡ s → RanCounted shown w [] w s t a a
+  unfolding events_of after_sent
+  counted_nothing w s t a same = record {
+    ran = record {
+      events = [];
+      sent = [];
+      text = [];
+      are = refl;
+      run = (refl, refl);
+      is_text = no_text shown w;
+      written = same_appends a;
+    };
+    counted = same;
+  }
+
+  -- no bytes yet
+  pub bytes_start : (n : ℕ) (begun : List ℕ) (w : World) (s : ℕ) (a : Option (List ℕ)) →
+      BytesRan shown n n begun [] begun w w s s a a (Ok tt)
+  bytes_start n begun w s a = ([], λ ended more. refl, omega arith, counted_nothing w s s a refl)
+
+  one_byte : (ended : Bool) (x : ℕ) (begun bytes : List ℕ) → x ≢ 10 →
+      lines_after ended begun (x ∷ bytes) ≡ lines_after ended (begun ++ x ∷ []) bytes
+  unfolding lines_after
+  one_byte ended x begun bytes ne = rw (ne_eqb x 10 ne) refl
+
+  line_feed : (ended : Bool) (begun bytes : List ℕ) →
+      lines_after ended begun (10 ∷ bytes) ≡ without_return begun ∷ lines_after ended [] bytes
+  unfolding lines_after
+  line_feed ended begun bytes = refl
+
+  regroup : (front : List ℕ) (x : ℕ) (rest : List ℕ) → (front ++ x ∷ []) ++ rest ≡ front ++ (x ∷ rest)
+  regroup front x rest = append_assoc front (x ∷ []) rest
+
+  -- a byte that ends no line
+  pub bytes_plain : (n m : ℕ) (begun front left : List ℕ) (w v : World) (s t : ℕ) (a b : Option (List ℕ)) (x : ℕ) →
+      x ≢ 10 → BytesRan shown n m begun front left w v s t a b (Ok tt) →
+      BytesRan shown n m begun (front ++ x ∷ []) (left ++ x ∷ []) w v s t a b (Ok tt)
+  bytes_plain n m begun front left w v s t a b x ne h = (
+    h.0,
+    λ ended more. ap (lines_after ended begun) (regroup front x more) ∙ h.1 ended (x ∷ more) ∙
+        ap (λ (l : List (List ℕ)). h.0 ++ l) (one_byte ended x left more ne),
+    h.2,
+    h.3,
+  )
+
+  -- a byte that ends a line, which was run
+  pub bytes_line : (n m : ℕ) (begun front left : List ℕ) (w v u : World) (s t z : ℕ) (a b c : Option (List ℕ))
+      (number : ℕ) → BytesRan shown n m begun front left w v s t a b (Ok tt) →
+      LineRan shown number (without_return left) v u t z b c (Ok tt) →
+      BytesRan shown n (m + 1) begun (front ++ 10 ∷ []) [] w u s z a c (Ok tt)
+  bytes_line n m begun front left w v u s t z a b c number h k =
+      let line = without_return left in
+      let next : (ended : Bool) (more : List ℕ) →
+      lines_after ended begun ((front ++ 10 ∷ []) ++ more) ≡ (h.0 ++ line ∷ []) ++ lines_after ended [] more =
+      λ ended more. ap (lines_after ended begun) (regroup front 10 more) ∙ h.1 ended (10 ∷ more) ∙
+      ap (λ (l : List (List ℕ)). h.0 ++ l) (line_feed ended left more) ∙
+      sym (append_assoc h.0 (line ∷ []) (lines_after ended [] more)) in (
+        h.0 ++ line ∷ [],
+        next,
+        omega (arith, length-append h.0 (line ∷ []), h.2),
+        counted_both w v u h.0 (line ∷ []) s t z a b c h.3 k,
+      )
+
+  -- the lines after some bytes, where a line feed stands after the first of them
+  at_feed : (ended : Bool) (begun front left back more : List ℕ) (lines : List (List ℕ)) →
+      ((ended : Bool) (more : List ℕ) → lines_after ended begun (front ++ more) ≡ lines ++ lines_after ended left more)
+      → lines_after ended begun ((front ++ (10 ∷ back)) ++ more) ≡ lines ++ without_return left ∷
+      lines_after ended [] (back ++ more)
+  at_feed ended begun front left back more lines h =
+      ap (lines_after ended begun) (append_assoc front (10 ∷ back) more) ∙ h ended (10 ∷ (back ++ more)) ∙
+      ap (λ (l : List (List ℕ)). lines ++ l) (line_feed ended left (back ++ more))
+
+  -- the same where nothing stands after them
+  at_last_feed : (begun front left back : List ℕ) (lines : List (List ℕ)) →
+      ((ended : Bool) (more : List ℕ) → lines_after ended begun (front ++ more) ≡ lines ++ lines_after ended left more)
+      → lines_after false begun (front ++ (10 ∷ back)) ≡ lines ++ without_return left ∷ lines_after false [] back
+  at_last_feed begun front left back lines h =
+      h false (10 ∷ back) ∙ ap (λ (l : List (List ℕ)). lines ++ l) (line_feed false left back)
+
+  -- a line that was not run
+  pub bytes_stop : (n m p : ℕ) (begun front left back other : List ℕ) (w v u : World) (s t z : ℕ)
+      (a b c : Option (List ℕ)) (e : LineFault) → BytesRan shown n m begun front left w v s t a b (Ok tt) →
+      LineRan shown (m + 1) (without_return left) v u t z b c (Err e) →
+      BytesRan shown n p begun (front ++ (10 ∷ back)) other w u s z a c (Err e)
+  bytes_stop n m p begun front left back other w v u s t z a b c (faults.Bad k) h l = (
+    h.0,
+    λ more. record {
+      bad = without_return left;
+      others = lines_after true [] (back ++ more);
+      parts = at_feed true begun front left back more h.0 h.1;
+      is_bad = l.1;
+    },
+    omega (arith, l.0, h.2),
+    ran_kept w v u h.0 a b c h.3.ran l.2 l.3,
+  )
+  bytes_stop n m p begun front left back other w v u s t z a b c faults.Write h l = (
+    h.0,
+    without_return left,
+    lines_after false [] back,
+    at_last_feed begun front left back h.0 h.1,
+    v,
+    b,
+    h.3.ran,
+    l,
+  )
+  bytes_stop n m p begun front left back other w v u s t z a b c faults.NoMemory h l = (
+    h.0,
+    without_return left,
+    lines_after false [] back,
+    at_last_feed begun front left back h.0 h.1,
+    ran_kept w v u h.0 a b c h.3.ran l.0 l.1,
+  )
+
+  -- a line that is too long is bad, wherever it ends
+  long_bad : (line : List ℕ) → 140001 ≤ length line → event_of line ≡ None
+  unfolding event_of
+  long_bad line le = rw (lt-ltb 140000 (length line) (omega arith)) refl
+
+  return_long : (t : Bool) (line : List ℕ) (n : ℕ) → n + 1 ≤ length line →
+      n ≤ length (cond t (take (length line - 1) line) line)
+  return_long true line n le = omega (arith, length-take (length line - 1) line)
+  return_long false line n le = omega arith
+
+  long_step : (t : Bool) (begun : List ℕ) (x : ℕ) (bytes : List ℕ) → eqb x 10 ≡ t → 140002 ≤ length begun →
+      HasBadAfter [] (lines_after true (begun ++ x ∷ []) bytes) → HasBadAfter [] (lines_after true begun (x ∷ bytes))
+  unfolding lines_after
+  long_step true begun x bytes e le h =
+      rw e (record {
+        bad = without_return begun;
+        others = lines_after true [] bytes;
+        parts = refl;
+        is_bad =
+            long_bad (without_return begun) (return_long (eqb (slice_index begun (length begun - 1)) 13) begun 140001
+            (omega arith));
+      })
+  long_step false begun x bytes e le h = rw e h
+
+  long_line : (begun bytes : List ℕ) → 140002 ≤ length begun → HasBadAfter [] (lines_after true begun bytes)
+  unfolding lines_after
+  long_line begun [] le = rw (ne_eqb (length begun) 0 (λ e. absurd (omega arith)))
+      (record { bad = begun; others = []; parts = refl; is_bad = long_bad begun (omega arith) })
+  long_line begun (x ∷ bytes) le = long_step (eqb x 10) begun x bytes refl le
+      (long_line (begun ++ x ∷ []) bytes (omega (arith, length-append begun (x ∷ []))))
+
+  -- a bad line after some lines stands after those before them too
+  bad_later : (before lines others all : List (List ℕ)) → all ≡ before ++ others → HasBadAfter lines others →
+      HasBadAfter (before ++ lines) all
+  bad_later before lines others all is h = record {
+    bad = h.bad;
+    others = h.others;
+    parts = is ∙ ap (λ (l : List (List ℕ)). before ++ l) h.parts ∙ sym (append_assoc before lines (h.bad ∷ h.others));
+    is_bad = h.is_bad;
+  }
+
+  -- a byte that makes a line too long
+  pub bytes_long : (n m p : ℕ) (begun front left back other : List ℕ) (w v : World) (s t z : ℕ) (a b : Option (List ℕ))
+      (x : ℕ) → x ≢ 10 → 140001 ≤ length left → BytesRan shown n m begun front left w v s t a b (Ok tt) →
+      BytesRan shown n p begun (front ++ (x ∷ back)) other w v s z a b (Err (faults.Bad (m + 1)))
+  bytes_long n m p begun front left back other w v s t z a b x ne le h =
+      let long : (more : List ℕ) → HasBadAfter [] (lines_after true (left ++ x ∷ []) (back ++ more)) =
+      λ more. long_line (left ++ x ∷ []) (back ++ more) (omega (arith, length-append left (x ∷ []))) in
+      let split : (more : List ℕ) → lines_after true begun ((front ++ (x ∷ back)) ++ more) ≡ h.0 ++
+      lines_after true (left ++ x ∷ []) (back ++ more) =
+      λ more. ap (lines_after true begun) (append_assoc front (x ∷ back) more) ∙ h.1 true (x ∷ (back ++ more)) ∙
+      ap (λ (l : List (List ℕ)). h.0 ++ l) (one_byte true x left (back ++ more) ne) in (
+        h.0,
+        λ more. record {
+          bad = (long more).bad;
+          others = (long more).others;
+          parts = split more ∙
+              ap (λ (l : List (List ℕ)). h.0 ++ l) (long more).parts;
+          is_bad = (long more).is_bad;
+        },
+        omega (arith, h.2),
+        h.3.ran,
+      )
+
+  -- How far a run of a script has come: a text was read, the lines that end in it were run on a new gateway, and the
+  -- line after them is begun.
+  pub record Progress (config : Config) (input remaining : Option (List ℕ)) (begun : List ℕ) (count : ℕ) (now : World)
+      (sent : ℕ) (old new : Option (List ℕ)) : Type 0 where
+    pub text : List ℕ
+    pub consumed : Consumes input remaining text
+    pub lines : List (List ℕ)
+    pub split : (ended : Bool) (more : List ℕ) → lines_of ended (text ++ more) ≡ lines ++ lines_after ended begun more
+    pub counted : count ≡ length lines
+    pub ran : RanCounted shown (start_of config) lines now 0 sent old new
+
+  pub progress_start : (config : Config) (input : Option (List ℕ)) (begun : List ℕ) (count s : ℕ) (a : Option (List ℕ))
+      → begun ≡ [] → count ≡ 0 → s ≡ 0 → Progress config input input begun count (start_of config) s a a
+  progress_start config input begun count s a none zero_is unsent =
+      record {
+        text = [];
+        consumed = Consumes-nil input;
+        lines = [];
+        split = λ ended more. ap (λ (l : List ℕ). lines_after ended l more) (sym none);
+        counted = zero_is;
+        ran = counted_nothing (start_of config) 0 s a unsent;
+      }
+
+  pub progress_bytes : (config : Config) (i x y : Option (List ℕ)) (begun bytes left : List ℕ) (n m : ℕ) (v u : World)
+      (s t : ℕ) (a b c : Option (List ℕ)) → Progress config i x begun n v s a b → Consumes x y bytes →
+      BytesRan shown n m begun bytes left v u s t b c (Ok tt) → Progress config i y left m u t a c
+  progress_bytes config i x y begun bytes left n m v u s t a b c p eaten h = record {
+    text = p.text ++ bytes;
+    consumed = Consumes-trans i x y p.text bytes p.consumed eaten;
+    lines = p.lines ++ h.0;
+    split = λ ended more. ap (lines_after ended []) (append_assoc p.text bytes more) ∙ p.split ended (bytes ++ more) ∙
+        ap (λ (l : List (List ℕ)). p.lines ++ l) (h.1 ended more) ∙
+        sym (append_assoc p.lines h.0 (lines_after ended left more));
+    counted = omega (arith, h.2, p.counted, length-append p.lines h.0);
+    ran = counted_both (start_of config) v u p.lines h.0 0 s t a b c p.ran h.3;
+  }
+
+  unfinished : (begun : List ℕ) → lines_after false begun [] ≡ []
+  unfolding lines_after
+  unfinished [] = refl
+  unfinished (b ∷ bs) = rw (ne_eqb (length (b ∷ bs)) 0 (λ e. absurd (omega (arith, e)))) refl
+
+  -- what was read, where nothing follows it
+  split_at_end : (config : Config) (i x : Option (List ℕ)) (begun : List ℕ) (n : ℕ) (v : World) (s : ℕ)
+      (a b : Option (List ℕ)) (ended : Bool) (p : Progress config i x begun n v s a b) →
+      lines_of ended p.text ≡ p.lines ++ lines_after ended begun []
+  split_at_end config i x begun n v s a b ended p = ap (lines_after ended []) (sym (append-nil p.text)) ∙ p.split ended
+      []
+
+  -- the lines that were run are those that end in what was read
+  all_run : (config : Config) (i x : Option (List ℕ)) (begun : List ℕ) (n : ℕ) (v : World) (s : ℕ)
+      (a b : Option (List ℕ)) (p : Progress config i x begun n v s a b) → lines_of false p.text ≡ p.lines
+  all_run config i x begun n v s a b p = split_at_end config i x begun n v s a b false p ∙
+      ap (λ (l : List (List ℕ)). p.lines ++ l) (unfinished begun) ∙ append-nil p.lines
+
+  not_ended : {A : Type 0} → false ≡ true → A
+  not_ended e = absurd (cc e)
+
+  -- the lines that were run before and in the last bytes
+  run_in_bytes : (config : Config) (i x : Option (List ℕ)) (begun bytes : List ℕ) (n : ℕ) (v : World) (s : ℕ)
+      (a b : Option (List ℕ)) (lines : List (List ℕ)) → length bytes ≤ 4096 →
+      (p : Progress config i x begun n v s a b) → RanBeforeMore (p.text ++ bytes) false (p.lines ++ lines)
+  run_in_bytes config i x begun bytes n v s a b lines few p = record {
+    before = p.text;
+    given = bytes;
+    parts = refl;
+    size = few;
+    end_alone = not_ended;
+    later = lines;
+    lines_are = ap (λ (l : List (List ℕ)). l ++ lines) (sym (all_run config i x begun n v s a b p));
+  }
+
+  -- the line after those that were run, where it is among the last bytes
+  line_in_bytes : (config : Config) (i x : Option (List ℕ)) (begun bytes line : List ℕ) (n : ℕ) (v : World) (s : ℕ)
+      (a b : Option (List ℕ)) (lines others : List (List ℕ)) → lines_after false begun bytes ≡ lines ++ line ∷ others →
+      (p : Progress config i x begun n v s a b) → lines_of false (p.text ++ bytes) ≡ (p.lines ++ lines) ++ line ∷ others
+  line_in_bytes config i x begun bytes line n v s a b lines others is p = p.split false bytes ∙
+      ap (λ (l : List (List ℕ)). p.lines ++ l) is ∙ sym (append_assoc p.lines lines (line ∷ others))
+
+  pub progress_fault : (config : Config) (i x y : Option (List ℕ)) (begun bytes left : List ℕ) (n m : ℕ)
+      (state : CoreState) (v u : World) (s t : ℕ) (a b c : Option (List ℕ)) (e : LineFault) →
+      Progress config i x begun n v s a b → Consumes x y bytes → length bytes ≤ 4096 →
+      BytesRan shown n m begun bytes left v u s t b c (Err e) → AllRan config shown i y state m t a c
+      (Err (script_fault_of e))
+  progress_fault config i x y begun bytes left n m state v u s t a b c (faults.Bad k) p eaten few h = record {
+    text = p.text ++ bytes;
+    ended = false;
+    read = record { consumed = Consumes-trans i x y p.text bytes p.consumed eaten; at_end = not_ended };
+    lines = p.lines ++ h.0;
+    before_more = run_in_bytes config i x begun bytes n v s a b h.0 few p;
+    bad = λ more none. bad_later p.lines h.0 (lines_after true begun (bytes ++ more))
+        (lines_of true ((p.text ++ bytes) ++ more))
+        (ap (lines_after true []) (append_assoc p.text bytes more) ∙ p.split true (bytes ++ more)) (h.1 more);
+    number_is = omega (arith, h.2, p.counted, length-append p.lines h.0);
+    last = u;
+    ran = ran_both (start_of config) v u p.lines h.0 a b c p.ran.ran h.3;
+  }
+  progress_fault config i x y begun bytes left n m state v u s t a b c faults.Write p eaten few h = record {
+    line = h.1;
+    now = h.4;
+    held = h.5;
+    up_to = record {
+      text = p.text ++ bytes;
+      ended = false;
+      read = record { consumed = Consumes-trans i x y p.text bytes p.consumed eaten; at_end = not_ended };
+      lines = p.lines ++ h.0;
+      before_more = run_in_bytes config i x begun bytes n v s a b h.0 few p;
+      others = h.2;
+      line_is = line_in_bytes config i x begun bytes h.1 n v s a b h.0 h.2 h.3 p;
+      ran = ran_both (start_of config) v h.4 p.lines h.0 a b h.5 p.ran.ran h.6;
+    };
+    last = u;
+    cut = h.7;
+  }
+  progress_fault config i x y begun bytes left n m state v u s t a b c faults.NoMemory p eaten few h = record {
+    line = h.1;
+    now = u;
+    up_to = record {
+      text = p.text ++ bytes;
+      ended = false;
+      read = record { consumed = Consumes-trans i x y p.text bytes p.consumed eaten; at_end = not_ended };
+      lines = p.lines ++ h.0;
+      before_more = run_in_bytes config i x begun bytes n v s a b h.0 few p;
+      others = h.2;
+      line_is = line_in_bytes config i x begun bytes h.1 n v s a b h.0 h.2 h.3 p;
+      ran = ran_both (start_of config) v u p.lines h.0 a b c p.ran.ran h.4;
+    };
+  }
+
+  -- reading failed
+  pub progress_unread : (config : Config) (i x y : Option (List ℕ)) (begun : List ℕ) (n : ℕ) (v : World) (s : ℕ)
+      (a b : Option (List ℕ)) → Progress config i x begun n v s a b → Keeps x y → RanAllRead config shown i y a b
+  progress_unread config i x y begun n v s a b p same = record {
+    text = p.text;
+    read = record { consumed = Consumes-kept i x y p.text p.consumed same; at_end = not_ended };
+    last = v;
+    ran = subst (λ (l : List (List ℕ)). Ran shown (start_of config) l v a b)
+        (sym (all_run config i x begun n v s a b p))
+        p.ran.ran;
+  }
+
+  -- the end of the script
+  last_line : (b : ℕ) (bs : List ℕ) → lines_after true (b ∷ bs) [] ≡ (b ∷ bs) ∷ []
+  unfolding lines_after
+  last_line b bs = rw (ne_eqb (length (b ∷ bs)) 0 (λ e. absurd (omega arith))) refl
+
+  no_line : lines_after true [] [] ≡ []
+  unfolding lines_after
+  no_line = refl
+
+  -- what a line came to, told of the script
+  abbrev pub script_result : Result (Unit {0}) LineFault → Result (Unit {0}) ScriptFault
+  script_result (Ok done) = Ok tt
+  script_result (Err fault) = Err (script_fault_of fault)
+
+  abbrev AtEnd : Option (List ℕ) → Option (List ℕ) → Type 0
+  AtEnd x y = Keeps x y × IsAtEnd y
+
+  read_to_end : (config : Config) (i x y : Option (List ℕ)) (begun : List ℕ) (n : ℕ) (v : World) (s : ℕ)
+      (a b : Option (List ℕ)) → AtEnd x y → (p : Progress config i x begun n v s a b) → HasRead i y p.text true
+  read_to_end config i x y begun n v s a b end p =
+      record { consumed = Consumes-kept i x y p.text p.consumed end.0; at_end = λ e. end.1 }
+
+  run_to_end : (config : Config) (i x : Option (List ℕ)) (begun : List ℕ) (n : ℕ) (v : World) (s : ℕ)
+      (a b : Option (List ℕ)) (p : Progress config i x begun n v s a b) → RanBeforeMore p.text true p.lines
+  run_to_end config i x begun n v s a b p = record {
+    before = p.text;
+    given = [];
+    parts = sym (append-nil p.text);
+    size = omega arith;
+    end_alone = λ e. refl;
+    later = [];
+    lines_are = sym (append-nil (lines_of false p.text) ∙ all_run config i x begun n v s a b p);
+  }
+
+  last_of : (config : Config) (i x : Option (List ℕ)) (k : ℕ) (ks : List ℕ) (n : ℕ) (v : World) (s : ℕ)
+      (a b : Option (List ℕ)) (p : Progress config i x (k ∷ ks) n v s a b) →
+      lines_of true p.text ≡ p.lines ++ (k ∷ ks) ∷ []
+  last_of config i x k ks n v s a b p = split_at_end config i x (k ∷ ks) n v s a b true p ∙
+      ap (λ (l : List (List ℕ)). p.lines ++ l) (last_line k ks)
+
+  line_end : (config : Config) (i x y : Option (List ℕ)) (k : ℕ) (ks : List ℕ) (n m : ℕ) (state : CoreState)
+      (v u : World) (s t : ℕ) (a b c : Option (List ℕ)) (r : Result (Unit {0}) LineFault) →
+      Progress config i x (k ∷ ks) n v s a b → AtEnd x y → OnOk r (StandsFor state u) →
+      LineRan shown (n + 1) (k ∷ ks) v u s t b c r →
+      OnOk r (m ≡ n + 1) → AllRan config shown i y state m t a c (script_result r)
+  line_end config i x y k ks n m state v u s t a b c (Ok done) p end stands h more =
+      let split = last_of config i x k ks n v s a b p in (
+        p.text,
+        read_to_end config i x y (k ∷ ks) n v s a b end p,
+        record {
+          last = u;
+          ran = subst (λ (l : List (List ℕ)). RanCounted shown (start_of config) l u 0 t a c) (sym split)
+              (counted_both (start_of config) v u p.lines ((k ∷ ks) ∷ []) 0 s t a b c p.ran h);
+          stands = stands;
+          lines = omega (arith, more, p.counted, length-append p.lines ((k ∷ ks) ∷ [])) ∙ ap length (sym split);
+        },
+      )
+  line_end config i x y k ks n m state v u s t a b c (Err (faults.Bad number)) p end stands h more = record {
+    text = p.text;
+    ended = true;
+    read = read_to_end config i x y (k ∷ ks) n v s a b end p;
+    lines = p.lines;
+    before_more = run_to_end config i x (k ∷ ks) n v s a b p;
+    bad = λ more none. record {
+      bad = k ∷ ks;
+      others = [];
+      parts = ap (λ (l : List ℕ). lines_of true (p.text ++ l)) (none refl) ∙ p.split true [] ∙
+          ap (λ (l : List (List ℕ)). p.lines ++ l) (last_line k ks);
+      is_bad = h.1;
+    };
+    number_is = omega (arith, h.0, p.counted);
+    last = u;
+    ran = ran_kept (start_of config) v u p.lines a b c p.ran.ran h.2 h.3;
+  }
+  line_end config i x y k ks n m state v u s t a b c (Err faults.Write) p end stands h more = record {
+    line = k ∷ ks;
+    now = v;
+    held = b;
+    up_to = record {
+      text = p.text;
+      ended = true;
+      read = read_to_end config i x y (k ∷ ks) n v s a b end p;
+      lines = p.lines;
+      before_more = run_to_end config i x (k ∷ ks) n v s a b p;
+      others = [];
+      line_is = last_of config i x k ks n v s a b p;
+      ran = p.ran.ran;
+    };
+    last = u;
+    cut = h;
+  }
+  line_end config i x y k ks n m state v u s t a b c (Err faults.NoMemory) p end stands h more = record {
+    line = k ∷ ks;
+    now = u;
+    up_to = record {
+      text = p.text;
+      ended = true;
+      read = read_to_end config i x y (k ∷ ks) n v s a b end p;
+      lines = p.lines;
+      before_more = run_to_end config i x (k ∷ ks) n v s a b p;
+      others = [];
+      line_is = last_of config i x k ks n v s a b p;
+      ran = ran_kept (start_of config) v u p.lines a b c p.ran.ran h.0 h.1;
+    };
+  }
+
+  pub progress_end : (config : Config) (i x y : Option (List ℕ)) (begun : List ℕ) (n m : ℕ) (state : CoreState)
+      (v u : World) (s t : ℕ) (a b c : Option (List ℕ)) (r : Result (Unit {0}) LineFault) →
+      Progress config i x begun n v s a b → AtEnd x y → OnOk r (StandsFor state u) →
+      Finishes shown n m begun v u s t b c r →
+      AllRan config shown i y state m t a c (script_result r)
+  progress_end config i x y [] n m state v u s t a b c r p end stands h =
+      let all = split_at_end config i x [] n v s a b true p ∙ ap (λ (l : List (List ℕ)). p.lines ++ l) no_line ∙
+      append-nil p.lines in
+      rw h.0 (
+        p.text,
+        read_to_end config i x y [] n v s a b end p,
+        record {
+          last = u;
+          ran = subst (λ (n : ℕ). RanCounted shown (start_of config) (lines_of true p.text) u 0 n a c) (sym h.4)
+              (subst (λ (l : List (List ℕ)). RanCounted shown (start_of config) l u 0 s a c) (sym all)
+              (counted_kept (start_of config) v u p.lines 0 s a b c p.ran h.1 h.2));
+          stands = subst (λ (o : Result (Unit {0}) LineFault). OnOk o (StandsFor state u)) h.0 stands;
+          lines = h.3 ∙ p.counted ∙ ap length (sym all);
+        },
+      )
+  progress_end config i x y (k ∷ ks) n m state v u s t a b c r p end stands h =
+      line_end config i x y k ks n m state v u s t a b c r p end stands h.0 h.1
+
+  -- the same steps by the index of a byte
+  around : (bytes : List ℕ) (i : ℕ) → i < length bytes → take i bytes ++ (get_or bytes i 0 ∷ drop (i + 1) bytes) ≡ bytes
+  around bytes i lt = ap (λ (l : List ℕ). take i bytes ++ l) (sym (drop_more bytes i 0 lt)) ∙ take-append-drop i bytes
+
+  -- what a call leaves of a runner, by the worlds that it follows
+  abbrev pub Leaves : LineRunner → LineRunner → Result (Unit {0}) LineFault → (World → World → Type 0) → Type 0
+  Leaves old new r Comes = LeadsOn (Followed shown old) (Followed shown new) r Comes
+
+  -- So far, the lines that end in the first bytes were run, by an engine that was entered for each world w.
+  abbrev pub HasRun : ℕ → ℕ → List ℕ → List ℕ → List ℕ → LineRunner → LineRunner → ℕ → ℕ → Option (List ℕ) →
+      Option (List ℕ) → Result (Unit {0}) LineFault → Type 0
+  HasRun n m begun bytes left entered kept s t a b r =
+      Leaves entered kept r (λ w now. BytesRan shown n m begun bytes left w now s t a b r)
+
+  pub index_start : (n : ℕ) (begun : List ℕ) (kept : LineRunner) (s : ℕ) (a : Option (List ℕ)) →
+      HasRun n n begun [] begun kept kept s s a a (Ok tt)
+  index_start n begun kept s a w h = (w, bytes_start n begun w s a, h)
+
+  pub index_plain : (n m : ℕ) (begun bytes left : List ℕ) (entered kept : LineRunner) (s t : ℕ) (a b : Option (List ℕ))
+      (i : ℕ) → i < length bytes → get_or bytes i 0 ≢ 10 →
+      HasRun n m begun (take i bytes) left entered kept s t a b (Ok tt) →
+      HasRun n m begun (take (i + 1) bytes) (left ++ get_or bytes i 0 ∷ []) entered kept s t a b (Ok tt)
+  index_plain n m begun bytes left entered kept s t a b i lt ne inside w h =
+      let (now, ran, stands) = inside w h in (
+        now,
+        subst (λ (l : List ℕ). BytesRan shown n m begun l (left ++ get_or bytes i 0 ∷ []) w now s t a b (Ok tt))
+            (sym (take_more bytes i 0 lt)) (bytes_plain n m begun (take i bytes) left w now s t a b (get_or bytes i 0)
+            ne
+            ran),
+        stands,
+      )
+
+  pub index_line : (n m : ℕ) (begun bytes left : List ℕ) (entered kept new : LineRunner) (s t z : ℕ)
+      (a b c : Option (List ℕ)) (i number : ℕ) → i < length bytes → get_or bytes i 0 ≡ 10 →
+      HasRun n m begun (take i bytes) left entered kept s t a b (Ok tt) →
+      Leaves kept new (Ok tt) (λ w after. LineRan shown number (without_return left) w after t z b c (Ok tt)) →
+      HasRun n (m + 1) begun (take (i + 1) bytes) [] entered new s z a c (Ok tt)
+  index_line n m begun bytes left entered kept new s t z a b c i number lt feed inside step w h =
+      let (now, ran, stands) = inside w h in
+      let (after, line, last) = step now stands in (
+        after,
+        subst (λ (l : List ℕ). BytesRan shown n (m + 1) begun l [] w after s z a c (Ok tt))
+            (sym (take_more bytes i 0 lt ∙ ap (λ (x : ℕ). take i bytes ++ x ∷ []) feed))
+            (bytes_line n m begun (take i bytes) left w now after s t z a b c number ran line),
+        last,
+      )
+
+  pub index_stop : (n m p : ℕ) (begun bytes left other : List ℕ) (entered kept new : LineRunner) (s t z : ℕ)
+      (a b c : Option (List ℕ)) (i : ℕ) (e : LineFault) → i < length bytes → get_or bytes i 0 ≡ 10 →
+      HasRun n m begun (take i bytes) left entered kept s t a b (Ok tt) →
+      Leaves kept new (Err e) (λ w after. LineRan shown (m + 1) (without_return left) w after t z b c (Err e)) →
+      HasRun n p begun bytes other entered new s z a c (Err e)
+  index_stop n m p begun bytes left other entered kept new s t z a b c i e lt feed inside step w h =
+      let (now, ran, stands) = inside w h in
+      let (after, line, last) = step now stands in (
+        after,
+        subst (λ (l : List ℕ). BytesRan shown n p begun l other w after s z a c (Err e))
+            (ap (λ (x : ℕ). take i bytes ++ (x ∷ drop (i + 1) bytes)) (sym feed) ∙ around bytes i lt)
+            (bytes_stop n m p begun (take i bytes) left (drop (i + 1) bytes) other w now after s t z a b c e ran line),
+        last,
+      )
+
+  pub index_long : (n m p : ℕ) (begun bytes left other : List ℕ) (entered kept : LineRunner) (s t z : ℕ)
+      (a b : Option (List ℕ)) (i : ℕ) → i < length bytes → get_or bytes i 0 ≢ 10 → 140001 ≤ length left →
+      HasRun n m begun (take i bytes) left entered kept s t a b (Ok tt) →
+      HasRun n p begun bytes other entered kept s z a b (Err (faults.Bad (m + 1)))
+  index_long n m p begun bytes left other entered kept s t z a b i lt ne long inside w h =
+      let (now, ran, stands) = inside w h in (
+        now,
+        subst (λ (l : List ℕ). BytesRan shown n p begun l other w now s z a b (Err (faults.Bad (m + 1))))
+            (around bytes i lt) (bytes_long n m p begun (take i bytes) left (drop (i + 1) bytes) other w now s t z a b
+            (get_or bytes i 0) ne long ran),
+        tt,
+      )
+
+  -- ## How far a run has come, by an engine
+
+  -- a run of the script came this far, and the engine stands for the world that it came to
+  abbrev pub Comes : Config → Option (List ℕ) → Option (List ℕ) → List ℕ → ℕ → LineRunner → ℕ → Option (List ℕ) →
+      Option (List ℕ) → Type 0
+  Comes config input remaining begun count kept s old new = (now : World) ×
+      Progress config input remaining begun count now s old new × Followed shown kept now
+
+  pub comes_start : (config : Config) (input : Option (List ℕ)) (begun : List ℕ) (count : ℕ) (kept : LineRunner) (s : ℕ)
+      (a : Option (List ℕ)) → begun ≡ [] → count ≡ 0 → s ≡ 0 → Followed shown kept (start_of config) →
+      Comes config input input begun count kept s a a
+  comes_start config input begun count kept s a none zero_is unsent stands =
+      (start_of config, progress_start config input begun count s a none zero_is unsent, stands)
+
+  pub comes_bytes : (config : Config) (i x y : Option (List ℕ)) (begun bytes left : List ℕ) (n m : ℕ)
+      (kept new : LineRunner) (s t : ℕ) (a b c : Option (List ℕ)) → Comes config i x begun n kept s a b →
+      Consumes x y bytes → HasRun n m begun bytes left kept new s t b c (Ok tt) → Comes config i y left m new t a c
+  comes_bytes config i x y begun bytes left n m kept new s t a b c come eaten step =
+      let (now, p, stands) = come in
+      let (after, h, last) = step now stands in
+      (after, progress_bytes config i x y begun bytes left n m now after s t a b c p eaten h, last)
+
+  pub comes_unread : (config : Config) (i x y : Option (List ℕ)) (begun : List ℕ) (n : ℕ) (kept : LineRunner) (s : ℕ)
+      (a b : Option (List ℕ)) → Comes config i x begun n kept s a b → Keeps x y → RanAllRead config shown i y a b
+  comes_unread config i x y begun n kept s a b come same =
+      let (now, p, stands) = come in
+      progress_unread config i x y begun n now s a b p same
+
+  pub comes_fault : (config : Config) (i x y : Option (List ℕ)) (begun bytes left : List ℕ) (n m : ℕ)
+      (kept new : LineRunner) (s t : ℕ) (a b c : Option (List ℕ)) (e : LineFault) →
+      Comes config i x begun n kept s a b →
+      Consumes x y bytes → length bytes ≤ 4096 → HasRun n m begun bytes left kept new s t b c (Err e) →
+      AllRan config shown i y new.core.state m t a c (Err (script_fault_of e))
+  comes_fault config i x y begun bytes left n m kept new s t a b c e come eaten few step =
+      let (now, p, stands) = come in
+      let (next, h, last) = step now stands in
+      progress_fault config i x y begun bytes left n m new.core.state now next s t a b c e p eaten few h
+
+  pub comes_end : (config : Config) (i x y : Option (List ℕ)) (begun : List ℕ) (n m : ℕ) (kept new : LineRunner)
+      (s t : ℕ) (a b c : Option (List ℕ)) (r : Result (Unit {0}) LineFault) → Comes config i x begun n kept s a b →
+      Keeps x y × IsAtEnd y → Leaves kept new r (λ w next. Finishes shown n m begun w next s t b c r) →
+      AllRan config shown i y new.core.state m t a c (script_result r)
+  comes_end config i x y begun n m kept new s t a b c r come end step =
+      let (now, p, stands) = come in
+      let (next, h, last) = step now stands in
+      progress_end config i x y begun n m new.core.state now next s t a b c r p end
+      (on_ok r (λ (f : Followed shown new next). f.stands) last) h

@@ -1,0 +1,164 @@
+//! What holds of all events. The functions here do nothing: their contracts are the theorems.
+
+ghost use Rattle.std.specs.Prelude.{◌≡◌, List};
+ghost use Rattle.mg_core.specs.declared.event.Event.{Event};
+ghost use Rattle.mg_commands.specs.Theorems.{RefusedNamesChangeNothing, RefusedCommandsChangeNothing, RefusedActionsChangeNothing, RefusedTopologiesChangeNothing, OthersAreTried, RefusedRequestsChangeNothing};
+ghost use Rattle.mg_core.specs.Apart.{SameEventKeepsAgreement, OneArrivalKeepsAgreement, SamePacketsFromPort, UnheardChangesNothing, UnheardInHistories, UnheardInScripts};
+ghost use Rattle.mg_core.specs.Counting.{EventsAreCounted, RunsTake};
+ghost use Rattle.mg_core.specs.Headline.{EventsLeadToOneWorld, OneGatewayOneFuture, WorldsAreConsistent};
+ghost use Rattle.mg_engine.specs.Isolation.{NobodyHearsHimself, OwnSpeechChangesNoPacket, IsolatedAreNotHeard, UnheardChangesNoPacket, PayloadsAreMixes};
+ghost use Rattle.mg_core.specs.Interleaving.{OrderOfPortsIsNothing, HistoriesAreOne, ScriptsAreOne};
+ghost use Rattle.mg_core.specs.Recording.{RecordingsAreRead, CutRecordingsAreRead};
+ghost use Rattle.mg_core.specs.Repeats.{KeptRepliesAreSent, RepetitionsAreAnsweredAlike, OthersAreRun, RepliesLast, NoneIsNewer, AcknowledgedAreGone, PushedOutAreGone, GoneAreRun, RepliesAreKept};
+ghost use Rattle.mg_core.specs.Flows.{NoneIsToldInVain, NoneIsUntold};
+ghost use Rattle.mg_core.specs.Run.{TextsAreOne};
+ghost use Rattle.mg_core.specs.Step.{Sent, Step, Run};
+ghost use Rattle.mg_core.specs.World.{World};
+
+use crate::event::Event;
+
+/// In each world each event has an outcome: datagrams that are sent, and a world that comes to be.
+pub fn each_event_has_an_outcome(event: &Event)
+    ensures some { (w : World) → (sent : List Sent) × (next : World) × Step w event.now sent next }
+{
+    match event {
+        Event::Control(_source, bytes) => mg_text::theorems::one_reading(bytes.as_slice()),
+        Event::Media(_port, _source, bytes) => mg_engine::theorems::one_arrival(bytes.as_slice()),
+        Event::Tick => {}
+    }
+}
+
+/// In each world each event has at most one outcome, and so have events one after another: one world, the same
+/// datagrams sent, and the same text written.
+pub fn outcomes_are_one()
+    ensures event { (w : World) (event : Event) (a b : List Sent) (x y : World) →
+        Step w event a x → Step w event b y → (a ≡ b) × (x ≡ y) }
+    ensures events { (w : World) (events : List Event) (a b : List Sent) (x y : World) →
+        Run w events a x → Run w events b y → (a ≡ b) × (x ≡ y) }
+    ensures texts { TextsAreOne }
+{
+    mg_text::theorems::one_reading(b"");
+    mg_engine::theorems::one_arrival(b"");
+}
+
+/// What a refused command leaves is the gateway as it was, so no flow, total or later packet differs by it: these are
+/// of the gateway alone, whatever replies are kept.
+pub fn refused_commands_change_no_packet()
+    ensures theorem { OneGatewayOneFuture }
+{
+    mg_engine::theorems::one_arrival(b"");
+}
+
+/// A request that comes again while its reply is kept is answered alike, and nothing is done a second time; any other
+/// is run.
+pub fn repetitions_are_answered_alike()
+    ensures kept { KeptRepliesAreSent }
+    ensures again { RepetitionsAreAnsweredAlike }
+    ensures others { OthersAreRun }
+{
+    mg_kept::theorems::kept_reply_is_found();
+}
+
+/// How long a request that comes again is answered alike: until an acknowledgement names its reply, or 32 other replies
+/// were kept. After that it is run again. The replies that are kept answer different requests.
+pub fn replies_last()
+    ensures last { RepliesLast }
+    ensures newest { NoneIsNewer }
+    ensures acknowledged { AcknowledgedAreGone }
+    ensures pushed { PushedOutAreGone }
+    ensures gone { GoneAreRun }
+    ensures kept { RepliesAreKept }
+{
+    mg_kept::theorems::kept_reply_is_found();
+    mg_kept::theorems::acknowledged_alone_is_gone();
+    mg_kept::theorems::replies_stay_while_few_are_newer();
+}
+
+/// After any events the terminations and contexts are consistent: within the limits, none with the number, slot or seat
+/// of another, members and records that agree. Their numbers rise in their lists, so a tick sends its packets by rising
+/// numbers.
+pub fn worlds_are_consistent()
+    ensures theorem { WorldsAreConsistent }
+{
+    mg_engine::theorems::worlds_are_consistent();
+    mg_commands::theorems::requests_are_consistent();
+}
+
+/// In which order the packets of different callers came makes no difference: two lists of events with the same control
+/// datagrams and ticks, between any two of which each port has the same RTP datagrams in the same order, have the same
+/// datagrams sent, byte for byte, and lead to one world.
+pub fn order_of_ports_is_nothing()
+    ensures events { OrderOfPortsIsNothing }
+    ensures histories { HistoriesAreOne }
+    ensures scripts { ScriptsAreOne }
+{
+    outcomes_are_one();
+    mg_engine::theorems::order_of_ports_is_nothing();
+    mg_engine::theorems::worlds_are_consistent();
+    mg_commands::theorems::requests_are_consistent();
+}
+
+/// What some terminations send changes nothing for whoever doesn't hear them, over any time: of two gateways to which
+/// the same comes, but for RTP datagrams at ports of these terminations, the same packets are sent, byte for byte, from
+/// the port of each that hears none of them. What is said of events, one at a time, adds up to lists, histories and
+/// scripts.
+pub fn unheard_changes_nothing()
+    ensures event { SameEventKeepsAgreement }
+    ensures one { OneArrivalKeepsAgreement }
+    ensures packets { SamePacketsFromPort }
+    ensures lists { UnheardChangesNothing }
+    ensures histories { UnheardInHistories }
+    ensures scripts { UnheardInScripts }
+{
+    mg_text::theorems::one_reading(b"");
+    mg_engine::theorems::agreement_lasts();
+    mg_engine::theorems::packets_are_of_what_is_heard();
+    mg_commands::theorems::requests_keep_agreement();
+}
+
+/// Where nothing is told of changes nothing changed, and where nothing changed nothing is told.
+pub fn changes_are_told()
+    ensures untold { NoneIsUntold }
+    ensures vain { NoneIsToldInVain }
+{}
+
+/// The counts are the numbers of the events that came: control datagrams, RTP datagrams, those of them that were placed
+/// in each way and dropped for each cause, ticks, and the frames that stood in for missing ones in them.
+pub fn events_are_counted()
+    ensures theorem { EventsAreCounted }
+    ensures runs { RunsTake }
+{}
+
+/// A recording is a script of its events: each line of an event is read as that event, any other line as a comment.
+/// Where it was cut, whatever the byte, the lines that are whole are a script of its first events.
+pub fn recordings_are_read()
+    ensures theorem { RecordingsAreRead }
+    ensures cut { CutRecordingsAreRead }
+{}
+
+/// The headline, joined. By its clauses `headline` and `packets` a [`Core`](crate::Core) answers and sends, after any
+/// list of events, what is computed anew from the world that they led to. This says the rest: that it is one world,
+/// what each packet of it carries, that what is refused changes nothing and no later packet, that nobody hears himself,
+/// and that who was isolated isn't heard.
+pub fn headline()
+    ensures world { EventsLeadToOneWorld }
+    ensures packets { PayloadsAreMixes }
+    ensures refused_names { RefusedNamesChangeNothing }
+    ensures refused_commands { RefusedCommandsChangeNothing }
+    ensures refused_actions { RefusedActionsChangeNothing }
+    ensures refused_topologies { RefusedTopologiesChangeNothing }
+    ensures others { OthersAreTried }
+    ensures refused_requests { RefusedRequestsChangeNothing }
+    ensures later { OneGatewayOneFuture }
+    ensures himself { NobodyHearsHimself }
+    ensures own { OwnSpeechChangesNoPacket }
+    ensures isolated { IsolatedAreNotHeard }
+    ensures unheard { UnheardChangesNoPacket }
+{
+    outcomes_are_one();
+    mg_engine::theorems::payloads_are_mixes();
+    mg_commands::theorems::refused_commands_change_nothing();
+    refused_commands_change_no_packet();
+    mg_engine::theorems::nobody_hears_himself();
+    mg_engine::theorems::isolated_are_not_heard();
+}

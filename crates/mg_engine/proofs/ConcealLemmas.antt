@@ -1,0 +1,67 @@
+-- How many frames of a tick are concealed, by slots and by terminations.
+use Rattle.std.proofs.Common.{◌≡◌, ℕ, suc, ◌+◌, ◌<◌, Bool, true, false, cond, List, [], ◌∷◌, length, map, get_or, take, Some, refl, sym, ap, ◌∙◌, arith}
+use Rattle.std.specs.Prelude.{count_by}
+use Rattle.std.specs.Int.{from_bool}
+use Rattle.std.proofs.lemmas.List.Sums.{sum_by-cons, sum_by_more}
+use Rattle.mg_playout.specs.Played.{is_concealed}
+use Rattle.mg_playout.specs.Playout as play_lists
+use Rattle.mg_playout.specs.Playout.{PlayList}
+use Rattle.mg_rooms.specs.declared.record.Record.{Record}
+use Rattle.mg_rooms.specs.Registry as rooms
+use Rattle.mg_engine.specs.Gateway.{Gateway}
+use Rattle.mg_engine.specs.Media as media
+use Rattle.mg_engine.specs.aids.MediaSteps as media_steps
+use Rattle.mg_engine.specs.Stands.{EngineState, StandsFor, media_at}
+use Rattle.mg_engine.specs.Tick.{conceals, concealed_in_tick}
+use Rattle.mg_engine.specs.aids.Found.{conceals_in}
+use Rattle.mg_engine.proofs.GatewayLemmas.{has_media}
+use Rattle.mg_engine.proofs.PlaceLemmas.{ByNumber}
+use Rattle.mg_engine.proofs.SendingLemmas.{nobody}
+
+abbrev pub conceals_slot : List media.SlotMedia → ℕ → Bool
+conceals_slot kept slot = media_steps.is_concealing (media_at kept slot)
+
+abbrev one : Bool → ℕ
+one b = cond b 1 0
+
+byte_is : (b : Bool) → from_bool b ≡ cond b 1 0
+byte_is true = refl
+byte_is false = refl
+
+-- with the next slot, one more is concealed where its frame is
+pub counted_more : (kept : List media.SlotMedia) (slots : List ℕ) (i : ℕ) (b : Bool) → i < length slots →
+    b ≡ conceals_slot kept (get_or slots i 0) →
+    count_by (conceals_slot kept) (take i slots) + from_bool b ≡ count_by (conceals_slot kept) (take (i + 1) slots)
+counted_more kept slots i b within is =
+    omega (arith, byte_is b, ap one is, sum_by_more (λ slot. cond (conceals_slot kept slot) 1 0) slots i 0 within)
+
+-- two counts over one list that agree on each of it
+counts_agree : {A : Type 0} (f g : A → ℕ) (p q : ℕ → Bool) (xs : List A) (d : A) →
+    ((i : ℕ) → i < length xs → p (f (get_or xs i d)) ≡ q (g (get_or xs i d))) →
+    count_by p (map f xs) ≡ count_by q (map g xs)
+counts_agree f g p q [] d same = refl
+counts_agree f g p q (x ∷ xs) d same =
+    omega (
+      arith,
+      sum_by-cons (λ y. cond (p y) 1 0) (f x) (map f xs),
+      sum_by-cons (λ y. cond (q y) 1 0) (g x) (map g xs),
+      ap one (same 0 (omega arith)),
+      counts_agree f g p q xs d (λ i within. same (suc i) (omega (arith, within))),
+    )
+
+-- a termination's play list conceals a frame where its slot's does
+same_concealing : (k : EngineState) (w : Gateway) → StandsFor k w → (n : ℕ) (r : Record) →
+    rooms.record_at k.rooms n ≡ Some r → conceals_slot k.media r.slot ≡ conceals w n
+same_concealing k w h n r found =
+    let (s, there, is) = has_media k w n r h found in
+    ap (λ (list : PlayList). is_concealed ((play_lists.ticked list).1)) is.play ∙ ap conceals_in (sym there)
+
+pub concealed_is : (k : EngineState) (w : Gateway) (slots : List ℕ) → StandsFor k w → ByNumber k.rooms →
+    slots ≡ map (λ r. r.slot) k.rooms.terminations → count_by (conceals_slot k.media) slots ≡ concealed_in_tick w
+concealed_is k w slots h by_number held =
+    ap (count_by (conceals_slot k.media)) held
+    ∙ counts_agree (λ (r : Record). r.slot) (λ (r : Record). r.number) (conceals_slot k.media) (conceals w)
+    k.rooms.terminations nobody
+    (λ i within. same_concealing k w h (get_or k.rooms.terminations i nobody).number
+    (get_or k.rooms.terminations i nobody) (by_number i nobody within))
+    ∙ ap (λ (x : rooms.Registry). count_by (conceals w) (map (λ (r : Record). r.number) x.terminations)) (sym h.rooms)

@@ -1,0 +1,266 @@
+-- Who isn't heard.
+use Rattle.std.proofs.Common.{◌≡◌, ℕ, ℤ, pos, ◌+◌, ◌-◌, ◌*◌, ◌%◌, ◌^◌, ◌<◌, eqb, not, ◌&&◌, ◌||◌, Bool, true, false, List, [], ◌∷◌, ◌++◌, length, map, get_or, find, Option, Some, None, refl, sym, ap, ◌∙◌, arith, if◌then◌else◌}
+use Rattle.std.specs.List.{list_all, range_with_len}
+use Rattle.std.specs.Option.{option_map}
+use Rattle.std.proofs.lemmas.Option.{same_Some}
+use Rattle.std.specs.Prelude.{slice_index_or}
+use Rattle.std.proofs.lemmas.Bool.{eqb-true, eq-eqb, not-true, and_parts}
+use Rattle.std.proofs.lemmas.List.{get_or-append-add}
+use Rattle.std.proofs.lemmas.List.FromFn.{get_or-map-range_with_len}
+use Rattle.mg_g711.specs.Law.{byte_of}
+use Rattle.mg_rtp.specs.Header.{header_bytes, plain}
+use Rattle.mg_sdp.specs.declared.chosen.Chosen.{Chosen}
+use Rattle.mg_topology.specs.Triple.{lets}
+use Rattle.mg_words.specs.Mode.{talks, listens}
+use Rattle.mg_words.specs.declared.association.Association.TheVariants.{Isolate}
+use Rattle.mg_rooms.specs.declared.record.Record.{Record}
+use Rattle.mg_rooms.specs.Limits.{slot_port}
+use Rattle.mg_rooms.specs.Registry as rooms
+use Rattle.mg_sums.specs.Samples.{nearest_sample, sum_of}
+use Rattle.mg_sums.proofs.HeardLemmas.{map_agree}
+use Rattle.mg_sums.proofs.SumLemmas.{sum_of-same}
+use Rattle.mg_engine.specs.declared.datagram.Datagram.{Datagram}
+use Rattle.mg_engine.specs.Gateway.{Gateway, TerminationMedia, ContextEdit, Enter, Leave, Apply, media_of, frame_of, mode_of, context_of, numbers_of}
+use Rattle.mg_engine.specs.aids.Found.{frame_in}
+use Rattle.mg_engine.specs.Flow.{flow, leads, speaks_of, lets_hear}
+use Rattle.mg_engine.specs.Mix.{played_sample, part_of_mix, heard, mix, mixed, is_loopback}
+use Rattle.mg_engine.specs.Tick.{packet, header_of, sent_to, type_of}
+use Rattle.mg_engine.specs.aids.Found.{packet_to}
+use Rattle.mg_engine.specs.Isolation.{NobodyHearsHimself, leaves_isolated, IsolatedAreNotHeard, replayed, with_frame, hears_itself, progress_of, PacketsAreOfWhatIsHeard, OwnSpeechChangesNoPacket, UnheardChangesNoPacket, PayloadsAreMixes}
+
+and_none : (x y : Bool) → y ≡ false → (x && y) ≡ false
+and_none true y h = h
+and_none false y h = refl
+
+pub nobody_hears_himself : NobodyHearsHimself
+nobody_hears_himself w n =
+    let rest = talks (mode_of w n) && (listens (mode_of w n) && lets_hear w.edits n n) in
+    and_none (eqb (context_of w n) (context_of w n)) (not (eqb n n) && rest)
+    (ap (λ (b : Bool). not b && rest) (eq-eqb n n refl))
+
+-- ## Isolated
+
+or_other : (x y : Bool) → (x || y) ≡ (y || x)
+or_other true true = refl
+or_other true false = refl
+or_other false true = refl
+or_other false false = refl
+
+not_heard : (since : List ContextEdit) (first second : List ℕ) (before : List ContextEdit) (a b : ℕ) →
+    speaks_of first second a b ≡ true → list_all (leaves_isolated a b) since ≡ true
+    → lets_hear (since ++ Apply first second Isolate ∷ before) a b ≡ false
+not_heard [] first second before a b on left = ap (λ (x : Bool). if x then false else lets_hear before a b) on
+not_heard (Enter n ∷ since) first second before a b on left =
+    let rest = lets_hear (since ++ Apply first second Isolate ∷ before) a b in
+    let all = list_all (leaves_isolated a b) since in
+    ap (λ (x : Bool). if x then true else rest)
+    (not-true (eqb a n || eqb b n) (and_parts (not (eqb a n || eqb b n)) all left).0)
+    ∙ not_heard since first second before a b on (and_parts (not (eqb a n || eqb b n)) all left).1
+not_heard (Leave n ∷ since) first second before a b on left = not_heard since first second before a b on left
+not_heard (Apply f s association ∷ since) first second before a b on left =
+    let rest = lets_hear (since ++ Apply first second Isolate ∷ before) a b in
+    let all = list_all (leaves_isolated a b) since in
+    ap (λ (x : Bool). if x then lets association (leads f s a b) else rest)
+    (not-true (speaks_of f s a b) (and_parts (not (speaks_of f s a b)) all left).0)
+    ∙ not_heard since first second before a b on (and_parts (not (speaks_of f s a b)) all left).1
+
+leaves_both : (a b : ℕ) (e : ContextEdit) → leaves_isolated b a e ≡ leaves_isolated a b e
+leaves_both a b (Enter n) = ap not (or_other (eqb b n) (eqb a n))
+leaves_both a b (Leave n) = refl
+leaves_both a b (Apply first second association) = ap not (or_other (leads first second b a) (leads first second a b))
+
+all_leave : (a b : ℕ) (es : List ContextEdit) → list_all (leaves_isolated b a) es ≡ list_all (leaves_isolated a b) es
+all_leave a b [] = refl
+all_leave a b (e ∷ es) = ap (λ (x : Bool). x && list_all (leaves_isolated b a) es) (leaves_both a b e) ∙
+    ap (λ (x : Bool). leaves_isolated a b e && x) (all_leave a b es)
+
+no_flow : (w : Gateway) (a b : ℕ) → lets_hear w.edits a b ≡ false → flow w a b ≡ false
+no_flow w a b h =
+    let heard = and_none (listens (mode_of w b)) (lets_hear w.edits a b) h in
+    let talked = and_none (talks (mode_of w a)) (listens (mode_of w b) && lets_hear w.edits a b) heard in
+    let apart = and_none (not (eqb a b)) (talks (mode_of w a) && (listens (mode_of w b) && lets_hear w.edits a b))
+    talked in
+    and_none (eqb (context_of w a) (context_of w b))
+    (not (eqb a b) && (talks (mode_of w a) && (listens (mode_of w b) && lets_hear w.edits a b))) apart
+
+pub isolated_are_not_heard : IsolatedAreNotHeard
+isolated_are_not_heard w a b h = (
+  no_flow w a b (ap (λ (es : List ContextEdit). lets_hear es a b) h.edits ∙
+      not_heard h.since h.first h.second h.before a b h.isolated h.left),
+  no_flow w b a (ap (λ (es : List ContextEdit). lets_hear es b a) h.edits
+      ∙ not_heard h.since h.first h.second h.before b a
+      (or_other (leads h.first h.second b a) (leads h.first h.second a b) ∙ h.isolated)
+      (all_leave a b h.since ∙ h.left)),
+)
+
+-- ## What a packet depends on
+
+module _ (a b : Gateway) (same_rooms : a.rooms ≡ b.rooms) (same_edits : a.edits ≡ b.edits) where
+  flow_same : (talker listener : ℕ) → flow a talker listener ≡ flow b talker listener
+  flow_same talker listener = λ i. flow (record a { rooms = same_rooms i; edits = same_edits i }) talker listener
+
+  sample_same : (n k : ℕ) → frame_of a n ≡ frame_of b n → played_sample a n k ≡ played_sample b n k
+  sample_same n k same = ap (λ (f : List ℤ). slice_index_or f k (pos 0)) same
+
+  part_at : (listener k talker : ℕ) (x : Bool) → (x ≡ true → frame_of a talker ≡ frame_of b talker) →
+      (if x then played_sample a talker k else pos 0) ≡ (if x then played_sample b talker k else pos 0)
+  part_at listener k talker true same = sample_same talker k (same refl)
+  part_at listener k talker false same = refl
+
+  part_same : (listener k talker : ℕ) → (flow a talker listener ≡ true → frame_of a talker ≡ frame_of b talker) →
+      part_of_mix a listener k talker ≡ part_of_mix b listener k talker
+  part_same listener k talker same =
+      part_at listener k talker (flow a talker listener) same ∙
+      ap (λ (x : Bool). if x then played_sample b talker k else pos 0) (flow_same talker listener)
+
+  heard_same : (listener k : ℕ) → ((talker : ℕ) → flow a talker listener ≡ true →
+      frame_of a talker ≡ frame_of b talker) → heard a listener k ≡ heard b listener k
+  heard_same listener k same =
+      sum_of-same (part_of_mix a listener k) (part_of_mix b listener k) (numbers_of a)
+      (λ talker. part_same listener k talker (same talker))
+      ∙ ap (λ (z : rooms.Registry). sum_of (part_of_mix b listener k) (map (λ r. r.number) z.terminations)) same_rooms
+
+  mix_at : (n k : ℕ) (x : Bool) → (x ≡ true → frame_of a n ≡ frame_of b n) → heard a n k ≡ heard b n k →
+      (if x then played_sample a n k else nearest_sample (heard a n k)) ≡
+      (if x then played_sample b n k else nearest_sample (heard b n k))
+  mix_at n k true own same = sample_same n k (own refl)
+  mix_at n k false own same = ap nearest_sample same
+
+  mix_same : (n k : ℕ) → ((talker : ℕ) → flow a talker n ≡ true → frame_of a talker ≡ frame_of b talker) →
+      (hears_itself a n ≡ true → frame_of a n ≡ frame_of b n) → mix a n k ≡ mix b n k
+  mix_same n k same own =
+      mix_at n k (hears_itself a n) own (heard_same n k same)
+      ∙ ap (λ (z : rooms.Registry). if is_loopback (mode_of (record a { rooms = z }) n) then played_sample b n k else
+      nearest_sample (heard b n k)) same_rooms
+
+  header_same : (to : Chosen) (s t : TerminationMedia) → a.config ≡ b.config → progress_of s ≡ progress_of t →
+      header_of a to s ≡ header_of b to t
+  header_same to s t same e = λ i. record {
+    marker = not (e i).1.1.1;
+    payload_type = type_of to.law;
+    sequence = ((same i).sequence + (e i).1.1.0) % 2 ^ 16;
+    timestamp = ((same i).timestamp + 160 * ((e i).1.0 - 1)) % 2 ^ 32;
+    ssrc = ((same i).ssrc + (e i).0) % 2 ^ 32;
+  }
+
+  packet_same : (r : Record) (to : Chosen) (s t : TerminationMedia) → header_of a to s ≡ header_of b to t →
+      mixed a r.number ≡ mixed b r.number → packet a r to s ≡ packet b r to t
+  packet_same r to s t header samples = λ i. record {
+    from = slot_port (same_rooms i).limits r.slot;
+    to = record { address = to.address; port = to.port };
+    bytes = header_bytes plain (header i) ++ map (byte_of to.law) (samples i);
+  }
+
+  sent_same : (r : Record) (to : Chosen) (o k : Option TerminationMedia) → a.config ≡ b.config →
+      option_map progress_of o ≡ option_map progress_of k → mixed a r.number ≡ mixed b r.number →
+      option_map (packet a r to) o ≡ option_map (packet b r to) k
+  sent_same r to None None same e samples = refl
+  sent_same r to None (Some t) same e samples = absurd (cc e)
+  sent_same r to (Some s) None same e samples = absurd (cc e)
+  sent_same r to (Some s) (Some t) same e samples =
+      ap (λ (d : Datagram). let o : Option Datagram = Some d in o)
+      (packet_same r to s t (header_same to s t same (same_Some (progress_of s) (progress_of t) e)) samples)
+
+  packet_to_same : (r : Record) (to : Option Chosen) → a.config ≡ b.config →
+      option_map progress_of (media_of a r.number) ≡ option_map progress_of (media_of b r.number) →
+      mixed a r.number ≡ mixed b r.number → packet_to a r to ≡ packet_to b r to
+  packet_to_same r None same e samples = refl
+  packet_to_same r (Some to) same e samples = sent_same r to (media_of a r.number) (media_of b r.number) same e samples
+
+pub packets_are_of_what_is_heard : PacketsAreOfWhatIsHeard
+packets_are_of_what_is_heard a b r config same_rooms edits progress same own =
+    packet_to_same a b same_rooms edits r (sent_to r) config progress
+    (map_agree (mix a r.number) (mix b r.number) (range_with_len 0 160)
+    (λ k. mix_same a b same_rooms edits r.number k same own))
+
+-- ## Unheard
+
+module _ (t : ℕ) (frame : List ℤ) where
+  number_stays : (s : TerminationMedia) → (replayed t frame s).number ≡ s.number
+  number_stays s = cases (eqb s.number t) where
+    cases : (b : Bool) → (if b then record s { frame = frame } else s).number ≡ s.number
+    cases true = refl
+    cases false = refl
+
+  media_stays : (n : ℕ) (xs : List TerminationMedia) →
+      find (λ s. eqb s.number n) (map (replayed t frame) xs) ≡
+      option_map (replayed t frame) (find (λ s. eqb s.number n) xs)
+  media_stays n [] = refl
+  media_stays n (s ∷ xs) = rw (number_stays s)
+      (step (eqb s.number n) (find (λ s. eqb s.number n) (map (replayed t frame) xs)) (find (λ s. eqb s.number n) xs)
+      (media_stays n xs)) where
+        step : (b : Bool) (rest kept : Option TerminationMedia) → rest ≡ option_map (replayed t frame) kept →
+            (if b then Some (replayed t frame s) else rest) ≡ option_map (replayed t frame) (if b then Some s else kept)
+        step true rest kept e = refl
+        step false rest kept e = e
+
+  -- another's frame stays
+  frame_by : (s : TerminationMedia) → eqb s.number t ≡ false → (replayed t frame s).frame ≡ s.frame
+  frame_by s e = ap (λ (b : Bool). (if b then record s { frame = frame } else s).frame) e
+
+  frame_found : (n : ℕ) → eqb n t ≡ false → (xs : List TerminationMedia) →
+      frame_in (option_map (replayed t frame) (find (λ s. eqb s.number n) xs)) ≡
+      frame_in (find (λ s. eqb s.number n) xs)
+  frame_found n apart [] = refl
+  frame_found n apart (s ∷ xs) = step (eqb s.number n) refl (frame_found n apart xs) where
+    step : (b : Bool) → eqb s.number n ≡ b → frame_in (option_map (replayed t frame) (find (λ s. eqb s.number n) xs))
+        ≡ frame_in (find (λ s. eqb s.number n) xs)
+        → frame_in (option_map (replayed t frame) (if b then Some s else find (λ s. eqb s.number n) xs)) ≡
+        frame_in (if b then Some s else find (λ s. eqb s.number n) xs)
+    step true e rest = frame_by s (ap (λ (k : ℕ). eqb k t) (eqb-true s.number n e) ∙ apart)
+    step false e rest = rest
+
+  frame_stays : (w : Gateway) (n : ℕ) → eqb n t ≡ false → frame_of (with_frame w t frame) n ≡ frame_of w n
+  frame_stays w n apart = ap frame_in (media_stays n w.media) ∙ frame_found n apart w.media
+
+  -- whoever flows to one to whom t doesn't isn't t
+  not_it : (w : Gateway) (listener k : ℕ) → flow w t listener ≡ false → flow w k listener ≡ true → eqb k t ≡ false
+  not_it w listener k none some = cases (eqb k t) refl where
+    cases : (b : Bool) → eqb k t ≡ b → b ≡ false
+    cases true e = sym some ∙ ap (λ (x : ℕ). flow w x listener) (eqb-true k t e) ∙ none
+    cases false e = refl
+
+  progress_stays : (w : Gateway) (n : ℕ) → option_map progress_of (media_of (with_frame w t frame) n) ≡
+      option_map progress_of (media_of w n)
+  progress_stays w n = ap (option_map progress_of) (media_stays n w.media) ∙ each (media_of w n) where
+    one : (s : TerminationMedia) (b : Bool) → progress_of (if b then record s { frame = frame } else s) ≡ progress_of s
+    one s true = refl
+    one s false = refl
+
+    each : (o : Option TerminationMedia) → option_map progress_of (option_map (replayed t frame) o) ≡
+        option_map progress_of o
+    each None = refl
+    each (Some s) = ap (λ (p : ℕ × (ℕ × (ℕ × Bool))). let o : Option (ℕ × (ℕ × (ℕ × Bool))) = Some p in o)
+        (one s (eqb s.number t))
+
+other_than : (x : Bool) → (x && true) ≡ false → x ≡ false
+other_than true h = h
+other_than false h = refl
+
+pub unheard_changes_no_packet : UnheardChangesNoPacket
+unheard_changes_no_packet w t frame r none other =
+    packets_are_of_what_is_heard (with_frame w t frame) w r refl refl refl (progress_stays t frame w r.number)
+    (λ k flows. frame_stays t frame w k (not_it t frame w r.number k none flows))
+    (λ own. frame_stays t frame w r.number (other_than (eqb r.number t)
+    (ap (λ (x : Bool). eqb r.number t && x) (sym own) ∙ other)))
+
+pub own_speech_changes_no_packet : OwnSpeechChangesNoPacket
+own_speech_changes_no_packet w frame r h =
+    unheard_changes_no_packet w r.number frame r (nobody_hears_himself w r.number)
+    (and_none (eqb r.number r.number) (hears_itself w r.number) h)
+
+-- ## Payloads
+
+payload_at : (head : List ℕ) (f : ℤ → ℕ) (g : ℕ → ℤ) (i : ℕ) → length head ≡ 12 → i < 160 →
+    get_or (head ++ map f (map g (range_with_len 0 160))) (12 + i) 0 ≡ f (g i)
+payload_at head f g i long lt = ap (λ (n : ℕ). get_or (head ++ map f (map g (range_with_len 0 160))) (n + i) 0)
+    (sym long) ∙ get_or-append-add head (map f (map g (range_with_len 0 160))) i 0
+    ∙ ap (λ (xs : List ℕ). get_or xs i 0) (map_map (range_with_len 0 160)) ∙
+    get_or-map-range_with_len (λ k. f (g k)) 0 160 i i 0 lt (omega arith) where
+      map_map : (xs : List ℕ) → map f (map g xs) ≡ map (λ k. f (g k)) xs
+      map_map [] = refl
+      map_map (x ∷ xs) = ap (λ (ys : List ℕ). f (g x) ∷ ys) (map_map xs)
+
+pub payloads_are_mixes : PayloadsAreMixes
+payloads_are_mixes w r to s i lt = payload_at (header_bytes plain (header_of w to s)) (byte_of to.law)
+    (mix w r.number) i refl lt

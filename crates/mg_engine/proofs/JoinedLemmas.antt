@@ -1,0 +1,96 @@
+-- The rooms that the rows of terminations are joined to, when one of them changes.
+use Rattle.std.proofs.Common.{◌≡◌, ◌≢◌, ℕ, eqb, Bool, true, false, cond, List, Option, Some, None, refl, sym, ap, ◌∙◌}
+use Rattle.std.proofs.lemmas.Bool.{eqb-true, eq-eqb, ne_eqb}
+use Rattle.mg_rooms.specs.declared.limits.Limits.{Limits}
+use Rattle.mg_rooms.specs.declared.record.Record.{Record}
+use Rattle.mg_rooms.specs.Registry.{Registry, record_at, start_of}
+use Rattle.mg_flow.specs.declared.place.Place.{Place}
+use Rattle.mg_engine.specs.Place.{IsOnPlace}
+use Rattle.mg_engine.specs.aids.Joined.{AreJoined, SetsRow, room_of_row, room_for}
+use Rattle.mg_engine.proofs.MemberLemmas.{SameOthers, no_record, unequal}
+use Rattle.mg_engine.proofs.PlaceLemmas.{one_record, one_place}
+
+-- no two terminations have one slot
+abbrev pub Slots : Registry → Type 0
+Slots w = (a b : ℕ) (r s : Record) → record_at w a ≡ Some r → record_at w b ≡ Some s → r.slot ≡ s.slot → a ≡ b
+
+no_room : (room : ℕ) → Option.Some room ≡ None → ⊥
+no_room room h = cc h
+
+-- one is on a place, with the slot that it had if it was there before
+module _ (old new : Registry) (n : ℕ) (r : Record) (p : Place) (before after : List (Option ℕ)) (slots : Slots new)
+    (same : SameOthers old new n) (on : IsOnPlace new n r p)
+    (mine : (was : Record) → record_at old n ≡ Some was → was.slot ≡ r.slot)
+    (set : SetsRow before after r.slot (room_for r.mode p.room)) (h : AreJoined old before) where
+  each_case : (m : ℕ) (x : Record) (q : Place) → IsOnPlace new m x q → (b : Bool) → eqb m n ≡ b →
+      room_of_row after x.slot ≡ room_for x.mode q.room
+  each_case m x q there true e =
+      let at_n = eqb-true m n e in
+      let is : x ≡ r = one_record new m n x r there.found on.found at_n in
+      let here : q ≡ p = one_place new m n x r q p there on at_n in
+      ap (λ (y : Record). room_of_row after y.slot) is
+      ∙ set r.slot
+      ∙ ap (λ (b : Bool). cond b (room_for r.mode p.room) (room_of_row before r.slot)) (eq-eqb r.slot r.slot refl)
+      ∙ ap (λ (y : Record). room_for y.mode p.room) (sym is)
+      ∙ ap (λ (y : Place). room_for x.mode y.room) (sym here)
+  each_case m x q there false e =
+      let apart = unequal m n e in
+      set x.slot
+      ∙ ap (λ (b : Bool). cond b (room_for r.mode p.room) (room_of_row before x.slot))
+      (ne_eqb x.slot r.slot (λ equal. apart (slots m n x r there.found on.found equal)))
+      ∙ h.each m x q ((same m x q apart).1 there)
+
+  nobody_case : (row room : ℕ) → room_of_row after row ≡ Some room → (b : Bool) → eqb row r.slot ≡ b → (m : ℕ) ×
+      (x : Record) × (q : Place) × IsOnPlace new m x q × (x.slot ≡ row)
+  nobody_case row room joined true e = (n, r, p, on, sym (eqb-true row r.slot e))
+  nobody_case row room joined false e =
+      let was = sym (set row ∙ ap (λ (b : Bool). cond b (room_for r.mode p.room) (room_of_row before row)) e)
+      ∙ joined in
+      let (m, x, q, there, slot) = h.nobody row room was in
+      let apart : m ≢ n = λ (equal : m ≡ n). unequal row r.slot e
+      (sym slot ∙ mine x (ap (record_at old) (sym equal) ∙ there.found)) in
+      (m, x, q, (same m x q apart).0 there, slot)
+
+  pub joined_changed : AreJoined new after
+  joined_changed = record {
+    each = λ m x q there. each_case m x q there (eqb m n) refl;
+    nobody = λ row room joined. nobody_case row room joined (eqb row r.slot) refl;
+  }
+
+-- one is there no longer
+module _ (old new : Registry) (n : ℕ) (was : Record) (before after : List (Option ℕ)) (slots : Slots old)
+    (same : SameOthers old new n) (there : record_at old n ≡ Some was) (gone : record_at new n ≡ None)
+    (set : SetsRow before after was.slot None) (h : AreJoined old before) where
+  each_left : (m : ℕ) (x : Record) (q : Place) → IsOnPlace new m x q → room_of_row after x.slot ≡ room_for x.mode q.room
+  each_left m x q on =
+      let apart : m ≢ n = λ (equal : m ≡ n). no_record x (sym on.found ∙ ap (record_at new) equal ∙ gone) in
+      let at_first = (same m x q apart).1 on in
+      set x.slot
+      ∙ ap (λ (b : Bool). cond b None (room_of_row before x.slot))
+      (ne_eqb x.slot was.slot (λ equal. apart (slots m n x was at_first.found there equal)))
+      ∙ h.each m x q at_first
+
+  nobody_left : (row room : ℕ) → room_of_row after row ≡ Some room → (b : Bool) → eqb row was.slot ≡ b → (m : ℕ) ×
+      (x : Record) × (q : Place) × IsOnPlace new m x q × (x.slot ≡ row)
+  nobody_left row room joined true e = absurd
+      (no_room room (sym joined ∙ set row ∙ ap (λ (b : Bool). cond b None (room_of_row before row)) e))
+  nobody_left row room joined false e =
+      let at_first = sym (set row ∙ ap (λ (b : Bool). cond b None (room_of_row before row)) e) ∙ joined in
+      let (m, x, q, on, slot) = h.nobody row room at_first in
+      let apart : m ≢ n = λ (equal : m ≡ n). unequal row was.slot e
+      (sym slot ∙ ap (λ (y : Record). y.slot) (one_record old m n x was on.found there equal)) in
+      (m, x, q, (same m x q apart).0 on, slot)
+
+  pub joined_left : AreJoined new after
+  joined_left = record {
+    each = each_left;
+    nobody = λ row room joined. nobody_left row room joined (eqb row was.slot) refl;
+  }
+
+-- nobody is there, and no row is joined
+pub joined_nowhere : (w : Registry) (limits : Limits) (joined : List (Option ℕ)) → w ≡ start_of limits →
+    ((row : ℕ) → room_of_row joined row ≡ None) → AreJoined w joined
+joined_nowhere w limits joined e none = record {
+  each = λ n r p on. absurd (no_record r (sym on.found ∙ ap (λ (x : Registry). record_at x n) e));
+  nobody = λ row room at_room. absurd (no_room room (sym at_room ∙ none row));
+}

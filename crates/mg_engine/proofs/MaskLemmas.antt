@@ -1,0 +1,170 @@
+-- Sums over the seats of a mask, as sums over the terminations that are on them.
+use Rattle.std.proofs.Common.{◌≡◌, ℕ, ◌<◌, ◌≤◌, ◌&&◌, eqb, Bool, true, false, cond, ℤ, pos, List, map, get_or, inl, inr, Option, Some, None, refl, sym, ap, ◌∙◌, arith}
+use Rattle.std.specs.Prelude.{IsTrue, IsSome}
+use Rattle.std.specs.List.{count_by, range_with_len}
+use Rattle.std.specs.Option.{option_map}
+use Rattle.std.proofs.lemmas.Bool.{cases_eq, eqb-true, eq-eqb, and_from}
+use Rattle.std.proofs.lemmas.Bool.Decides.{nat_tests}
+use Rattle.mg_topology.specs.Mask.{seat_limit, has_seat, seats_of}
+use Rattle.mg_rooms.specs.declared.record.Record.{Record}
+use Rattle.mg_rooms.specs.declared.context.Context.{Context}
+use Rattle.mg_rooms.specs.Registry as rooms
+use Rattle.mg_rooms.specs.Registry.{record_at, context_at}
+use Rattle.mg_rooms.specs.Sound.{IsSound}
+use Rattle.mg_flow.specs.declared.place.Place.{Place}
+use Rattle.mg_flow.specs.Place.{beside}
+use Rattle.mg_flow.specs.Table as flow
+use Rattle.mg_sums.specs.Samples.{sum_of, nearest_sample}
+use Rattle.mg_sums.proofs.SumLemmas.{sum_of-same}
+use Rattle.mg_engine.specs.Place.{place_of, IsOnPlace}
+use Rattle.mg_engine.specs.aids.Seating.{slot_at, AreSeated}
+use Rattle.mg_engine.specs.aids.Sending.{sample_at, flows_between, heard_now}
+use Rattle.mg_engine.specs.aids.Shares.{is_seated_in, sits_among, heard_on, payload_on}
+use Rattle.mg_g711.specs.declared.law.Law.{Law}
+use Rattle.mg_g711.specs.Law.{byte_of}
+use Rattle.mg_sums.proofs.HeardLemmas.{map_agree}
+use Rattle.mg_engine.specs.Stands.{EngineState}
+use Rattle.mg_engine.proofs.SendingLemmas.{nobody}
+use Rattle.mg_engine.proofs.PlaceLemmas.{ByNumber, HaveContexts, OneRoom, seated, place, hears_apart, no_hearing}
+use Rattle.mg_engine.proofs.SeatSums.{sum-seats_of, found_counts, seat_sums}
+
+-- ## Places
+
+-- a context in which somebody with this seat is on a place
+abbrev Seats : ℕ → Option Context → Place → Type 0
+Seats seat o p = (x : Context) × (o ≡ Some x) × (seated seat x ≡ p)
+
+pub seats_there : (seat : ℕ) (o : Option Context) (p : Place) → option_map (seated seat) o ≡ Some p → Seats seat o p
+seats_there seat (Some x) p e = (x, refl, cc e)
+seats_there seat None p e = absurd (cc e)
+
+there_is : (o : Option Context) → IsSome o → (x : Context) × (o ≡ Some x)
+there_is (Some x) h = (x, refl)
+there_is None h = absurd (cc h)
+
+pub somewhere : (seat : ℕ) (o : Option Context) → IsSome o → option_map (seated seat) o ≡ None → ⊥
+somewhere seat (Some x) h e = absurd (cc e)
+somewhere seat None h e = absurd (cc h)
+
+-- ## Who sits on the seats of a mask
+
+-- a test tells the seats of the mask, and nobody in another room
+module _ (p : Place) (mask : ℕ) (test : Place → Bool) (kept : (seat : ℕ) → has_seat mask seat ≡ test (beside p seat))
+    (apart : (q : Place) → eqb q.room p.room ≡ false → test q ≡ false) where
+  here : (q : Place) → q.room ≡ p.room → beside p q.seat ≡ q
+  here q same = ap (λ (r : ℕ). let x : Place = record { room = r; seat = q.seat } in x) (sym same)
+
+  seated_by : (q : Place) (b : Bool) → eqb q.room p.room ≡ b → (eqb q.room p.room && has_seat mask q.seat) ≡ test q
+  seated_by q true e = ap (λ (b : Bool). b && has_seat mask q.seat) e ∙ kept q.seat ∙
+      ap test (here q (eqb-true q.room p.room e))
+  seated_by q false e = ap (λ (b : Bool). b && has_seat mask q.seat) e ∙ sym (apart q e)
+
+  pub seated_is : (q : Place) → is_seated_in p.room mask (Some q) ≡ test q
+  seated_is q = seated_by q (eqb q.room p.room) refl
+
+-- ## What a listener hears
+
+pub flows_apart : (table : List flow.RoomFlows) (p q : Place) → eqb p.room q.room ≡ false → flow.flows table p q ≡ false
+flows_apart table p q e = no_hearing table p q (hears_apart table p q e)
+
+module _ (k : EngineState) (l : Record) (p : Place) (mask : ℕ) (on : place_of k.rooms l ≡ Some p)
+    (kept : (seat : ℕ) → has_seat mask seat ≡ flow.flows k.flows (beside p seat) p) where
+  flows_by : (o : Option Place) → flows_between k.flows o (Some p) ≡ is_seated_in p.room mask o
+  flows_by (Some q) = sym (seated_is p mask (λ x. flow.flows k.flows x p) kept (λ x e. flows_apart k.flows x p e) q)
+  flows_by None = refl
+
+  -- it is what those on the open seats say
+  pub heard_is_on : (i : ℕ) → heard_now k l i ≡ heard_on k p.room mask i
+  heard_is_on i = sum_of-same _ _ k.rooms.terminations (λ t.
+      ap (λ (o : Option Place). cond (flows_between k.flows (place_of k.rooms t) o) (sample_at k.sums.frames t.slot i)
+      (pos 0)) on
+      ∙ ap (λ (b : Bool). cond b (sample_at k.sums.frames t.slot i) (pos 0)) (flows_by (place_of k.rooms t)))
+
+  -- and the payload is that of them
+  pub payload_is_on : (law : Law) → map (byte_of law)
+      (map (λ i. nearest_sample (heard_now k l i)) (range_with_len 0 160)) ≡ payload_on k p.room mask law
+  payload_is_on law = ap (λ (xs : List ℤ). map (byte_of law) xs)
+      (map_agree (λ i. nearest_sample (heard_now k l i)) (λ i. nearest_sample (heard_on k p.room mask i))
+      (range_with_len 0 160) (λ i. ap nearest_sample (heard_is_on i)))
+
+-- ## Sums over seats
+
+abbrev pub SeatWithin : rooms.Registry → Type 0
+SeatWithin w = (n : ℕ) (r : Record) → record_at w n ≡ Some r → r.seat < seat_limit
+
+module _ (w : rooms.Registry) (seating : List ℕ) (l : Record) (p : Place) (y : Context) (mask : ℕ) (sound : IsSound w)
+    (seats : AreSeated w seating) (by_number : ByNumber w) (there : HaveContexts w) (one_room : OneRoom w)
+    (within : SeatWithin w) (context : context_at w l.context ≡ Some y) (is : seated l.seat y ≡ p)
+    (held : (seat : ℕ) → IsTrue (has_seat mask seat) → (n : ℕ) × (r : Record) × IsOnPlace w n r (beside p seat))
+    (f : ℕ → ℤ) where
+  abbrev on_seat : ℕ → ℤ
+  on_seat seat = f (slot_at seating (record { room = p.room; seat = seat }))
+
+  abbrev seat_part : ℕ → ℤ
+  seat_part seat = cond (has_seat mask seat) (on_seat seat) (pos 0)
+
+  abbrev is_in : Record → Bool
+  is_in t = eqb t.context l.context
+
+  abbrev pub seated_part : Record → ℤ
+  seated_part t = cond (sits_among w p.room mask t) (f t.slot) (pos 0)
+
+  room_is : y.room ≡ p.room
+  room_is = ap (λ (x : Place). x.room) is
+
+  -- one in the listener's context is on a seat beside it
+  beside_it : (t : Record) → t.context ≡ l.context → place_of w t ≡ Some (beside p t.seat)
+  beside_it t same =
+      ap (λ (c : ℕ). option_map (seated t.seat) (context_at w c)) same
+      ∙ ap (option_map (seated t.seat)) context
+      ∙ ap (λ (r : ℕ). place (record { room = r; seat = t.seat })) room_is
+
+  part_is : (t : Record) (b : Bool) → record_at w t.number ≡ Some t → eqb t.context l.context ≡ b →
+      seated_part t ≡ cond b (seat_part t.seat) (pos 0)
+  part_is t true found e =
+      let on = beside_it t (eqb-true t.context l.context e) in
+      let slot : slot_at seating (beside p t.seat) ≡ t.slot =
+      seats t.number t (beside p t.seat) (record { found = found; place = on }) in
+      ap (λ (o : Option Place). cond (is_seated_in p.room mask o) (f t.slot) (pos 0)) on
+      ∙ ap (λ (b : Bool). cond (b && has_seat mask t.seat) (f t.slot) (pos 0)) (eq-eqb p.room p.room refl)
+      ∙ ap (λ (s : ℕ). cond (has_seat mask t.seat) (f s) (pos 0)) (sym slot)
+  part_is t false found e =
+      let (x, is_there) = there_is (context_at w t.context) (there t.number t found) in
+      let differ : eqb x.room p.room ≡ false = elim (cases_eq x.room p.room) [
+        | inl same ↦ absurd (let no : t.context ≡ l.context =
+            one_room t.context l.context x y is_there context (same ∙ sym room_is) in let yes =
+            eq-eqb t.context l.context no in cc (yes, e))
+        | inr other ↦ grind (arith, nat_tests)
+      ] in
+      ap (λ (o : Option Context). cond (is_seated_in p.room mask (option_map (seated t.seat) o)) (f t.slot) (pos 0))
+      is_there
+      ∙ ap (λ (b : Bool). cond (b && has_seat mask t.seat) (f t.slot) (pos 0)) differ
+
+  -- a seat of the mask is that of a member of the listener's context
+  counted : (seat : ℕ) → IsTrue (has_seat mask seat) →
+      1 ≤ count_by (λ t. eqb t.context l.context && eqb t.seat seat) w.terminations
+  counted seat h =
+      let (n, r, on) = held seat h in
+      let (x, at, placed) = seats_there r.seat (context_at w r.context) (beside p seat) on.place in
+      let same : r.context ≡ l.context = one_room r.context l.context x y at context
+      (ap (λ (q : Place). q.room) placed ∙ sym room_is) in
+      let sits : r.seat ≡ seat = ap (λ (q : Place). q.seat) placed in
+      found_counts (λ t. eqb t.number n) (λ t. eqb t.context l.context && eqb t.seat seat) r w.terminations on.found
+      (and_from (eqb r.context l.context) (eqb r.seat seat) (eq-eqb r.context l.context same)
+      (eq-eqb r.seat seat sits))
+
+  silent_at : (seat : ℕ) (b : Bool) → has_seat mask seat ≡ b →
+      count_by (λ t. eqb t.context l.context && eqb t.seat seat) w.terminations ≡ 0 →
+      cond b (on_seat seat) (pos 0) ≡ pos 0
+  silent_at seat true e none = absurd (omega (arith, counted seat e, none))
+  silent_at seat false e none = refl
+
+  pub sum_on_seats : sum_of on_seat (seats_of mask) ≡ sum_of seated_part w.terminations
+  sum_on_seats =
+      sum-seats_of mask on_seat
+      ∙ seat_sums w.terminations is_in (λ t. t.seat) seat_limit seat_part seated_part nobody
+      (λ j lt. within (get_or w.terminations j nobody).number (get_or w.terminations j nobody) (by_number j nobody lt))
+      (λ j lt. part_is (get_or w.terminations j nobody) (eqb (get_or w.terminations j nobody).context l.context)
+      (by_number j nobody lt) refl)
+      (λ seat. sound.consistent.terminations.one_seat l.context seat)
+      (λ seat none. silent_at seat (has_seat mask seat) refl none)

@@ -1,0 +1,67 @@
+-- The slots of members by their places.
+use Rattle.std.proofs.Common.{arith, ◌≡◌, ◌≢◌, ℕ, ◌<◌, eqb, Bool, true, false, List, length, set, None, refl, sym, ap, ◌∙◌}
+use Rattle.std.proofs.lemmas.Bool.{eqb-true}
+use Rattle.std.proofs.lemmas.List.{get_or-set_same, get_or-set_other}
+use Rattle.mg_rooms.specs.declared.record.Record.{Record}
+use Rattle.mg_rooms.specs.Registry.{Registry, record_at}
+use Rattle.mg_flow.specs.declared.place.Place.{Place}
+use Rattle.mg_flow.specs.Place.{IsWithinLimits}
+use Rattle.mg_engine.specs.Place.{IsOnPlace}
+use Rattle.mg_engine.specs.aids.Seating.{place_count, index_of, slot_at, AreSeated}
+use Rattle.mg_engine.proofs.PlaceLemmas.{OneRoom, OneSeat, one_member, one_place, one_record}
+use Rattle.mg_engine.proofs.MemberLemmas.{SameOthers, no_record, unequal}
+
+abbrev pub AreWithin : Registry → Type 0
+AreWithin w = (n : ℕ) (r : Record) (p : Place) → IsOnPlace w n r p → IsWithinLimits p
+
+-- the others have the slots that they had
+abbrev pub OthersSeated : Registry → ℕ → List ℕ → Type 0
+OthersSeated w n seating = (m : ℕ) (x : Record) (q : Place) → m ≢ n → IsOnPlace w m x q → slot_at seating q ≡ x.slot
+
+pub carry_seats : (old new : Registry) (n : ℕ) (seating : List ℕ) → SameOthers old new n → AreSeated old seating →
+    OthersSeated new n seating
+carry_seats old new n seating same h m x q apart on = h m x q ((same m x q apart).1 on)
+
+module _ (w : Registry) (n : ℕ) (r : Record) (p : Place) (seating : List ℕ) (long : length seating ≡ place_count)
+    (rooms : OneRoom w) (seats : OneSeat w) (within : AreWithin w) (on : IsOnPlace w n r p) where
+  put_case : OthersSeated w n seating → (m : ℕ) (x : Record) (q : Place) → IsOnPlace w m x q → (b : Bool) →
+      eqb m n ≡ b → slot_at (set seating (index_of p) r.slot) q ≡ x.slot
+  put_case h m x q there true e =
+      let same = eqb-true m n e in
+      let inside = within n r p on in
+      let lt : index_of p < length seating = omega (arith, inside.room, inside.seat, long) in
+      ap (slot_at (set seating (index_of p) r.slot)) (one_place w m n x r q p there on same)
+      ∙ get_or-set_same seating (index_of p) r.slot 0 lt
+      ∙ ap (λ (y : Record). y.slot) (sym (one_record w m n x r there.found on.found same))
+  put_case h m x q there false e =
+      let a = within n r p on in
+      let b = within m x q there in
+      get_or-set_other seating (index_of p) (index_of q) r.slot 0 (λ same.
+      let room : q.room ≡ p.room = omega (arith, same, a.seat, b.seat) in
+      let seat : q.seat ≡ p.seat = omega (arith, same, a.seat, b.seat) in
+      unequal m n e (one_member w m n x r q p rooms seats there on room seat))
+      ∙ h m x q (unequal m n e) there
+
+  pub seated_put : OthersSeated w n seating → AreSeated w (set seating (index_of p) r.slot)
+  seated_put h m x q there = put_case h m x q there (eqb m n) refl
+
+-- where one isn't there, the others are all
+pub seated_all : (w : Registry) (n : ℕ) (seating : List ℕ) → record_at w n ≡ None → OthersSeated w n seating →
+    AreSeated w seating
+seated_all w n seating none h m x q on = h m x q (λ same. no_record x (sym on.found ∙ ap (record_at w) same ∙ none)) on
+
+-- one has another record, with the same slot
+module _ (old new : Registry) (n : ℕ) (was r : Record) (p : Place) (seating : List ℕ) (same : SameOthers old new n)
+    (there : IsOnPlace old n was p) (on : IsOnPlace new n r p) (slot : r.slot ≡ was.slot) where
+  mode_case : AreSeated old seating → (m : ℕ) (x : Record) (q : Place) → IsOnPlace new m x q → (b : Bool) →
+      eqb m n ≡ b → slot_at seating q ≡ x.slot
+  mode_case h m x q at true e =
+      let at_n = eqb-true m n e in
+      ap (slot_at seating) (one_place new m n x r q p at on at_n)
+      ∙ h n was p there
+      ∙ sym slot
+      ∙ ap (λ (y : Record). y.slot) (sym (one_record new m n x r at.found on.found at_n))
+  mode_case h m x q at false e = h m x q ((same m x q (unequal m n e)).1 at)
+
+  pub seated_mode : AreSeated old seating → AreSeated new seating
+  seated_mode h m x q at = mode_case h m x q at (eqb m n) refl

@@ -1,0 +1,92 @@
+-- Packets that lend their payloads keep them.
+use Rattle.std.proofs.Common.{◌≡◌, ℕ, zero, suc, ◌+◌, ◌<◌, eqb, Bool, true, false, cond, List, [], ◌∷◌, ◌++◌, length, get_or, replicate, refl, sym, ap, subst, ◌∙◌, arith, nat_lt}
+use Rattle.std.specs.Prelude.{All}
+use Rattle.std.proofs.Math.Seq.{get_or-append_seam}
+use Rattle.std.proofs.lemmas.Bool.{eqb-true}
+use Rattle.std.proofs.lemmas.List.{get_or-set_same, get_or-set_other, length_push}
+use Rattle.std.proofs.lemmas.List.Elements.{All-nil, All-weaker, All-push}
+use Rattle.mg_words.specs.Limits.{context_limit, member_limit}
+use Rattle.mg_engine.specs.declared.datagram.Datagram.{Datagram}
+use Rattle.mg_engine.specs.declared.share.Share.{Share}
+use Rattle.mg_engine.specs.Datagram.{blank}
+use Rattle.mg_engine.specs.Stands.{EngineState}
+use Rattle.mg_engine.specs.aids.Sending.{with_mixes}
+use Rattle.mg_engine.specs.aids.Shares.{AreShared, IsShared, one_more, packet_at, payload_of, payload_on, shares_in, with_share}
+use Rattle.mg_engine.proofs.MemberLemmas.{unequal}
+
+before : {A : Type 0} (xs : List A) (y d : A) (i : ℕ) → i < length xs → get_or (xs ++ y ∷ []) i d ≡ get_or xs i d
+before [] y d i lt = absurd (omega (arith, lt))
+before (x ∷ xs) y d zero lt = refl
+before (x ∷ xs) y d (suc i) lt = before xs y d i (omega (arith, lt))
+
+-- one packet more
+module _ (k : EngineState) (outbox : List Datagram) (sent : Datagram) (work : ℕ) (shares : List (List Share)) where
+  abbrev now : EngineState
+  now = with_mixes k work shares
+
+  still : (room : ℕ) (share : Share) → IsShared k outbox room share → IsShared now (outbox ++ sent ∷ []) room share
+  still room share h = record {
+    sent = omega (arith, h.sent, length_push outbox sent);
+    payload = ap payload_of (before outbox sent blank share.packet h.sent) ∙ h.payload;
+  }
+
+  pub all_still : (room : ℕ) (list : List Share) → All (IsShared k outbox room) list →
+      All (IsShared now (outbox ++ sent ∷ []) room) list
+  all_still room list h = All-weaker (IsShared k outbox room) (IsShared now (outbox ++ sent ∷ []) room) (still room)
+      list h
+
+-- nothing else is lent
+pub still_shared : (k : EngineState) (outbox : List Datagram) (sent : Datagram) → AreShared k outbox →
+    AreShared k (outbox ++ sent ∷ [])
+still_shared k outbox sent h room = all_still k outbox sent k.sums.work k.shares room (shares_in k.shares room) (h room)
+
+-- the packet lends its payload too
+module _ (k : EngineState) (outbox : List Datagram) (sent : Datagram) (work at : ℕ) (share : Share)
+    (there : at < length k.shares) (packet : share.packet ≡ length outbox)
+    (payload : payload_of sent ≡ payload_on k at share.talkers share.law) (h : AreShared k outbox) where
+  abbrev after : EngineState
+  after = with_mixes k work (with_share k.shares at share)
+
+  new_one : IsShared after (outbox ++ sent ∷ []) at share
+  new_one = record {
+    sent = omega (arith, packet, length_push outbox sent);
+    payload = ap (λ (i : ℕ). payload_of (packet_at (outbox ++ sent ∷ []) i)) packet ∙
+        ap payload_of (get_or-append_seam outbox sent [] blank) ∙ payload;
+  }
+
+  with_new : (b : Bool) (list : List Share) → All (IsShared k outbox at) list →
+      All (IsShared after (outbox ++ sent ∷ []) at) (cond b (list ++ share ∷ []) list)
+  with_new true list all = All-push (IsShared after (outbox ++ sent ∷ []) at) list share
+      (all_still k outbox sent work (with_share k.shares at share) at list all) new_one
+  with_new false list all = all_still k outbox sent work (with_share k.shares at share) at list all
+
+  shared_at : (room : ℕ) (b : Bool) → eqb room at ≡ b →
+      All (IsShared after (outbox ++ sent ∷ []) room) (shares_in (with_share k.shares at share) room)
+  shared_at room true e =
+      let list = shares_in k.shares at in
+      let is = get_or-set_same k.shares at (one_more list share) [] there in
+      let here = subst (λ (xs : List Share). All (IsShared after (outbox ++ sent ∷ []) at) xs) (sym is)
+      (with_new (nat_lt (length list) member_limit) list (h at)) in
+      subst (λ (r : ℕ). All (IsShared after (outbox ++ sent ∷ []) r) (shares_in (with_share k.shares at share) r))
+      (sym (eqb-true room at e)) here
+  shared_at room false e =
+      let apart = unequal room at e in
+      let is = get_or-set_other k.shares at room (one_more (shares_in k.shares at) share) [] (λ same. apart same) in
+      subst (λ (xs : List Share). All (IsShared after (outbox ++ sent ∷ []) room) xs) (sym is)
+      (all_still k outbox sent work (with_share k.shares at share) room (shares_in k.shares room) (h room))
+
+  pub now_shared : AreShared after (outbox ++ sent ∷ [])
+  now_shared room = shared_at room (eqb room at) refl
+
+-- ## Nothing is lent
+
+none_in : (n room : ℕ) → shares_in (replicate n []) room ≡ []
+none_in zero room = refl
+none_in (suc n) zero = refl
+none_in (suc n) (suc room) = none_in n room
+
+pub none_shared : (k : EngineState) (outbox : List Datagram) → k.shares ≡ replicate context_limit [] →
+    AreShared k outbox
+none_shared k outbox none room = subst (λ (list : List Share). All (IsShared k outbox room) list)
+    (sym (ap (λ (shares : List (List Share)). shares_in shares room) none ∙ none_in context_limit room))
+    (All-nil (IsShared k outbox room))

@@ -1,0 +1,396 @@
+-- Triples by the seats of the members that their terms match.
+use Rattle.std.proofs.Common.{◌≡◌, ℕ, zero, suc, ◌+◌, ◌<◌, eqb, ◌&&◌, ◌||◌, Bool, true, false, cond, List, [], ◌∷◌, ◌++◌, ◌==◌, length, get_or, take, drop, Option, Some, None, Result, Ok, Err, refl, sym, ap, subst, ◌∙◌, arith}
+use Rattle.std.specs.Prelude.{IsTrue, ◌↔◌, Any}
+use Rattle.std.specs.List.{list_any}
+use Rattle.std.specs.Cmp.{both_ways}
+use Rattle.std.specs.Option.{option_map}
+use Rattle.std.proofs.lemmas.Bool.{eqb-true, eq-eqb}
+use Rattle.std.proofs.lemmas.Option.{same_Some}
+use Rattle.std.proofs.lemmas.List.{drop_more, take_more}
+use Rattle.mg_topology.specs.declared.triple.Triple.{Triple}
+use Rattle.mg_topology.specs.Mask.{has_seat}
+use Rattle.mg_topology.specs.Triple.{Overlaps, overlaps}
+use Rattle.mg_rooms.specs.declared.context.Context.{Context}
+use Rattle.mg_rooms.specs.declared.record.Record.{Record}
+use Rattle.mg_rooms.specs.Registry.{Registry, record_at, context_at, members_at, IsMember}
+use Rattle.mg_flow.specs.declared.place.Place.{Place}
+use Rattle.mg_flow.specs.Place.{are_together}
+use Rattle.mg_flow.specs.Table.{RoomFlows, holds, hears, hears_after, KeepsPlaces, KeepsOthers}
+use Rattle.mg_topology.specs.Topology as topology
+use Rattle.mg_topology.specs.Triple as seats
+use Rattle.mg_topology.specs.Triple.{lets}
+use Rattle.mg_rooms.specs.declared.target.Target.{Target}
+use Rattle.mg_engine.specs.Gateway.{Gateway, ContextEdit, Apply}
+use Rattle.mg_engine.specs.Flow.{lets_hear}
+use Rattle.mg_engine.specs.Outcome.{context_there, apply_triples}
+use Rattle.mg_engine.specs.Stands.{EngineState, StandsFor, ShareContext, IsOutcome}
+use Rattle.mg_engine.specs.Flow.{has}
+use Rattle.mg_engine.specs.Place.{place_of, IsOnPlace}
+use Rattle.mg_engine.specs.aids.Members.{HasMembers}
+use Rattle.mg_words.specs.declared.association.Association.{Association}
+use Rattle.mg_words.specs.declared.association.Association.TheVariants.{Isolate, Oneway, Bothway}
+use Rattle.mg_words.specs.declared.error_number.ErrorNumber.{ErrorNumber}
+use Rattle.mg_words.specs.declared.error_number.ErrorNumber.TheVariants as errors
+use Rattle.mg_topology.specs.Triple.{is_oneway}
+use Rattle.mg_engine.specs.declared.topology_triple.TopologyTriple.{TopologyTriple}
+use Rattle.mg_engine.specs.Triples as terms
+use Rattle.mg_engine.specs.Triples.{with_triples, matched, is_barred, names_others, check_triple, check_triples}
+use Rattle.mg_engine.specs.aids.Triples.{IsRoomOf, IsSeated, Matches, IsMatched, AreMatched}
+use Rattle.mg_engine.proofs.MemberLemmas.{Hears, seats_differ, unequal}
+use Rattle.mg_engine.proofs.PlaceLemmas.{HaveContexts, OneSeat, OneRoom, at, on_place, one_record, in_one_room, both}
+
+abbrev pub AreMembers : Registry → ℕ → Type 0
+AreMembers w c = (n : ℕ) → IsTrue (list_any (λ m. eqb m n) (members_at w c)) ↔ IsMember w c n
+
+seated : (w : Registry) (c n : ℕ) (r : Record) → HaveContexts w → record_at w n ≡ Some r → r.context ≡ c →
+    IsSeated w c n r.seat
+seated w c n r there found context =
+    let (p, on) = on_place w n r there found in
+    (r, p, on, context, (at w r p on.place).seat)
+
+-- ## One termination by its number
+
+module _ (w : Registry) (c number mask : ℕ) (r : Record) (seats : OneSeat w) (found : record_at w number ≡ Some r)
+    (context : r.context ≡ c) (of_seat : (s : ℕ) → has_seat mask s ≡ eqb s r.seat) where
+  same_seat : (n seat : ℕ) (q : Record) (p : Place) → IsOnPlace w n q p → q.context ≡ c → p.seat ≡ seat → (b : Bool) →
+      eqb number n ≡ b → eqb seat r.seat ≡ (b || false)
+  same_seat n seat q p on here is true e =
+      let same = one_record w number n r q found on.found (eqb-true number n e) in
+      eq-eqb seat r.seat (sym is ∙ (at w q p on.place).seat ∙ ap (λ (x : Record). x.seat) (sym same))
+  same_seat n seat q p on here is false e = apart (eqb seat r.seat) refl where
+    apart : (b : Bool) → eqb seat r.seat ≡ b → b ≡ false
+    apart true h =
+        let one = seats number n r q found on.found (context ∙ sym here)
+        (sym (eqb-true seat r.seat h) ∙ sym is ∙ (at w q p on.place).seat) in
+        sym (eq-eqb number n one) ∙ e
+    apart false h = refl
+
+  pub matches_number : HaveContexts w → Matches w c (number ∷ []) mask
+  matches_number there = record {
+    same = λ n seat s. let (q, p, on, here, is) = s in of_seat seat ∙
+        same_seat n seat q p on here is (eqb number n) refl;
+    seats = λ seat h. (
+      number,
+      rw (eqb-true seat r.seat (sym (of_seat seat) ∙ h))
+          (seated w c number r there found context),
+    );
+    named = λ n h. (
+      r.seat,
+      rw (sym (eqb-true number n (only (eqb number n) h)))
+          (seated w c number r there found context),
+    );
+  } where
+    only : (b : Bool) → (b || false) ≡ true → b ≡ true
+    only true h = refl
+    only false h = absurd (cc h)
+
+-- ## All members
+
+room_is : (w : Registry) (c room : ℕ) (r : Record) (p : Place) → IsRoomOf w c room → place_of w r ≡ Some p →
+    r.context ≡ c → p.room ≡ room
+room_is w c room r p is place here =
+    let a = at w r p place in
+    a.room ∙ same_Some a.context.room room (ap (option_map (λ x. x.room)) (sym a.found ∙ ap (context_at w) here) ∙ is)
+
+context_by : (w : Registry) (c room : ℕ) (o : Option Context) → context_at w c ≡ o →
+    option_map (λ x. x.room) o ≡ Some room → (x : Context) × (context_at w c ≡ Some x) × (x.room ≡ room)
+context_by w c room (Some x) is h = (x, is, cc h)
+context_by w c room None is h = absurd (cc h)
+
+context_is : (w : Registry) (c room : ℕ) (r : Record) (p : Place) → OneRoom w → IsRoomOf w c room →
+    place_of w r ≡ Some p → p.room ≡ room → r.context ≡ c
+context_is w c room r p rooms is place here =
+    let a = at w r p place in
+    let (x, there, same) = context_by w c room (context_at w c) refl is in
+    rooms r.context c a.context x a.found there (sym a.room ∙ here ∙ sym same)
+
+pub matches_every : (w : Registry) (c room mask : ℕ) (table : List RoomFlows) → HaveContexts w → OneRoom w →
+    AreMembers w c → IsRoomOf w c room → HasMembers w table
+    → ((seat : ℕ) → has_seat mask seat ≡ holds table (record { room = room; seat = seat })) →
+    Matches w c (members_at w c) mask
+matches_every w c room mask table there rooms members is all held = record {
+  same = λ n seat s.
+      let (q, p, on, here, at_seat) = s in
+      let place : p ≡ record { room = room; seat = seat } =
+      ap (λ (x : ℕ). let y : Place = record { room = x; seat = p.seat } in y)
+      (room_is w c room q p is on.place here) ∙
+      ap (λ (x : ℕ). let y : Place = record { room = room; seat = x } in y) at_seat in
+      held seat ∙ ap (holds table) (sym place) ∙ (all.each n q p on).held ∙ sym ((members n).1 (q, on.found, here));
+  seats = λ seat h.
+      let p : Place = record { room = room; seat = seat } in
+      let (n, q, on) = all.nobody p (sym (held seat) ∙ h) in
+      (n, (q, p, on, context_is w c room q p rooms is on.place refl, refl));
+  named = λ n h. let (r, found, here) = (members n).0 h in (r.seat, seated w c n r there found here);
+}
+
+-- ## Overlaps
+
+or_true : (b : Bool) → (b || true) ≡ true
+or_true true = refl
+or_true false = refl
+
+named_first : (x n : ℕ) (xs ys : List ℕ) → has ys n ≡ true → (has xs n ≡ true → list_any (has ys) xs ≡ true) →
+    (b : Bool) → eqb x n ≡ b → (b || has xs n) ≡ true → (has ys x || list_any (has ys) xs) ≡ true
+named_first x n xs ys two rest true e h = ap (λ (b : Bool). b || list_any (has ys) xs)
+    (ap (has ys) (eqb-true x n e) ∙ two)
+named_first x n xs ys two rest false e h = ap (λ (b : Bool). has ys x || b) (rest h) ∙ or_true (has ys x)
+
+any_named : (xs ys : List ℕ) (n : ℕ) → has xs n ≡ true → has ys n ≡ true → list_any (has ys) xs ≡ true
+any_named [] ys n one two = absurd (cc one)
+any_named (x ∷ xs) ys n one two = named_first x n xs ys two (λ h. any_named xs ys n h two) (eqb x n) refl one
+
+abbrev AreNamed : List ℕ → List ℕ → Type 0
+AreNamed xs ys = (n : ℕ) × (has xs n ≡ true) × (has ys n ≡ true)
+
+some_first : (x : ℕ) (xs ys : List ℕ) → (list_any (has ys) xs ≡ true → AreNamed xs ys) → (b : Bool) → has ys x ≡ b →
+    (b || list_any (has ys) xs) ≡ true → AreNamed (x ∷ xs) ys
+some_first x xs ys rest true e h = (x, ap (λ (b : Bool). b || has xs x) (eq-eqb x x refl), e)
+some_first x xs ys rest false e h =
+    let (n, one, two) = rest h in
+    (n, ap (λ (b : Bool). eqb x n || b) one ∙ or_true (eqb x n), two)
+
+some_named : (xs ys : List ℕ) → list_any (has ys) xs ≡ true → AreNamed xs ys
+some_named [] ys h = absurd (cc h)
+some_named (x ∷ xs) ys h = some_first x xs ys (some_named xs ys) (has ys x) refl h
+
+oneway_is : (a : Association) → is_oneway a ≡ true → a ≡ Oneway
+oneway_is Isolate h = absurd (cc h)
+oneway_is Oneway h = refl
+oneway_is Bothway h = absurd (cc h)
+
+-- a member matches both terms where some seat is in both masks
+module _ (w : Registry) (c : ℕ) (members : List ℕ) (x : TopologyTriple) (y : Triple)
+    (law : IsTrue (overlaps y) ↔ Overlaps y) (m : IsMatched w c members x y) where
+  by_terms : terms.overlaps members x ≡ true → overlaps y ≡ true
+  by_terms h =
+      let (oneway, some) = both (is_oneway x.association)
+      (list_any (has (matched members x.second)) (matched members x.first)) h in
+      let (n, a, b) = some_named (matched members x.first) (matched members x.second) some in
+      let (seat, is) = m.first.named n a in
+      law.1 (
+        m.association ∙ oneway_is x.association oneway,
+        record {
+          seat = seat;
+          in_first = m.first.same n seat is ∙ a;
+          in_second = m.second.same n seat is ∙ b;
+        },
+      )
+
+  by_seats : overlaps y ≡ true → terms.overlaps members x ≡ true
+  by_seats h =
+      let (oneway, common) = law.0 h in
+      let (n, is) = m.first.seats common.seat common.in_first in
+      let a = sym (m.first.same n common.seat is) ∙ common.in_first in
+      let b = sym (m.second.same n common.seat is) ∙ common.in_second in
+      ap (λ (z : Bool). z && list_any (has (matched members x.second)) (matched members x.first))
+      (ap is_oneway (sym m.association ∙ oneway)) ∙
+      any_named (matched members x.first) (matched members x.second) n a b
+
+  pub overlaps_are : terms.overlaps members x ≡ overlaps y
+  overlaps_are = both_ways (terms.overlaps members x) (overlaps y) by_terms by_seats
+
+-- ## Checks
+
+pub not_barred : (members : List ℕ) (x : TopologyTriple) → is_barred x.first ≡ false → is_barred x.second ≡ false →
+    names_others members x.first ≡ false → names_others members x.second ≡ false
+    → (b : Bool) → terms.overlaps members x ≡ b →
+    check_triple members x ≡ cond b (Err errors.IllegalCombination) (Ok tt)
+not_barred members x one two three four true five = rw (one, two, three, four, five) refl
+not_barred members x one two three four false five = rw (one, two, three, four, five) refl
+
+-- ## Lists of triples
+
+checked_more : (members : List ℕ) (xs : List TopologyTriple) (i : ℕ) (d : TopologyTriple) → i < length xs →
+    check_triple members (get_or xs i d) ≡ Ok tt →
+    check_triples members (drop i xs) ≡ check_triples members (drop (i + 1) xs)
+checked_more members xs i d lt e = rw (drop_more xs i d lt, e) refl
+
+pub checked_to : (members : List ℕ) (xs : List TopologyTriple) (i : ℕ) (x d : TopologyTriple) → i < length xs →
+    x ≡ get_or xs i d → check_triples members xs ≡ check_triples members (drop i xs) →
+    check_triple members x ≡ Ok tt → check_triples members xs ≡ check_triples members (drop (i + 1) xs)
+checked_to members xs i x d lt is before e = before ∙
+    checked_more members xs i d lt (ap (check_triple members) (sym is) ∙ e)
+
+pub matched_push : (w : Registry) (c : ℕ) (members : List ℕ) (xs : List TopologyTriple) (ys : List Triple)
+    (x : TopologyTriple) (y : Triple) → AreMatched w c members xs ys → IsMatched w c members x y →
+    AreMatched w c members (xs ++ x ∷ []) (ys ++ y ∷ [])
+matched_push w c members [] [] x y h m = (m, tt)
+matched_push w c members [] (b ∷ ys) x y h m = absurd h
+matched_push w c members (a ∷ xs) [] x y h m = absurd h
+matched_push w c members (a ∷ xs) (b ∷ ys) x y h m = (h.0, matched_push w c members xs ys x y h.1 m)
+
+pub matched_to : (w : Registry) (c : ℕ) (members : List ℕ) (xs : List TopologyTriple) (ys : List Triple) (i : ℕ)
+    (x d : TopologyTriple) (y : Triple) → i < length xs → x ≡ get_or xs i d → AreMatched w c members (take i xs) ys →
+    IsMatched w c members x y → AreMatched w c members (take (i + 1) xs) (ys ++ y ∷ [])
+matched_to w c members xs ys i x d y lt is h m =
+    let all = matched_push w c members (take i xs) ys (get_or xs i d) y h
+    (subst (λ (z : TopologyTriple). IsMatched w c members z y) is m) in
+    subst (λ (zs : List TopologyTriple). AreMatched w c members zs (ys ++ y ∷ [])) (sym (take_more xs i d lt)) all
+
+pub none_overlaps : (ys : List Triple) (y : Triple) → ¬ Any Overlaps ys → ¬ Overlaps y → ¬ Any Overlaps (ys ++ y ∷ [])
+none_overlaps [] y none apart (zero, x, lt, is, overlap) = apart (subst Overlaps (sym is) overlap)
+none_overlaps [] y none apart (suc i, x, lt, is, overlap) = absurd (omega (arith, lt))
+none_overlaps (a ∷ ys) y none apart (zero, x, lt, is, overlap) = none (0, x, omega arith, is, overlap)
+none_overlaps (a ∷ ys) y none apart (suc i, x, lt, is, overlap) =
+    none_overlaps ys y (λ some. let (j, z, less, at, o) = some in none (suc j, z, omega (arith, less), at, o)) apart
+    (i, x, omega (arith, lt), is, overlap)
+
+-- ## What triples change
+
+pub has_still : (w : Registry) (old new : List RoomFlows) → KeepsPlaces old new → HasMembers w old → HasMembers w new
+has_still w old new keeps h = record {
+  each = λ n r p on. let says = h.each n r p on in record {
+    held = keeps.held p ∙ says.held;
+    talks = keeps.talkers p ∙ says.talks;
+    listens = keeps.listeners p ∙ says.listens;
+  };
+  nobody = λ p held. h.nobody p (sym (keeps.held p) ∙ held);
+}
+
+module _ (w : Registry) (c : ℕ) (members : List ℕ) (talker listener : ℕ) (t l : Record) (p q : Place)
+    (s : ShareContext w talker listener t l p q) where
+  from_seat : t.context ≡ c → IsSeated w c talker p.seat
+  from_seat here = (t, p, s.first, here, refl)
+
+  to_seat : l.context ≡ c → IsSeated w c listener q.seat
+  to_seat here = (l, q, s.second, here, refl)
+
+  -- one triple, of two in its context: whether it speaks of them, and what it says
+  one_word : (x : TopologyTriple) (y : Triple) (es : List ContextEdit) (b : Bool) → t.context ≡ c → l.context ≡ c →
+      IsMatched w c members x y → b ≡ lets_hear es talker listener
+      → cond (seats.speaks_of y p.seat q.seat) (seats.word_of y p.seat q.seat) b ≡
+      lets_hear (Apply (matched members x.first) (matched members x.second) x.association ∷ es) talker listener
+  one_word x y es b here there m e =
+      rw (
+        m.first.same talker p.seat (from_seat here),
+        m.second.same listener q.seat (to_seat there),
+        m.first.same listener q.seat (to_seat there),
+        m.second.same talker p.seat (from_seat here),
+        m.association,
+        e,
+      ) refl
+
+  pub all_words : (xs : List TopologyTriple) (ys : List Triple) (es : List ContextEdit) (b : Bool) → t.context ≡ c →
+      l.context ≡ c → AreMatched w c members xs ys → b ≡ lets_hear es talker listener
+      → hears_after ys p.seat q.seat b ≡ lets_hear (with_triples members xs es) talker listener
+  all_words [] [] es b here there m e = e
+  all_words [] (y ∷ ys) es b here there m e = absurd m
+  all_words (x ∷ xs) [] es b here there m e = absurd m
+  all_words (x ∷ xs) (y ∷ ys) es b here there m e =
+      all_words xs ys (Apply (matched members x.first) (matched members x.second) x.association ∷ es) _ here there m.1
+      (one_word x y es b here there m.0 e)
+
+-- a triple of another context says nothing of one
+not_named : (w : Registry) (c : ℕ) (names : List ℕ) (mask n : ℕ) (r : Record) → Matches w c names mask →
+    record_at w n ≡ Some r → (r.context ≡ c → ⊥) → (b : Bool) → has names n ≡ b → b ≡ false
+not_named w c names mask n r m found elsewhere true e =
+    let (seat, is_seated) = m.named n e in
+    let (q, p, on, here, is) = is_seated in
+    absurd (elsewhere (ap (λ (x : Record). x.context) (one_record w n n r q found on.found refl) ∙ here))
+not_named w c names mask n r m found elsewhere false e = refl
+
+nowhere : (a b c d : Bool) → a ≡ false → d ≡ false → ((a && b) || (c && d)) ≡ false
+nowhere a b true d h k = rw (h, k) refl
+nowhere a b false d h k = rw h refl
+
+pub other_words : (w : Registry) (c : ℕ) (members : List ℕ) (talker listener : ℕ) (t : Record) →
+    record_at w talker ≡ Some t → (t.context ≡ c → ⊥) →
+    (xs : List TopologyTriple) (ys : List Triple) (es : List ContextEdit) → AreMatched w c members xs ys
+    → lets_hear (with_triples members xs es) talker listener ≡ lets_hear es talker listener
+other_words w c members talker listener t found elsewhere [] [] es m = refl
+other_words w c members talker listener t found elsewhere [] (y ∷ ys) es m = absurd m
+other_words w c members talker listener t found elsewhere (x ∷ xs) [] es m = absurd m
+other_words w c members talker listener t found elsewhere (x ∷ xs) (y ∷ ys) es m =
+    let first = not_named w c (matched members x.first) y.first talker t m.0.first found elsewhere
+    (has (matched members x.first) talker) refl in
+    let second = not_named w c (matched members x.second) y.second talker t m.0.second found elsewhere
+    (has (matched members x.second) talker) refl in
+    other_words w c members talker listener t found elsewhere xs ys
+    (Apply (matched members x.first) (matched members x.second) x.association ∷ es) m.1
+    ∙ ap (λ (b : Bool). cond b (lets x.association
+    (has (matched members x.first) talker && has (matched members x.second) listener))
+    (lets_hear es talker listener))
+    (nowhere (has (matched members x.first) talker) (has (matched members x.second) listener)
+    (has (matched members x.first) listener) (has (matched members x.second) talker) first second)
+
+module _ (w : Registry) (c room : ℕ) (old new : List RoomFlows) (xs : List TopologyTriple) (ys : List Triple)
+    (es : List ContextEdit) (one_room : OneRoom w) (one_seat : OneSeat w) (is : IsRoomOf w c room)
+    (m : AreMatched w c (members_at w c) xs ys) (members : HasMembers w old)
+    (others : KeepsOthers old new room) (after : (t l : Place) → t.room ≡ room →
+    IsTrue (are_together (holds old) t l) → hears new t l ≡ hears_after ys t.seat l.seat (hears old t l)) where
+  in_context : Hears w old es → (talker listener : ℕ) (t l : Record) (p q : Place) →
+      ShareContext w talker listener t l p q → t.context ≡ c →
+      hears new p q ≡ lets_hear (with_triples (members_at w c) xs es) talker listener
+  in_context h talker listener t l p q s here =
+      let there = sym s.same ∙ here in
+      let same_room = in_one_room w t l p q s.first.place s.second.place s.same in
+      let together : are_together (holds old) p q ≡ true =
+      rw (
+        (members.each talker t p s.first).held,
+        (members.each listener l q s.second).held,
+        eq-eqb p.room q.room same_room,
+        seats_differ w talker listener t l p q one_room one_seat s,
+      ) refl in
+      after p q (room_is w c room t p is s.first.place here) together
+      ∙ all_words w c (members_at w c) talker listener t l p q s xs ys es (hears old p q) here there m
+      (h talker listener t l p q s)
+
+  elsewhere : Hears w old es → (talker listener : ℕ) (t l : Record) (p q : Place) →
+      ShareContext w talker listener t l p q → (t.context ≡ c → ⊥) →
+      hears new p q ≡ lets_hear (with_triples (members_at w c) xs es) talker listener
+  elsewhere h talker listener t l p q s away =
+      let apart : p.room ≡ room → ⊥ = λ e. away (context_is w c room t p one_room is s.first.place e) in
+      ap (λ (r : _). (p.room == q.room) && topology.hears r.topology p.seat q.seat) (others p.room apart)
+      ∙ h talker listener t l p q s
+      ∙ sym (other_words w c (members_at w c) talker listener t s.first.found away xs ys es m)
+
+  triples_case : Hears w old es → (talker listener : ℕ) (t l : Record) (p q : Place) →
+      ShareContext w talker listener t l p q → (b : Bool) → eqb t.context c ≡ b →
+      hears new p q ≡ lets_hear (with_triples (members_at w c) xs es) talker listener
+  triples_case h talker listener t l p q s true e = in_context h talker listener t l p q s (eqb-true t.context c e)
+  triples_case h talker listener t l p q s false e = elsewhere h talker listener t l p q s (unequal t.context c e)
+
+  pub hears_triples : Hears w old es → Hears w new (with_triples (members_at w c) xs es)
+  hears_triples h talker listener t l p q s = triples_case h talker listener t l p q s (eqb t.context c) refl
+
+-- ## What an engine answers
+
+pub refused_there : (k : EngineState) (w : Gateway) (target : Target) (xs : List TopologyTriple) (e : ErrorNumber) →
+    StandsFor k w → context_there k.rooms target ≡ Err e → apply_triples w target xs ≡ Err e
+unfolding apply_triples
+refused_there k w target xs e h there = rw (h.rooms, there) refl
+
+pub refused_triples : (k : EngineState) (w : Gateway) (target : Target) (xs : List TopologyTriple) (c : ℕ)
+    (e : ErrorNumber) → StandsFor k w → context_there k.rooms target ≡ Ok c →
+    check_triples (members_at k.rooms c) xs ≡ Err e → apply_triples w target xs ≡ Err e
+unfolding apply_triples
+refused_triples k w target xs c e h there checked = rw (h.rooms, there, checked) refl
+
+pub done_triples : (k : EngineState) (w : Gateway) (target : Target) (xs : List TopologyTriple) (c : ℕ) →
+    StandsFor k w → context_there k.rooms target ≡ Ok c → check_triples (members_at k.rooms c) xs ≡ Ok tt →
+    apply_triples w target xs ≡ Ok (record w { edits = with_triples (members_at k.rooms c) xs w.edits }, c)
+unfolding apply_triples
+done_triples k w target xs c h there checked = rw (h.rooms, there, checked) refl
+
+pub err_is : {A : Type 0} (k : EngineState) (result : Result A ErrorNumber)
+    (outcome : Result (Gateway × A) ErrorNumber) (e : ErrorNumber) → result ≡ Err e → outcome ≡ Err e →
+    IsOutcome k result outcome
+err_is k result outcome e here there = rw (here, there) refl
+
+pub ok_is : {A : Type 0} (k : EngineState) (result : Result A ErrorNumber)
+    (outcome : Result (Gateway × A) ErrorNumber) (x : A) (w : Gateway) → result ≡ Ok x → outcome ≡ Ok (w, x) →
+    StandsFor k w → IsOutcome k result outcome
+ok_is k result outcome x w here there stands = rw here (w, there, stands)
+
+abbrev with_words : Gateway → List ContextEdit → Gateway
+with_words w es = record w { edits = es }
+
+pub words_stand : (k : EngineState) (flows : List RoomFlows) (w : Gateway) (es : List ContextEdit) → StandsFor k w →
+    Hears k.rooms flows es → StandsFor (record k { flows = flows }) (with_words w es)
+words_stand k flows w es h hears = record {
+  config = h.config;
+  rooms = h.rooms;
+  numbers = h.numbers;
+  media = h.media;
+  hears = hears;
+}

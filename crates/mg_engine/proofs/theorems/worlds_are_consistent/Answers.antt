@@ -1,0 +1,43 @@
+use Rattle.std.proofs.Common.{sym, subst}
+use Rattle.mg_rooms.specs.Consistent.{IsConsistent}
+use Rattle.mg_rooms.specs.Outcome as commands
+use Rattle.mg_engine.specs.Config.{limits_of}
+use Rattle.mg_engine.specs.Gateway.{Gateway}
+use Rattle.mg_engine.specs.Outcome.{added, modified, moved, subtracted}
+use Rattle.mg_engine.proofs.OrderLemmas.{done_is, takes_rooms, triples_rooms}
+use Rattle.mg_engine.proofs.theorems.worlds_are_consistent.Goals as goal
+
+pub returns-clause-start : goal.returns-clause-start
+returns-clause-start c = λ config valid few. c.outcomes_are_consistent.ensures.start (limits_of config) valid.limits few
+
+pub returns-clause-add : goal.returns-clause-add
+returns-clause-add c = λ w next target settings r h done.
+    let (z, is, came) = done_is (added w settings) (commands.add w.rooms target settings) next r done in
+    subst (λ (g : Gateway). IsConsistent g.rooms) (sym came)
+    (c.outcomes_are_consistent.ensures.add w.rooms z target settings r h is)
+
+pub returns-clause-modify : goal.returns-clause-modify
+returns-clause-modify c = λ w next target n settings r h done.
+    let (z, is, came) = done_is (modified w settings) (commands.modify w.rooms target n settings) next r done in
+    subst (λ (g : Gateway). IsConsistent g.rooms) (sym came)
+    (c.outcomes_are_consistent.ensures.modify w.rooms z target n settings r h is)
+
+pub returns-clause-move_to : goal.returns-clause-move_to
+returns-clause-move_to c = λ w next target n settings r h done.
+    let (z, is, came) = done_is (moved w settings) (commands.move_to w.rooms target n settings) next r done in
+    subst (λ (g : Gateway). IsConsistent g.rooms) (sym came)
+    (c.outcomes_are_consistent.ensures.move_to w.rooms z target n settings r h is)
+
+pub returns-clause-subtract : goal.returns-clause-subtract
+returns-clause-subtract c = λ w next target n r h done.
+    let (z, is, came) = done_is (subtracted w) (commands.subtract w.rooms target n) next r done in
+    subst (λ (g : Gateway). IsConsistent g.rooms) (sym came)
+    (c.outcomes_are_consistent.ensures.subtract w.rooms z target n r h is)
+
+pub returns-clause-triples : goal.returns-clause-triples
+returns-clause-triples c = λ w next target triples n h done. subst IsConsistent
+    (sym (triples_rooms w next target triples n done)) h
+
+pub returns-clause-media : goal.returns-clause-media
+returns-clause-media c = λ w next port source bytes result h came. subst IsConsistent
+    (sym (takes_rooms w next port source bytes result came)) h

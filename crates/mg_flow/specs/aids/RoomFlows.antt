@@ -1,0 +1,45 @@
+-- One room by its seats, and the masks of each listener in it.
+use Rattle.std.specs.Prelude.{◌≡◌, ℕ, ◌<◌, Bool, not, ◌&&◌, ◌==◌, if◌then◌else◌, List, []}
+use Rattle.std.specs.Prelude.{slice_index}
+use Rattle.mg_topology.specs.Mask.{seat_limit, has_seat, IsEmpty}
+use Rattle.mg_topology.specs.Topology.{TopologyState, holds, hears, StandsFor}
+use Rattle.mg_flow.specs.Table.{RoomFlows}
+
+-- nobody has entered the room
+pub record IsVacant (room : RoomFlows) : Type 0 where
+  pub topology : StandsFor room.topology []
+  pub talks : IsEmpty room.talks
+  pub listens : IsEmpty room.listens
+
+-- The seat is now held, or not, and its member talks, or not, and listens, or not; each other
+-- seat is as it was.
+pub record SetsSeat (old new : RoomFlows) (seat : ℕ)
+    (is_held does_talk does_listen : Bool) : Type 0 where
+  pub held : (s : ℕ) →
+      holds new.topology s ≡ (if s == seat then is_held else holds old.topology s)
+  pub talkers : (s : ℕ) →
+      has_seat new.talks s ≡ (if s == seat then does_talk else has_seat old.talks s)
+  pub listeners : (s : ℕ) →
+      has_seat new.listens s ≡ (if s == seat then does_listen else has_seat old.listens s)
+
+-- the talker's speech goes to the listener
+abbrev pub flows_to : TopologyState → (talks listens : ℕ) → (talker listener : ℕ) → Bool
+flows_to topology talks listens talker listener =
+    has_seat talks talker && (has_seat listens listener && hears topology talker listener)
+
+-- the talker is another member, whom the last word keeps from the listener
+abbrev pub is_kept_from : TopologyState → (talks : ℕ) → (talker listener : ℕ) → Bool
+is_kept_from topology talks talker listener =
+    has_seat talks talker
+    && (holds topology talker
+    && (holds topology listener
+    && (not (talker == listener) && not (hears topology talker listener))))
+
+-- the masks tell who flows to each listener and who is kept from it
+pub record AreMasks (room : RoomFlows) (open_masks silenced_masks : List ℕ) : Type 0 where
+  pub flows : (talker listener : ℕ) → listener < seat_limit →
+      has_seat (slice_index open_masks listener) talker
+      ≡ flows_to room.topology room.talks room.listens talker listener
+  pub kept : (talker listener : ℕ) → listener < seat_limit →
+      has_seat (slice_index silenced_masks listener) talker
+      ≡ is_kept_from room.topology room.talks talker listener

@@ -1,0 +1,142 @@
+ghost use Rattle.std.specs.Prelude.{◌≡◌, ℕ, ◌<◌, ◌∷◌, List, true, false, ◌↔◌, Any, IsTrue, IsFalse, IsErr, OnOk, OnErr};
+ghost use Rattle.mg_topology.specs.Mask.{seat_limit, has_seat};
+ghost use Rattle.mg_topology.specs.Triple.{Overlaps};
+ghost use Rattle.mg_topology.specs.Edits.{TopologyEdit, Enter, Leave, apply_all};
+ghost use Rattle.mg_topology.specs.Topology.{holds, hears, StandsFor};
+ghost use Rattle.mg_flow.specs.aids.RoomFlows.{flows_to, is_kept_from};
+
+use crate::masks::Masks;
+use mg_topology::mask::{self, Mask};
+use mg_topology::{Overlap, Topology, Triple};
+use std::marker::Model;
+
+/// What is kept of one room. Contracts see its topology, and the masks of those who talk and of
+/// those who listen; the masks of each listener follow from these.
+#[derive(Debug, Drop)]
+pub(crate) struct RoomFlows {
+    topology: Topology,
+    talks: Mask,
+    listens: Mask,
+    masks: Masks,
+}
+
+impl Model for RoomFlows {
+    ghost use Rattle.mg_flow.specs.Table.{RoomFlows as RoomState};
+    ghost use Rattle.mg_flow.specs.aids.RoomFlows.{AreMasks};
+
+    ghost Value = { RoomState };
+
+    ghost view = { λ r. record { topology = r.topology; talks = r.talks; listens = r.listens } };
+
+    ghost invariant = { λ r.
+        let kept : RoomState = record { topology = r.topology; talks = r.talks; listens = r.listens } in
+        AreMasks kept r.masks.open r.masks.silenced };
+}
+
+impl RoomFlows {
+    ghost use Rattle.mg_flow.specs.aids.RoomFlows.{IsVacant, SetsSeat};
+
+    /// A room that nobody has entered.
+    #[tactic(auto, using(crate::proofs::SeatLemmas::seat_rules))]
+    pub(crate) fn new() -> Self
+        ensures { IsVacant result }
+    {
+        let topology = Topology::new();
+        let masks = Masks::of(&topology, mask::EMPTY, mask::EMPTY);
+        RoomFlows {
+            topology,
+            talks: mask::EMPTY,
+            listens: mask::EMPTY,
+            masks,
+        }
+    }
+
+    pub(crate) fn holds(&self, seat: usize) -> bool
+        ensures { result ≡ holds self.now.topology seat }
+    {
+        self.topology.holds(seat)
+    }
+
+    pub(crate) fn held(&self) -> Mask
+        ensures { (seat : ℕ) → has_seat result seat ≡ holds self.now.topology seat }
+    {
+        self.topology.held()
+    }
+
+    pub(crate) fn hears(&self, talker: usize, listener: usize) -> bool
+        ensures { result ≡ hears self.now.topology talker listener }
+    {
+        self.topology.hears(listener, talker)
+    }
+
+    /// The talkers whose speech goes to the listener.
+    pub(crate) fn open(&self, listener: usize) -> &Mask
+        requires { listener < seat_limit }
+        ensures { (talker : ℕ) → has_seat result.now talker ≡
+            flows_to self.now.topology self.now.talks self.now.listens talker listener }
+    {
+        &self.masks.open[listener]
+    }
+
+    /// The talkers whom the last word keeps from the listener.
+    pub(crate) fn silenced(&self, listener: usize) -> &Mask
+        requires { listener < seat_limit }
+        ensures { (talker : ℕ) → has_seat result.now talker ≡
+            is_kept_from self.now.topology self.now.talks talker listener }
+    {
+        &self.masks.silenced[listener]
+    }
+
+    /// A member takes the free seat.
+    pub(crate) fn enter(&mut self, seat: usize, talks: bool, listens: bool)
+        requires below_limit { seat < seat_limit }
+        requires free { IsFalse (holds self.old.topology seat) }
+        ensures edits { (es : List TopologyEdit) → StandsFor self.old.topology es →
+            StandsFor self.new.topology (Enter seat ∷ es) }
+        ensures seat { SetsSeat self.old self.new seat true talks listens }
+    {
+        self.topology.enter(seat);
+        self.talks = mask::set_seat(self.talks, seat, talks);
+        self.listens = mask::set_seat(self.listens, seat, listens);
+        self.masks = Masks::of(&self.topology, self.talks, self.listens);
+    }
+
+    /// The member on the seat leaves.
+    pub(crate) fn leave(&mut self, seat: usize)
+        requires { IsTrue (holds self.old.topology seat) }
+        ensures edits { (es : List TopologyEdit) → StandsFor self.old.topology es →
+            StandsFor self.new.topology (Leave seat ∷ es) }
+        ensures seat { SetsSeat self.old self.new seat false false false }
+    {
+        self.topology.leave(seat);
+        self.talks = mask::without_seat(self.talks, seat);
+        self.listens = mask::without_seat(self.listens, seat);
+        self.masks = Masks::of(&self.topology, self.talks, self.listens);
+    }
+
+    /// The mode of the member on the seat changes.
+    pub(crate) fn set_mode(&mut self, seat: usize, does_talk: bool, does_listen: bool)
+        requires { IsTrue (holds self.old.topology seat) }
+        ensures topology { self.new.topology ≡ self.old.topology }
+        ensures seat { SetsSeat self.old self.new seat true does_talk does_listen }
+    {
+        self.talks = mask::set_seat(self.talks, seat, does_talk);
+        self.listens = mask::set_seat(self.listens, seat, does_listen);
+        self.masks = Masks::of(&self.topology, self.talks, self.listens);
+    }
+
+    /// Applies all triples in order, or none of them.
+    pub(crate) fn apply(&mut self, triples: &[Triple]) -> Result<(), Overlap>
+        ensures overlap { IsErr result ↔ Any Overlaps triples.now }
+        ensures ok { OnOk result ((es : List TopologyEdit) → StandsFor self.old.topology es →
+            StandsFor self.new.topology (apply_all triples.now es)) }
+        ensures seats { (seat : ℕ) → holds self.new.topology seat ≡ holds self.old.topology seat }
+        ensures talks { self.new.talks ≡ self.old.talks }
+        ensures listens { self.new.listens ≡ self.old.listens }
+        ensures err { OnErr result (self.new ≡ self.old) }
+    {
+        self.topology.apply(triples)?;
+        self.masks = Masks::of(&self.topology, self.talks, self.listens);
+        Ok(())
+    }
+}

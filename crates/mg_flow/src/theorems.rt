@@ -1,0 +1,67 @@
+//! Theorems on the definitions: what the edits of all rooms say, whatever keeps them.
+//!
+//! Each function here does nothing, and its contract is the theorem. A crate above calls one where a
+//! proof needs what it says. The lists of edits stand newest first.
+
+ghost use Rattle.std.specs.Prelude.{◌≡◌, ℕ, ◌∷◌, ◌==◌, ◌&&◌, ◌||◌, Bool, true, false, if◌then◌else◌, List, IsTrue, IsFalse};
+ghost use Rattle.mg_topology.specs.declared.triple.Triple.{Triple};
+ghost use Rattle.mg_topology.specs.Triple.{speaks_of, word_of};
+ghost use Rattle.mg_flow.specs.declared.place.Place.{Place};
+ghost use Rattle.mg_flow.specs.Place.{is_same_place, are_together};
+ghost use Rattle.mg_flow.specs.Edits.{FlowEdit, Enter, Leave, SetMode, Apply, is_held, talks_in, listens_in, lets_hear, flows_in, is_silenced_in};
+ghost use Rattle.mg_flow.specs.Table.{StandsForSome};
+
+use crate::flow_table::FlowTable;
+
+/// Each table stands for some list of edits.
+pub fn each_table_stands_for_edits(table: &FlowTable)
+    ensures { StandsForSome table.now }
+{
+    table.know();
+}
+
+/// Which places are held after one more edit.
+pub fn edits_change_who_is_held()
+    ensures enter { (es : List FlowEdit) (place p : Place) (talks listens : Bool) →
+        is_held (Enter place talks listens ∷ es) p ≡
+        (if is_same_place p place then true else is_held es p) }
+    ensures leave { (es : List FlowEdit) (place p : Place) →
+        is_held (Leave place ∷ es) p ≡ (if is_same_place p place then false else is_held es p) }
+    ensures mode { (es : List FlowEdit) (place p : Place) (talks listens : Bool) →
+        is_held (SetMode place talks listens ∷ es) p ≡ is_held es p }
+    ensures apply { (es : List FlowEdit) (room : ℕ) (triple : Triple) (p : Place) →
+        is_held (Apply room triple ∷ es) p ≡ is_held es p }
+{}
+
+/// What the last word on two places of one room says after one more edit: an Enter of one of the
+/// two takes it back, and a triple in their room that speaks of them is the last word then.
+pub fn edits_change_last_words()
+    ensures enter { (es : List FlowEdit) (place a b : Place) (talks listens : Bool) → a.room ≡ b.room →
+        lets_hear (Enter place talks listens ∷ es) a b ≡
+        (if is_same_place a place || is_same_place b place then true else lets_hear es a b) }
+    ensures leave { (es : List FlowEdit) (place a b : Place) →
+        lets_hear (Leave place ∷ es) a b ≡ lets_hear es a b }
+    ensures mode { (es : List FlowEdit) (place a b : Place) (talks listens : Bool) →
+        lets_hear (SetMode place talks listens ∷ es) a b ≡ lets_hear es a b }
+    ensures apply { (es : List FlowEdit) (room : ℕ) (triple : Triple) (a b : Place) →
+        lets_hear (Apply room triple ∷ es) a b ≡
+        (if (room == a.room) && speaks_of triple a.seat b.seat
+        then word_of triple a.seat b.seat
+        else lets_hear es a b) }
+{}
+
+/// For one who listens, each other talker of its room is either open or silenced.
+pub fn talkers_are_open_or_silenced()
+    ensures one { (es : List FlowEdit) (talker listener : Place) → IsTrue (listens_in es listener) →
+        (flows_in es talker listener || is_silenced_in es talker listener) ≡
+        (talks_in es talker && are_together (is_held es) talker listener) }
+    ensures never_both { (es : List FlowEdit) (talker listener : Place) →
+        IsFalse (flows_in es talker listener && is_silenced_in es talker listener) }
+{}
+
+/// Nobody is silenced for a newcomer, nor it for anybody, whatever was said before of its place.
+pub fn newcomer_is_in_no_silence()
+    ensures { (es : List FlowEdit) (newcomer other : Place) (talks listens : Bool) →
+        IsFalse (is_silenced_in (Enter newcomer talks listens ∷ es) other newcomer)
+        × IsFalse (is_silenced_in (Enter newcomer talks listens ∷ es) newcomer other) }
+{}

@@ -1,0 +1,87 @@
+//! What the steps of a play list come to, whatever keeps it.
+//!
+//! The functions here do nothing: their contracts are the theorems, in the words of `specs/Order.antt`.
+
+ghost use Rattle.std.specs.Prelude.{◌≡◌, ◌≢◌, ℕ, ◌+◌, ◌%◌, ◌<◌, ◌≤◌, ℤ, ◌+ℤ◌, pos, List, length, map, Option, Some, None, FitsSigned};
+ghost use Rattle.std.specs.Int.{w16, int_rem_euclid};
+ghost use Rattle.mg_g711.specs.Frame.{halved};
+ghost use Rattle.mg_playout.specs.Order.{IsValidList, frame_under, given_after, given_at};
+ghost use Rattle.mg_playout.specs.Places.{FramePlaces, frame_at};
+ghost use Rattle.mg_playout.specs.Played.{frame_from_packet};
+ghost use Rattle.mg_playout.specs.Playout.{PlayList, depth_of, placed};
+ghost use Rattle.mg_playout.specs.Sequence.{distance_of, steps_between};
+
+use crate::phase::Phase;
+use crate::placed::Placed;
+use crate::played::Played;
+use crate::playout::Playout;
+use crate::source::Source;
+
+/// Each play list has 2 to 16 places, each of its frames is whole, and no wait of it is over.
+pub fn play_lists_are_valid(list: &Playout)
+    ensures { IsValidList list.now }
+{
+    list.know();
+}
+
+/// The distance between two sequence numbers leads from the one to the other, modulo 65536.
+pub fn distances_lead_to_the_number()
+    ensures range { (from to : ℕ) → FitsSigned w16 (distance_of from to) }
+    ensures sum { (from to : ℕ) → from < 65536 → to < 65536 →
+        int_rem_euclid (pos from +ℤ distance_of from to) (pos 65536) ≡ pos to }
+{}
+
+/// A frame that is taken in waits under its own sequence number, whenever it came.
+pub fn taken_frame_waits_under_its_number()
+    ensures { (list : PlayList) (ssrc sequence : ℕ) (frame : List ℤ) →
+        IsValidList list → sequence < 65536 →
+        (placed list ssrc sequence frame).1 ≢ Placed.Late →
+        (placed list ssrc sequence frame).1 ≢ Placed.Again →
+        frame_under (placed list ssrc sequence frame).0 sequence ≡ Some frame }
+{}
+
+/// The other frames stay under their sequence numbers while there is a place for them. A start drops
+/// them all.
+pub fn other_frames_keep_their_numbers()
+    ensures stay { (list : PlayList) (ssrc sequence : ℕ) (frame : List ℤ) (after : Source) (other : ℕ) →
+        IsValidList list → sequence < 65536 → other < 65536 → other ≢ sequence →
+        (placed list ssrc sequence frame).1 ≢ Placed.Started →
+        (placed list ssrc sequence frame).0.source ≡ Some after →
+        steps_between after.next other < depth_of list →
+        frame_under (placed list ssrc sequence frame).0 other ≡ frame_under list other }
+    ensures started { (list : PlayList) (ssrc sequence : ℕ) (frame : List ℤ) (other : ℕ) →
+        sequence < 65536 → other < 65536 → other ≢ sequence →
+        (placed list ssrc sequence frame).1 ≡ Placed.Started →
+        frame_under (placed list ssrc sequence frame).0 other ≡ None }
+{}
+
+/// While no frame comes, a play list that runs gives the frames in the order of their sequence
+/// numbers, one a tick, and none of a packet where one is missing. One that waits does so when its wait
+/// is over.
+pub fn ticks_give_frames_in_order()
+    ensures run { (list : PlayList) (ticks : ℕ) → list.phase ≡ Phase.Run →
+        given_after ticks list ≡ given_at list.places list.last ticks }
+    ensures early { (list : PlayList) (wait ticks : ℕ) → list.phase ≡ Phase.Wait wait → ticks < wait →
+        given_after ticks list ≡ Played.Silence }
+    ensures wait { (list : PlayList) (wait ticks : ℕ) → list.phase ≡ Phase.Wait wait → 1 ≤ wait →
+        given_after (wait + ticks) list ≡ given_at list.places list.last ticks }
+    ensures frames { (places : FramePlaces) (last : Option (List ℤ)) (place : ℕ) →
+        frame_from_packet (given_at places last place) ≡ frame_at places place }
+
+    // The frame at a place is the one under the next sequence number plus the place.
+    ensures numbers { (list : PlayList) (source : Source) (place : ℕ) →
+        IsValidList list → list.source ≡ Some source → place < 65536 →
+        frame_at list.places place ≡ frame_under list ((source.next + place) % 65536) }
+{}
+
+/// One missing frame between two that came is concealed by the one before it, halved. So is the one of
+/// place 0, if the last turn had a frame.
+pub fn one_missing_frame_is_concealed()
+    ensures next { (places : FramePlaces) (last after : List ℤ) →
+        frame_at places 0 ≡ None → frame_at places 1 ≡ Some after →
+        given_at places (Some last) 0 ≡ Played.Concealed (map halved last) }
+    ensures placed { (places : FramePlaces) (last : Option (List ℤ)) (place : ℕ) (before after : List ℤ) →
+        frame_at places place ≡ Some before → frame_at places (place + 1) ≡ None →
+        frame_at places (place + 2) ≡ Some after →
+        given_at places last (place + 1) ≡ Played.Concealed (map halved before) }
+{}

@@ -1,0 +1,29 @@
+-- How much room a reply's items take.
+use Rattle.std.specs.Prelude.{◌≡◌, ℕ, ◌+◌, ◌*◌, ◌^◌, ◌<◌, ◌≤◌, Bool, true, false, not, List, [], ◌∷◌, length}
+use Rattle.std.specs.Prelude.{Option, Some, None, if◌then◌else◌}
+use Rattle.mg_words.specs.declared.context_id.ContextId.{ContextId}
+use Rattle.mg_reply.specs.declared.item.Item.{Item}
+use Rattle.mg_reply.specs.declared.item.Item.TheVariants.{Action}
+use Rattle.mg_reply.specs.Reply.{last_is_action}
+
+-- the context of an action that ends with an item
+abbrev pub action_id : Item → Option ContextId
+action_id (Action id) = Some id
+action_id _ = None
+
+-- The room that items ask for, where some may wait for the end of their action: one place each, but
+-- none for the end of an action that has items.
+abbrev pub places_of : Bool → List Item → ℕ
+places_of waits [] = 0
+places_of waits (Action id ∷ xs) = (if waits then 0 else 1) + places_of false xs
+places_of waits (_ ∷ xs) = 1 + places_of true xs
+
+-- Which items wait is seen of the last, and there are twice as many places as there was room, so
+-- that each item's action finds one
+pub record IsReply (number : ℕ) (items : List Item) (capacity room : ℕ)
+    (has_pending : Bool) : Type 0 where
+  pub in_range : number < 2 ^ 32
+  pub small : room ≤ 1600
+  pub reserved : 3200 ≤ capacity
+  pub pending : has_pending ≡ not (last_is_action true items)
+  pub used : length items + (if has_pending then 1 else 0) + 2 * room ≤ 3200

@@ -1,0 +1,335 @@
+-- What searches in the tables say of the world that they stand for.
+use Rattle.std.proofs.Common.{◌≡◌, ℕ, ◌+◌, ◌<◌, ◌≤◌, ◌&&◌, ◌==◌, Bool, List, [], ◌∷◌, ◌++◌, option_and_then, vec_len, length, Option, Some, None, refl, sym, ◌∙◌, ap, arith, get_or, slice_get, find, option_map, is_none, not, Ok, Err, suc, subst, nat_lt, nat_le, true, false, set, IfSome}
+use Rattle.std.specs.List.{list_any, position_from, range_with_len}
+use Rattle.std.proofs.lemmas.Option.{get_or_from_slice_get, slice_get_past, slice_get_read}
+use Rattle.mg_rooms.specs.declared.tables.Tables.TheInside.{Inside}
+use Rattle.mg_rooms.specs.declared.record.Record.{Record}
+use Rattle.mg_rooms.specs.declared.context.Context.{Context}
+use Rattle.mg_words.specs.declared.error_number.ErrorNumber.TheVariants.{NoContextLeft}
+use Rattle.std.proofs.lemmas.Bool.{eqb-true, lt-ltb, le-ltb, le-leb}
+use Rattle.mg_rooms.specs.aids.Order.{in_order, has_key, passes_at}
+use Rattle.mg_rooms.specs.Changes.{change, with_members}
+use Rattle.mg_rooms.specs.aids.Entries.{entered_entry, left_entry}
+use Rattle.mg_rooms.specs.Members.{without}
+use Rattle.mg_rooms.specs.Outcome.{new_context}
+use Rattle.mg_words.specs.declared.limits.TheConstants.{CONTEXTS, MEMBERS, LAST_CONTEXT}
+use Rattle.mg_rooms.specs.aids.Tables.{HasTables, IsTable, world_of}
+use Rattle.mg_rooms.specs.Registry.{Registry, record_at, context_at, free_slot, free_room, free_seat}
+use Rattle.mg_rooms.specs.aids.Found.{members_of}
+use Rattle.mg_rooms.proofs.OrderLemmas.{any-in_order, KeepsKey, change_at, change_none, found_key, in_order-push, length-in_order_room, length-in_order_full, find-in_order, first_at_zero}
+use Rattle.mg_rooms.proofs.TableLemmas.{OnlyAt, lookup_some, lookup_none, free-in_order, find_spot, entry_at, empty_place, IsTable-set}
+
+pub record_some : (a : Inside) (n s : ℕ) (o : Option Record) →
+    Some s ≡ position_from (has_key (λ r. r.number) n) 0 a.slots.items → o ≡ get_or a.slots.items s o →
+    o ≡ record_at (world_of a) n
+record_some a n s o found at = lookup_some (λ r. r.number) (λ r. r.slot) n a.slots.items s o found at
+
+pub record_none : (a : Inside) (n : ℕ) → None ≡ position_from (has_key (λ r. r.number) n) 0 a.slots.items →
+    None ≡ record_at (world_of a) n
+record_none a n found = lookup_none (λ r. r.number) (λ r. r.slot) n a.slots.items found
+
+pub context_some : (a : Inside) (n s : ℕ) (o : Option Context) →
+    Some s ≡ position_from (has_key (λ x. x.number) n) 0 a.rooms.items → o ≡ get_or a.rooms.items s o →
+    o ≡ context_at (world_of a) n
+context_some a n s o found at = lookup_some (λ x. x.number) (λ x. x.room) n a.rooms.items s o found at
+
+pub context_none : (a : Inside) (n : ℕ) → None ≡ position_from (has_key (λ x. x.number) n) 0 a.rooms.items →
+    None ≡ context_at (world_of a) n
+context_none a n found = lookup_none (λ x. x.number) (λ x. x.room) n a.rooms.items found
+
+-- a context's room is its place
+pub room_some : (a : Inside) (n s : ℕ) → HasTables a →
+    Some s ≡ position_from (has_key (λ x. x.number) n) 0 a.rooms.items →
+    Some s ≡ option_map (λ x. x.room) (context_at (world_of a) n)
+room_some a n s kept found =
+    let (x, is, same) = find-in_order (λ x. x.number) n a.rooms.items s
+    (first_at_zero (has_key (λ x. x.number) n) a.rooms.items s (sym found)) in
+    let at : x.room ≡ s = kept.rooms.at_spot s x is in
+    rw (same, at) refl
+
+pub free_slot_is : (a : Inside) (o : Option ℕ) → HasTables a → o ≡ position_from is_none 0 a.slots.items →
+    o ≡ free_slot (world_of a)
+free_slot_is a o kept found =
+    found ∙ free-in_order (λ r. r.number) (λ r. r.slot) a.next_termination a.limits.slots a.slots.items kept.slots
+
+pub free_room_is : (a : Inside) (o : Option ℕ) → HasTables a → o ≡ position_from is_none 0 a.rooms.items →
+    o ≡ free_room (world_of a)
+free_room_is a o kept found =
+    found ∙ free-in_order (λ x. x.number) (λ x. x.room) a.next_context CONTEXTS a.rooms.items kept.rooms
+
+find_free : (held : List Bool) (test : ℕ → Bool) (k : ℕ) →
+    ((i j : ℕ) → j ≡ i + k → i < length held → get_or held i true ≡ test j) →
+    position_from not k held ≡ find (λ s. not (test s)) (range_with_len k (length held))
+find_free [] test k h = refl
+find_free (true ∷ held) test k h =
+    let is : true ≡ test k = h 0 k (omega arith) (omega arith) in
+    rw (← is) (find_free held test (k + 1) (λ i j eq lt. h (suc i) j (omega arith) (omega arith)))
+find_free (false ∷ held) test k h =
+    let is : false ≡ test k = h 0 k (omega arith) (omega arith) in
+    rw (← is) refl
+
+-- the first seat that is not held is the free one
+pub free_seat_is : (a : Inside) (c : ℕ) (held : List Bool) → length held ≡ MEMBERS
+    → ((seat : ℕ) → seat < MEMBERS → get_or held seat true ≡
+    list_any (passes_at (λ r. (r.context == c) && (r.seat == seat))) a.slots.items)
+    → position_from not 0 held ≡ free_seat (world_of a) c
+free_seat_is a c held long h =
+    find_free held (λ seat. list_any (λ r. (r.context == c) && (r.seat == seat)) ((world_of a).terminations)) 0
+    (λ i j same lt. let eq : i ≡ j = omega arith in
+    subst (λ (k : ℕ). get_or held i true ≡ list_any (λ r. (r.context == c) && (r.seat == k))
+    ((world_of a).terminations)) eq (h i (omega arith) ∙
+    sym (any-in_order (λ r. r.number) (λ r. (r.context == c) && (r.seat == i)) a.slots.items)))
+    ∙ ap (λ (n : ℕ). find (λ seat. not (list_any (λ r. (r.context == c) && (r.seat == seat))
+    ((world_of a).terminations))) (range_with_len 0 n)) long
+
+slot_entry : (a : Inside) (s : ℕ) (o : Option Record) → s < length a.slots.items → o ≡ get_or a.slots.items s o →
+    slice_get a.slots.items s ≡ Some o
+slot_entry a s o lt at = slice_get_read a.slots.items (length a.slots.items) s o refl lt at
+
+pub at_slot_is : (a : Inside) (s : ℕ) (o : Option Record) → HasTables a → s < length a.slots.items →
+    o ≡ get_or a.slots.items s o → o ≡ find (λ r. r.slot == s) ((world_of a).terminations)
+at_slot_is a s o kept lt at =
+    sym (find_spot (λ r. r.number) (λ r. r.slot) a.next_termination a.limits.slots a.slots.items s kept.slots ∙
+    ap entry_at (slot_entry a s o lt at))
+
+pub at_slot_past : (a : Inside) (s : ℕ) → HasTables a → length a.slots.items ≤ s →
+    None ≡ find (λ r. r.slot == s) ((world_of a).terminations)
+at_slot_past a s kept le =
+    sym (find_spot (λ r. r.number) (λ r. r.slot) a.next_termination a.limits.slots a.slots.items s kept.slots ∙
+    ap entry_at (slice_get_past a.slots.items s le))
+
+-- a room is left where one is found empty
+pub place_some : (a : Inside) (room : ℕ) → HasTables a → Some room ≡ position_from is_none 0 a.rooms.items →
+    a.next_context ≤ LAST_CONTEXT → Ok (record { context = a.next_context; seat = 0; made = Some room }) ≡
+    new_context (world_of a)
+place_some a room kept found le =
+    let free = free_room_is a (Some room) kept found in
+    let empty = empty_place (λ x. x.number) (λ x. x.room) a.next_context CONTEXTS a.rooms.items room kept.rooms
+    (sym free) in
+    let room_left : length (in_order (λ x. x.number) a.rooms.items) < length a.rooms.items =
+    length-in_order_room (λ x. x.number) a.rooms.items room empty.0 in
+    let few : nat_lt (length (in_order (λ x. x.number) a.rooms.items)) CONTEXTS ≡ true =
+    lt-ltb _ _ (omega (arith, kept.rooms.len)) in
+    let left : nat_le a.next_context LAST_CONTEXT ≡ true = le-leb _ _ le in
+    rw (few, left, ← free) refl
+
+pub place_none : (a : Inside) → HasTables a → None ≡ position_from is_none 0 a.rooms.items →
+    Err NoContextLeft ≡ new_context (world_of a)
+place_none a kept found =
+    let full : length (in_order (λ x. x.number) a.rooms.items) ≡ length a.rooms.items =
+    length-in_order_full (λ x. x.number) a.rooms.items 0 (sym found) in
+    let many : nat_lt (length (in_order (λ x. x.number) a.rooms.items)) CONTEXTS ≡ false =
+    le-ltb _ _ (omega (arith, kept.rooms.len)) in
+    rw many refl
+
+-- ## Writes
+
+-- what the tables of a termination and of a context are
+abbrev pub AreSlots : ℕ → ℕ → List (Option Record) → Type 0
+AreSlots next size t = IsTable (λ r. r.number) (λ r. r.slot) next size t
+
+abbrev pub AreRooms : ℕ → ℕ → List (Option Context) → Type 0
+AreRooms next size t = IsTable (λ x. x.number) (λ x. x.room) next size t
+
+keeps_replaced : (r : Record) → KeepsKey (λ x. x.number) r.number (λ _. Some r)
+keeps_replaced r x e = sym (eqb-true x.number r.number e)
+
+pub replaced_kept : (next size : ℕ) (t : List (Option Record)) (r : Record) (s : ℕ) → AreSlots next size t →
+    Some s ≡ position_from (has_key (λ x. x.number) r.number) 0 t →
+    IfSome (find (λ x. x.number == r.number) (in_order (λ x. x.number) t)) (λ x. x.slot ≡ r.slot) →
+    AreSlots next size (set t s (Some r))
+replaced_kept next size t r s h found same =
+    let (x, at, is, change_is) = change_at (λ x. x.number) r.number (λ _. Some r) t s (keeps_replaced r) found in
+    let slot : x.slot ≡ r.slot = rw is at same in
+    let spot : x.slot ≡ s = h.at_spot s x at in
+    let below : x.number < next = h.below s x at in
+    let key : x.number ≡ r.number = eqb-true x.number r.number
+    (found_key (λ y. y.number == r.number) (in_order (λ y. y.number) t) x is) in
+    IsTable-set (λ x. x.number) (λ x. x.slot) next next size t s (Some r) (omega arith)
+    (sym slot ∙ spot, omega arith, λ i z got same. h.once i s z x got at (same ∙ sym key)) h
+
+pub replaced_is : (t : List (Option Record)) (r : Record) (s : ℕ) →
+    Some s ≡ position_from (has_key (λ x. x.number) r.number) 0 t →
+    in_order (λ x. x.number) (set t s (Some r)) ≡
+    change (λ x. x.number) r.number (λ _. Some r) (in_order (λ x. x.number) t)
+replaced_is t r s found =
+    let (x, at, is, change_is) = change_at (λ x. x.number) r.number (λ _. Some r) t s (keeps_replaced r) found in
+    change_is
+
+pub removed_is : (t : List (Option Record)) (n s : ℕ) → Some s ≡ position_from (has_key (λ x. x.number) n) 0 t →
+    in_order (λ x. x.number) (set t s None) ≡ change (λ x. x.number) n (λ _. None) (in_order (λ x. x.number) t)
+removed_is t n s found =
+    let (x, at, is, change_is) = change_at (λ x. x.number) n (λ _. None) t s (λ x e. tt) found in
+    change_is
+
+pub removed_kept : (next size : ℕ) (t : List (Option Record)) (s : ℕ) → AreSlots next size t →
+    AreSlots next size (set t s None)
+removed_kept next size t s h = IsTable-set (λ x. x.number) (λ x. x.slot) next next size t s None (omega arith) tt h
+
+abbrev pub with_terminations : Registry → List Record → Registry
+with_terminations w rs = record w { terminations = rs }
+
+abbrev pub with_contexts : Registry → List Context → Registry
+with_contexts w xs = record w { contexts = xs }
+
+-- with one more made
+abbrev pub with_more : Registry → List Record → Registry
+with_more w rs = record w { terminations = rs; next_termination = w.next_termination + 1 }
+
+abbrev pub with_made : Registry → List Context → Registry
+with_made w xs = record w { contexts = xs; next_context = w.next_context + 1 }
+
+pub unchanged_termination : (a : Inside) (n : ℕ) (f : Record → Option Record) →
+    None ≡ position_from (has_key (λ r. r.number) n) 0 a.slots.items →
+    world_of a ≡ record (world_of a) { terminations = change (λ r. r.number) n f ((world_of a).terminations) }
+unchanged_termination a n f found =
+    ap (with_terminations (world_of a)) (sym (change_none (λ r. r.number) n f ((world_of a).terminations)
+    (record_none a n found)))
+
+pub unchanged_context : (a : Inside) (n : ℕ) (f : Context → Option Context) →
+    None ≡ position_from (has_key (λ x. x.number) n) 0 a.rooms.items →
+    world_of a ≡ record (world_of a) { contexts = change (λ x. x.number) n f ((world_of a).contexts) }
+unchanged_context a n f found =
+    ap (with_contexts (world_of a)) (sym (change_none (λ x. x.number) n f ((world_of a).contexts)
+    (context_none a n found)))
+
+pub slot_is_empty : (a : Inside) (s : ℕ) → HasTables a → free_slot (world_of a) ≡ Some s →
+    (slice_get a.slots.items s ≡ Some None) × (s < length a.slots.items)
+slot_is_empty a s kept free = empty_place (λ r. r.number) (λ r. r.slot) a.next_termination a.limits.slots
+    a.slots.items s kept.slots free
+
+pub room_is_empty : (a : Inside) (s : ℕ) → HasTables a → free_room (world_of a) ≡ Some s →
+    (slice_get a.rooms.items s ≡ Some None) × (s < length a.rooms.items)
+room_is_empty a s kept free = empty_place (λ x. x.number) (λ x. x.room) a.next_context CONTEXTS a.rooms.items s
+    kept.rooms free
+
+pub inserted_kept : (next size : ℕ) (t : List (Option Record)) (r : Record) → AreSlots next size t → r.number ≡ next →
+    AreSlots (next + 1) size (set t r.slot (Some r))
+inserted_kept next size t r h number = IsTable-set (λ x. x.number) (λ x. x.slot) next (next + 1) size t r.slot
+    (Some r) (omega arith) (
+      refl,
+      omega arith,
+      λ i z got same. let lt : z.number < next = h.below i z got in
+          absurd (omega arith),
+    ) h
+
+pub inserted_is : (a : Inside) (r : Record) → HasTables a → free_slot (world_of a) ≡ Some r.slot →
+    r.number ≡ a.next_termination → in_order (λ x. x.number) (set a.slots.items r.slot (Some r)) ≡
+    in_order (λ x. x.number) a.slots.items ++ (r ∷ [])
+inserted_is a r kept free number =
+    in_order-push (λ x. x.number) a.slots.items r.slot r (slot_is_empty a r.slot kept free).0
+    (λ i y at. let lt : y.number < a.next_termination = kept.slots.below i y at in omega arith)
+
+pub made_kept : (next size : ℕ) (t : List (Option Context)) (x : Context) → AreRooms next size t → x.number ≡ next →
+    AreRooms (next + 1) size (set t x.room (Some x))
+made_kept next size t x h number = IsTable-set (λ y. y.number) (λ y. y.room) next (next + 1) size t x.room (Some x)
+    (omega arith) (
+      refl,
+      omega arith,
+      λ i z got same. let lt : z.number < next = h.below i z got in
+          absurd (omega arith),
+    ) h
+
+pub made_is : (a : Inside) (x : Context) → HasTables a → free_room (world_of a) ≡ Some x.room →
+    x.number ≡ a.next_context → in_order (λ y. y.number) (set a.rooms.items x.room (Some x)) ≡
+    in_order (λ y. y.number) a.rooms.items ++ (x ∷ [])
+made_is a x kept free number =
+    in_order-push (λ y. y.number) a.rooms.items x.room x (room_is_empty a x.room kept free).0
+    (λ i y at. let lt : y.number < a.next_context = kept.rooms.below i y at in omega arith)
+
+keeps_key : (x : Context) (o : Option Context) → IfSome o (λ y. (y.number ≡ x.number) × (y.room ≡ x.room)) →
+    IfSome o (λ y. y.number ≡ x.number)
+keeps_key x None k = tt
+keeps_key x (Some y) k = k.0
+
+keeps_place : (t : List (Option Context)) (x : Context) (o : Option Context) (s next : ℕ) →
+    IfSome o (λ y. (y.number ≡ x.number) × (y.room ≡ x.room)) → x.room ≡ s → x.number < next →
+    OnlyAt (λ y. y.number) x.number s t → IfSome o
+    (λ y. (y.room ≡ s) × (y.number < next) × OnlyAt (λ z. z.number) y.number s t)
+keeps_place t x None s next k spot lt only = tt
+keeps_place t x (Some y) s next k spot lt only = (k.1 ∙ spot, rw (k.0) lt, λ i z got same. only i z got (same ∙ k.0))
+
+-- a room's entry that keeps its number and room, or goes
+pub context_change : (next size : ℕ) (t : List (Option Context)) (n s : ℕ) (f : Context → Option Context)
+    (old new : Option Context) → ((x : Context) → IfSome (f x) (λ y. (y.number ≡ x.number) × (y.room ≡ x.room))) →
+    AreRooms next size t → Some s ≡ position_from (has_key (λ x. x.number) n) 0 t → old ≡ get_or t s old →
+    new ≡ option_and_then f old
+    → AreRooms next size (set t s new) × (in_order (λ x. x.number) (set t s new) ≡
+    change (λ x. x.number) n f (in_order (λ x. x.number) t))
+context_change next size t n s f old new keeps h found was is =
+    let (x, at, same, change_is) = change_at (λ y. y.number) n f t s (λ y e. keeps_key y (f y) (keeps y)) found in
+    let old_is : old ≡ Some x = was ∙ get_or_from_slice_get t s (Some x) old at in
+    let new_is : new ≡ f x = is ∙ ap (option_and_then f) old_is in
+    rw new_is (
+      IsTable-set (λ y. y.number) (λ y. y.room) next next size t s (f x) (omega arith)
+          (keeps_place t x (f x) s next (keeps x) (h.at_spot s x at) (h.below s x at)
+          (λ i z got key. h.once i s z x got at key)) h,
+      change_is,
+    )
+
+keeps_entered : (n : ℕ) (x : Context) → IfSome (entered_entry n (Some x))
+    (λ y. (y.number ≡ x.number) × (y.room ≡ x.room))
+keeps_entered n x = (refl, refl)
+
+keeps_left : (x : Context) (ms : List ℕ) → IfSome (with_members x ms) (λ y. (y.number ≡ x.number) × (y.room ≡ x.room))
+keeps_left x [] = tt
+keeps_left x (m ∷ ms) = (refl, refl)
+
+abbrev pub with_last : ℕ → Context → Option Context
+with_last n x = Some (record x { members = x.members ++ (n ∷ []) })
+
+entered_and_then : (n : ℕ) (o : Option Context) → entered_entry n o ≡ option_and_then (with_last n) o
+entered_and_then n None = refl
+entered_and_then n (Some x) = refl
+
+left_and_then : (n : ℕ) (o : Option Context) →
+    left_entry n o ≡ option_and_then (λ x. with_members x (without n x.members)) o
+left_and_then n None = refl
+left_and_then n (Some x) = refl
+
+-- n enters the context c in its room
+pub entered_there : (a : Inside) (c n s : ℕ) (old new : Option Context) → HasTables a →
+    Some s ≡ position_from (has_key (λ x. x.number) c) 0 a.rooms.items → old ≡ get_or a.rooms.items s old →
+    new ≡ entered_entry n old
+    → AreRooms a.next_context CONTEXTS (set a.rooms.items s new) ×
+    (in_order (λ x. x.number) (set a.rooms.items s new) ≡
+    change (λ x. x.number) c (with_last n) ((world_of a).contexts))
+entered_there a c n s old new kept found was is =
+    context_change a.next_context CONTEXTS a.rooms.items c s (with_last n) old new (keeps_entered n) kept.rooms found
+    was (is ∙ entered_and_then n old)
+
+-- n leaves the context c in its room
+pub left_there : (a : Inside) (c n s : ℕ) (old new : Option Context) → HasTables a →
+    Some s ≡ position_from (has_key (λ x. x.number) c) 0 a.rooms.items → old ≡ get_or a.rooms.items s old →
+    new ≡ left_entry n old
+    → AreRooms a.next_context CONTEXTS (set a.rooms.items s new) ×
+    (in_order (λ x. x.number) (set a.rooms.items s new) ≡
+    change (λ x. x.number) c (λ x. with_members x (without n x.members)) ((world_of a).contexts))
+left_there a c n s old new kept found was is =
+    context_change a.next_context CONTEXTS a.rooms.items c s (λ x. with_members x (without n x.members)) old new
+    (λ x. keeps_left x (without n x.members)) kept.rooms found was (is ∙ left_and_then n old)
+
+-- a context that may be entered is there, and not full
+pub may_enter : (a : Inside) (c s : ℕ) (o : Option Context) →
+    Some s ≡ position_from (has_key (λ x. x.number) c) 0 a.rooms.items → o ≡ get_or a.rooms.items s o →
+    length (members_of (context_at (world_of a) c)) < MEMBERS → IfSome o (λ x. length x.members < MEMBERS)
+may_enter a c s o found was few =
+    let is : o ≡ context_at (world_of a) c = context_some a c s o found was in
+    not_full o (rw is few)
+  where
+    not_full : (p : Option Context) → length (members_of p) < MEMBERS → IfSome p (λ x. length x.members < MEMBERS)
+    not_full None lt = tt
+    not_full (Some x) lt = lt
+
+pub few_rooms : (a : Inside) (s : ℕ) → s < length a.rooms.items → s < vec_len a.rooms
+few_rooms a s lt = omega (arith, a.rooms.ok)
+
+-- a context that one termination is in
+pub made_context_is : (a : Inside) (c room n : ℕ) (v : List ℕ) → HasTables a → free_room (world_of a) ≡ Some room →
+    c ≡ a.next_context → v ≡ n ∷ [] → in_order (λ y. y.number)
+    (set a.rooms.items room (Some (record { number = c; room = room; members = v }))) ≡
+    in_order (λ y. y.number) a.rooms.items ++ (record { number = c; room = room; members = n ∷ [] } ∷ [])
+made_context_is a c room n v kept free number is =
+    made_is a (record { number = c; room = room; members = v }) kept free number
+    ∙ ap (λ (ms : List ℕ). in_order (λ y. y.number) a.rooms.items ++
+    (record { number = c; room = room; members = ms } ∷ [])) is

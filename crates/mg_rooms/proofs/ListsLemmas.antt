@@ -1,0 +1,280 @@
+-- How the terminations and the contexts of a gateway stay sound when one is made, changes or ends.
+use Rattle.std.proofs.Common.{◌≡◌, ℕ, ◌+◌, ◌<◌, ◌≤◌, ◌&&◌, true, false, cond, List, [], ◌∷◌, ◌++◌, Option, Some, None, refl, sym, ◌∙◌, ap, subst, arith, inl, inr, ◌==◌, find, option_to_list, option_and_then, IfSome}
+use Rattle.std.specs.List.{count_by}
+use Rattle.std.proofs.lemmas.Bool.{cases_Bool, eqb-true, ne_eqb}
+use Rattle.mg_rooms.specs.declared.record.Record.{Record}
+use Rattle.mg_rooms.specs.declared.context.Context.{Context}
+use Rattle.mg_rooms.specs.declared.limits.Limits.{Limits}
+use Rattle.mg_rooms.specs.Changes.{change}
+use Rattle.mg_rooms.specs.aids.Found.{members_of}
+use Rattle.mg_rooms.specs.Consistent.{IsTermination, AreTerminations, IsContext, AreContexts}
+use Rattle.mg_rooms.proofs.OrderLemmas.{found_key, KeepsKey, change_none}
+use Rattle.mg_rooms.proofs.RisingLemmas.{rising-push, rising-change}
+use Rattle.mg_rooms.proofs.CountLemmas.{one, one-false, one-le, count-cons, count-push, count-zero, count-change, count-change_some, count-change_none, all-push, all-map, all-change, all-found, find-push_some, find-push_none, find-change_other, find-change_same}
+
+-- ## Terminations
+
+later_termination : (limits : Limits) (next : ℕ) (r : Record) → IsTermination limits next r →
+    IsTermination limits (next + 1) r
+later_termination limits next r h = let below = h.below in
+    record {
+      from = h.from;
+      below = omega arith;
+      slot = h.slot;
+      seat = h.seat;
+      min_depth = h.min_depth;
+      max_depth = h.max_depth;
+    }
+
+pub terminations-push : (limits : Limits) (next : ℕ) (rs : List Record) (r : Record) →
+    AreTerminations limits next rs → IsTermination limits (next + 1) r → r.number ≡ next
+    → count_by (λ x. x.slot == r.slot) rs ≡ 0
+    → count_by (λ x. (x.context == r.context) && (x.seat == r.seat)) rs ≡ 0
+    → AreTerminations limits (next + 1) (rs ++ (r ∷ []))
+terminations-push limits next rs r h is number slot seat = record {
+  each = all-push (IsTermination limits (next + 1)) rs r
+      (all-map (IsTermination limits next) (IsTermination limits (next + 1)) rs (later_termination limits next)
+      h.each) is;
+  rising = rising-push (λ x. x.number) next rs r
+      (all-map (IsTermination limits next) (λ x. x.number < next) rs (λ x t. t.below) h.each) number h.rising;
+  one_number = λ n.
+      let parts = count-push (λ x. x.number == n) rs r in
+      elim (cases_Bool (r.number == n)) [
+        | inl e ↦
+            let same : r.number ≡ n = eqb-true r.number n e in
+            let none : count_by (λ x. x.number == n) rs ≡ 0 =
+            count-zero (IsTermination limits next) (λ x. x.number == n) rs h.each
+            (λ x t. let below = t.below in ne_eqb x.number n (λ q. omega arith)) in
+            let bit = one-le (r.number == n) in
+            omega arith
+        | inr e ↦ let bit = one-false (r.number == n) e in let was = h.one_number n in omega arith
+      ];
+  one_slot = λ slot.
+      let parts = count-push (λ x. x.slot == slot) rs r in
+      elim (cases_Bool (r.slot == slot)) [
+        | inl e ↦
+            let same : r.slot ≡ slot = eqb-true r.slot slot e in
+            let none : count_by (λ x. x.slot == slot) rs ≡ 0 =
+            subst (λ (k : ℕ). count_by (λ x. x.slot == k) rs ≡ 0) same slot_free in
+            let bit = one-le (r.slot == slot) in
+            omega arith
+        | inr e ↦ let bit = one-false (r.slot == slot) e in let was = h.one_slot slot in omega arith
+      ];
+  one_seat = λ c seat. seat_push c seat;
+}
+  where
+    slot_free : count_by (λ x. x.slot == r.slot) rs ≡ 0
+    slot_free = slot
+
+    seat_push : (c s : ℕ) → count_by (λ x. (x.context == c) && (x.seat == s)) (rs ++ (r ∷ [])) ≤ 1
+    seat_push c s =
+        let parts = count-push (λ x. (x.context == c) && (x.seat == s)) rs r in
+        elim (cases_Bool (r.context == c)) [
+          | inl e ↦ elim (cases_Bool (r.seat == s)) [
+            | inl f ↦
+                let same_c : r.context ≡ c = eqb-true r.context c e in
+                let same_s : r.seat ≡ s = eqb-true r.seat s f in
+                let at_c : count_by (λ x. (x.context == c) && (x.seat == r.seat)) rs ≡ 0 =
+                subst (λ (k : ℕ). count_by (λ x. (x.context == k) && (x.seat == r.seat)) rs ≡ 0) same_c seat in
+                let none : count_by (λ x. (x.context == c) && (x.seat == s)) rs ≡ 0 =
+                subst (λ (k : ℕ). count_by (λ x. (x.context == c) && (x.seat == k)) rs ≡ 0) same_s at_c in
+                let bit = one-le ((r.context == c) && (r.seat == s)) in
+                omega arith
+            | inr f ↦
+                let bit : one ((r.context == c) && (r.seat == s)) ≡ 0 = rw (e, f) refl in
+                let was = h.one_seat c s in
+                omega arith
+          ]
+          | inr e ↦
+              let bit : one ((r.context == c) && (r.seat == s)) ≡ 0 = rw e refl in
+              let was = h.one_seat c s in
+              omega arith
+        ]
+
+-- a termination changes, and takes no seat that another holds
+pub terminations-changed : (limits : Limits) (next : ℕ) (rs : List Record) (old r : Record) →
+    AreTerminations limits next rs → find (λ x. x.number == r.number) rs ≡ Some old → IsTermination limits next r →
+    r.slot ≡ old.slot
+    → ((c seat : ℕ) → count_by (λ x. (x.context == c) && (x.seat == seat)) rs +
+    one ((r.context == c) && (r.seat == seat)) ≤ 1 + one ((old.context == c) && (old.seat == seat)))
+    → AreTerminations limits next (change (λ x. x.number) r.number (λ _. Some r) rs)
+terminations-changed limits next rs old r h found is slot seats =
+    let number : old.number ≡ r.number = eqb-true old.number r.number
+    (found_key (λ x. x.number == r.number) rs old found) in
+    record {
+      each = all-change (λ x. x.number) (IsTermination limits next) r.number (λ _. Some r) rs old found (λ t. is)
+          h.each;
+      rising = rising-change (λ x. x.number) r.number (λ _. Some r) rs (λ x e. sym (eqb-true x.number r.number e))
+          h.rising;
+      one_number = λ n.
+          let parts = count-change_some (λ x. x.number) (λ x. x.number == n) r.number r rs old found in
+          let bits : one (old.number == n) ≡ one (r.number == n) = ap (λ (k : ℕ). one (k == n)) number in
+          let was = h.one_number n in
+          omega arith;
+      one_slot = λ s.
+          let parts = count-change_some (λ x. x.number) (λ x. x.slot == s) r.number r rs old found in
+          let bits : one (old.slot == s) ≡ one (r.slot == s) = ap (λ (k : ℕ). one (k == s)) (sym slot) in
+          let was = h.one_slot s in
+          omega arith;
+      one_seat = λ c s.
+          let parts = count-change_some (λ x. x.number) (λ x. (x.context == c) && (x.seat == s)) r.number r rs old
+          found in
+          let more = seats c s in
+          omega arith;
+    }
+
+pub terminations-removed : (limits : Limits) (next n : ℕ) (rs : List Record) (old : Record) →
+    AreTerminations limits next rs → find (λ x. x.number == n) rs ≡ Some old →
+    AreTerminations limits next (change (λ x. x.number) n (λ _. None) rs)
+terminations-removed limits next n rs old h found = record {
+  each = all-change (λ x. x.number) (IsTermination limits next) n (λ _. None) rs old found (λ t. tt) h.each;
+  rising = rising-change (λ x. x.number) n (λ _. None) rs (λ x e. tt) h.rising;
+  one_number = λ k. let parts = count-change_none (λ x. x.number) (λ x. x.number == k) n rs old found in let was =
+      h.one_number k in omega arith;
+  one_slot = λ s. let parts = count-change_none (λ x. x.number) (λ x. x.slot == s) n rs old found in let was =
+      h.one_slot s in omega arith;
+  one_seat = λ c s. let parts = count-change_none (λ x. x.number) (λ x. (x.context == c) && (x.seat == s)) n rs old
+      found in let was = h.one_seat c s in omega arith;
+}
+
+-- ## Contexts
+
+later_context : (limits : Limits) (next : ℕ) (x : Context) → IsContext limits next x → IsContext limits (next + 1) x
+later_context limits next x h = let below = h.below in
+    record { from = h.from; below = omega arith; room = h.room; some = h.some; few = h.few }
+
+-- no context has the next number
+pub no_next_context : (limits : Limits) (next : ℕ) (xs : List Context) → AreContexts limits next xs →
+    count_by (λ x. x.number == next) xs ≡ 0
+no_next_context limits next xs h = count-zero (IsContext limits next) (λ x. x.number == next) xs h.each
+    (λ x t. let below = t.below in ne_eqb x.number next (λ q. omega arith))
+
+pub contexts-push : (limits : Limits) (next : ℕ) (xs : List Context) (x : Context) → AreContexts limits next xs →
+    IsContext limits (next + 1) x → x.number ≡ next → count_by (λ y. y.room == x.room) xs ≡ 0 →
+    AreContexts limits (next + 1) (xs ++ (x ∷ []))
+contexts-push limits next xs x h is number room = record {
+  each = all-push (IsContext limits (next + 1)) xs x
+      (all-map (IsContext limits next) (IsContext limits (next + 1)) xs (later_context limits next) h.each) is;
+  rising = rising-push (λ y. y.number) next xs x
+      (all-map (IsContext limits next) (λ y. y.number < next) xs (λ y t. t.below) h.each) number h.rising;
+  one_number = λ c.
+      let parts = count-push (λ y. y.number == c) xs x in
+      elim (cases_Bool (x.number == c)) [
+        | inl e ↦
+            let same : next ≡ c = sym number ∙ eqb-true x.number c e in
+            let none : count_by (λ y. y.number == c) xs ≡ 0 =
+            subst (λ (k : ℕ). count_by (λ y. y.number == k) xs ≡ 0) same (no_next_context limits next xs h) in
+            let bit = one-le (x.number == c) in
+            omega arith
+        | inr e ↦ let bit = one-false (x.number == c) e in let was = h.one_number c in omega arith
+      ];
+  one_room = λ k.
+      let parts = count-push (λ y. y.room == k) xs x in
+      elim (cases_Bool (x.room == k)) [
+        | inl e ↦
+            let same : x.room ≡ k = eqb-true x.room k e in
+            let none : count_by (λ y. y.room == k) xs ≡ 0 =
+            subst (λ (j : ℕ). count_by (λ y. y.room == j) xs ≡ 0) same room in
+            let bit = one-le (x.room == k) in
+            omega arith
+        | inr e ↦ let bit = one-false (x.room == k) e in let was = h.one_room k in omega arith
+      ];
+}
+
+-- what becomes of a context keeps its number and room
+abbrev pub Keeps : Context → Option Context → Type 0
+Keeps x o = IfSome o (λ y. (y.number ≡ x.number) × (y.room ≡ x.room))
+
+keeps-number : (x : Context) (o : Option Context) → Keeps x o → IfSome o (λ y. y.number ≡ x.number)
+keeps-number x None k = tt
+keeps-number x (Some y) k = k.0
+
+fewer_number : (c : ℕ) (x : Context) (o : Option Context) → Keeps x o →
+    count_by (λ y. y.number == c) (option_to_list o) ≤ one (x.number == c)
+fewer_number c x None k = omega arith
+fewer_number c x (Some y) k =
+    let parts = count-cons (λ z. z.number == c) y [] in
+    let bits : one (y.number == c) ≡ one (x.number == c) = ap (λ (j : ℕ). one (j == c)) k.0 in
+    omega arith
+
+fewer_room : (room : ℕ) (x : Context) (o : Option Context) → Keeps x o →
+    count_by (λ y. y.room == room) (option_to_list o) ≤ one (x.room == room)
+fewer_room room x None k = omega arith
+fewer_room room x (Some y) k =
+    let parts = count-cons (λ z. z.room == room) y [] in
+    let bits : one (y.room == room) ≡ one (x.room == room) = ap (λ (j : ℕ). one (j == room)) k.1 in
+    omega arith
+
+contexts-changed_at : (limits : Limits) (next c : ℕ) (f : Context → Option Context) (xs : List Context)
+    (o : Option Context) → ((x : Context) → Keeps x (f x)) →
+    ((x : Context) → find (λ y. y.number == c) xs ≡ Some x → IsContext limits next x →
+    IfSome (f x) (IsContext limits next)) → AreContexts limits next xs → find (λ x. x.number == c) xs ≡ o →
+    AreContexts limits next (change (λ x. x.number) c f xs)
+contexts-changed_at limits next c f xs None keeps is h found = rw (change_none (λ x. x.number) c f xs (sym found)) h
+contexts-changed_at limits next c f xs (Some old) keeps is h found = record {
+  each = all-change (λ x. x.number) (IsContext limits next) c f xs old found (is old found) h.each;
+  rising = rising-change (λ x. x.number) c f xs (λ x e. keeps-number x (f x) (keeps x)) h.rising;
+  one_number = λ d. let parts = count-change (λ x. x.number) (λ x. x.number == d) c f xs old found in let fewer =
+      fewer_number d old (f old) (keeps old) in let was = h.one_number d in omega arith;
+  one_room = λ k. let parts = count-change (λ x. x.number) (λ x. x.room == k) c f xs old found in let fewer =
+      fewer_room k old (f old) (keeps old) in let was = h.one_room k in omega arith;
+}
+
+pub contexts-changed : (limits : Limits) (next c : ℕ) (f : Context → Option Context) (xs : List Context) →
+    ((x : Context) → Keeps x (f x)) → ((x : Context) → find (λ y. y.number == c) xs ≡ Some x →
+    IsContext limits next x → IfSome (f x) (IsContext limits next)) → AreContexts limits next xs →
+    AreContexts limits next (change (λ x. x.number) c f xs)
+contexts-changed limits next c f xs keeps is h =
+    contexts-changed_at limits next c f xs (find (λ x. x.number == c) xs) keeps is h refl
+
+-- ## Members
+
+-- the members of the context c of a list
+abbrev pub members_in : List Context → ℕ → List ℕ
+members_in xs c = members_of (find (λ x. x.number == c) xs)
+
+-- a context is made with its first member
+pub members-made : (limits : Limits) (next : ℕ) (xs : List Context) (x : Context) (n : ℕ) →
+    AreContexts limits next xs → x.number ≡ next → x.members ≡ n ∷ [] → (d : ℕ) →
+    members_in (xs ++ (x ∷ [])) d ≡ cond (x.number == d) (members_in xs d ++ (n ∷ [])) (members_in xs d)
+members-made limits next xs x n h number members d = at (find (λ y. y.number == d) xs) refl
+  where
+    at : (o : Option Context) → find (λ y. y.number == d) xs ≡ o →
+        members_in (xs ++ (x ∷ [])) d ≡ cond (x.number == d) (members_in xs d ++ (n ∷ [])) (members_in xs d)
+    at None found =
+        let after = find-push_none (λ y. y.number == d) xs x found in
+        elim (cases_Bool (x.number == d)) [
+          | inl e ↦ rw (after, found, e) members
+          | inr e ↦ rw (after, found, e) refl
+        ]
+    at (Some y) found =
+        let after = find-push_some (λ z. z.number == d) xs x y found in
+        let is : y.number ≡ d = eqb-true y.number d (found_key (λ z. z.number == d) xs y found) in
+        let below = (all-found (IsContext limits next) (λ z. z.number == d) xs y h.each found).below in
+        let other : (x.number == d) ≡ false = ne_eqb x.number d (λ q. omega arith) in
+        rw (after, found, other) refl
+
+other_than : (c d : ℕ) → (c == d) ≡ true → d ≡ c
+other_than c d e = sym (eqb-true c d e)
+
+-- a context changes its members
+pub members-changed : (limits : Limits) (next c : ℕ) (f : Context → Option Context) (g : List ℕ → List ℕ)
+    (xs : List Context) → AreContexts limits next xs → ((x : Context) → Keeps x (f x)) →
+    ((o : Option Context) → IfSome o (λ x. x.number ≡ c) → find (λ x. x.number == c) xs ≡ o →
+    members_of (option_and_then f o) ≡ g (members_of o)) → (d : ℕ) →
+    members_in (change (λ x. x.number) c f xs) d ≡ cond (c == d) (g (members_in xs d)) (members_in xs d)
+members-changed limits next c f g xs h keeps is d =
+    let keeps_key : KeepsKey (λ x. x.number) c f = λ x e. keeps-number x (f x) (keeps x) in
+    elim (cases_Bool (c == d)) [
+      | inl e ↦
+          let same : c ≡ d = eqb-true c d e in
+          let after = find-change_same (λ x. x.number) c f xs keeps_key (h.one_number c) in
+          let there : members_in (change (λ x. x.number) c f xs) c ≡ g (members_in xs c) = ap members_of after ∙
+          is (find (λ x. x.number == c) xs) (number_of (find (λ x. x.number == c) xs) refl) refl in
+          rw e (subst (λ (k : ℕ). members_in (change (λ x. x.number) c f xs) k ≡ g (members_in xs k)) same there)
+      | inr e ↦ rw e (ap members_of (find-change_other (λ x. x.number) c d f xs keeps_key e))
+    ]
+  where
+    number_of : (o : Option Context) → find (λ x. x.number == c) xs ≡ o → IfSome o (λ x. x.number ≡ c)
+    number_of None found = tt
+    number_of (Some x) found = eqb-true x.number c (found_key (λ y. y.number == c) xs x found)

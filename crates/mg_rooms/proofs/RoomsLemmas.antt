@@ -1,0 +1,19 @@
+-- What an outcome says of the terminations and contexts that a call left.
+use Rattle.std.proofs.Common.{◌≡◌, Result, Ok, Err, OnErr}
+use Rattle.mg_rooms.specs.declared.record.Record.{Record}
+use Rattle.mg_words.specs.declared.error_number.ErrorNumber.{ErrorNumber}
+use Rattle.mg_rooms.specs.Registry.{Registry}
+use Rattle.mg_rooms.specs.Outcome.{Gives}
+
+-- a refused call changes nothing
+pub refused : {A : Type 0} (record_of : A → Record) (old new : Registry) (r : Result A ErrorNumber)
+    (outcome : Result (Registry × Record) ErrorNumber) → Gives record_of old new r outcome → OnErr r (new ≡ old)
+refused record_of old new (Ok d) outcome h = tt
+refused record_of old new (Err e) outcome h = h.1
+
+pub gives_refusal : {A : Type 0} (record_of : A → Record) (old new : Registry) (r : Result A ErrorNumber)
+    (outcome : Result (Registry × Record) ErrorNumber) (e : ErrorNumber) → r ≡ Err e → outcome ≡ Err e → new ≡ old →
+    Gives record_of old new r outcome
+gives_refusal record_of old new r outcome e is refused same = rw is (refused, same)
+
+pub ruleset rules = (refused)

@@ -1,0 +1,137 @@
+-- What is consistent is sound, and what a command that was done leaves.
+use Rattle.std.proofs.Common.{◌≡◌, ℕ, Some, Ok, Err, sym, IsSome, option_map, ◌<◌, ◌==◌, ◌∷◌, List, [], get_or, refl}
+use Rattle.std.specs.List.{AllByRecursion}
+use Rattle.std.proofs.lemmas.Bool.{eq-eqb, eqb-true}
+use Rattle.mg_rooms.specs.declared.record.Record.{Record}
+use Rattle.mg_rooms.specs.declared.settings.Settings.{Settings}
+use Rattle.mg_rooms.specs.declared.target.Target.{Target}
+use Rattle.mg_rooms.specs.Registry.{Registry, record_at, context_at}
+use Rattle.mg_rooms.specs.Consistent.{IsTermination, IsConsistent}
+use Rattle.mg_rooms.specs.Sound.{IsSound}
+use Rattle.mg_rooms.specs.declared.member.Member.{Member}
+use Rattle.mg_rooms.specs.Member.{IsThereAs}
+use Rattle.mg_words.specs.declared.error_number.ErrorNumber.{ErrorNumber}
+use Rattle.mg_words.specs.declared.error_number.ErrorNumber.TheVariants as refusals
+use Rattle.mg_rooms.specs.Lasting.{Lasts, LeavesOthers}
+use Rattle.mg_rooms.specs.Outcome.{named, member, add, modify, move_to, subtract}
+use Rattle.mg_rooms.specs.Changes.{removed, left}
+use Rattle.mg_rooms.proofs.ConsistentLemmas.{ok_or_ok, found_number, add_sound, modify_sound, move_sound, subtract_sound, member_found}
+use Rattle.mg_rooms.proofs.LastLemmas.{add_own, modify_own, move_own, add_lasts, modify_lasts, move_lasts, subtract_lasts, ended}
+use Rattle.mg_rooms.proofs.CountLemmas.{find-at, find-found}
+use Rattle.mg_rooms.proofs.OrderLemmas.{found_key}
+use Rattle.mg_rooms.proofs.SeatLemmas.{no_more}
+use Rattle.mg_rooms.proofs.StateLemmas.{same_slot, same_seat, same_room, termination_within, context_within, members_in, members_once, is_in_a_context}
+
+below_slots : (w : Registry) (next : ℕ) (rs : List Record) → AllByRecursion (IsTermination w.limits next) rs →
+    AllByRecursion (λ r. r.slot < w.limits.slots) rs
+below_slots w next [] all = all
+below_slots w next (r ∷ rs) all = (all.0.slot, below_slots w next rs all.1)
+
+pub sound_if : (w : Registry) → IsConsistent w → IsSound w
+sound_if w h = record {
+  consistent = h;
+  few = no_more (λ r. r.slot) w.limits.slots w.terminations
+      (below_slots w w.next_termination w.terminations h.terminations.each) h.terminations.one_slot;
+  termination = λ n r. termination_within w n r h;
+  context = λ c x. context_within w c x h;
+  there = λ n r. is_in_a_context w n r h;
+  one_slot = λ a b r s. same_slot w a b r s h;
+  one_seat = λ a b r s. same_seat w a b r s h;
+  one_room = λ c d x y. same_room w c d x y h;
+  by_number = λ i d lt.
+      let n = (get_or w.terminations i d).number in
+      find-at (λ r. r.number == n) w.terminations i d lt (eq-eqb n n refl) (h.terminations.one_number n);
+  by_slot = λ i d lt.
+      let slot = (get_or w.terminations i d).slot in
+      find-at (λ r. r.slot == slot) w.terminations i d lt (eq-eqb slot slot refl) (h.terminations.one_slot slot);
+  holder = λ n r found. find-found (λ x. x.slot == r.slot) (λ x. x.number == n) w.terminations r found
+      (eq-eqb r.slot r.slot refl) (h.terminations.one_slot r.slot);
+  held = λ slot r found. (
+    find-found (λ x. x.number == r.number) (λ x. x.slot == slot) w.terminations r found
+        (eq-eqb r.number r.number refl) (h.terminations.one_number r.number),
+    eqb-true r.slot slot (found_key (λ x. x.slot == slot) w.terminations r found),
+  );
+  members = λ c n. members_in w c n h;
+  once = λ c n. members_once w c n h;
+}
+
+-- what a command that was done leaves: r is the termination n, no other has changed, nor any context but c and d
+pub record Leaves (w after : Registry) (n c d : ℕ) (r : Record) : Type 0 where
+  pub sound : IsSound after
+  pub own : record_at after n ≡ Some r
+  pub there : IsSome (context_at after r.context)
+  pub lasts : Lasts w after
+  pub others : LeavesOthers w after n c d
+
+leaves : (w after : Registry) (n c d : ℕ) (r : Record) → IsConsistent after → record_at after n ≡ Some r →
+    Lasts w after × LeavesOthers w after n c d → Leaves w after n c d r
+leaves w after n c d r sound own rest = record {
+  sound = sound_if after sound;
+  own = own;
+  there = is_in_a_context after n r sound own;
+  lasts = rest.0;
+  others = rest.1;
+}
+
+pub add_leaves : (w after : Registry) (target : Target) (settings : Settings) (d : Record) → IsConsistent w →
+    add w target settings ≡ Ok (after, d) → Leaves w after d.number d.context d.context d
+add_leaves w after target settings d h outcome =
+    leaves w after d.number d.context d.context d (add_sound w after target settings d h outcome)
+    (add_own w after target settings d h outcome) (add_lasts w after target settings d h outcome)
+
+pub modify_leaves : (w after : Registry) (target : Target) (n : ℕ) (settings : Settings) (d : Record) →
+    IsConsistent w → modify w target n settings ≡ Ok (after, d) → Leaves w after n d.context d.context d
+modify_leaves w after target n settings d h outcome =
+    leaves w after n d.context d.context d (modify_sound w after target n settings d h outcome)
+    (modify_own w after target n settings d h outcome) (modify_lasts w after target n settings d h outcome)
+
+pub move_leaves : (w after : Registry) (target : Target) (n : ℕ) (settings : Settings) (d old : Record) →
+    IsConsistent w → record_at w n ≡ Some old → move_to w target n settings ≡ Ok (after, d) →
+    Leaves w after n old.context d.context d
+move_leaves w after target n settings d old h found outcome =
+    leaves w after n old.context d.context d (move_sound w after target n settings d h outcome)
+    (move_own w after target n settings d h outcome) (move_lasts w after target n settings d old h found outcome)
+
+-- what is left where a member of the action's context is ended
+pub record Ends (w after : Registry) (n : ℕ) (r : Record) : Type 0 where
+  pub sound : IsSound after
+  pub was : record_at w n ≡ Some r
+  pub there : IsSome (context_at w r.context)
+  pub lasts : Lasts w after
+  pub others : LeavesOthers w after n r.context r.context
+
+pub subtract_ends : (w after : Registry) (target : Target) (n : ℕ) (r : Record) → IsConsistent w →
+    member w target n ≡ Ok r → after ≡ left (removed w r.number) r.context r.number → Ends w after n r
+subtract_ends w after target n r h found is =
+    let outcome : subtract w target n ≡ Ok (after, r) = rw is (ended w target n r found) in
+    let was = member_found w target n r found in
+    let (lasts, others) = subtract_lasts w after target n r h outcome in
+    record {
+      sound = sound_if after (subtract_sound w after target n r h outcome);
+      was = was;
+      there = is_in_a_context w n r h was;
+      lasts = lasts;
+      others = others;
+    }
+
+-- ## What a call gives back
+
+pub there_as : (w : Registry) (n : ℕ) (r : Record) (m : Member) → record_at w n ≡ Some r → m.record ≡ r →
+    option_map (λ x. x.room) (context_at w r.context) ≡ Some m.room → IsThereAs w n m
+there_as w n r m found is room = record { found = rw is found; room = rw is room }
+
+pub made_as : (w : Registry) (r : Record) (m : Member) → record_at w r.number ≡ Some r → m.record ≡ r →
+    option_map (λ x. x.room) (context_at w r.context) ≡ Some m.room → IsThereAs w m.record.number m
+made_as w r m found is room = record { found = rw is found; room = rw is room }
+
+-- ## Moves
+
+pub named_is : (w : Registry) (n : ℕ) (r : Record) → Ok r ≡ named w n → (record_at w n ≡ Some r) × (r.number ≡ n)
+named_is w n r h =
+    let at = ok_or_ok (record_at w n) refusals.UnknownTermination r (sym h) in
+    (at, found_number w n r at)
+
+pub unnamed : (w : Registry) (target : Target) (n : ℕ) (settings : Settings) (e : ErrorNumber) → Err e ≡ named w n →
+    move_to w target n settings ≡ Err e
+unfolding move_to
+unnamed w target n settings e h = rw (← h) refl

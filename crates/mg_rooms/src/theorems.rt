@@ -1,0 +1,58 @@
+//! What is free and what is used up, and what holds of all that there is, whatever commands were done.
+//!
+//! The functions here do nothing: their contracts are the theorems.
+
+ghost use Rattle.std.specs.Prelude.{◌≡◌, ℕ, ◌<◌, ◌≤◌, ◌↔◌, ◌⊎◌, None, Ok, Err, IsSome, length};
+ghost use Rattle.mg_words.specs.declared.limits.TheConstants.{CONTEXTS, MEMBERS, LAST_TERMINATION, LAST_CONTEXT};
+ghost use Rattle.mg_words.specs.declared.error_number.ErrorNumber.TheVariants.{ContextFull, NoContextLeft, NoTerminationLeft};
+ghost use Rattle.mg_rooms.specs.declared.limits.Limits.{Limits};
+ghost use Rattle.mg_rooms.specs.declared.record.Record.{Record};
+ghost use Rattle.mg_rooms.specs.declared.settings.Settings.{Settings};
+ghost use Rattle.mg_rooms.specs.declared.target.Target.{Target};
+ghost use Rattle.mg_rooms.specs.Limits.{AreValidLimits};
+ghost use Rattle.mg_rooms.specs.Registry.{Registry, start_of, members_at, free_slot, free_seat, free_room};
+ghost use Rattle.mg_rooms.specs.Outcome.{new_slot, new_seat, new_context, add, modify, move_to, subtract};
+ghost use Rattle.mg_rooms.specs.Consistent.{IsConsistent};
+ghost use Rattle.mg_rooms.specs.Sound.{IsSound};
+
+/// A seat is free in each context that isn't full, and a room where there are not as many contexts as
+/// there can be. So a command is told that a context is full, or that none can be made, only where that
+/// is so.
+pub fn what_is_not_full_has_a_free_place()
+    ensures seat { (w : Registry) (c : ℕ) → IsConsistent w → length (members_at w c) < MEMBERS →
+        IsSome (free_seat w c) }
+    ensures room { (w : Registry) → IsConsistent w → length w.contexts < CONTEXTS → IsSome (free_room w) }
+{}
+
+/// What is told to be used up is: no slot is free or the numbers are used up, a context has as many
+/// members as it can have, or there are as many contexts as there can be or their numbers are used up. And
+/// where that is so it is told.
+pub fn what_is_used_up_is_refused()
+    ensures slot { (w : Registry) → (new_slot w ≡ Err NoTerminationLeft) ↔
+        ((free_slot w ≡ None) ⊎ (LAST_TERMINATION < w.next_termination)) }
+    ensures seat { (w : Registry) (c : ℕ) → IsConsistent w → (new_seat w c ≡ Err ContextFull) ↔
+        (MEMBERS ≤ length (members_at w c)) }
+    ensures context { (w : Registry) → IsConsistent w → (new_context w ≡ Err NoContextLeft) ↔
+        ((CONTEXTS ≤ length w.contexts) ⊎ (LAST_CONTEXT < w.next_context)) }
+{}
+
+/// At first all is consistent, and what a command leads to is, where what it was done on was. So it holds of whatever
+/// commands lead to, with no table at hand.
+pub fn outcomes_are_consistent()
+    ensures start { (limits : Limits) → AreValidLimits limits → limits.first_termination ≤ LAST_TERMINATION →
+        IsConsistent (start_of limits) }
+    ensures add { (w next : Registry) (target : Target) (settings : Settings) (r : Record) → IsConsistent w →
+        add w target settings ≡ Ok (next, r) → IsConsistent next }
+    ensures modify { (w next : Registry) (target : Target) (n : ℕ) (settings : Settings) (r : Record) → IsConsistent w →
+        modify w target n settings ≡ Ok (next, r) → IsConsistent next }
+    ensures move_to { (w next : Registry) (target : Target) (n : ℕ) (settings : Settings) (r : Record) →
+        IsConsistent w →
+        move_to w target n settings ≡ Ok (next, r) → IsConsistent next }
+    ensures subtract { (w next : Registry) (target : Target) (n : ℕ) (r : Record) → IsConsistent w →
+        subtract w target n ≡ Ok (next, r) → IsConsistent next }
+{}
+
+/// What is consistent is sound: what is looked up of terminations and contexts agrees, with no table at hand.
+pub fn what_is_consistent_is_sound()
+    ensures { (w : Registry) → IsConsistent w → IsSound w }
+{}

@@ -1,5 +1,0 @@
-use Rattle.mg_rtp.proofs.Once.{packet_once}
-use Rattle.mg_rtp.proofs.laws.one_packet.Goals as goal
-
-pub returns : goal.returns
-returns c = record { at_most_one = packet_once }

@@ -1,5 +1,0 @@
-use Rattle.mg_serve.proofs.Runs.{session_run}
-use Rattle.mg_serve.proofs.laws.sessions_are_runs.Goals as goal
-
-pub returns : goal.returns
-returns c = session_run

@@ -1,0 +1,26 @@
+//! What follows from the definitions, whatever keeps the frames and the totals.
+//!
+//! The calls do nothing: their contracts are the theorems.
+
+ghost use Rattle.std.specs.Prelude.{◌≡◌, ℕ, ◌++◌, List, Option, map};
+ghost use Rattle.std.specs.List.{range_with_len};
+ghost use Rattle.mg_sums.specs.Samples.{nearest_sample, sum_of};
+ghost use Rattle.mg_sums.specs.Sums.{SumsState, AreAllOfRoom, sample_in, total_of, heard_of, left_out_by, mix_of};
+
+/// The total is the sum over the rows of the room, in whatever order they come.
+pub fn order_does_not_matter()
+    ensures { (kept : SumsState) (room i : ℕ) (rows : List ℕ) → AreAllOfRoom kept.rooms room rows →
+        total_of kept room i ≡ sum_of (sample_in kept.frames i) rows }
+{}
+
+/// Where the rows of a room are its base, those of minus and others, the others are heard.
+pub fn others_are_heard()
+    ensures heard { (kept : SumsState) (room i : ℕ) (base : Option ℕ) (minus others : List ℕ) →
+        AreAllOfRoom kept.rooms room (left_out_by base minus ++ others) →
+        heard_of kept room (left_out_by base minus) i ≡ sum_of (sample_in kept.frames i) others }
+    ensures mix { (kept : SumsState) (room : ℕ) (base : Option ℕ) (minus others : List ℕ) →
+        AreAllOfRoom kept.rooms room (left_out_by base minus ++ others) →
+        mix_of kept room (left_out_by base minus)
+        ≡ map (λ i. nearest_sample (sum_of (sample_in kept.frames i) others))
+        (range_with_len 0 160) }
+{}

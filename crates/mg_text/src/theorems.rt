@@ -1,0 +1,39 @@
+//! What holds of all datagrams. The functions here change nothing: their contracts are the theorems.
+
+ghost use Rattle.std.specs.Prelude.{◌≡◌, ℕ, List, Option};
+ghost use Rattle.mg_scan.specs.declared.fault.ScanFault.{ScanFault};
+ghost use Rattle.mg_scan.specs.declared.token.Token.{Token};
+ghost use Rattle.mg_text.specs.declared.message.Message.{Message};
+ghost use Rattle.mg_text.specs.Message.{AreTokens, IsTree};
+ghost use Rattle.mg_text.specs.MessageReading.{MessageReading, IsMessageReading};
+
+use mg_scan::Scanner;
+
+/// Bytes have at most one tree.
+pub fn one_tree()
+    ensures theorem { (source : List ℕ) (m n : Message) → IsTree source m → IsTree source n → m ≡ n }
+{}
+
+/// All bytes are tokens up to their end or up to a fault.
+fn bytes_are_tokens(source: &[u8])
+    ensures tokens { (ts : List Token) × (fault : Option ScanFault) × AreTokens source.now ts fault }
+{
+    let mut scanner = Scanner::new(source);
+    loop {
+        match scanner.next() {
+            Some(Ok(_)) => {}
+            Some(Err(_)) => return,
+            None => return,
+        }
+    }
+}
+
+/// Each datagram is exactly one of these: a message with its tree, one that is too long or asks for too much, one of
+/// another version, or none.
+pub fn one_reading(source: &[u8])
+    ensures some { (reading : MessageReading) × IsMessageReading source.now reading }
+    ensures at_most_one { (bytes : List ℕ) (a b : MessageReading) →
+        IsMessageReading bytes a → IsMessageReading bytes b → a ≡ b }
+{
+    bytes_are_tokens(source);
+}

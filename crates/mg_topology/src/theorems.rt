@@ -1,0 +1,113 @@
+//! Theorems on the definitions: what the edits of a context say, whatever keeps them.
+//!
+//! Each function here does nothing, and its contract is the theorem. A crate above calls one where a
+//! proof needs what it says. The lists of edits stand newest first.
+
+ghost use Rattle.std.specs.Prelude.{◌≡◌, ◌≢◌, ℕ, ◌<◌, ◌≤◌, ◌^◌, [], ◌∷◌, ◌++◌, ◌==◌, ◌||◌, ◌↔◌, Bool, List, Some, IsTrue, IsFalse, Any, Contains};
+ghost use Rattle.std.specs.List.{list_any, filter, range_with_len};
+ghost use Rattle.std.specs.List.Sorted.{IsStrictlyIncreasing};
+ghost use Rattle.mg_words.specs.Limits.{member_limit};
+ghost use Rattle.mg_topology.specs.declared.triple.Triple.{Triple};
+ghost use Rattle.mg_words.specs.declared.association.Association.TheVariants.{Isolate, Oneway, Bothway};
+ghost use Rattle.mg_topology.specs.declared.mask.TheConstants.{EMPTY, FULL, SEATS};
+ghost use Rattle.mg_topology.specs.Mask.{seat_limit, has_seat, seats_of, seat_count, IsEmpty};
+ghost use Rattle.mg_topology.specs.Triple.{leads, speaks_of, overlaps, Overlaps};
+ghost use Rattle.mg_topology.specs.Edits.{TopologyEdit, Enter, Leave, Apply, is_held, last_word, lets_hear, hears_in, touches};
+
+/// A newcomer and each member hear each other, whatever was said of its seat before.
+pub fn newcomer_hears_and_is_heard()
+    ensures hears { (es : List TopologyEdit) (newcomer member : ℕ) →
+        newcomer ≢ member → IsTrue (is_held es member) →
+        IsTrue (hears_in (Enter newcomer ∷ es) member newcomer) }
+    ensures is_heard { (es : List TopologyEdit) (newcomer member : ℕ) →
+        newcomer ≢ member → IsTrue (is_held es member) →
+        IsTrue (hears_in (Enter newcomer ∷ es) newcomer member) }
+{}
+
+/// Two hear each other where no triple has spoken of them since both entered.
+pub fn unspoken_pair_hears()
+    ensures { (newer older : List TopologyEdit) (newcomer a b : ℕ) →
+        IsTrue ((a == newcomer) || (b == newcomer)) →
+        IsFalse (list_any (λ edit. touches edit a b) newer) →
+        IsTrue (lets_hear (newer ++ Enter newcomer ∷ older) a b) }
+{}
+
+/// Of the triples that speak of a pair, the last one has the last word.
+pub fn last_triple_wins()
+    ensures { (newer older : List TopologyEdit) (triple : Triple) (a b : ℕ) →
+        IsTrue (speaks_of triple a b) →
+        IsFalse (list_any (λ edit. touches edit a b) newer) →
+        last_word (newer ++ Apply triple ∷ older) a b ≡ Some triple }
+{}
+
+/// What each association says of a seat of the first set and a seat of the second.
+pub fn associations()
+    ensures isolate { (es : List TopologyEdit) (triple : Triple) (first second : ℕ) →
+        IsTrue (leads triple first second) → triple.association ≡ Isolate →
+        IsFalse (lets_hear (Apply triple ∷ es) first second)
+        × IsFalse (lets_hear (Apply triple ∷ es) second first) }
+
+    // A Oneway triple that overlaps is refused.
+    ensures oneway { (es : List TopologyEdit) (triple : Triple) (first second : ℕ) →
+        IsTrue (leads triple first second) → triple.association ≡ Oneway → IsFalse (overlaps triple) →
+        IsTrue (lets_hear (Apply triple ∷ es) first second)
+        × IsFalse (lets_hear (Apply triple ∷ es) second first) }
+    ensures bothway { (es : List TopologyEdit) (triple : Triple) (first second : ℕ) →
+        IsTrue (leads triple first second) → triple.association ≡ Bothway →
+        IsTrue (lets_hear (Apply triple ∷ es) first second)
+        × IsTrue (lets_hear (Apply triple ∷ es) second first) }
+{}
+
+/// No edit changes what is heard between two others.
+pub fn others_are_left_alone()
+    ensures enter { (es : List TopologyEdit) (newcomer a b : ℕ) → newcomer ≢ a → newcomer ≢ b →
+        hears_in (Enter newcomer ∷ es) a b ≡ hears_in es a b }
+    ensures leave { (es : List TopologyEdit) (leaver a b : ℕ) → leaver ≢ a → leaver ≢ b →
+        hears_in (Leave leaver ∷ es) a b ≡ hears_in es a b }
+    ensures apply { (es : List TopologyEdit) (triple : Triple) (a b : ℕ) → IsFalse (speaks_of triple a b) →
+        hears_in (Apply triple ∷ es) a b ≡ hears_in es a b }
+{}
+
+/// Nobody hears itself, and who has left hears nobody and is heard by nobody.
+pub fn absent_pairs_are_silent()
+    ensures itself { (es : List TopologyEdit) (member : ℕ) → IsFalse (hears_in es member member) }
+    ensures left { (es : List TopologyEdit) (leaver other : ℕ) →
+        IsFalse (hears_in (Leave leaver ∷ es) leaver other)
+        × IsFalse (hears_in (Leave leaver ∷ es) other leaver) }
+{}
+
+/// The test of the masks tells a Oneway triple with a seat in both of its sets.
+pub fn overlap_is_a_common_seat()
+    ensures one { (triple : Triple) → IsTrue (overlaps triple) ↔ Overlaps triple }
+    ensures any { (triples : List Triple) →
+        IsTrue (list_any overlaps triples) ↔ Any Overlaps triples }
+{}
+
+/// The empty mask has no seat, the full one has each, and no mask has a seat from their number on.
+/// Masks with the same seats are equal.
+pub fn masks_are_sets()
+    ensures empty { IsEmpty EMPTY }
+    ensures full { (seat : ℕ) → seat < SEATS → IsTrue (has_seat FULL seat) }
+    ensures above { (mask seat : ℕ) → mask < 2 ^ SEATS → SEATS ≤ seat →
+        IsFalse (has_seat mask seat) }
+    ensures same { (a b : ℕ) → ((seat : ℕ) → has_seat a seat ≡ has_seat b seat) → a ≡ b }
+{}
+
+/// There is a seat for each member of a context. A member limit for which there isn't is refused
+/// here.
+pub fn each_member_has_a_seat()
+    ensures { member_limit ≤ seat_limit }
+{}
+
+/// The list of a mask's seats has each of them and no other, in rising order, so it has at most as
+/// many as there are seats. Whatever tells the same of each seat as the mask gives the same list.
+pub fn seats_are_listed()
+    ensures seats { (mask seat : ℕ) →
+        Contains (seats_of mask) seat ↔ ((seat < seat_limit) × IsTrue (has_seat mask seat)) }
+    ensures rising { (mask : ℕ) → IsStrictlyIncreasing (seats_of mask) }
+    ensures count { (mask : ℕ) → seat_count mask ≤ seat_limit }
+    ensures empty { (mask : ℕ) → IsEmpty mask → seats_of mask ≡ [] }
+    ensures test { (mask : ℕ) (is_in : ℕ → Bool) →
+        ((seat : ℕ) → seat < seat_limit → has_seat mask seat ≡ is_in seat) →
+        seats_of mask ≡ filter is_in (range_with_len 0 seat_limit) }
+{}

@@ -1,8 +1,0 @@
--- The parts of an error's descriptor, one after another.
-use Rattle.std.proofs.Common.{ℕ, ◌<◌, ◌≤◌, length, append_assoc, arith, decimal}
-use Rattle.std.proofs.lemmas.Fmt.{length-decimal-le}
-
-pub number_short : (n : ℕ) → n < 1000 → length (decimal n) ≤ 3
-number_short n h = length-decimal-le 3 n (omega arith) (omega arith) (omega arith)
-
-pub ruleset parts = (number_short, append_assoc)

@@ -1,5 +1,5 @@
 -- What carries the project: the flows, totals and packets of a gateway after any list of events,
--- and what follows for who isn't to be heard.
+-- and what follows for those who aren't to be heard.
 use Rattle.std.specs.Prelude.{◌≡◌, ℕ, ◌<◌, ◌^◌, ℤ, Bool, true, false, List, [], ◌∷◌, ◌++◌, Option}
 use Rattle.std.specs.List.{list_all}
 use Rattle.mg_rooms.specs.Consistent.{IsConsistent}

@@ -1,4 +1,4 @@
--- What a bridge is, seen from outside, and which worlds the state of a core stands for.
+-- What a gateway is, seen from outside, and which worlds the state of a core stands for.
 use Rattle.std.specs.Prelude.{◌≡◌, ℕ, ◌+◌, ◌-◌, ◌^◌, min, List, [], map, replicate, slice_index}
 use Rattle.std.specs.Prelude.{slice_set}
 use Rattle.mg_kept.specs.KeptReplies.{KeptReply}

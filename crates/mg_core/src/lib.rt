@@ -9,9 +9,10 @@
 //! ```
 //!
 //! [`run`] does so for each line of a script. Contracts speak of the worlds that a core's state stands for (`StandsFor`
-//! in `specs/World.antt`): each call that hands it an event is a step from each of them to the next (`Step` in `specs/Step.antt`). So after
-//! any list of events its flows, totals and packets are those computed anew (`specs/Headline.antt`). A request that
-//! comes again is answered by the reply that was kept for it, and not run twice (`specs/Repeats.antt`).
+//! in `specs/World.antt`): each call that hands it an event is a step from each of them to the next (`Step` in
+//! `specs/Step.antt`). So after any list of events its flows, totals and packets are those computed anew
+//! (`specs/Headline.antt`). A request that comes again is answered by the reply that was kept for it, and not run twice
+//! (`specs/Repeats.antt`).
 #![tactic(auto)]
 
 mod answer;
@@ -43,6 +44,7 @@ pub use crate::fault::{NoMemory, RunFault};
 pub use crate::machine::{ANSWER_LIMIT, Core};
 pub use crate::peer::peer_of;
 pub use crate::running::run;
+pub use crate::script::DATAGRAM_LIMIT;
 pub use crate::shown::Shown;
 // A crate can name a core in a contract only if the type of its state is exported.
 #[doc(hidden)]

@@ -291,7 +291,7 @@ impl Core {
     }
 
     /// How many events came: control datagrams, RTP datagrams by what became of them, and ticks. Lines, sent and failed
-    /// are 0, for they are counted by who runs the core.
+    /// are 0, for they are counted by whoever runs the core.
     pub fn counts(&self) -> Counts
         ensures value { (w : World) → StandsFor self.now.state w → result ≡ counts_of w.tally }
     {

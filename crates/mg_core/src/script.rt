@@ -13,7 +13,7 @@ use std::alloc::{AllocError, AllocFailed, Global};
 /// The bytes of the longest line of a script.
 pub const LINE_LIMIT: usize = 140000;
 
-/// The bytes of the longest datagram.
+/// The bytes of the longest datagram, one of UDP.
 pub const DATAGRAM_LIMIT: usize = 65535;
 
 /// Why a line was not read.

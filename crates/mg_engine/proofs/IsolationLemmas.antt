@@ -22,7 +22,7 @@ use Rattle.mg_sums.proofs.SumLemmas.{sum_of-same}
 use Rattle.mg_engine.specs.declared.datagram.Datagram.{Datagram}
 use Rattle.mg_engine.specs.Gateway.{Gateway, TerminationMedia, ContextEdit, Enter, Leave, Apply, media_of, frame_of, mode_of, context_of, numbers_of}
 use Rattle.mg_engine.specs.aids.Found.{frame_in}
-use Rattle.mg_engine.specs.Flow.{flow, leads, speaks_of, lets_hear}
+use Rattle.mg_engine.specs.Flow.{flow, is_forward, speaks_of, lets_hear}
 use Rattle.mg_engine.specs.Mix.{played_sample, part_of_mix, heard, mix, mixed, is_loopback}
 use Rattle.mg_engine.specs.Tick.{packet, header_of, sent_to, type_of}
 use Rattle.mg_engine.specs.aids.Found.{packet_to}
@@ -60,14 +60,14 @@ not_heard (Leave n ∷ since) first second before a b on left = not_heard since 
 not_heard (Apply f s association ∷ since) first second before a b on left =
     let rest = lets_hear (since ++ Apply first second Isolate ∷ before) a b in
     let all = list_all (leaves_isolated a b) since in
-    ap (λ (x : Bool). if x then lets association (leads f s a b) else rest)
+    ap (λ (x : Bool). if x then lets association (is_forward f s a b) else rest)
     (not-true (speaks_of f s a b) (and_parts (not (speaks_of f s a b)) all left).0)
     ∙ not_heard since first second before a b on (and_parts (not (speaks_of f s a b)) all left).1
 
 leaves_both : (a b : ℕ) (e : ContextEdit) → leaves_isolated b a e ≡ leaves_isolated a b e
 leaves_both a b (Enter n) = ap not (or_other (eqb b n) (eqb a n))
 leaves_both a b (Leave n) = refl
-leaves_both a b (Apply first second association) = ap not (or_other (leads first second b a) (leads first second a b))
+leaves_both a b (Apply first second association) = ap not (or_other (is_forward first second b a) (is_forward first second a b))
 
 all_leave : (a b : ℕ) (es : List ContextEdit) → list_all (leaves_isolated b a) es ≡ list_all (leaves_isolated a b) es
 all_leave a b [] = refl
@@ -89,7 +89,7 @@ isolated_are_not_heard w a b h = (
       not_heard h.since h.first h.second h.before a b h.isolated h.left),
   no_flow w b a (ap (λ (es : List ContextEdit). lets_hear es b a) h.edits
       ∙ not_heard h.since h.first h.second h.before b a
-      (or_other (leads h.first h.second b a) (leads h.first h.second a b) ∙ h.isolated)
+      (or_other (is_forward h.first h.second b a) (is_forward h.first h.second a b) ∙ h.isolated)
       (all_leave a b h.since ∙ h.left)),
 )
 

@@ -11,13 +11,13 @@ use Rattle.mg_engine.specs.Gateway.{Gateway, ContextEdit, Enter, Leave, Apply, c
 abbrev pub has : List ℕ → ℕ → Bool
 has members n = list_any (λ m. m == n) members
 
--- a triple's own direction leads from the talker to the listener: from its first set to its second
-abbrev pub leads : List ℕ → List ℕ → ℕ → ℕ → Bool
-leads first second talker listener = has first talker && has second listener
+-- a talker and a listener stand in a triple's own direction, from its first set to its second
+abbrev pub is_forward : List ℕ → List ℕ → ℕ → ℕ → Bool
+is_forward first second talker listener = has first talker && has second listener
 
 -- a triple speaks of a pair where one of the two is in its first set and the other in its second
 abbrev pub speaks_of : List ℕ → List ℕ → ℕ → ℕ → Bool
-speaks_of first second a b = leads first second a b || leads first second b a
+speaks_of first second a b = is_forward first second a b || is_forward first second b a
 
 -- The last word on a pair, looked for from the newest edit backwards: the last triple that speaks
 -- of it after the latest time that each of the two entered a context. Where there is none, each
@@ -29,7 +29,7 @@ lets_hear (Enter n ∷ es) talker listener =
 lets_hear (Leave n ∷ es) talker listener = lets_hear es talker listener
 lets_hear (Apply first second association ∷ es) talker listener =
     if speaks_of first second talker listener
-    then lets association (leads first second talker listener)
+    then lets association (is_forward first second talker listener)
     else lets_hear es talker listener
 
 -- whether both are terminations, different ones of one context

@@ -460,8 +460,8 @@ impl Engine {
         }
     }
 
-    /// The members of a context with their places, in the order of their entry: for who asks of many pairs of them
-    /// whether one hears the other.
+    /// The members of a context with their places, in the order of their entry: for callers that ask of many pairs of
+    /// them whether one hears the other.
     pub fn seated(&self, context: u32) -> ArrayVec<SeatedMember, MEMBERS>
         ensures numbers { (w : Gateway) → StandsFor self.now w →
             map (λ m. m.number) result.items ≡ members_at w.rooms context }

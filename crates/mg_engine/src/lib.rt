@@ -15,8 +15,8 @@
 //! termination that talks, whose old frame leaves the total and whose new one comes in. A packet takes one, the total
 //! without the listener itself, and one more for each talker whom the topology keeps from the listener. One in Loopback
 //! is sent its own frame, which takes none. Listeners of one context who hear the same, by the same law, share a
-//! payload that is among the newest eight of their context. `specs/Work.antt` has the bound that each tick is proved to keep. An edit takes at most four rows, and an
-//! RTP datagram none.
+//! payload that is among the newest eight of their context. `specs/Work.antt` has the bound that each tick is proved to
+//! keep. An edit takes at most four rows, and an RTP datagram none.
 //!
 //! The engine keeps no history, and what it keeps may be shorter than what it stands for. So its contracts speak of
 //! each `Gateway` (`specs/Gateway.antt`) that it stood for before a call, and say which one it stands for afterwards

@@ -39,25 +39,24 @@ edits_in room (Apply r triple ∷ es) =
 abbrev pub is_held : List FlowEdit → Place → Bool
 is_held es place = topology.is_held (edits_in place.room es) place.seat
 
--- whether the member on the place talks, by what was last said of it
-abbrev pub talks_in : List FlowEdit → Place → Bool
-talks_in [] place = false
-talks_in (Enter p talks listens ∷ es) place =
-    if is_same_place place p then talks else talks_in es place
-talks_in (Leave p ∷ es) place = if is_same_place place p then false else talks_in es place
-talks_in (SetMode p talks listens ∷ es) place =
-    if is_same_place place p then talks else talks_in es place
-talks_in (Apply room triple ∷ es) place = talks_in es place
+-- what was last said of the member on the place: a side of whether it talks and whether it listens
+abbrev pub last_said : (Bool → Bool → Bool) → List FlowEdit → Place → Bool
+last_said side [] place = false
+last_said side (Enter p talks listens ∷ es) place =
+    if is_same_place place p then side talks listens else last_said side es place
+last_said side (Leave p ∷ es) place =
+    if is_same_place place p then false else last_said side es place
+last_said side (SetMode p talks listens ∷ es) place =
+    if is_same_place place p then side talks listens else last_said side es place
+last_said side (Apply room triple ∷ es) place = last_said side es place
 
--- whether it listens, by what was last said of it
+-- whether the member on the place talks
+abbrev pub talks_in : List FlowEdit → Place → Bool
+talks_in = last_said (λ talks listens. talks)
+
+-- whether it listens
 abbrev pub listens_in : List FlowEdit → Place → Bool
-listens_in [] place = false
-listens_in (Enter p talks listens ∷ es) place =
-    if is_same_place place p then listens else listens_in es place
-listens_in (Leave p ∷ es) place = if is_same_place place p then false else listens_in es place
-listens_in (SetMode p talks listens ∷ es) place =
-    if is_same_place place p then listens else listens_in es place
-listens_in (Apply room triple ∷ es) place = listens_in es place
+listens_in = last_said (λ talks listens. listens)
 
 -- whether the last word on two places of one room lets the listener hear the talker
 abbrev pub lets_hear : List FlowEdit → Place → Place → Bool

@@ -1,4 +1,4 @@
--- What searches in the tables say of the world that they stand for.
+-- What searches in the tables say of the registry that they stand for.
 use Rattle.std.proofs.Common.{◌≡◌, ℕ, ◌+◌, ◌<◌, ◌≤◌, ◌&&◌, ◌==◌, Bool, List, [], ◌∷◌, ◌++◌, option_and_then, vec_len, length, Option, Some, None, refl, sym, ◌∙◌, ap, arith, get_or, slice_get, find, option_map, is_none, not, Ok, Err, suc, subst, nat_lt, nat_le, true, false, set, IfSome}
 use Rattle.std.specs.List.{list_any, position_from, range_with_len}
 use Rattle.std.proofs.lemmas.Option.{get_or_from_slice_get, slice_get_past, slice_get_read}
@@ -13,7 +13,7 @@ use Rattle.mg_rooms.specs.aids.Entries.{entered_entry, left_entry}
 use Rattle.mg_rooms.specs.Members.{without}
 use Rattle.mg_rooms.specs.Outcome.{new_context}
 use Rattle.mg_words.specs.declared.limits.TheConstants.{CONTEXTS, MEMBERS, LAST_CONTEXT}
-use Rattle.mg_rooms.specs.aids.Tables.{HasTables, IsTable, world_of}
+use Rattle.mg_rooms.specs.aids.Tables.{HasTables, IsTable, registry_of}
 use Rattle.mg_rooms.specs.Registry.{Registry, record_at, context_at, free_slot, free_room, free_seat}
 use Rattle.mg_rooms.specs.aids.Found.{members_of}
 use Rattle.mg_rooms.proofs.OrderLemmas.{any-in_order, KeepsKey, change_at, change_none, found_key, in_order-push, length-in_order_room, length-in_order_full, find-in_order, first_at_zero}
@@ -21,26 +21,26 @@ use Rattle.mg_rooms.proofs.TableLemmas.{OnlyAt, lookup_some, lookup_none, free-i
 
 pub record_some : (a : Inside) (n s : ℕ) (o : Option Record) →
     Some s ≡ position_from (has_key (λ r. r.number) n) 0 a.slots.items → o ≡ get_or a.slots.items s o →
-    o ≡ record_at (world_of a) n
+    o ≡ record_at (registry_of a) n
 record_some a n s o found at = lookup_some (λ r. r.number) (λ r. r.slot) n a.slots.items s o found at
 
 pub record_none : (a : Inside) (n : ℕ) → None ≡ position_from (has_key (λ r. r.number) n) 0 a.slots.items →
-    None ≡ record_at (world_of a) n
+    None ≡ record_at (registry_of a) n
 record_none a n found = lookup_none (λ r. r.number) (λ r. r.slot) n a.slots.items found
 
 pub context_some : (a : Inside) (n s : ℕ) (o : Option Context) →
     Some s ≡ position_from (has_key (λ x. x.number) n) 0 a.rooms.items → o ≡ get_or a.rooms.items s o →
-    o ≡ context_at (world_of a) n
+    o ≡ context_at (registry_of a) n
 context_some a n s o found at = lookup_some (λ x. x.number) (λ x. x.room) n a.rooms.items s o found at
 
 pub context_none : (a : Inside) (n : ℕ) → None ≡ position_from (has_key (λ x. x.number) n) 0 a.rooms.items →
-    None ≡ context_at (world_of a) n
+    None ≡ context_at (registry_of a) n
 context_none a n found = lookup_none (λ x. x.number) (λ x. x.room) n a.rooms.items found
 
 -- a context's room is its place
 pub room_some : (a : Inside) (n s : ℕ) → HasTables a →
     Some s ≡ position_from (has_key (λ x. x.number) n) 0 a.rooms.items →
-    Some s ≡ option_map (λ x. x.room) (context_at (world_of a) n)
+    Some s ≡ option_map (λ x. x.room) (context_at (registry_of a) n)
 room_some a n s kept found =
     let (x, is, same) = find-in_order (λ x. x.number) n a.rooms.items s
     (first_at_zero (has_key (λ x. x.number) n) a.rooms.items s (sym found)) in
@@ -48,12 +48,12 @@ room_some a n s kept found =
     rw (same, at) refl
 
 pub free_slot_is : (a : Inside) (o : Option ℕ) → HasTables a → o ≡ position_from is_none 0 a.slots.items →
-    o ≡ free_slot (world_of a)
+    o ≡ free_slot (registry_of a)
 free_slot_is a o kept found =
     found ∙ free-in_order (λ r. r.number) (λ r. r.slot) a.next_termination a.limits.slots a.slots.items kept.slots
 
 pub free_room_is : (a : Inside) (o : Option ℕ) → HasTables a → o ≡ position_from is_none 0 a.rooms.items →
-    o ≡ free_room (world_of a)
+    o ≡ free_room (registry_of a)
 free_room_is a o kept found =
     found ∙ free-in_order (λ x. x.number) (λ x. x.room) a.next_context CONTEXTS a.rooms.items kept.rooms
 
@@ -72,28 +72,28 @@ find_free (false ∷ held) test k h =
 pub free_seat_is : (a : Inside) (c : ℕ) (held : List Bool) → length held ≡ MEMBERS
     → ((seat : ℕ) → seat < MEMBERS → get_or held seat true ≡
     list_any (passes_at (λ r. (r.context == c) && (r.seat == seat))) a.slots.items)
-    → position_from not 0 held ≡ free_seat (world_of a) c
+    → position_from not 0 held ≡ free_seat (registry_of a) c
 free_seat_is a c held long h =
-    find_free held (λ seat. list_any (λ r. (r.context == c) && (r.seat == seat)) ((world_of a).terminations)) 0
+    find_free held (λ seat. list_any (λ r. (r.context == c) && (r.seat == seat)) ((registry_of a).terminations)) 0
     (λ i j same lt. let eq : i ≡ j = omega arith in
     subst (λ (k : ℕ). get_or held i true ≡ list_any (λ r. (r.context == c) && (r.seat == k))
-    ((world_of a).terminations)) eq (h i (omega arith) ∙
+    ((registry_of a).terminations)) eq (h i (omega arith) ∙
     sym (any-in_order (λ r. r.number) (λ r. (r.context == c) && (r.seat == i)) a.slots.items)))
     ∙ ap (λ (n : ℕ). find (λ seat. not (list_any (λ r. (r.context == c) && (r.seat == seat))
-    ((world_of a).terminations))) (range_with_len 0 n)) long
+    ((registry_of a).terminations))) (range_with_len 0 n)) long
 
 slot_entry : (a : Inside) (s : ℕ) (o : Option Record) → s < length a.slots.items → o ≡ get_or a.slots.items s o →
     slice_get a.slots.items s ≡ Some o
 slot_entry a s o lt at = slice_get_read a.slots.items (length a.slots.items) s o refl lt at
 
 pub at_slot_is : (a : Inside) (s : ℕ) (o : Option Record) → HasTables a → s < length a.slots.items →
-    o ≡ get_or a.slots.items s o → o ≡ find (λ r. r.slot == s) ((world_of a).terminations)
+    o ≡ get_or a.slots.items s o → o ≡ find (λ r. r.slot == s) ((registry_of a).terminations)
 at_slot_is a s o kept lt at =
     sym (find_spot (λ r. r.number) (λ r. r.slot) a.next_termination a.limits.slots a.slots.items s kept.slots ∙
     ap entry_at (slot_entry a s o lt at))
 
 pub at_slot_past : (a : Inside) (s : ℕ) → HasTables a → length a.slots.items ≤ s →
-    None ≡ find (λ r. r.slot == s) ((world_of a).terminations)
+    None ≡ find (λ r. r.slot == s) ((registry_of a).terminations)
 at_slot_past a s kept le =
     sym (find_spot (λ r. r.number) (λ r. r.slot) a.next_termination a.limits.slots a.slots.items s kept.slots ∙
     ap entry_at (slice_get_past a.slots.items s le))
@@ -101,7 +101,7 @@ at_slot_past a s kept le =
 -- a room is left where one is found empty
 pub place_some : (a : Inside) (room : ℕ) → HasTables a → Some room ≡ position_from is_none 0 a.rooms.items →
     a.next_context ≤ LAST_CONTEXT → Ok (record { context = a.next_context; seat = 0; made = Some room }) ≡
-    new_context (world_of a)
+    new_context (registry_of a)
 place_some a room kept found le =
     let free = free_room_is a (Some room) kept found in
     let empty = empty_place (λ x. x.number) (λ x. x.room) a.next_context CONTEXTS a.rooms.items room kept.rooms
@@ -114,7 +114,7 @@ place_some a room kept found le =
     rw (few, left, ← free) refl
 
 pub place_none : (a : Inside) → HasTables a → None ≡ position_from is_none 0 a.rooms.items →
-    Err NoContextLeft ≡ new_context (world_of a)
+    Err NoContextLeft ≡ new_context (registry_of a)
 place_none a kept found =
     let full : length (in_order (λ x. x.number) a.rooms.items) ≡ length a.rooms.items =
     length-in_order_full (λ x. x.number) a.rooms.items 0 (sym found) in
@@ -181,24 +181,24 @@ with_made w xs = record w { contexts = xs; next_context = w.next_context + 1 }
 
 pub unchanged_termination : (a : Inside) (n : ℕ) (f : Record → Option Record) →
     None ≡ position_from (has_key (λ r. r.number) n) 0 a.slots.items →
-    world_of a ≡ record (world_of a) { terminations = change (λ r. r.number) n f ((world_of a).terminations) }
+    registry_of a ≡ record (registry_of a) { terminations = change (λ r. r.number) n f ((registry_of a).terminations) }
 unchanged_termination a n f found =
-    ap (with_terminations (world_of a)) (sym (change_none (λ r. r.number) n f ((world_of a).terminations)
+    ap (with_terminations (registry_of a)) (sym (change_none (λ r. r.number) n f ((registry_of a).terminations)
     (record_none a n found)))
 
 pub unchanged_context : (a : Inside) (n : ℕ) (f : Context → Option Context) →
     None ≡ position_from (has_key (λ x. x.number) n) 0 a.rooms.items →
-    world_of a ≡ record (world_of a) { contexts = change (λ x. x.number) n f ((world_of a).contexts) }
+    registry_of a ≡ record (registry_of a) { contexts = change (λ x. x.number) n f ((registry_of a).contexts) }
 unchanged_context a n f found =
-    ap (with_contexts (world_of a)) (sym (change_none (λ x. x.number) n f ((world_of a).contexts)
+    ap (with_contexts (registry_of a)) (sym (change_none (λ x. x.number) n f ((registry_of a).contexts)
     (context_none a n found)))
 
-pub slot_is_empty : (a : Inside) (s : ℕ) → HasTables a → free_slot (world_of a) ≡ Some s →
+pub slot_is_empty : (a : Inside) (s : ℕ) → HasTables a → free_slot (registry_of a) ≡ Some s →
     (slice_get a.slots.items s ≡ Some None) × (s < length a.slots.items)
 slot_is_empty a s kept free = empty_place (λ r. r.number) (λ r. r.slot) a.next_termination a.limits.slots
     a.slots.items s kept.slots free
 
-pub room_is_empty : (a : Inside) (s : ℕ) → HasTables a → free_room (world_of a) ≡ Some s →
+pub room_is_empty : (a : Inside) (s : ℕ) → HasTables a → free_room (registry_of a) ≡ Some s →
     (slice_get a.rooms.items s ≡ Some None) × (s < length a.rooms.items)
 room_is_empty a s kept free = empty_place (λ x. x.number) (λ x. x.room) a.next_context CONTEXTS a.rooms.items s
     kept.rooms free
@@ -213,7 +213,7 @@ inserted_kept next size t r h number = IsTable-set (λ x. x.number) (λ x. x.slo
           absurd (omega arith),
     ) h
 
-pub inserted_is : (a : Inside) (r : Record) → HasTables a → free_slot (world_of a) ≡ Some r.slot →
+pub inserted_is : (a : Inside) (r : Record) → HasTables a → free_slot (registry_of a) ≡ Some r.slot →
     r.number ≡ a.next_termination → in_order (λ x. x.number) (set a.slots.items r.slot (Some r)) ≡
     in_order (λ x. x.number) a.slots.items ++ (r ∷ [])
 inserted_is a r kept free number =
@@ -230,7 +230,7 @@ made_kept next size t x h number = IsTable-set (λ y. y.number) (λ y. y.room) n
           absurd (omega arith),
     ) h
 
-pub made_is : (a : Inside) (x : Context) → HasTables a → free_room (world_of a) ≡ Some x.room →
+pub made_is : (a : Inside) (x : Context) → HasTables a → free_room (registry_of a) ≡ Some x.room →
     x.number ≡ a.next_context → in_order (λ y. y.number) (set a.rooms.items x.room (Some x)) ≡
     in_order (λ y. y.number) a.rooms.items ++ (x ∷ [])
 made_is a x kept free number =
@@ -293,7 +293,7 @@ pub entered_there : (a : Inside) (c n s : ℕ) (old new : Option Context) → Ha
     new ≡ entered_entry n old
     → AreRooms a.next_context CONTEXTS (set a.rooms.items s new) ×
     (in_order (λ x. x.number) (set a.rooms.items s new) ≡
-    change (λ x. x.number) c (with_last n) ((world_of a).contexts))
+    change (λ x. x.number) c (with_last n) ((registry_of a).contexts))
 entered_there a c n s old new kept found was is =
     context_change a.next_context CONTEXTS a.rooms.items c s (with_last n) old new (keeps_entered n) kept.rooms found
     was (is ∙ entered_and_then n old)
@@ -304,7 +304,7 @@ pub left_there : (a : Inside) (c n s : ℕ) (old new : Option Context) → HasTa
     new ≡ left_entry n old
     → AreRooms a.next_context CONTEXTS (set a.rooms.items s new) ×
     (in_order (λ x. x.number) (set a.rooms.items s new) ≡
-    change (λ x. x.number) c (λ x. with_members x (without n x.members)) ((world_of a).contexts))
+    change (λ x. x.number) c (λ x. with_members x (without n x.members)) ((registry_of a).contexts))
 left_there a c n s old new kept found was is =
     context_change a.next_context CONTEXTS a.rooms.items c s (λ x. with_members x (without n x.members)) old new
     (λ x. keeps_left x (without n x.members)) kept.rooms found was (is ∙ left_and_then n old)
@@ -312,9 +312,9 @@ left_there a c n s old new kept found was is =
 -- a context that may be entered is there, and not full
 pub may_enter : (a : Inside) (c s : ℕ) (o : Option Context) →
     Some s ≡ position_from (has_key (λ x. x.number) c) 0 a.rooms.items → o ≡ get_or a.rooms.items s o →
-    length (members_of (context_at (world_of a) c)) < MEMBERS → IfSome o (λ x. length x.members < MEMBERS)
+    length (members_of (context_at (registry_of a) c)) < MEMBERS → IfSome o (λ x. length x.members < MEMBERS)
 may_enter a c s o found was few =
-    let is : o ≡ context_at (world_of a) c = context_some a c s o found was in
+    let is : o ≡ context_at (registry_of a) c = context_some a c s o found was in
     not_full o (rw is few)
   where
     not_full : (p : Option Context) → length (members_of p) < MEMBERS → IfSome p (λ x. length x.members < MEMBERS)
@@ -325,7 +325,7 @@ pub few_rooms : (a : Inside) (s : ℕ) → s < length a.rooms.items → s < vec_
 few_rooms a s lt = omega (arith, a.rooms.ok)
 
 -- a context that one termination is in
-pub made_context_is : (a : Inside) (c room n : ℕ) (v : List ℕ) → HasTables a → free_room (world_of a) ≡ Some room →
+pub made_context_is : (a : Inside) (c room n : ℕ) (v : List ℕ) → HasTables a → free_room (registry_of a) ≡ Some room →
     c ≡ a.next_context → v ≡ n ∷ [] → in_order (λ y. y.number)
     (set a.rooms.items room (Some (record { number = c; room = room; members = v }))) ≡
     in_order (λ y. y.number) a.rooms.items ++ (record { number = c; room = room; members = n ∷ [] } ∷ [])

@@ -1,4 +1,4 @@
--- Each outcome of a command on a sound world is a sound world.
+-- Each outcome of a command on a consistent registry is a consistent registry.
 use Rattle.std.proofs.Common.{◌≡◌, ℕ, ◌+◌, ◌<◌, ◌≤◌, ◌&&◌, Bool, true, false, cond, not, List, [], ◌∷◌, ◌++◌, length, Option, Some, None, Result, Ok, Err, refl, sym, ◌∙◌, ap, subst, arith, inl, inr, ◌==◌, nat_lt, nat_le, find, option_and_then, IfSome, IsSome, ok_or, unwrap_or}
 use Rattle.std.specs.List.{count_by, list_any, range_with_len}
 use Rattle.std.proofs.Common.{length-append}
@@ -46,8 +46,8 @@ SameOk p q = let first : Result (Registry × Record) ErrorNumber = Ok p in first
 pub ok_done : (p q : Registry × Record) → SameOk p q → p ≡ q
 ok_done p q h = cc
 
-pub ok_world : (u v : Registry) (a b : Record) → SameOk (u, a) (v, b) → u ≡ v
-ok_world u v a b h = ap (λ (p : Registry × Record). p.0) (ok_done (u, a) (v, b) h)
+pub ok_registry : (u v : Registry) (a b : Record) → SameOk (u, a) (v, b) → u ≡ v
+ok_registry u v a b h = ap (λ (p : Registry × Record). p.0) (ok_done (u, a) (v, b) h)
 
 pub passes_ok : (b : Bool) (e : ErrorNumber) (u : Unit {0}) → passes b e ≡ Ok u → b ≡ true
 passes_ok true e u h = refl
@@ -402,7 +402,7 @@ unfolding modify
 modify_sound w after target n settings d h outcome =
     let (old, found, later) = bind_ok (member w target n) _ (after, d) outcome in
     let (r, set, last) = bind_ok (with_settings w.limits settings old) _ (after, d) later in
-    let is = ok_world (replaced w r) after r d last in
+    let is = ok_registry (replaced w r) after r d last in
     subst IsConsistent is (sound old r (member_found w target n old found)
     (with_settings_ok w.limits settings old r set))
   where
@@ -435,7 +435,7 @@ pub subtract_sound : (w after : Registry) (target : Target) (n : ℕ) (d : Recor
 unfolding subtract
 subtract_sound w after target n d h outcome =
     let (old, found, last) = bind_ok (member w target n) _ (after, d) outcome in
-    let is = ok_world (left (removed w old.number) old.context old.number) after old d last in
+    let is = ok_registry (left (removed w old.number) old.context old.number) after old d last in
     subst IsConsistent is (sound old (member_found w target n old found))
   where
     sound : (old : Record) → record_at w n ≡ Some old →
@@ -517,7 +517,7 @@ add_sound w after target settings d h outcome =
     let (place, free, rest) = bind_ok (new_place w target) _ (after, d) more in
     let (r, set, last) = bind_ok (with_settings w.limits settings (fresh w.next_termination slot place)) _ (after, d)
     rest in
-    let is = ok_world (entered (inserted w r) place r.number) after r d last in
+    let is = ok_registry (entered (inserted w r) place r.number) after r d last in
     let (opens, has) = new_place_ok w target u place may free in
     subst IsConsistent is (sound slot place r (new_slot_ok w slot new) opens has
     (with_settings_ok w.limits settings (fresh w.next_termination slot place) r set))
@@ -599,7 +599,7 @@ move_sound w after target n settings d h outcome =
     let (u, may, more) = bind_ok (may_enter w target) _ (after, d) some in
     let (place, free, rest) = bind_ok (new_place w target) _ (after, d) more in
     let (r, set, last) = bind_ok (with_settings w.limits settings (at_place old place)) _ (after, d) rest in
-    let is = ok_world (left (entered (replaced w r) place r.number) old.context r.number) after r d last in
+    let is = ok_registry (left (entered (replaced w r) place r.number) old.context r.number) after r d last in
     let (opens, has) = new_place_ok w target u place may free in
     subst IsConsistent is (sound old place r (ok_or_ok (record_at w n) ErrorNumber.UnknownTermination old found) opens
     has (with_settings_ok w.limits settings (at_place old place) r set))

@@ -18,7 +18,7 @@ use Rattle.mg_rooms.specs.Consistent.{IsTermination, AreContexts, IsConsistent}
 use Rattle.mg_rooms.specs.Lasting.{Lasts, LeavesOthers}
 use Rattle.mg_rooms.proofs.OrderLemmas.{KeepsKey}
 use Rattle.mg_rooms.proofs.CountLemmas.{all-found, find-push_some, find-push_none, find-push_other, find-change_other, find-change_same}
-use Rattle.mg_rooms.proofs.ConsistentLemmas.{context_there, other_context, ok_done, bind_ok, passes_ok, ok_or_ok, ok_world, found_number, member_found, HasSettings, with_settings_ok, IsOpen, new_place_ok, entered_ok}
+use Rattle.mg_rooms.proofs.ConsistentLemmas.{context_there, other_context, ok_done, bind_ok, passes_ok, ok_or_ok, ok_registry, found_number, member_found, HasSettings, with_settings_ok, IsOpen, new_place_ok, entered_ok}
 
 -- ## Terminations
 
@@ -179,7 +179,7 @@ add_lasts w after target settings d h outcome =
     let (place, free, rest) = bind_ok (new_place w target) _ (after, d) more in
     let (r, set, last) = bind_ok (with_settings w.limits settings (fresh w.next_termination slot place)) _ (after, d)
     rest in
-    let is = ok_world (entered (inserted w r) place r.number) after r d last in
+    let is = ok_registry (entered (inserted w r) place r.number) after r d last in
     let made = ok_done (entered (inserted w r) place r.number, r) (after, d) last in
     let has = with_settings_ok w.limits settings (fresh w.next_termination slot place) r set in
     let opens = (new_place_ok w target u place may free).0 in
@@ -221,7 +221,7 @@ unfolding modify
 modify_lasts w after target n settings d h outcome =
     let (old, found, later) = bind_ok (member w target n) _ (after, d) outcome in
     let (r, set, last) = bind_ok (with_settings w.limits settings old) _ (after, d) later in
-    let is = ok_world (replaced w r) after r d last in
+    let is = ok_registry (replaced w r) after r d last in
     let at = member_found w target n old found in
     let has = with_settings_ok w.limits settings old r set in
     subst (λ (v : Registry). Lasts w v × LeavesOthers w v n d.context d.context) is

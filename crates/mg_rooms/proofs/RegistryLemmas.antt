@@ -1,4 +1,4 @@
--- Lemmas on worlds.
+-- Lemmas on registries.
 use Rattle.std.proofs.Common.{◌≡◌, ℕ, Option, Some, None, sym, subst, IfOk, ok_or, ◌==◌}
 use Rattle.std.proofs.lemmas.Bool.{eqb-true}
 use Rattle.mg_rooms.specs.declared.record.Record.{Record}

@@ -49,7 +49,7 @@ abbrev after : Registry → Result (Registry × Record) ErrorNumber → Registry
 after w (Ok (next, done)) = next
 after w (Err refusal) = w
 
--- the world after commands, of which each that is refused changes nothing
+-- the registry after commands, of which each that is refused changes nothing
 abbrev run : List Command → Registry → Registry
 run [] w = w
 run (command ∷ commands) w = run commands (after w (command w))

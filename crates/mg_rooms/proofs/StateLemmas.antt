@@ -1,4 +1,4 @@
--- What a sound world says of who is found in it.
+-- What a consistent registry says of who is found in it.
 use Rattle.std.proofs.Common.{◌≡◌, ℕ, ◌<◌, ◌≤◌, ◌&&◌, Bool, true, false, List, [], ◌∷◌, length, Option, Some, None, refl, sym, ◌∙◌, ap, arith, inl, inr, ◌==◌, ◌↔◌, find, IsSome, IsTrue, ◌⊎◌, Ok, Err, nat_lt, nat_le, ok_or, Result}
 use Rattle.std.specs.List.{count_by, list_any}
 use Rattle.std.proofs.lemmas.Bool.{cases_Bool, eqb-true, eq-eqb, and_parts, and_from, or_right, or_left, cases_lt, lt-ltb, le-ltb, le-leb, lt-leb, leb-false}

@@ -1,6 +1,6 @@
 -- The outcome of a command on one termination (RFC 3525, sections 7.2.1 to 7.2.4): the refusal of
--- the first check that fails, or the world after the command with the termination as it is then, or
--- as it was until it was subtracted. The order of the checks is this project's own: the
+-- the first check that fails, or the registry after the command with the termination as it is then,
+-- or as it was until it was subtracted. The order of the checks is this project's own: the
 -- termination, the action's context, what is used up, the media.
 use Rattle.std.specs.Prelude.{◌≡◌, ℕ, Bool, false, not, ◌&&◌, length, Some, None, Result, Ok, Err}
 use Rattle.std.specs.Prelude.{◌==◌, nat_lt, nat_le, ok_or}

@@ -16,7 +16,7 @@ pub record Registry : Type 0 where
   pub next_termination : ℕ
   pub next_context : ℕ
 
--- the world that nothing was done in
+-- the registry in which nothing was done
 abbrev pub start_of : Limits → Registry
 start_of limits =
     record {

@@ -18,10 +18,10 @@
 //!
 //! [`Rooms::new`] takes the memory for all that there can be, and no other call takes any.
 //!
-//! Contracts see a world: the terminations and contexts in the order of their numbers (`specs/Registry.antt`).
-//! Each call's contract is the outcome of its command on that world (`specs/Outcome.antt`), says that the
-//! world after it is sound (`specs/Sound.antt`), and what the command leaves as it was (`specs/Lasting.antt`).
-//! Each call gives back the termination with the room of its context. [`theorems`] says when something is used up.
+//! Contracts see a registry: the terminations and contexts in the order of their numbers (`specs/Registry.antt`). Each
+//! call's contract is the outcome of its command on that registry (`specs/Outcome.antt`), and says that the registry
+//! after it is sound (`specs/Sound.antt`), and what the command leaves as it was (`specs/Lasting.antt`). Each call gives
+//! back the termination with the room of its context. [`theorems`] says when something is used up.
 #![tactic(auto)]
 
 mod changes;

@@ -32,9 +32,9 @@ impl Model for Tables {
 
     ghost Value = { Registry };
 
-    ghost use Rattle.mg_rooms.specs.aids.Tables.{world_of, HasTables};
+    ghost use Rattle.mg_rooms.specs.aids.Tables.{registry_of, HasTables};
 
-    ghost view = { world_of };
+    ghost view = { registry_of };
 
     ghost invariant = { HasTables };
 }

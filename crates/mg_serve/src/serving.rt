@@ -6,13 +6,10 @@ ghost use Rattle.mg_serve.specs.Serve.{ServedSession, form_of};
 
 use crate::form::Form;
 use crate::line_driver::LineDriver;
-use mg_core::{Config, Counts, RunFault};
+use mg_core::{Config, Counts, DATAGRAM_LIMIT, RunFault};
 use mg_ports::Ports;
 use std::alloc::{AllocError, Global};
 use std::io::{Read, Write};
-
-/// The bytes of the longest datagram.
-const DATAGRAM_LIMIT: usize = 65535;
 
 /// Serves a new gateway over some ports: prints `ready`, and does what the lines of the input ask for, up to the first
 /// `quit` or the end of the input. Ports beyond those of the configuration are not touched.

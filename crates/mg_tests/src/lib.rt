@@ -8,6 +8,10 @@
 #[cfg(test)]
 mod engine;
 #[cfg(test)]
+mod failing_reader;
+#[cfg(test)]
+mod failing_writer;
+#[cfg(test)]
 mod flows;
 #[cfg(test)]
 mod machine;

@@ -1,11 +1,13 @@
 //! The machine of events: what no line of a script shows.
 
+use crate::failing_reader::FailingReader;
+use crate::failing_writer::FailingWriter;
 use crate::scripts::run_script;
 use mg_core::{
     Answer, Config, Core, Counts, NoMemory, Peer, RunFault, Shown, StartFault, TERMINATIONS,
 };
 use std::alloc::Global;
-use std::io::{self, Cursor, Error, ErrorKind, Read, Write};
+use std::io::Cursor;
 use std::process::Abort;
 use std::test::Fail;
 
@@ -82,7 +84,7 @@ fn answers_messages(rt: HostRuntime) -> Result<(), Fail> {
     answer_in_turn(&rt, rt.alloc(), &mut core)
 }
 
-/// Why a bridge doesn't start with a configuration.
+/// Why a gateway doesn't start with a configuration.
 fn start_fault(alloc: Global, config: Config) -> Option<StartFault> {
     Core::new(alloc, config).err()
 }
@@ -320,48 +322,6 @@ fn names_a_long_line_within_a_script(rt: HostRuntime) -> Result<(), Fail> {
     Ok(())
 }
 
-/// A reader that gives so many bytes a call at most, and fails after so many calls.
-#[derive(Drop)]
-struct FailingReader<'a> {
-    inner: Cursor<&'a [u8]>,
-    piece: usize,
-    calls: usize,
-}
-
-impl Read for FailingReader<'_> {
-    fn read(&mut self, buf: &mut [u8]) -> io::Result<usize> {
-        if self.calls == 0 {
-            return Err(Error::from(ErrorKind::Other));
-        }
-        self.calls -= 1;
-        let taken = buf.len().min(self.piece);
-        self.inner.read(&mut buf[..taken])
-    }
-}
-
-/// A writer that takes 50 bytes a call, and fails at its k-th call.
-#[derive(Drop)]
-struct FailingWriter {
-    written: Vec<u8>,
-    calls: usize,
-}
-
-impl Write for FailingWriter {
-    fn write(&mut self, buf: &[u8]) -> io::Result<usize> {
-        if self.calls == 0 {
-            return Err(Error::from(ErrorKind::Other));
-        }
-        self.calls -= 1;
-        let (taken, _) = buf.split_at(buf.len().min(50));
-        self.written.extend_from_slice(taken)?;
-        Ok(taken.len())
-    }
-
-    fn flush(&mut self) -> io::Result<()> {
-        Ok(())
-    }
-}
-
 /// A text so many times.
 fn times(alloc: Global, text: &[u8], count: usize) -> Result<Vec<u8>, Fail> {
     let mut whole = Vec::new(alloc);
@@ -388,13 +348,10 @@ fn read_in_pieces(
     (written, outcome)
 }
 
-/// What a run wrote whose writer fails, and how it ended.
+/// What a run wrote whose writer takes 50 bytes a call and fails, and how it ended.
 fn write_in_pieces(alloc: Global, script: &[u8], calls: usize) -> (Vec<u8>, Option<RunFault>) {
     let mut reader = Cursor::new(script);
-    let mut writer = FailingWriter {
-        written: Vec::new(alloc),
-        calls,
-    };
+    let mut writer = FailingWriter::new(alloc, 50, calls);
     let outcome = run_script(alloc, Shown::Sent, &mut reader, &mut writer);
     (writer.written, outcome.err())
 }

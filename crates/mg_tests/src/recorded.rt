@@ -1,6 +1,7 @@
 //! Sessions over ports in memory that are recorded, and runs over what was recorded.
 
-use crate::serve::{FailingWriter, HEARTBEAT, config, ports, told};
+use crate::failing_writer::FailingWriter;
+use crate::serve::{HEARTBEAT, config, ports, told};
 use mg_core::{Shown, run};
 use mg_serve::{RunFault, serve};
 use std::alloc::{AllocError, Global};
@@ -86,11 +87,11 @@ fn runs_what_was_recorded(rt: HostRuntime) -> Result<(), Fail> {
 #[test]
 fn does_a_line_whole_whose_print_fails(rt: HostRuntime) -> Result<(), Fail> {
     let alloc = rt.alloc();
-    let mut writer = FailingWriter { calls: 2 };
+    let mut writer = FailingWriter::new(alloc, 1000, 2);
     let outcome = record(alloc, b"", b"poll\ntick\n", &mut writer)?;
     assert_eq!(rt; outcome.result, Err(RunFault::Write));
     assert_eq!(rt; outcome.told.as_str(), "c0a0n0n1c2n2");
-    let mut writer = FailingWriter { calls: 1 };
+    let mut writer = FailingWriter::new(alloc, 1000, 1);
     let outcome = record(alloc, b"", b"poll\n", &mut writer)?;
     assert_eq!(rt; outcome.result, Err(RunFault::Write));
     assert_eq!(rt; outcome.told.as_str(), "");

@@ -1,9 +1,11 @@
 //! Sessions over ports in memory.
 
+use crate::failing_reader::FailingReader;
+use crate::failing_writer::FailingWriter;
 use mg_ports::{Arrival, Call, FakePorts, Payload, Peer, Receipt};
 use mg_serve::{Config, Counts, RunFault, serve};
 use std::alloc::{AllocError, Global};
-use std::io::{self, Error, ErrorKind, Read, Write};
+use std::io::Cursor;
 use std::test::Fail;
 
 const CALLER: Peer = Peer {
@@ -351,48 +353,15 @@ fn refuses_a_bad_configuration(rt: HostRuntime) -> Result<(), Fail> {
     Ok(())
 }
 
-/// A reader of one line that fails afterwards.
-#[derive(Drop)]
-struct FailingReader {
-    is_read: bool,
-}
-
-impl Read for FailingReader {
-    fn read(&mut self, buf: &mut [u8]) -> io::Result<usize> {
-        if self.is_read || buf.len() < 5 {
-            return Err(Error::from(ErrorKind::Other));
-        }
-        self.is_read = true;
-        buf[..5].copy_from_slice(b"poll\n");
-        Ok(5)
-    }
-}
-
-/// A writer that takes so many calls, and then fails.
-#[derive(Drop)]
-pub struct FailingWriter {
-    pub calls: u64,
-}
-
-impl Write for FailingWriter {
-    fn write(&mut self, buf: &[u8]) -> io::Result<usize> {
-        if self.calls == 0 {
-            return Err(Error::from(ErrorKind::Other));
-        }
-        self.calls -= 1;
-        Ok(buf.len())
-    }
-
-    fn flush(&mut self) -> io::Result<()> {
-        Ok(())
-    }
-}
-
 #[test]
 fn ends_where_a_read_fails(rt: HostRuntime) -> Result<(), Fail> {
     let alloc = rt.alloc();
     let mut ports = ports(alloc, &[(1, b"x")], &[])?;
-    let mut input = FailingReader { is_read: false };
+    let mut input = FailingReader {
+        inner: Cursor::new(b"poll\n".as_slice()),
+        piece: 5,
+        calls: 1,
+    };
     let mut printed = Vec::new(alloc);
     let mut reports = Vec::new(alloc);
     let result = serve(
@@ -411,10 +380,10 @@ fn ends_where_a_read_fails(rt: HostRuntime) -> Result<(), Fail> {
 }
 
 /// The calls of a session whose writer fails after so many calls.
-fn told_with_writer(alloc: Global, calls: u64, lines: &[u8]) -> Result<String, AllocError> {
+fn told_with_writer(alloc: Global, calls: usize, lines: &[u8]) -> Result<String, AllocError> {
     let mut ports = ports(alloc, &[(1, b"x")], &[])?;
     let mut input = lines;
-    let mut output = FailingWriter { calls };
+    let mut output = FailingWriter::new(alloc, 1000, calls);
     let mut reports = Vec::new(alloc);
     let result = serve(
         alloc,

@@ -4,7 +4,7 @@ use Rattle.std.specs.List.{list_any}
 use Rattle.std.proofs.lemmas.Bool.{false≢true, and_parts, cases_Bool}
 use Rattle.mg_topology.specs.declared.triple.Triple.{Triple}
 use Rattle.mg_words.specs.declared.association.Association.TheVariants.{Oneway}
-use Rattle.mg_topology.specs.Triple.{leads, speaks_of, overlaps}
+use Rattle.mg_topology.specs.Triple.{is_forward, speaks_of, overlaps}
 use Rattle.mg_topology.specs.Edits.{TopologyEdit, Enter, Leave, Apply, last_word, touches}
 use Rattle.mg_topology.proofs.TripleLemmas.{overlaps-is}
 
@@ -30,9 +30,9 @@ last_word-applied newer older triple a b p q = last_word-append newer (Apply tri
 
 -- a Oneway triple that doesn't overlap leads no pair both ways
 pub one_way_alone : (triple : Triple) (a b : ℕ) → triple.association ≡ Oneway → overlaps triple ≡ false →
-    leads triple a b ≡ true → leads triple b a ≡ false
+    is_forward triple a b ≡ true → is_forward triple b a ≡ false
 one_way_alone triple a b oneway apart p =
-    elim (cases_Bool (leads triple b a)) [
+    elim (cases_Bool (is_forward triple b a)) [
       | inl back ↦ absurd (false≢true (sym apart ∙
           (overlaps-is triple).1 (
             oneway,

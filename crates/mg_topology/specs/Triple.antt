@@ -9,16 +9,15 @@ use Rattle.mg_words.specs.declared.association.Association.TheVariants.{Isolate,
 abbrev pub unsaid : Triple
 unsaid = record { first = 0; second = 0; association = Bothway }
 
--- the triple's own direction leads from the talker to the listener, from its first set to its
--- second
-abbrev pub leads : Triple → ℕ → ℕ → Bool
-leads triple talker listener = has_seat triple.first talker && has_seat triple.second listener
+-- a talker and a listener stand in the triple's own direction, from its first set to its second
+abbrev pub is_forward : Triple → ℕ → ℕ → Bool
+is_forward triple talker listener = has_seat triple.first talker && has_seat triple.second listener
 
 -- it speaks of a pair where one of the two is in its first set and the other in its second
 abbrev pub speaks_of : Triple → ℕ → ℕ → Bool
-speaks_of triple a b = leads triple a b || leads triple b a
+speaks_of triple a b = is_forward triple a b || is_forward triple b a
 
--- whether an association lets the listener hear the talker, by whether its direction leads there
+-- whether an association lets the listener hear the talker, by whether they stand in its direction
 abbrev pub lets : Association → Bool → Bool
 lets Isolate forward = false
 lets Oneway forward = forward
@@ -26,7 +25,7 @@ lets Bothway forward = true
 
 -- what a triple says of a pair that it speaks of: whether the listener hears the talker
 abbrev pub word_of : Triple → ℕ → ℕ → Bool
-word_of triple talker listener = lets triple.association (leads triple talker listener)
+word_of triple talker listener = lets triple.association (is_forward triple talker listener)
 
 -- a Oneway triple has a seat in both of its sets
 abbrev pub Overlaps : Triple → Type 0

@@ -11,7 +11,7 @@ ghost use Rattle.mg_topology.specs.declared.triple.Triple.{Triple};
 ghost use Rattle.mg_words.specs.declared.association.Association.TheVariants.{Isolate, Oneway, Bothway};
 ghost use Rattle.mg_topology.specs.declared.mask.TheConstants.{EMPTY, FULL, SEATS};
 ghost use Rattle.mg_topology.specs.Mask.{seat_limit, has_seat, seats_of, seat_count, IsEmpty};
-ghost use Rattle.mg_topology.specs.Triple.{leads, speaks_of, overlaps, Overlaps};
+ghost use Rattle.mg_topology.specs.Triple.{is_forward, speaks_of, overlaps, Overlaps};
 ghost use Rattle.mg_topology.specs.Edits.{TopologyEdit, Enter, Leave, Apply, is_held, last_word, lets_hear, hears_in, touches};
 
 /// A newcomer and each member hear each other, whatever was said of its seat before.
@@ -43,17 +43,17 @@ pub fn last_triple_wins()
 /// What each association says of a seat of the first set and a seat of the second.
 pub fn associations()
     ensures isolate { (es : List TopologyEdit) (triple : Triple) (first second : ℕ) →
-        IsTrue (leads triple first second) → triple.association ≡ Isolate →
+        IsTrue (is_forward triple first second) → triple.association ≡ Isolate →
         IsFalse (lets_hear (Apply triple ∷ es) first second)
         × IsFalse (lets_hear (Apply triple ∷ es) second first) }
 
     // A Oneway triple that overlaps is refused.
     ensures oneway { (es : List TopologyEdit) (triple : Triple) (first second : ℕ) →
-        IsTrue (leads triple first second) → triple.association ≡ Oneway → IsFalse (overlaps triple) →
+        IsTrue (is_forward triple first second) → triple.association ≡ Oneway → IsFalse (overlaps triple) →
         IsTrue (lets_hear (Apply triple ∷ es) first second)
         × IsFalse (lets_hear (Apply triple ∷ es) second first) }
     ensures bothway { (es : List TopologyEdit) (triple : Triple) (first second : ℕ) →
-        IsTrue (leads triple first second) → triple.association ≡ Bothway →
+        IsTrue (is_forward triple first second) → triple.association ≡ Bothway →
         IsTrue (lets_hear (Apply triple ∷ es) first second)
         × IsTrue (lets_hear (Apply triple ∷ es) second first) }
 {}

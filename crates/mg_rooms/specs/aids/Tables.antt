@@ -6,8 +6,8 @@ use Rattle.mg_words.specs.Limits.{context_limit}
 use Rattle.mg_rooms.specs.Registry.{Registry}
 use Rattle.mg_rooms.specs.aids.Order.{in_order}
 
-abbrev pub world_of : Inside → Registry
-world_of a =
+abbrev pub registry_of : Inside → Registry
+registry_of a =
     record {
       limits = a.limits;
       terminations = in_order (λ r. r.number) a.slots.items;

@@ -1,5 +1,5 @@
 use Rattle.std.proofs.Common.{ap, arith}
-use Rattle.mg_rooms.specs.aids.Tables.{world_of}
+use Rattle.mg_rooms.specs.aids.Tables.{registry_of}
 use Rattle.mg_rooms.proofs.CallLemmas.{with_more, slot_is_empty, inserted_kept, inserted_is}
 use Rattle.mg_rooms.proofs.tables.Tables.insert.Goals as goal
 
@@ -23,6 +23,6 @@ returns c = record {
   value =
       let free = rw (← c.self.view_is) at c.requires.slot in
       let number = rw (← c.self.view_is) at c.requires.number in
-      rw (← c.self.view_is) (ap (with_more (world_of c.self.inside))
+      rw (← c.self.view_is) (ap (with_more (registry_of c.self.inside))
       (inserted_is c.self.inside c.args.fresh c.self.invariant free number));
 }

@@ -1,5 +1,5 @@
 use Rattle.std.proofs.Common.{ap}
-use Rattle.mg_rooms.specs.aids.Tables.{world_of}
+use Rattle.mg_rooms.specs.aids.Tables.{registry_of}
 use Rattle.mg_rooms.proofs.CallLemmas.{may_enter, entered_there, unchanged_context, with_contexts, with_last}
 use Rattle.mg_rooms.proofs.tables.Tables.join.Goals as goal
 
@@ -27,7 +27,7 @@ returns-in-Some c = record {
   value =
       let found = rw c.deref.ensures.value at c.in-Some.ensures.value in
       rw (← c.self.view_is)
-      (ap (with_contexts (world_of c.self.inside))
+      (ap (with_contexts (registry_of c.self.inside))
       (entered_there c.self.inside c.args.context c.args.number c.in-Some.room c.index_mut.result.now
       c.enter_entry.new.entry c.self.invariant found c.index_mut.ensures.value c.enter_entry.ensures.value).1);
 }

@@ -1,5 +1,5 @@
 use Rattle.std.proofs.Common.{ap}
-use Rattle.mg_rooms.specs.aids.Tables.{world_of}
+use Rattle.mg_rooms.specs.aids.Tables.{registry_of}
 use Rattle.mg_rooms.specs.Changes.{with_members}
 use Rattle.mg_rooms.specs.Members.{without}
 use Rattle.mg_rooms.proofs.CallLemmas.{left_there, unchanged_context, with_contexts}
@@ -21,7 +21,7 @@ returns-in-Some c = record {
   value =
       let found = rw c.deref.ensures.value at c.in-Some.ensures.value in
       rw (← c.self.view_is)
-      (ap (with_contexts (world_of c.self.inside))
+      (ap (with_contexts (registry_of c.self.inside))
       (left_there c.self.inside c.args.old.record.context c.args.old.record.number c.in-Some.room
       c.index_mut.result.now c.leave_entry.new.entry c.self.invariant found c.index_mut.ensures.value
       c.leave_entry.ensures.value).1);

@@ -1,5 +1,5 @@
 use Rattle.std.proofs.Common.{ap}
-use Rattle.mg_rooms.specs.aids.Tables.{world_of}
+use Rattle.mg_rooms.specs.aids.Tables.{registry_of}
 use Rattle.mg_rooms.proofs.CallLemmas.{room_is_empty, few_rooms, made_kept, made_context_is, with_made}
 use Rattle.mg_rooms.proofs.tables.Tables.make.Goals as goal
 
@@ -22,7 +22,7 @@ returns c = record {
   value =
       let can = rw (← c.self.view_is) at c.requires.can in
       rw (← c.self.view_is)
-      (ap (with_made (world_of c.self.inside))
+      (ap (with_made (registry_of c.self.inside))
       (made_context_is c.self.inside c.args.context c.args.room c.args.member c.alone.result c.self.invariant can.0
       can.1 c.alone.ensures.value));
 }

@@ -1,5 +1,5 @@
 use Rattle.std.proofs.Common.{ap, None}
-use Rattle.mg_rooms.specs.aids.Tables.{world_of}
+use Rattle.mg_rooms.specs.aids.Tables.{registry_of}
 use Rattle.mg_rooms.proofs.CallLemmas.{removed_is, removed_kept, with_terminations, unchanged_termination}
 use Rattle.mg_rooms.proofs.tables.Tables.remove.Goals as goal
 
@@ -14,7 +14,7 @@ pub returns-in-Some : goal.returns-in-Some
 returns-in-Some c = record {
   value =
       let found = rw c.deref.ensures.value at c.in-Some.ensures.value in
-      rw (← c.self.view_is) (ap (with_terminations (world_of c.self.inside))
+      rw (← c.self.view_is) (ap (with_terminations (registry_of c.self.inside))
       (removed_is c.self.inside.slots.items c.args.old.number c.in-Some.slot found));
 }
 

@@ -1,6 +1,6 @@
 use Rattle.std.proofs.Common.{List, Option, Some, ap, sym, subst}
 use Rattle.mg_rooms.specs.declared.record.Record.{Record}
-use Rattle.mg_rooms.specs.aids.Tables.{world_of, HoldsOnce}
+use Rattle.mg_rooms.specs.aids.Tables.{registry_of, HoldsOnce}
 use Rattle.mg_rooms.proofs.CallLemmas.{replaced_kept, replaced_is, with_terminations, unchanged_termination}
 use Rattle.mg_rooms.proofs.tables.Tables.replace.Goals as goal
 
@@ -24,7 +24,7 @@ pub returns-in-Some : goal.returns-in-Some
 returns-in-Some c = record {
   value =
       let found = rw c.deref.ensures.value at c.in-Some.ensures.value in
-      rw (← c.self.view_is) (ap (with_terminations (world_of c.self.inside))
+      rw (← c.self.view_is) (ap (with_terminations (registry_of c.self.inside))
       (replaced_is c.self.inside.slots.items c.args.changed c.in-Some.slot found));
 }
 

@@ -1,0 +1,20 @@
+use std::io::{self, Cursor, Error, ErrorKind, Read};
+
+/// A reader that gives so many bytes a call at most, and fails after so many calls.
+#[derive(Drop)]
+pub struct FailingReader<'a> {
+    pub inner: Cursor<&'a [u8]>,
+    pub piece: usize,
+    pub calls: usize,
+}
+
+impl Read for FailingReader<'_> {
+    fn read(&mut self, buf: &mut [u8]) -> io::Result<usize> {
+        if self.calls == 0 {
+            return Err(Error::from(ErrorKind::Other));
+        }
+        self.calls -= 1;
+        let taken = buf.len().min(self.piece);
+        self.inner.read(&mut buf[..taken])
+    }
+}

@@ -22,8 +22,6 @@ mod clock_failed;
 mod clock_lines;
 mod due;
 mod system_watch;
-#[cfg(test)]
-mod tests;
 mod watch;
 
 pub use crate::clock_failed::ClockFailed;

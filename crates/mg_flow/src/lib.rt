@@ -30,8 +30,6 @@ mod flow_table;
 mod masks;
 mod place;
 mod room_flows;
-#[cfg(test)]
-mod tests;
 pub mod theorems;
 
 pub use flow_table::FlowTable;

@@ -26,8 +26,6 @@ mod decoding;
 mod frame;
 mod law;
 mod sample;
-#[cfg(test)]
-mod tests;
 pub mod theorems;
 
 pub use frame::{Frame, decode_frame, encode_frame, halve_frame};

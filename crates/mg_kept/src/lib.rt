@@ -19,8 +19,6 @@
 
 mod entry;
 mod kept;
-#[cfg(test)]
-mod tests;
 pub mod theorems;
 
 pub use crate::kept::Kept;

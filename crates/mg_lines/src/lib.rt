@@ -14,8 +14,6 @@
 mod line;
 mod read_failed;
 mod reading;
-#[cfg(test)]
-mod tests;
 mod write_failed;
 mod writing;
 

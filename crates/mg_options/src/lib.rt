@@ -20,8 +20,6 @@ mod command;
 mod rule;
 mod status;
 mod telling;
-#[cfg(test)]
-mod tests;
 mod value;
 
 pub use arguments::program_arguments;

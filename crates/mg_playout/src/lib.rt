@@ -36,8 +36,6 @@ mod played;
 mod playout;
 mod sequence;
 mod source;
-#[cfg(test)]
-mod tests;
 pub mod theorems;
 mod turn;
 

@@ -26,8 +26,6 @@ mod payload;
 mod port_fault;
 mod ports;
 mod receipt;
-#[cfg(test)]
-mod tests;
 
 pub use crate::arrival::Arrival;
 pub use crate::call::Call;

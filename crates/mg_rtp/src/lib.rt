@@ -23,6 +23,3 @@ pub use packet::Packet;
 pub use reading::read;
 pub use rtp_fault::RtpFault;
 pub use writing::{PACKET_LEN, PAYLOAD_LEN, write, write_header, write_payload};
-
-#[cfg(test)]
-mod tests;

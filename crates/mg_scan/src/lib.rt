@@ -21,8 +21,6 @@ mod kind;
 mod octets;
 mod scanner;
 mod span;
-#[cfg(test)]
-mod tests;
 mod token;
 
 pub use crate::fault::ScanFault;

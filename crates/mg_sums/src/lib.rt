@@ -26,19 +26,17 @@
 //! [`Sums::total`]. To join or to leave takes one call, to set the frame of a row that is joined two, and a mix one and
 //! one more for each row that is silenced.
 //!
-//! [`Sums::new`] takes all memory, and no other call takes any. What a total and a mix are stands
-//! in `specs/Sums.antt`, and [`theorems`] has what follows from it. The sums run on the vectors of
-//! [`kernels`].
+//! [`Sums::new`] takes all memory, and no other call takes any. What a total and a mix are stands in `specs/Sums.antt`,
+//! and [`theorems`] has what follows from it. The sums run on the vectors of [`kernels`]; what a proof has to be told of
+//! rows before it calls a kernel is in [`ranges`].
 #![tactic(auto)]
 
 pub mod kernels;
-mod ranges;
+pub mod ranges;
 mod room;
 mod row;
 mod rows;
 mod sums;
-#[cfg(test)]
-mod tests;
 pub mod theorems;
 
 pub use mg_words::{CONTEXTS, TERMINATIONS};

@@ -30,8 +30,6 @@
 pub mod mask;
 mod overlap;
 mod seats;
-#[cfg(test)]
-mod tests;
 pub mod theorems;
 mod topology;
 mod triple;

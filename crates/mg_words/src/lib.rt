@@ -24,8 +24,6 @@ mod parts;
 mod peer;
 mod stats;
 mod term;
-#[cfg(test)]
-mod tests;
 mod word_byte;
 
 pub use crate::address::{ADDRESS_LIMIT, address_of, address_text};

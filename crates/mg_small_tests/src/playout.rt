@@ -1,5 +1,7 @@
-use crate::{Placed, Played, Playout};
+//! Play lists.
+
 use mg_g711::Frame;
+use mg_playout::{Placed, Played, Playout};
 use std::process::Abort;
 use std::test::Fail;
 

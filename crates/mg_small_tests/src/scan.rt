@@ -1,4 +1,6 @@
-use crate::{ScanFault, Scanner, TokenKind};
+//! Tokens and faults.
+
+use mg_scan::{ScanFault, Scanner, TokenKind};
 use std::test::Fail;
 
 /// The kinds and texts of the tokens before a fault or the end.

@@ -1,4 +1,6 @@
-use crate::{
+//! Numbers, addresses, names of terminations, modes and counters.
+
+use mg_words::{
     ContextId, ErrorNumber, Mode, Stats, Term, address_of, address_text, after_prefix,
     context_id_of, cut, mode_listens, mode_talks, number_of, port_of, version_in_digits,
 };

@@ -1,9 +1,11 @@
-use crate::{
+//! Options, and what both programs tell of their words.
+
+use clap::Command;
+use clap::error::ErrorKind;
+use mg_options::{
     Status, VERSION, long_number, long_value, program_arguments, program_command, short_number,
     short_value, tell,
 };
-use clap::Command;
-use clap::error::ErrorKind;
 use std::alloc::Global;
 use std::test::Fail;
 

@@ -1,4 +1,6 @@
-use super::*;
+//! Samples, bytes and frames of both laws.
+
+use mg_g711::{Law, decode, decode_frame, encode, encode_frame, halve_frame};
 
 #[test]
 fn known_samples_and_bytes(rt: HostRuntime) {

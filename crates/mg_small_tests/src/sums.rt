@@ -1,10 +1,12 @@
+//! The row kernels, totals and mixes.
+
 ghost use Rattle.std.specs.Prelude.{◌≡◌, ℕ, ◌^◌, ◌≤◌, length, EachIndex, IsTrue, unsigned_abs};
 ghost use Rattle.mg_sums.specs.Samples.{sample};
 ghost use Rattle.mg_sums.specs.Sums.{AreOfRoom, is_joined, left_out_by};
 
-use crate::ranges::know_samples;
-use crate::{Room, Row, Sums, TERMINATIONS, kernels};
 use mg_g711::{Frame, Law, decode_frame};
+use mg_sums::ranges::know_samples;
+use mg_sums::{Room, Row, Sums, TERMINATIONS, kernels};
 use std::test::Fail;
 
 /// The lengths from 0 to 161 of which each kernel is tried.

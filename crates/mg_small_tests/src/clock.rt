@@ -1,4 +1,6 @@
-use crate::{ClockFailed, ClockLines, SystemWatch, Watch, is_late, steps_due, time_to_step};
+//! When polls and ticks are due, and their lines by a clock.
+
+use mg_clock::{ClockFailed, ClockLines, SystemWatch, Watch, is_late, steps_due, time_to_step};
 use std::cell::Cell;
 use std::io::Read;
 use std::test::Fail;

@@ -1,4 +1,6 @@
-use super::*;
+//! Packets and faults.
+
+use mg_rtp::{Header, PAYLOAD_LEN, Packet, RtpFault, read, write};
 use std::test::Fail;
 
 // Padding, an extension of one word, one contributing source.

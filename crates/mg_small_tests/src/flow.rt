@@ -1,6 +1,9 @@
-use crate::{FlowTable, Place};
+//! Masks of who is heard and who is silenced.
+
+use crate::topology::triple;
+use mg_flow::{FlowTable, Place};
 use mg_topology::mask::{self, Mask};
-use mg_topology::{Association, Overlap, Triple};
+use mg_topology::{Association, Overlap};
 use std::process::Abort;
 use std::test::Fail;
 
@@ -13,14 +16,6 @@ const THIRD: Place = Place { room: 0, seat: 2 };
 
 /// A place in another room.
 const ELSEWHERE: Place = Place { room: 1, seat: 0 };
-
-fn triple(first: Mask, second: Mask, association: Association) -> Triple {
-    Triple {
-        first,
-        second,
-        association,
-    }
-}
 
 fn enter(rt: &impl Abort, table: &mut FlowTable, place: Place, talks: bool, listens: bool) {
     assert!(rt; place.room < 64 && place.seat < 64);

@@ -1,4 +1,6 @@
-use crate::{Arrival, Call, FakePorts, GuardedPorts, Payload, Peer, PortFault, Ports, Receipt};
+//! Ports in memory, and guarded ones.
+
+use mg_ports::{Arrival, Call, FakePorts, GuardedPorts, Payload, Peer, PortFault, Ports, Receipt};
 use std::alloc::{AllocError, Global};
 use std::test::Fail;
 

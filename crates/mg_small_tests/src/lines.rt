@@ -1,4 +1,6 @@
-use crate::{READ_SIZE, read_some, without_return, write_whole};
+//! Lines, and reading and writing whole.
+
+use mg_lines::{READ_SIZE, read_some, without_return, write_whole};
 use std::test::Fail;
 
 #[test]

@@ -1,4 +1,6 @@
-use crate::Kept;
+//! Kept replies.
+
+use mg_kept::Kept;
 use std::process::Abort;
 use std::test::Fail;
 

@@ -1,7 +1,10 @@
-use crate::mask::{self, Mask};
-use crate::{Association, Overlap, SEATS, Topology, Triple};
+//! Who hears whom in one context.
 
-fn triple(first: Mask, second: Mask, association: Association) -> Triple {
+use mg_topology::mask::{self, Mask};
+use mg_topology::{Association, Overlap, SEATS, Topology, Triple};
+
+/// A triple of two sets of seats.
+pub fn triple(first: Mask, second: Mask, association: Association) -> Triple {
     Triple {
         first,
         second,

@@ -12,31 +12,11 @@
 //! With `--record`, what `live` and `serve` print is a recording: a script of the events that happened.
 #![tactic(auto)]
 
-mod address;
-mod bind_fault;
-mod config_fault;
-mod controller_fault;
-mod controllers;
-mod deadline;
-mod invocation;
-mod live;
-mod no_deadline;
-mod options;
-mod program;
-mod readiness;
-mod replay;
-mod serve;
-mod service;
-mod sockets;
-mod status;
 #[cfg(test)]
 mod tests;
-mod tick_deadline;
-mod title;
-mod udp_ports;
 
-use crate::program::program;
 use mg_options::program_arguments;
+use mg_program::program;
 use std::process::ExitCode;
 
 fn main(rt: HostRuntime) -> ExitCode {

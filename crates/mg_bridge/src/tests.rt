@@ -5,7 +5,7 @@ mod replaying;
 mod serving;
 mod words;
 
-use crate::program::program;
+use mg_program::program;
 use std::net::{IpAddr, Ipv4Addr, SocketAddr};
 
 /// How a run of the program ended, and what it wrote.

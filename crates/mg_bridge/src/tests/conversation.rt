@@ -1,10 +1,7 @@
 use super::local;
-use crate::no_deadline::NoDeadline;
-use crate::readiness::SOCKETS;
-use crate::sockets::Sockets;
-use crate::udp_ports::UdpPorts;
 use mg_core::{Config, Counts, Peer, RunFault};
 use mg_ports::{GuardedPorts, PortFault, Ports};
+use mg_program::{NoDeadline, SOCKETS, Sockets, UdpPorts};
 use mg_serve::serve;
 use mio::Events;
 use std::alloc::{AllocError, Global};

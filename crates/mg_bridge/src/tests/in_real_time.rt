@@ -1,8 +1,6 @@
 use super::local;
-use crate::deadline::Deadline;
-use crate::program::program;
-use crate::tick_deadline::TickDeadline;
 use mg_clock::{ClockFailed, Watch};
+use mg_program::{Deadline, TickDeadline, program};
 use std::cell::Cell;
 use std::io;
 use std::io::ErrorKind;

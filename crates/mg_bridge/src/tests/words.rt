@@ -1,8 +1,6 @@
 use super::run_program;
-use crate::invocation::Invocation;
-use crate::options::asked_run;
-use crate::title::title_of;
 use mg_core::Config;
+use mg_program::{Invocation, asked_run, title_of};
 use std::alloc::{AllocError, Global};
 use std::test::Fail;
 

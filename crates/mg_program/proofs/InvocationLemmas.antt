@@ -1,0 +1,198 @@
+-- What follows of the words for which the command line finds no fault, or one.
+use Rattle.std.proofs.Common.{◌≡◌, ◌∙◌, ◌&&◌, ℕ, Bool, true, false, not, List, [], ◌∷◌, Option, Some, None, is_some, inl, inr, refl, sym, ap, ap₂, true≢false, Result, Ok, Err, codes}
+use Rattle.std.specs.Prelude.{Box, IfErr, IsErrAnd, option_map}
+use Rattle.std.specs.List.{list_any}
+use Rattle.std.specs.Option.{option_map_or}
+use Rattle.std.specs.Box.{box_value}
+use Rattle.clap.specs.Facts.{explicit_source}
+use Rattle.clap.specs.Walk.{Held, Names, Row, Text, finished, nothing_held, settled_rows, stop_after, walk, walk_from}
+use Rattle.clap.specs.Simple.{App, HasMatchesOf, Shape, argument_words, built, names_of, subcommand_of, subcommand_rows, subcommand_rows_of}
+use Rattle.clap.specs.Kinds.{Kinds, check_kinds, or_else}
+use Rattle.clap.specs.Faults.{defaults_fault, entered_fault, fault_of, is_simple_and_free, level_fault, settle_fault, walk_fault}
+use Rattle.clap.specs.Matches.{has_subcommand, subcommand_name_of}
+use Rattle.clap.specs.Values.{kind_of}
+use Rattle.clap.specs.declared.error.Error.{Error}
+use Rattle.clap.specs.declared.error.kind.ErrorKind.{ErrorKind}
+use Rattle.clap.specs.declared.error.kind.ErrorKind.TheVariants.{OutOfMemory, ValueValidation}
+use Rattle.clap.specs.declared.parser.matches.ArgMatches.{ArgMatches}
+use Rattle.clap.specs.declared.parser.matches.ArgMatches.TheViews.{out-ArgMatches, out-SubCommand}
+use Rattle.clap.specs.declared.parser.matches.SubCommand.{SubCommand}
+use Rattle.mg_words.specs.ResultSteps.{◌>>=◌}
+use Rattle.mg_options.specs.Asked.{IsRefused, asked_by}
+use Rattle.mg_options.proofs.AskedLemmas.{no_fault, subcommand_is}
+use Rattle.mg_engine.specs.declared.config.Config.{Config}
+use Rattle.mg_engine.specs.Config.{standard}
+use Rattle.mg_program.specs.declared.invocation.Invocation.{Invocation}
+use Rattle.mg_program.specs.declared.address.AddressFault.{AddressFault}
+use Rattle.mg_program.specs.declared.controller_fault.ControllerFault.{ControllerFault}
+use Rattle.mg_program.specs.Options.{address_in, asked, command_line, config_at, controllers_in, options, run_in, run_of, valid}
+
+abbrev has_kinds : Kinds → Bool
+has_kinds [] = false
+has_kinds (kind ∷ kinds) = true
+
+or_else-nil : (first next : Kinds) → or_else first next ≡ [] → next ≡ []
+or_else-nil [] next none = none
+or_else-nil (kind ∷ kinds) next none = absurd (true≢false (ap has_kinds none))
+
+met_where_wanted : (met help wants argument : Bool) → wants ≡ true →
+    check_kinds (not met && help) (not met && wants) argument ≡ [] → met ≡ true
+met_where_wanted true help wants argument wanted none = refl
+met_where_wanted false true wants argument wanted none = absurd (true≢false (ap has_kinds none))
+met_where_wanted false false true argument wanted none = absurd (true≢false (ap has_kinds none))
+met_where_wanted false false false argument wanted none = absurd (true≢false (sym wanted))
+
+-- a level of a command line that wants a subcommand finds one where it finds no fault
+level_met : (level : Shape) (names : Names) (held : Held) (words : List Text) (met : Bool) (below : Kinds) →
+    level.subcommand_required ≡ true
+    → level_fault level names held words met below ≡ [] → met ≡ true
+level_met level names held words met below wanted none =
+    let end = (walk level.rules names held words).held in
+    let walked = or_else-nil (walk_fault level names (walk_from held) words) _ none in
+    let entered = or_else-nil below _ walked in
+    let settled = or_else-nil (settle_fault level.rules level.args_override_self end) _ entered in
+    let filled = or_else-nil (defaults_fault (settled_rows level.rules end.pending end.rows) level.rules) _ settled in
+    met_where_wanted met
+    (level.arg_required_else_help && not (list_any (λ (r : Row). explicit_source r.source) (finished level.rules end)))
+    level.subcommand_required _ wanted filled
+
+wants_subcommand : (built command_line).top.subcommand_required ≡ true
+unfolding command_line
+wants_subcommand = refl
+
+pub is_simple_line : is_simple_and_free command_line ≡ true
+unfolding command_line options
+is_simple_line = refl
+
+has_met : (words : List Text) → fault_of command_line words ≡ [] → is_some (subcommand_of command_line words) ≡ true
+has_met words none = level_met (built command_line).top (names_of (built command_line)) nothing_held
+    (argument_words command_line words)
+    (is_some (subcommand_of command_line words))
+    (entered_fault (built command_line) (stop_after (built command_line).top.rules (names_of (built command_line))
+    (argument_words command_line words))) wants_subcommand none
+
+run_by : (kinds : Kinds) (found : Option (Text × List Row)) (run : Text × List Row) → kinds ≡ [] → found ≡ Some run
+    → asked_by kinds (option_map_or (λ (f : Text × List Row). run_in f.0 f.1) found (Err [])) ≡ run_in run.0 run.1
+run_by kinds found run none is =
+    ap₂ (λ (ks : Kinds) (o : Option (Text × List Row)). asked_by ks (option_map_or
+    (λ (f : Text × List Row). run_in f.0 f.1) o (Err []))) none is
+
+pub is_some-map : {A B : Type 0} (f : A → B) (o : Option A) → is_some (option_map f o) ≡ is_some o
+is_some-map f None = refl
+is_some-map f (Some a) = refl
+
+both_found : {Z : Type 0} (o : Option (Box SubCommand Z)) (name : Text) (rows : List Row) →
+    Some name ≡ option_map (λ b. (out-SubCommand (box_value b)).name.now) o
+    → Some rows ≡ option_map (λ f. f.1) (subcommand_rows o) → subcommand_rows o ≡ Some (name, rows)
+both_found None name rows named found = cc
+both_found (Some b) name rows named found = cc
+
+-- what a parse by the program's command line says of what its words ask for
+module _ (line : App) (words : List Text) (is : line ≡ command_line) where
+  -- matches have a subcommand
+  pub meets_subcommand : (m : ArgMatches) → (is_simple_and_free line ≡ true → fault_of line words ≡ []) →
+      HasMatchesOf line words m
+      → has_subcommand m ≡ true
+  meets_subcommand m passes matches =
+      sym (is_some-map _ (out-ArgMatches m).subcommand) ∙
+      (ap is_some (subcommand_is line command_line words is is_simple_line m matches) ∙
+      has_met words (no_fault line command_line words is is_simple_line passes))
+
+  -- matches ask for what the name and the options of the subcommand say
+  pub asks_run : (m : ArgMatches) (name : Text) (rows : List Row) →
+      (is_simple_and_free line ≡ true → fault_of line words ≡ [])
+      → HasMatchesOf line words m → Some name ≡ subcommand_name_of m →
+      Some rows ≡ option_map (λ f. f.1) (subcommand_rows_of m)
+      → asked words ≡ run_in name rows
+  unfolding asked
+  asks_run m name rows passes matches named found =
+      run_by _ _ (name, rows) (no_fault line command_line words is is_simple_line passes)
+      (sym (subcommand_is line command_line words is is_simple_line m matches) ∙
+      both_found (out-ArgMatches m).subcommand name rows named found)
+
+-- the standard address is that of the standard configuration
+pub named_or_standard : (rows : List Row) (config : Config) (found : Result (List ℕ) AddressFault) → config ≡ standard
+    → found ≡ address_in (codes "address") config.address rows
+    → found ≡ address_in (codes "address") standard.address rows
+named_or_standard rows config found is named =
+    named ∙ ap (λ (c : Config). address_in (codes "address") c.address rows) is
+
+-- a step by a value that is valid, or by none
+goes_on : {A B E : Type 0} (value : A) (read : Result A E) (next : A → Result B Kinds) → Ok value ≡ read →
+    (valid read >>= next) ≡ next value
+goes_on {A = A} {E = E} value read next is = ap (λ (r : Result A E). valid r >>= next) (sym is)
+
+stops : {A B E : Type 0} (fault : E) (read : Result A E) (next : A → Result B Kinds) → Err fault ≡ read →
+    (valid read >>= next) ≡ Err (ValueValidation ∷ [])
+stops {A = A} {E = E} fault read next is = ap (λ (r : Result A E). valid r >>= next) (sym is)
+
+abbrev with_controllers : Text → List Row → List ℕ → List ℕ → List (List ℕ) → Result Invocation Kinds
+with_controllers name rows address control controllers =
+    Ok (run_of name (config_at address control rows) controllers rows)
+
+abbrev with_control : Text → List Row → List ℕ → List ℕ → Result Invocation Kinds
+with_control name rows address control =
+    valid (controllers_in rows) >>= with_controllers name rows address control
+
+abbrev with_address : Text → List Row → List ℕ → Result Invocation Kinds
+with_address name rows address =
+    valid (address_in (codes "control-address") address rows) >>= with_control name rows address
+
+at_address : (name : Text) (rows : List Row) (address : List ℕ) → Ok address ≡ address_in (codes "address")
+    standard.address rows → run_in name rows ≡ with_address name rows address
+at_address name rows address named =
+    goes_on address (address_in (codes "address") standard.address rows) (with_address name rows) named
+
+at_control : (name : Text) (rows : List Row) (address control : List ℕ) → Ok address ≡ address_in (codes "address")
+    standard.address rows → Ok control ≡ address_in (codes "control-address") address rows
+    → run_in name rows ≡ with_control name rows address control
+at_control name rows address control named commanded =
+    at_address name rows address named ∙
+    goes_on control (address_in (codes "control-address") address rows) (with_control name rows address) commanded
+
+-- the run of a subcommand at an address
+pub run_is : (name : Text) (rows : List Row) (address control : List ℕ) (controllers : List (List ℕ)) (config : Config)
+    (run : Invocation) → Ok address ≡ address_in (codes "address") standard.address rows
+    → Ok control ≡ address_in (codes "control-address") address rows → Ok controllers ≡ controllers_in rows →
+    config ≡ config_at address control rows
+    → run ≡ run_of name config controllers rows → run_in name rows ≡ Ok run
+run_is name rows address control controllers config run named commanded listed configured is =
+    at_control name rows address control named commanded ∙
+    (goes_on controllers (controllers_in rows) (with_controllers name rows address control) listed ∙
+    rw (is, configured) refl)
+
+-- there is none at a text that names no address
+pub refuses_address : (name : Text) (rows : List Row) (fault : AddressFault) →
+    Err fault ≡ address_in (codes "address") standard.address rows → run_in name rows ≡ Err (ValueValidation ∷ [])
+refuses_address name rows fault named =
+    stops fault (address_in (codes "address") standard.address rows) (with_address name rows) named
+
+-- none at one that names no address for control messages
+pub refuses_control : (name : Text) (rows : List Row) (address : List ℕ) (fault : AddressFault) →
+    Ok address ≡ address_in (codes "address") standard.address rows →
+    Err fault ≡ address_in (codes "control-address") address rows → run_in name rows ≡ Err (ValueValidation ∷ [])
+refuses_control name rows address fault named commanded =
+    at_address name rows address named ∙
+    stops fault (address_in (codes "control-address") address rows) (with_control name rows address) commanded
+
+-- and none under texts that name no controllers
+pub refuses_controllers : (name : Text) (rows : List Row) (address control : List ℕ) (fault : ControllerFault) →
+    Ok address ≡ address_in (codes "address") standard.address rows →
+    Ok control ≡ address_in (codes "control-address") address rows → Err fault ≡ controllers_in rows →
+    run_in name rows ≡ Err (ValueValidation ∷ [])
+refuses_controllers name rows address control fault named commanded listed =
+    at_control name rows address control named commanded ∙
+    stops fault (controllers_in rows) (with_controllers name rows address control) listed
+
+-- an error says why words ask for none
+pub refuses : (asked : Result Invocation Kinds) (name : Text) (rows : List Row) (kind : ErrorKind) →
+    asked ≡ run_in name rows → run_in name rows ≡ Err (ValueValidation ∷ []) → kind ≡ ValueValidation →
+    IsRefused asked kind
+refuses asked name rows kind asks refused is = rw (asks ∙ refused, is) (inr (inl refl))
+
+-- want of memory that was passed on
+pub memory_passed_on : {T : Type 0} (r : Result T Error) (asked : Result Invocation Kinds) →
+    IsErrAnd r (λ e. kind_of e ≡ OutOfMemory)
+    → IfErr r (λ e. IsRefused asked (kind_of e))
+memory_passed_on (Ok value) asked why = tt
+memory_passed_on (Err e) asked why = inl why

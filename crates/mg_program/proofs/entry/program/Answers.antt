@@ -1,0 +1,45 @@
+use Rattle.std.proofs.Common.{refl, inl, inr}
+use Rattle.clap.specs.Words.{kind_of}
+use Rattle.mg_program.proofs.entry.program.Goals.{in-Ok-Replay, in-Ok-Serve, in-Ok-Live, in-Err+in-Some-1, in-Err+in-None-1}
+use Rattle.mg_program.proofs.entry.program.Goals as goal
+
+pub returns-clause-ends : goal.returns-clause-ends
+returns-clause-ends g c =
+    record {
+      status = c.match-asked_run.status;
+      told = c.code.ensures.value;
+      ends = elim c.match-asked_run.branch [
+        | in-Ok-Replay w ↦ rw (
+          w.status-is,
+          w.input-is,
+          w.output-is,
+          w.errors-is,
+          w.in-Ok-Replay.ensures.run,
+          w.in-Ok-Replay.field-0-is,
+        ) (inl (w.replay-status.ensures.value, w.replay-status.ensures.quiet))
+        | in-Ok-Serve w ↦ rw (
+          w.status-is,
+          w.input-is,
+          w.output-is,
+          w.errors-is,
+          w.in-Ok-Serve.ensures.run,
+          w.in-Ok-Serve.field-0-is,
+        ) (inl (w.serve-status.ensures.value, w.serve-status.ensures.quiet))
+        | in-Ok-Live w ↦ rw (w.status-is, w.input-is, w.output-is, w.in-Ok-Live.ensures.run, w.in-Ok-Live.field-0-is)
+            (inl (refl, w.live-status.ensures.value))
+        | in-Err+in-Some-1 w ↦ rw (w.status-is, w.output-is, w.errors-is) (inr (record {
+          kind = kind_of w.in-Err.error;
+          refused = w.in-Err.ensures.refused;
+          is_left = w.input-is;
+          told = w.tell-status.ensures.told;
+          quiet = w.tell-status.ensures.quiet;
+        }))
+        | in-Err+in-None-1 w ↦ rw (w.status-is, w.output-is, w.errors-is) (inr (record {
+          kind = kind_of w.in-Err.error;
+          refused = w.in-Err.ensures.refused;
+          is_left = w.input-is;
+          told = w.tell-status.ensures.told;
+          quiet = w.tell-status.ensures.quiet;
+        }))
+      ];
+    }

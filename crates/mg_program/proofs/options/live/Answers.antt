@@ -1,0 +1,10 @@
+use Rattle.std.proofs.Common.{◌∙◌, ap, refl}
+use Rattle.clap.specs.Words.{rule_of}
+use Rattle.mg_program.specs.Options.{options}
+use Rattle.mg_options.proofs.CommandLemmas.{adds_rule}
+use Rattle.mg_program.proofs.options.live.Goals as goal
+
+pub returns-clause-app : goal.returns-clause-app
+unfolding options
+returns-clause-app c = adds_rule _ _ _ _ _ c.in_ok-command.ensures c.in_ok-on_sockets.ensures.app
+    (ap rule_of c.help.ensures ∙ c.short_number.ensures.rule) refl

@@ -1,0 +1,141 @@
+-- The command line, as the parser of its words knows it, and what words ask of the program.
+use Rattle.std.specs.Prelude.{ℕ, Bool, true, false, if◌then◌else◌, List, [], ◌∷◌, Some, unwrap_or}
+use Rattle.std.specs.Prelude.{Result, Ok, Err, codes, fold}
+use Rattle.std.specs.Option.{option_map_or}
+use Rattle.std.specs.Str.{bytes_eq}
+use Rattle.clap.specs.Walk.{Row, Rule, Text, all_of, first_of}
+use Rattle.clap.specs.Simple.{App, new_app, new_rule, on_top, subcommand_of, with_rule}
+use Rattle.clap.specs.Simple.{with_subcommand}
+use Rattle.clap.specs.Kinds.{Kinds}
+use Rattle.clap.specs.Faults.{fault_of}
+use Rattle.clap.specs.declared.builder.action.ArgAction.TheVariants.{Append, SetTrue}
+use Rattle.clap.specs.declared.error.kind.ErrorKind.TheVariants.{ValueValidation}
+use Rattle.mg_words.specs.ResultSteps.{◌>>=◌}
+use Rattle.mg_options.specs.Asked.{asked_by}
+use Rattle.mg_options.specs.Line.{program_line, text_rule}
+use Rattle.mg_options.specs.Numbers.{number_or, number_rule}
+use Rattle.mg_core.specs.declared.shown.Shown.TheVariants.{Sent, SentAndFlows}
+use Rattle.mg_engine.specs.declared.config.Config.{Config}
+use Rattle.mg_engine.specs.Config.{standard}
+use Rattle.mg_program.specs.declared.address.AddressFault.{AddressFault}
+use Rattle.mg_program.specs.declared.invocation.Invocation.{Invocation}
+use Rattle.mg_program.specs.declared.invocation.Invocation.TheVariants.{Replay, Serve, Live}
+use Rattle.mg_program.specs.declared.service.Service.{Service}
+use Rattle.mg_program.specs.declared.controller_fault.ControllerFault.{ControllerFault}
+use Rattle.mg_program.specs.Address.{own_address}
+use Rattle.mg_program.specs.Controllers.{controllers_of}
+
+-- ## The command line
+
+-- the options of every subcommand, each of which may be given once
+unfoldable pub options : List Rule
+options = text_rule (codes "address") ∷ text_rule (codes "control-address")
+    ∷ number_rule (codes "control-port") 0 65535
+    ∷ number_rule (codes "base-port") 0 65535 ∷ number_rule (codes "slots") 0 65535
+    ∷ number_rule (codes "first-termination") 0 4294967295
+    ∷ number_rule (codes "first-context") 0 4294967295
+    ∷ number_rule (codes "ssrc") 0 4294967295 ∷ number_rule (codes "sequence") 0 65535
+    ∷ number_rule (codes "timestamp") 0 4294967295 ∷ []
+
+-- a subcommand
+abbrev pub subcommand_line : Text → App
+subcommand_line name = fold with_rule (new_app name) options
+
+-- the option that may be given several times
+abbrev pub controller_rule : Rule
+controller_rule = record (text_rule (codes "controller")) { action = Some Append }
+
+-- an option with this name that takes nothing, and is set where it is given
+abbrev pub flag_rule : Text → Rule
+flag_rule name = record (new_rule name) { long = Some name; action = Some SetTrue }
+
+-- a subcommand of a gateway on sockets
+abbrev pub sockets_line : Text → App
+sockets_line name =
+    with_rule (with_rule (with_rule (subcommand_line name) controller_rule)
+    (number_rule (codes "report") 0 65535)) (flag_rule (codes "record"))
+
+-- the subcommand that runs a script
+abbrev pub replay_line : App
+replay_line = with_rule (subcommand_line (codes "replay")) (flag_rule (codes "flows"))
+
+-- and the one that has a clock
+abbrev pub live_line : App
+live_line = with_rule (sockets_line (codes "live")) (number_rule (codes "late") 0 65535)
+
+-- the command line: words of which one is a subcommand
+unfoldable pub command_line : App
+command_line =
+    with_subcommand (with_subcommand (with_subcommand
+    (on_top (λ top. record top { subcommand_required = true }) (program_line (codes "mg_bridge")))
+    replay_line.top) (sockets_line (codes "serve")).top) live_line.top
+
+-- ## The values of the options
+
+-- the configuration that the options name, at these addresses for media and for control messages:
+-- what isn't named is as in the standard one
+unfoldable pub config_at : List ℕ → List ℕ → List Row → Config
+config_at address control found = record standard {
+  address = address;
+  control_address = control;
+  control_port = number_or 65536 (codes "control-port") standard.control_port found;
+  base_port = number_or 65536 (codes "base-port") standard.base_port found;
+  slots = number_or 65536 (codes "slots") standard.slots found;
+  first_termination =
+      number_or 4294967296 (codes "first-termination") standard.first_termination found;
+  first_context = number_or 4294967296 (codes "first-context") standard.first_context found;
+  ssrc = number_or 4294967296 (codes "ssrc") standard.ssrc found;
+  sequence = number_or 65536 (codes "sequence") standard.sequence found;
+  timestamp = number_or 4294967296 (codes "timestamp") standard.timestamp found;
+}
+
+-- the address that an option names, or another one where it isn't given
+abbrev pub address_in : Text → List ℕ → List Row → Result (List ℕ) AddressFault
+address_in name otherwise found = option_map_or own_address (first_of name found) (Ok otherwise)
+
+-- whether a flag is set
+abbrev pub is_set : Text → List Row → Bool
+is_set name found =
+    option_map_or (λ text. bytes_eq text (codes "true")) (first_of name found) false
+
+-- the controllers that the options name
+abbrev pub controllers_in : List Row → Result (List (List ℕ)) ControllerFault
+controllers_in found = controllers_of (unwrap_or (all_of (codes "controller") found) [])
+
+-- ## What words ask of the program
+
+-- what the options ask of a gateway on sockets: a report is due every so many seconds
+abbrev pub service_of : List (List ℕ) → List Row → Service
+service_of controllers found = record {
+  controllers = controllers;
+  report = number_or 65536 (codes "report") 0 found;
+  records = is_set (codes "record") found;
+}
+
+-- the run of a subcommand, with how late a tick may be whose packets are sent, in ticks
+abbrev pub run_of : Text → Config → List (List ℕ) → List Row → Invocation
+run_of name config controllers found =
+    if bytes_eq name (codes "serve") then Serve config (service_of controllers found)
+    else (if bytes_eq name (codes "live")
+    then Live config (service_of controllers found) (number_or 65536 (codes "late") 5 found)
+    else Replay config (if is_set (codes "flows") found then SentAndFlows else Sent))
+
+-- a text that names nothing is a fault of the words
+abbrev pub valid : {A E : Type 0} → Result A E → Result A Kinds
+valid (Ok value) = Ok value
+valid (Err fault) = Err (ValueValidation ∷ [])
+
+-- What a subcommand with these options asks for. Without an address of its own for control
+-- messages a gateway has the one that callers are told.
+abbrev pub run_in : Text → List Row → Result Invocation Kinds
+run_in name found = do
+  address ← valid (address_in (codes "address") standard.address found)
+  control ← valid (address_in (codes "control-address") address found)
+  controllers ← valid (controllers_in found)
+  Ok (run_of name (config_at address control found) controllers found)
+
+-- A run of a subcommand, or none. There is none where the parser of words has a fault to tell, or
+-- an address can't be a gateway's or a controller's.
+unfoldable pub asked : List Text → Result Invocation Kinds
+asked words = asked_by (fault_of command_line words) (option_map_or
+    (λ found. run_in found.0 found.1) (subcommand_of command_line words) (Err []))

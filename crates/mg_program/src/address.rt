@@ -1,0 +1,66 @@
+ghost use Rattle.std.specs.Prelude.{◌≡◌};
+ghost use Rattle.mg_program.specs.Address.{is_of_many, own_address};
+
+use mg_words::address_of;
+
+/// Why a text names no address that a gateway can have.
+#[derive(Clone, Copy, Debug, PartialEq, Eq)]
+pub enum AddressFault {
+    /// It is no IPv4 address in dotted decimal.
+    Unreadable,
+    /// It is 0.0.0.0, which stands for all addresses of a machine: nobody can send to it.
+    Unspecified,
+    /// It is from 224.0.0.0 on: an address of multicast or broadcast, or of no use.
+    OfMany,
+}
+
+impl AddressFault {
+    /// The text that tells it of the address for media.
+    pub fn message(self) -> &'static str {
+        match self {
+            AddressFault::Unreadable => {
+                "invalid value for '--address <ADDRESS>': it is no IPv4 address in dotted decimal"
+            }
+            AddressFault::OfMany => {
+                "invalid value for '--address <ADDRESS>': callers are told this address, and it is none of one machine"
+            }
+            AddressFault::Unspecified => {
+                "invalid value for '--address <ADDRESS>': callers are told this address, and can't send to 0.0.0.0"
+            }
+        }
+    }
+
+    /// The text that tells it of the address for control messages.
+    pub fn control_message(self) -> &'static str {
+        match self {
+            AddressFault::Unreadable => {
+                "invalid value for '--control-address <ADDRESS>': it is no IPv4 address in dotted decimal"
+            }
+            AddressFault::OfMany => {
+                "invalid value for '--control-address <ADDRESS>': the gateway is named by this address, and it is none of one machine"
+            }
+            AddressFault::Unspecified => {
+                "invalid value for '--control-address <ADDRESS>': the gateway is named by this address, and can't be by 0.0.0.0"
+            }
+        }
+    }
+}
+
+/// Whether an address is one of multicast or broadcast, or of no use: those from 224.0.0.0 on.
+pub fn is_of_many(address: [u8; 4]) -> bool
+    ensures value { result ≡ is_of_many address }
+{
+    address[0] >= 224
+}
+
+/// The address of a gateway that a text names: an IPv4 address in dotted decimal, where leading zeros are allowed.
+pub fn own_address(text: &str) -> Result<[u8; 4], AddressFault>
+    ensures value { result ≡ own_address text.now }
+{
+    match address_of(text.as_bytes()) {
+        Some(address) if address == [0; 4] => Err(AddressFault::Unspecified),
+        Some(address) if is_of_many(address) => Err(AddressFault::OfMany),
+        Some(address) => Ok(address),
+        None => Err(AddressFault::Unreadable),
+    }
+}

@@ -1,0 +1,52 @@
+ghost use Rattle.std.specs.Prelude.{◌≡◌, ◌≤◌, map};
+ghost use Rattle.mg_options.specs.Ends.{EndsWith};
+ghost use Rattle.mg_program.specs.Options.{asked};
+ghost use Rattle.mg_program.specs.Program.{Runs};
+
+use crate::invocation::Invocation;
+use crate::live::live;
+use crate::options::asked_run;
+use crate::replay::replay;
+use crate::serve::serve;
+use mg_options::{Status, tell};
+use std::alloc::Global;
+use std::convert::AsStr;
+use std::io::{Read, Write};
+use std::net::Net;
+use std::time::Clock;
+
+/// Runs the program on its arguments, which stand without its name, and answers its exit status: 0; 1 for a bad script
+/// line; 2 for arguments or a configuration that can't be used; 3 where a read or a write failed; 4 where memory ran
+/// out; 5 for a port that can't be bound. The text that belongs to a status other than 0 goes to `errors`, and what a
+/// gateway reports now and then to `reports`.
+pub fn program<'a, N: Net, C: Clock, S: AsStr, R: Read, W: Write, E: Write, T: Write>(
+    net: &N,
+    clock: &C,
+    alloc: Global,
+    words: &'a [S],
+    input: &mut R,
+    output: &mut W,
+    errors: &mut E,
+    reports: &mut T,
+) -> u8
+    ensures status { result ≤ 5 }
+    // What the words ask for was done as far as the status says.
+    ensures ends { EndsWith
+        (Runs R.remaining W.contents (errors.new ≡ errors.old) input.old input.new output.old output.new)
+        (asked (map S.text words.now)) Status.Failed (input.new ≡ input.old) (errors.new ≡ errors.old) output.old
+        output.new result }
+{
+    let status = match asked_run(alloc, words) {
+        Ok(Invocation::Replay(config, shown)) => {
+            replay(alloc, config, shown, input, output, errors)
+        }
+        Ok(Invocation::Serve(config, service)) => {
+            serve(net, alloc, config, &service, input, output, errors, reports)
+        }
+        Ok(Invocation::Live(config, service, late)) => live(
+            net, clock, alloc, config, &service, late, output, errors, reports,
+        ),
+        Err(error) => tell(&error, Status::Failed, output, errors),
+    };
+    status.code()
+}

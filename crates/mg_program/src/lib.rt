@@ -1,0 +1,52 @@
+//! What `mg_bridge` does: a conference media gateway that runs a script, or serves UDP sockets of the system.
+//!
+//! [`program`] is all of it, from the words of the command line to the exit status:
+//!
+//! ```rust
+//! let words = ["replay", "--slots", "4"];
+//! let status = program(&rt, &rt, alloc, &words, &mut input, &mut output, &mut errors, &mut reports);
+//! ```
+//!
+//! [`asked_run`] is what the words ask for. [`Sockets`] are the ports of a gateway, bound at the start; no call of theirs
+//! waits, and a port of which the system told nothing is not asked. [`UdpPorts`] lend them to a session (`mg_serve`),
+//! and don't send what is too late by a [`Deadline`]: there is none by lines ([`NoDeadline`]), and by the clock one of
+//! so many ticks ([`TickDeadline`]).
+//!
+//! `specs/Program.antt` says how a run ends, `specs/Options.antt` what words ask for.
+#![tactic(auto)]
+
+mod address;
+mod bind_fault;
+mod config_fault;
+mod controller_fault;
+mod controllers;
+mod deadline;
+mod entry;
+mod invocation;
+mod live;
+mod no_deadline;
+mod options;
+mod readiness;
+mod replay;
+mod serve;
+mod service;
+mod sockets;
+mod status;
+mod tick_deadline;
+mod title;
+mod udp_ports;
+
+pub use crate::bind_fault::BindFault;
+pub use crate::controller_fault::ControllerFault;
+pub use crate::controllers::Controllers;
+pub use crate::deadline::Deadline;
+pub use crate::entry::program;
+pub use crate::invocation::Invocation;
+pub use crate::no_deadline::NoDeadline;
+pub use crate::options::asked_run;
+pub use crate::readiness::SOCKETS;
+pub use crate::service::Service;
+pub use crate::sockets::Sockets;
+pub use crate::tick_deadline::TickDeadline;
+pub use crate::title::{Title, title_of};
+pub use crate::udp_ports::UdpPorts;

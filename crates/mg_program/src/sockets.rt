@@ -1,0 +1,149 @@
+ghost use Rattle.std.specs.Prelude.{◌≡◌, ◌≤◌, ℕ, length, IfErr, IfOk, IfSome};
+ghost use Rattle.mg_engine.specs.Config.{IsValidConfig};
+ghost use Rattle.mg_program.specs.Serve.{IsPortOf};
+
+use crate::bind_fault::BindFault;
+use crate::readiness::{Readiness, SOCKETS};
+use arrayvec::ArrayVec;
+use mg_core::{Config, Peer};
+use mg_ports::PortFault;
+use mio::Events;
+use mio::net::UdpSocket;
+use std::io;
+use std::io::ErrorKind;
+use std::net::{IpAddr, Ipv4Addr, Net, SocketAddr};
+
+/// UDP sockets: that of the control port, and then those of the media ports in rising order.
+/// No call waits.
+#[derive(Drop)]
+pub struct Sockets {
+    sockets: ArrayVec<Option<UdpSocket>, SOCKETS>,
+    readiness: Readiness,
+}
+
+fn socket_address(address: [u8; 4], port: u16) -> SocketAddr {
+    let [a, b, c, d] = address;
+    SocketAddr::new(IpAddr::V4(Ipv4Addr::new(a, b, c, d)), port)
+}
+
+/// A socket that doesn't wait, of which the system tells when a datagram comes.
+fn bind_socket<N: Net>(
+    net: &N,
+    address: [u8; 4],
+    port: u16,
+    slot: usize,
+    readiness: &Readiness,
+) -> Result<UdpSocket, BindFault>
+    ensures port { IfErr result (λ fault. fault.port ≡ port) }
+{
+    let mut socket = match UdpSocket::bind(net, socket_address(address, port)) {
+        Ok(socket) => socket,
+        Err(error) => return Err(BindFault { port, error }),
+    };
+    match readiness.watch(slot, &mut socket) {
+        Ok(()) => Ok(socket),
+        Err(error) => Err(BindFault { port, error }),
+    }
+}
+
+/// Who sent a datagram. A sender that has no IPv4 address is a fault.
+fn peer_of(address: SocketAddr) -> Result<Peer, PortFault> {
+    match address.ip() {
+        IpAddr::V4(ip) => Ok(Peer {
+            address: ip.octets(),
+            port: address.port(),
+        }),
+        IpAddr::V6(_) => Err(PortFault),
+    }
+}
+
+/// The datagram that a socket gave, if it gave one. Where it would wait there is none.
+fn datagram_of(answer: io::Result<(usize, SocketAddr)>) -> Result<Option<(usize, Peer)>, PortFault>
+    ensures within { (limit : ℕ) → IfOk answer (λ came. came.0 ≤ limit)
+        → IfOk result (λ came. IfSome came (λ d. d.0 ≤ limit)) }
+{
+    match answer {
+        Ok((n, address)) => Ok(Some((n, peer_of(address)?))),
+        Err(error) if error.kind() == ErrorKind::WouldBlock => Ok(None),
+        Err(_) => Err(PortFault),
+    }
+}
+
+impl Sockets {
+    /// Binds the ports of a gateway: the control port, and then the media ports in rising order. The first one that
+    /// can't be bound is told. The room for what the system tells is handed in, so this takes no memory of the
+    /// program's.
+    pub fn bind<N: Net>(net: &N, config: &Config, events: Events) -> Result<Sockets, BindFault>
+        requires sound { IsValidConfig config.now }
+        ensures port { IfErr result (λ fault. IsPortOf config.now fault.port) }
+    {
+        let control = config.control_port;
+        let readiness = match Readiness::new(net, events) {
+            Ok(readiness) => readiness,
+            Err(error) => return Err(BindFault {
+                port: control,
+                error,
+            }),
+        };
+        let mut sockets = ArrayVec::new();
+        sockets.push(Some(bind_socket(net, config.control_address, control, 0, &readiness)?));
+        for slot in 0..config.slots {
+            let port = config.base_port + 2 * slot;
+            let socket = bind_socket(net, config.address, port, usize::from(slot) + 1, &readiness)?;
+            sockets.push(Some(socket));
+        }
+        Ok(Sockets { sockets, readiness })
+    }
+
+    /// The socket of a slot, if it has one.
+    fn socket(&self, slot: usize) -> Result<&UdpSocket, PortFault> {
+        match self.sockets.get(slot) {
+            Some(Some(socket)) => Ok(socket),
+            _ => Err(PortFault),
+        }
+    }
+
+    /// Receives from a slot's socket, whether it is ready or not.
+    fn try_receive(
+        &self,
+        slot: usize,
+        buffer: &mut [u8],
+    ) -> Result<Option<(usize, Peer)>, PortFault>
+        ensures within { IfOk result (λ came. IfSome came (λ d. d.0 ≤ length buffer.new)) }
+    {
+        datagram_of(self.socket(slot)?.recv_from(buffer))
+    }
+
+    /// Receives from a slot's socket. One that isn't ready gives nothing. A receive at the control port asks first
+    /// which are.
+    pub fn receive_ready(
+        &mut self,
+        slot: usize,
+        buffer: &mut [u8],
+    ) -> Result<Option<(usize, Peer)>, PortFault>
+        ensures within { IfOk result (λ came. IfSome came (λ d. d.0 ≤ length buffer.new)) }
+    {
+        if slot == 0 {
+            self.readiness.ask();
+        }
+        if slot < self.sockets.len() && !self.readiness.is_ready(slot) {
+            return Ok(None);
+        }
+        let answer = self.try_receive(slot, buffer);
+        if answer == Ok(None) {
+            self.readiness.found_nothing(slot);
+        }
+        answer
+    }
+
+    /// Sends from a slot's socket. A datagram that goes out in part is a fault.
+    pub fn try_send(&self, slot: usize, to: Peer, bytes: &[u8]) -> Result<(), PortFault> {
+        match self
+            .socket(slot)?
+            .send_to(bytes, socket_address(to.address, to.port))
+        {
+            Ok(n) if n == bytes.len() => Ok(()),
+            _ => Err(PortFault),
+        }
+    }
+}

@@ -1,0 +1,45 @@
+ghost use Rattle.std.specs.Prelude.{◌≡◌};
+ghost use Rattle.mg_program.specs.Status.{status_of};
+
+use crate::config_fault::ConfigFault;
+use mg_core::{Config, Counts, RunFault};
+use mg_options::Status;
+use std::io::Write;
+
+/// How the program ends after a run.
+#[tactic(auto, unfolding(crate::specs::Status::status_of))]
+fn status_of(outcome: &Result<Counts, RunFault>) -> Status
+    ensures value { result ≡ status_of outcome.now }
+{
+    match outcome {
+        Ok(_) => Status::Done,
+        Err(RunFault::Script(_)) => Status::BadLine,
+        Err(RunFault::BadConfig) => Status::Usage,
+        Err(RunFault::Read) => Status::Failed,
+        Err(RunFault::Write) => Status::Failed,
+        Err(RunFault::NoMemory) => Status::NoMemory,
+    }
+}
+
+/// Tells a fault of a run, and of a configuration which option is at fault.
+fn tell<E: Write>(fault: &RunFault, config: &Config, errors: &mut E) {
+    let _ = match ConfigFault::of(config) {
+        Some(why) if *fault == RunFault::BadConfig => writeln!(errors, "{fault}: {why}"),
+        _ => writeln!(errors, "{fault}"),
+    };
+}
+
+/// Tells the fault of a run, if it has one, and answers how the program ends after it.
+pub fn status_after<E: Write>(
+    outcome: &Result<Counts, RunFault>,
+    config: &Config,
+    errors: &mut E,
+) -> Status
+    ensures value { result ≡ status_of outcome.now }
+    ensures quiet { result ≡ Status.Done → errors.new ≡ errors.old }
+{
+    if let Err(fault) = outcome {
+        tell(fault, config, errors);
+    }
+    status_of(outcome)
+}

@@ -1,6 +1,6 @@
 # Gateways on this host, callers who follow a controller, and the controller of `demo` over the gateways. Read by run.sh
 # and cost.sh. BRIDGE is the program, where it isn't the one that `rt run` leaves in crates/mg_bridge/out; that one is
-# proved and built first where it isn't there, which takes some minutes.
+# proved and built first where it isn't there, which takes half an hour.
 root=$here/../..
 bridge=${BRIDGE:-$root/crates/mg_bridge/out/mg_bridge}
 [ -x "$bridge" ] || (cd "$root/crates/mg_bridge" && rt run -- --help > /dev/null)

@@ -3,7 +3,7 @@
 # port.
 # usage: run.sh
 # It needs python3 and rt. `mg_bridge` is the one that `rt run` leaves in crates/mg_bridge/out; what isn't built yet is
-# proved and built first, which takes some minutes. It takes some seconds.
+# proved and built first, which takes half an hour. It takes some seconds.
 set -eu
 here=$(CDPATH= cd -- "$(dirname -- "$0")" && pwd)
 root=$here/../..

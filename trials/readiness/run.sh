@@ -3,7 +3,7 @@
 # out. Prints how many schedules there were, and ends with 1 at the first that is wrong.
 # usage: run.sh [SCHEDULES] [SEED]
 # It needs gcc, python3 and rt. `mg_bridge` is the one that `rt run` leaves in crates/mg_bridge/out; what isn't built
-# yet is proved and built first, which takes some minutes. 10,000 schedules take half a minute.
+# yet is proved and built first, which takes half an hour. 10,000 schedules take half a minute.
 set -eu
 here=$(CDPATH= cd -- "$(dirname -- "$0")" && pwd)
 root=$here/../..

@@ -1,6 +1,6 @@
 # The gateway and the tools of this folder. Read by calls.sh and cost.sh, which say how many callers there are. BRIDGE
 # is the program, where it isn't the one that `rt run` leaves in crates/mg_bridge/out; that one is proved and built
-# first where it isn't there, which takes some minutes. What is recorded lies in a folder of its own in /tmp, or in
+# first where it isn't there, which takes half an hour. What is recorded lies in a folder of its own in /tmp, or in
 # TMPDIR, and is removed at the end; an hour of a caller takes 70 MB there.
 root=$here/../..
 bridge=${BRIDGE:-$root/crates/mg_bridge/out/mg_bridge}

@@ -4,7 +4,7 @@
 # at the first that is wrong.
 # usage: run.sh
 # It needs gcc, python3 and rt. `mg_bridge` is the one that `rt run` leaves in crates/mg_bridge/out; what isn't built
-# yet is proved and built first, which takes some minutes. The runs take less than one.
+# yet is proved and built first, which takes half an hour. The runs take less than one.
 set -eu
 here=$(CDPATH= cd -- "$(dirname -- "$0")" && pwd)
 root=$here/../..
@@ -122,7 +122,7 @@ for kind in memory read write receive send wait; do
     PYTHONPATH=$here/.. python3 "$here/serve.py" "$bridge" "$work/refuse.so" "$kind"
 done
 
-# A core alone: what it answers to who looks at it, before and after a message that found no memory. Its program is
+# A core alone: what it answers to whoever looks at it, before and after a message that found no memory. Its program is
 # built anew where it or the crates have changed.
 name=control
 sources() {

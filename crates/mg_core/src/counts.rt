@@ -29,6 +29,11 @@ pub struct Counts {
 }
 
 impl Default for Counts {
+    ghost use Rattle.std.specs.Prelude.{◌≡◌};
+    ghost use Rattle.mg_core.specs.World.{counts_of, no_events};
+
+    ghost is_default = { λ counts. counts ≡ counts_of no_events };
+
     fn default() -> Self {
         Counts::new()
     }

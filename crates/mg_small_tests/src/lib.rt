@@ -1,7 +1,7 @@
 //! Tests of the smaller libraries, by their public calls alone.
 //!
 //! They stand apart for the reason that `mg_tests` does: a crate that has tests is proved twice. What is tried here is
-//! what no contract says, and each public call once.
+//! what no contract says, and public calls at a few arguments.
 #![tactic(auto)]
 
 #[cfg(test)]

@@ -28,8 +28,8 @@ with_next_step l =
     record { polls = l.polls; steps = l.steps + 1; rest = step_lines l.polls (l.steps + 1) }
 
 -- what a reader gave, with what is left, is the text of its steps
-abbrev pub HasGiven : Lines → List ℕ → Type 0
-HasGiven l given = text l.polls l.steps ≡ given ++ l.rest
+abbrev pub HasReturned : Lines → List ℕ → Type 0
+HasReturned l given = text l.polls l.steps ≡ given ++ l.rest
 
 -- what is known of a clock's readings and waits
 pub record ClockSeen : Type 0 where
@@ -44,7 +44,7 @@ clock_seen readings waits = record { readings = readings; waits = waits }
 pub record WaitsFor (polls before : ℕ) (old new : ClockSeen) : Type 0 where
   pub reading : ℕ
   pub wait : ℕ
-  pub tells : Appends old.readings new.readings (reading ∷ [])
+  pub reports : Appends old.readings new.readings (reading ∷ [])
   pub waited : Appends old.waits new.waits (wait ∷ [])
   pub in_time : IsTimeTo polls before reading wait
 
@@ -64,8 +64,8 @@ pub record ReadGives (mid new : Lines) (buffer : List ℕ) (n : ℕ) : Type 0 wh
   pub parts : mid.rest ≡ take n buffer ++ new.rest
 
 -- What a read does. Where the clock fails, nothing is given.
-abbrev pub GivesLines : Lines → Lines → ClockSeen → ClockSeen → List ℕ → Result ℕ ClockFailed →
+abbrev pub ReturnsLines : Lines → Lines → ClockSeen → ClockSeen → List ℕ → Result ℕ ClockFailed →
     Type 0
-GivesLines old new before after buffer (Ok n) =
+ReturnsLines old new before after buffer (Ok n) =
     (mid : Lines) × ReadBegins old mid before after × ReadGives mid new buffer n
-GivesLines old new before after buffer (Err failed) = new ≡ old
+ReturnsLines old new before after buffer (Err failed) = new ≡ old

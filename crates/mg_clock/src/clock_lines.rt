@@ -23,7 +23,7 @@ pub struct ClockLines<'a, K: Watch> {
 }
 
 impl<'a, K: Watch> ClockLines<'a, K> {
-    ghost use Rattle.mg_clock.specs.Reading.{ReadBegins, GivesLines, HasGiven, WaitsFor, lines_at, clock_seen, lines_at_start, with_next_step};
+    ghost use Rattle.mg_clock.specs.Reading.{ReadBegins, ReturnsLines, HasReturned, WaitsFor, lines_at, clock_seen, lines_at_start, with_next_step};
 
     /// The lines from the start of a clock on, with so many polls in 20 ms, from 1 to 1000. `ticks` tells from now on
     /// how many ticks were begun.
@@ -92,7 +92,7 @@ impl<'a, K: Watch> ClockLines<'a, K> {
     }
 
     /// Gives as much of what is left as there is room for, and answers how much.
-    fn give(&mut self, buffer: &mut [u8]) -> usize
+    fn copy_rest(&mut self, buffer: &mut [u8]) -> usize
         ensures count { result ≡ min (length self.old.rest.now) (length buffer.new) }
         ensures parts { self.old.rest.now ≡ take result buffer.new ++ self.new.rest.now }
         ensures polls { self.new.polls ≡ self.old.polls }
@@ -109,16 +109,16 @@ impl<'a, K: Watch> ClockLines<'a, K> {
     /// Gives the lines that are due next, or what is left of them, and waits for them where nothing is left: answers
     /// how many bytes of them stand at the front of the buffer.
     pub fn fill(&mut self, buffer: &mut [u8]) -> Result<usize, ClockFailed>
-        ensures gives { GivesLines (lines_at self.old) (lines_at self.new)
+        ensures gives { ReturnsLines (lines_at self.old) (lines_at self.new)
             (clock_seen (K.readings self.old.watch) (K.waits self.old.watch))
             (clock_seen (K.readings self.new.watch) (K.waits self.new.watch)) buffer.new result }
         // What was given so far, with these bytes, is still the text of the steps.
-        ensures text { (given : List ℕ) → HasGiven (lines_at self.old) given
-            → IfOk result (λ n. HasGiven (lines_at self.new) (given ++ take n buffer.new)) }
+        ensures text { (given : List ℕ) → HasReturned (lines_at self.old) given
+            → IfOk result (λ n. HasReturned (lines_at self.new) (given ++ take n buffer.new)) }
         ensures fails { IfErr result (λ failed. (K.Fails self.new.watch) ⊎ (self.old.steps ≡ 2 ^ 64 - 1)) }
     {
         self.begin()?;
-        Ok(self.give(buffer))
+        Ok(self.copy_rest(buffer))
     }
 }
 

@@ -8,7 +8,7 @@ use std::time::Duration;
 const PERIOD: u128 = 20_000_000;
 
 /// The most polls in 20 ms.
-pub const MOST_POLLS: u16 = 1000;
+pub const MAX_POLLS: u16 = 1000;
 
 /// The steps that are due at a time, in nanoseconds since the start, with so many polls in 20 ms.
 pub fn steps_due(polls: u64, now: u64) -> u64

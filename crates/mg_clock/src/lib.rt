@@ -6,7 +6,7 @@
 //!
 //! ```rust
 //! let ticks = Cell::new(0);
-//! let mut lines = ClockLines::new(SystemWatch::begun(&rt)?, &ticks, 2);
+//! let mut lines = ClockLines::new(SystemWatch::start_now(&rt)?, &ticks, 2);
 //! let mut buffer = [0; 4096];
 //! let n = lines.read(&mut buffer)?;
 //! ```
@@ -26,6 +26,6 @@ mod watch;
 
 pub use crate::clock_failed::ClockFailed;
 pub use crate::clock_lines::ClockLines;
-pub use crate::due::{MOST_POLLS, is_late, steps_due, time_to_step};
+pub use crate::due::{MAX_POLLS, is_late, steps_due, time_to_step};
 pub use crate::system_watch::SystemWatch;
 pub use crate::watch::Watch;

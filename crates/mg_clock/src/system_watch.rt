@@ -17,7 +17,7 @@ impl<'a, C: Clock> SystemWatch<'a, C> {
     }
 
     /// A clock that starts now.
-    pub fn begun(clock: &'a C) -> Result<Self, ClockFailed> {
+    pub fn start_now(clock: &'a C) -> Result<Self, ClockFailed> {
         match Instant::now(clock) {
             Ok(start) => Ok(SystemWatch {
                 clock,
@@ -28,7 +28,7 @@ impl<'a, C: Clock> SystemWatch<'a, C> {
     }
 
     /// Another clock with the same start.
-    pub fn again(&self) -> Self {
+    pub fn duplicate(&self) -> Self {
         SystemWatch {
             clock: self.clock,
             start: self.start,

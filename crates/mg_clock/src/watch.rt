@@ -18,7 +18,7 @@ pub trait Watch {
 
     /// The nanoseconds since its start.
     fn now(&mut self) -> Result<u64, ClockFailed>
-        ensures tells { MatchResult result (λ t. Appends (readings self.old) (readings self.new) (t ∷ []))
+        ensures reports { MatchResult result (λ t. Appends (readings self.old) (readings self.new) (t ∷ []))
             (λ failed. Keeps (readings self.old) (readings self.new)) }
         ensures waits { Keeps (waits self.old) (waits self.new) }
         ensures fails { IfErr result (λ failed. Fails self.new) };

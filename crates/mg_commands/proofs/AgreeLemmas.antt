@@ -36,21 +36,21 @@ use Rattle.mg_commands.specs.Name.{name_of, written_as, written_name}
 use Rattle.mg_commands.specs.Outcome.{CommandOutcome, Trial, audit_outcome, audit_root, check_command, check_new_name, in_same_world, made_at, names_for, number_in, outcome, reply_media, reply_parts, served_at, trial_of}
 use Rattle.mg_commands.specs.aids.Steps.{all_names, audit_termination}
 use Rattle.mg_commands.specs.ReplyDescriptors.{descriptors_after, descriptors_before, descriptors_by_audit}
-use Rattle.mg_commands.specs.Transaction.{ActionState, TransactionState, action_start, after_commands, after_outcome, after_properties, end_of_action, go_on, go_on_after_action, id_of, unless_optional, with_action, with_actions, with_command, with_commands, with_name, with_names, with_trial}
+use Rattle.mg_commands.specs.Transaction.{ActionState, TransactionState, action_start, after_commands, after_outcome, after_properties, end_of_action, continue_with, continue_after_action, id_of, unless_optional, with_action, with_actions, with_command, with_commands, with_name, with_names, with_trial}
 use Rattle.mg_commands.specs.aids.Steps.{action_unless}
 use Rattle.mg_words.specs.Term.{rtp_name}
 
 -- ## What is told
 
-abbrev told : List Item → List Item
-told items = map item_but_received items
+abbrev reported : List Item → List Item
+reported items = map item_but_received items
 
 -- more items of which the same is told
-told_more : (xs ys more others : List Item) → told xs ≡ told ys → told more ≡ told others →
-    told (xs ++ more) ≡ told (ys ++ others)
+told_more : (xs ys more others : List Item) → reported xs ≡ reported ys → reported more ≡ reported others →
+    reported (xs ++ more) ≡ reported (ys ++ others)
 told_more xs ys more others h k =
-    map-append item_but_received xs more ∙ ap (λ (l : List Item). l ++ told more) h ∙
-    ap (λ (l : List Item). told ys ++ l) k ∙ sym (map-append item_but_received ys others)
+    map-append item_but_received xs more ∙ ap (λ (l : List Item). l ++ reported more) h ∙
+    ap (λ (l : List Item). reported ys ++ l) k ∙ sym (map-append item_but_received ys others)
 
 abbrev served_but : Served → Served
 served_but s = record s { parts = parts_but_received s.parts }
@@ -207,7 +207,7 @@ module _ (some : List ℕ) (edits : SameEditsKeepAgreement) (same_stats : SameSt
     gateway : AgreeOutside some s.gateway t.gateway
     target : s.target ≡ t.target
     made : s.made ≡ t.made
-    items : told s.items ≡ told t.items
+    items : reported s.items ≡ reported t.items
 
   -- the same was done in both
   record BothRan (x y : ActionState × Bool) : Type 0 where
@@ -295,7 +295,7 @@ module _ (some : List ℕ) (edits : SameEditsKeepAgreement) (same_stats : SameSt
       (trials_same source c s t h) (trial_alike source c s t (trial_of source s.gateway s.target c) h)
 
   go_on_alike : (rest : ActionState → ActionState × Bool) (x y : ActionState × Bool) → BothRan x y →
-      ((s t : ActionState) → RunsAgree s t → BothRan (rest s) (rest t)) → BothRan (go_on rest x) (go_on rest y)
+      ((s t : ActionState) → RunsAgree s t → BothRan (rest s) (rest t)) → BothRan (continue_with rest x) (continue_with rest y)
   go_on_alike rest (s, true) (t, true) h k = k s t h.run
   go_on_alike rest (s, false) (t, false) h k = h
   go_on_alike rest (s, true) (t, false) h k = absurd (cc h.done)
@@ -363,7 +363,7 @@ module _ (some : List ℕ) (edits : SameEditsKeepAgreement) (same_stats : SameSt
 
   record RequestsAgree (s t : TransactionState) : Type 0 where
     gateway : AgreeOutside some s.gateway t.gateway
-    items : told s.items ≡ told t.items
+    items : reported s.items ≡ reported t.items
 
   record BothEnded (x y : TransactionState × Bool) : Type 0 where
     state : RequestsAgree x.0 y.0
@@ -374,7 +374,7 @@ module _ (some : List ℕ) (edits : SameEditsKeepAgreement) (same_stats : SameSt
   ended_alike s t a b xs ys h k same = record {
     gateway = k;
     items = told_more (s.items ++ xs) (t.items ++ ys) (replies.Action (id_of s.target) ∷ [])
-        (replies.Action (id_of t.target) ∷ []) (told_more s.items t.items xs ys h.items (ap told same))
+        (replies.Action (id_of t.target) ∷ []) (told_more s.items t.items xs ys h.items (ap reported same))
         (ap (λ (target : Target). replies.Action (id_of target) ∷ []) h.target);
   }
 
@@ -424,7 +424,7 @@ module _ (some : List ℕ) (edits : SameEditsKeepAgreement) (same_stats : SameSt
 
   rest_alike : (rest : TransactionState → TransactionState) (x y : TransactionState × Bool) → BothEnded x y →
       ((s t : TransactionState) → RequestsAgree s t → RequestsAgree (rest s) (rest t)) →
-      RequestsAgree (go_on_after_action rest x) (go_on_after_action rest y)
+      RequestsAgree (continue_after_action rest x) (continue_after_action rest y)
   rest_alike rest (s, true) (t, true) h k = k s t h.state
   rest_alike rest (s, false) (t, false) h k = h.state
   rest_alike rest (s, true) (t, false) h k = absurd (cc h.done)

@@ -12,7 +12,7 @@ use Rattle.mg_reply.specs.declared.item.Item.TheVariants as replies
 use Rattle.mg_reply.specs.declared.outcome.Outcome.TheVariants.{Failed, Done}
 use Rattle.mg_rooms.specs.declared.target.Target.{Target}
 use Rattle.mg_engine.specs.Gateway.{Gateway}
-use Rattle.mg_engine.specs.Outcome.{apply_triples, context_there}
+use Rattle.mg_engine.specs.Outcome.{apply_triples, existing_context}
 use Rattle.mg_scan.specs.Span.{text_of}
 use Rattle.mg_text.specs.declared.command.Command.{Command}
 use Rattle.mg_text.specs.declared.context_property.ContextProperty.{ContextProperty}
@@ -27,12 +27,12 @@ use Rattle.mg_commands.specs.ContextProperties.{topology_triple_of, triples_in, 
 use Rattle.mg_commands.specs.Name.{name_of, written_as, written_name}
 use Rattle.mg_commands.specs.Outcome.{CommandOutcome, Trial, check_command, members_in, names_for, outcome, takes_all, trial_of, unless_empty}
 use Rattle.mg_commands.specs.Search.{first_of}
-use Rattle.mg_commands.specs.Theorems.{RefusedRequestsChangeNothing, hangs_on_commands, tells_done}
-use Rattle.mg_commands.specs.Transaction.{ActionState, TransactionState, action_start, after_commands, after_outcome, after_properties, end_of_action, go_on, go_on_after_action, id_of, unless_optional, with_action, with_actions, with_command, with_commands, with_name, with_names, with_trial}
+use Rattle.mg_commands.specs.Theorems.{RefusedRequestsChangeNothing, depends_on_commands, reports_success}
+use Rattle.mg_commands.specs.Transaction.{ActionState, TransactionState, action_start, after_commands, after_outcome, after_properties, end_of_action, continue_with, continue_after_action, id_of, unless_optional, with_action, with_actions, with_command, with_commands, with_name, with_names, with_trial}
 use Rattle.mg_commands.specs.aids.Steps.{action_unless}
 
 abbrev tells : List Item → Bool
-tells items = list_any tells_done items
+tells items = list_any reports_success items
 
 or_none : (x y : Bool) → (x || y) ≡ false → (x ≡ false) × (y ≡ false)
 or_none true y h = absurd (cc h)
@@ -40,7 +40,7 @@ or_none false y h = (refl, h)
 
 -- nothing was told of what stood before, nor of what came after
 told_parts : (xs ys : List Item) → tells (xs ++ ys) ≡ false → (tells xs ≡ false) × (tells ys ≡ false)
-told_parts xs ys h = or_none (tells xs) (tells ys) (sym (list_any-append tells_done xs ys) ∙ h)
+told_parts xs ys h = or_none (tells xs) (tells ys) (sym (list_any-append reports_success xs ys) ∙ h)
 
 -- where nothing was done so far, the gateway is the one from before
 record IsAsBefore (run after : ActionState) : Type 0 where
@@ -159,7 +159,7 @@ trial_fails source c run (Err e) (refused _) h = refl
 
 -- what is left of commands after the first, whether or not it ends them
 go_on_keeps : (rest : ActionState → ActionState × Bool) (run : ActionState) (x : ActionState × Bool) → Keeps run x.0 →
-    ((s : ActionState) → Keeps s (rest s).0) → Keeps run (go_on rest x).0
+    ((s : ActionState) → Keeps s (rest s).0) → Keeps run (continue_with rest x).0
 go_on_keeps rest run (s, true) h k = kept_on run s (rest s).0 h (k s)
 go_on_keeps rest run (s, false) h k = h
 
@@ -184,8 +184,8 @@ optional_at : (source : List ℕ) (c : Command) (cs : List Command) (x : ActionS
     → (tells x.0.items ≡ false → x.1 ≡ false) → ((s : ActionState) → Keeps s (with_commands source cs s).0)
     → ((s : ActionState) → tells (with_commands source cs s).0.items ≡ false → (with_commands source cs s).1 ≡ true →
     list_any is_needed cs ≡ false)
-    → tells (go_on (with_commands source cs) (x.0, b || x.1)).0.items ≡ false →
-    (go_on (with_commands source cs) (x.0, b || x.1)).1 ≡ true → (not b || list_any is_needed cs) ≡ false
+    → tells (continue_with (with_commands source cs) (x.0, b || x.1)).0.items ≡ false →
+    (continue_with (with_commands source cs) (x.0, b || x.1)).1 ≡ true → (not b || list_any is_needed cs) ≡ false
 optional_at source c cs (s, done) true is fails keeps later h k = later s h k
 optional_at source c cs (s, true) false is fails keeps later h k = absurd (cc (fails (keeps s h).before))
 optional_at source c cs (s, false) false is fails keeps later h k = absurd (cc k)
@@ -222,7 +222,7 @@ none_there w (Err e) = fault e
 
 none_applied : (w : Gateway) (target : Target) → Same w (apply_triples w target [])
 unfolding apply_triples
-none_applied w target = none_there w (context_there w.rooms target)
+none_applied w target = none_there w (existing_context w.rooms target)
 
 audited : {A : Type 0} (w : Gateway) (r : Result (Gateway × ℕ) ErrorNumber) (f : Gateway × ℕ → A) → Same w r →
     Same w (r >>= (λ p. Ok (p.0, f p)))
@@ -278,7 +278,7 @@ commands_ended source ps cs (run, true) true is all hangs h =
     needed k = cc (sym hangs ∙ all refl k)
 
 action_keeps : (o : Option ErrorNumber) (source : List ℕ) (a : Action) (s : TransactionState) →
-    hangs_on_commands a ≡ true → tells (action_unless o source a s).0.items ≡ false →
+    depends_on_commands a ≡ true → tells (action_unless o source a s).0.items ≡ false →
     StateAsBefore s (action_unless o source a s).0
 action_keeps (Some e) source a s hangs h = record {
   gateway = refl;
@@ -287,28 +287,28 @@ action_keeps (Some e) source a s hangs h = record {
 action_keeps None source a s hangs h =
     let x = with_commands source a.commands (action_start a s) in
     let (same_gateway, none) = commands_ended source a.properties a.commands x (list_any is_topology a.properties)
-    refl (λ done told. all_optional source a.commands (action_start a s) told done) hangs h in
+    refl (λ done reported. all_optional source a.commands (action_start a s) reported done) hangs h in
     let commands = commands_keep source a.commands (action_start a s) none in
     record { gateway = same_gateway ∙ commands.gateway; before = commands.before }
 
 state_on : (s : TransactionState) (rest : TransactionState → TransactionState) (x : TransactionState × Bool) →
     (tells x.0.items ≡ false → StateAsBefore s x.0) →
     ((t : TransactionState) → tells (rest t).items ≡ false → StateAsBefore t (rest t))
-    → tells (go_on_after_action rest x).items ≡ false → StateAsBefore s (go_on_after_action rest x)
+    → tells (continue_after_action rest x).items ≡ false → StateAsBefore s (continue_after_action rest x)
 state_on s rest (t, false) first later h = first h
 state_on s rest (t, true) first later h =
     let after = later t h in
     let before = first after.before in
     record { gateway = after.gateway ∙ before.gateway; before = before.before }
 
-actions_keep : (source : List ℕ) (xs : List Action) (s : TransactionState) → list_all hangs_on_commands xs ≡ true →
+actions_keep : (source : List ℕ) (xs : List Action) (s : TransactionState) → list_all depends_on_commands xs ≡ true →
     tells (with_actions source xs s).items ≡ false → StateAsBefore s (with_actions source xs s)
 unfolding with_actions with_action
 actions_keep source [] s hangs h = record { gateway = refl; before = h }
 actions_keep source (a ∷ xs) s hangs h =
-    let two = and_parts (hangs_on_commands a) (list_all hangs_on_commands xs) hangs in
+    let two = and_parts (depends_on_commands a) (list_all depends_on_commands xs) hangs in
     state_on s (with_actions source xs) (with_action source a s) (action_keeps (action_fault a) source a s two.0)
-    (λ t told. actions_keep source xs t two.1 told) h
+    (λ t reported. actions_keep source xs t two.1 reported) h
 
 pub refused_requests : RefusedRequestsChangeNothing
 refused_requests source request w hangs h =

@@ -22,7 +22,7 @@ use Rattle.mg_commands.specs.declared.served.Served.{Served}
 use Rattle.mg_commands.specs.Name.{written_as}
 use Rattle.mg_commands.specs.ContextProperties.{action_fault, context_outcome, triples_of}
 use Rattle.mg_commands.specs.Outcome.{CommandOutcome, Trial, check_new_name, number_in, in_same_world, outcome, trial_of, audit_outcome}
-use Rattle.mg_commands.specs.Transaction.{ActionState, TransactionState, action_start, after_commands, after_outcome, after_properties, go_on, go_on_after_action, replied, unless_optional, with_action, with_actions, with_command, with_commands, with_name, with_names, with_trial}
+use Rattle.mg_commands.specs.Transaction.{ActionState, TransactionState, action_start, after_commands, after_outcome, after_properties, continue_with, continue_after_action, replied, unless_optional, with_action, with_actions, with_command, with_commands, with_name, with_names, with_trial}
 use Rattle.mg_commands.specs.aids.Steps.{action_unless}
 
 -- a result that was done, if there is one, has it
@@ -111,7 +111,7 @@ module _ (P : Gateway → Type 0)
     trial_keeps source c run (Err e) h = h
 
     go_on_keeps : (rest : ActionState → ActionState × Bool) (x : ActionState × Bool) → P x.0.gateway →
-        ((run : ActionState) → P run.gateway → P (rest run).0.gateway) → P (go_on rest x).0.gateway
+        ((run : ActionState) → P run.gateway → P (rest run).0.gateway) → P (continue_with rest x).0.gateway
     go_on_keeps rest (run, true) h k = k run h
     go_on_keeps rest (run, false) h k = h
 
@@ -154,7 +154,7 @@ module _ (P : Gateway → Type 0)
     action_keeps source a s h = unless_keeps (action_fault a) source a s h
 
     rest_keeps : (rest : TransactionState → TransactionState) (x : TransactionState × Bool) → P x.0.gateway →
-        ((s : TransactionState) → P s.gateway → P (rest s).gateway) → P (go_on_after_action rest x).gateway
+        ((s : TransactionState) → P s.gateway → P (rest s).gateway) → P (continue_after_action rest x).gateway
     rest_keeps rest (s, true) h k = k s h
     rest_keeps rest (s, false) h k = h
 

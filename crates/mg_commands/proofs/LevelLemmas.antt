@@ -22,7 +22,7 @@ use Rattle.mg_commands.specs.DescriptorFault.{is_same_part, same_control, fault_
 use Rattle.mg_commands.specs.Part.{stream_parts, media_parts, descriptor_parts, parts_of}
 use Rattle.std.specs.Option.{option_or}
 use Rattle.mg_commands.specs.Search.{first_after}
-use Rattle.mg_commands.specs.aids.Levels.{control_level, is_same_word, stands_in, stood_in_media, stream_level, is_state, media_level, is_same_descriptor, descriptor_level}
+use Rattle.mg_commands.specs.aids.Levels.{control_level, is_same_word, appears_in, appeared_in_media, stream_level, is_state, media_level, is_same_descriptor, descriptor_level}
 use Rattle.mg_commands.specs.aids.Words.{stream_word, controls_within, descriptor_word}
 
 -- ## Tests
@@ -108,10 +108,10 @@ or_none_else (Some x) = refl
 or_none_else None = refl
 
 -- what comes after a word counts where the word did not stand before
-unless_stood : (b : Bool) (x : Part) (o w : Option ErrorNumber) → (b ≡ false → o ≡ w) →
+unless_appeared : (b : Bool) (x : Part) (o w : Option ErrorNumber) → (b ≡ false → o ≡ w) →
     option_or (fault_of b x) o ≡ option_or (fault_of b x) w
-unless_stood true x o w e = refl
-unless_stood false x o w e = ap (option_or (fault_of false x)) (e refl)
+unless_appeared true x o w e = refl
+unless_appeared false x o w e = ap (option_or (fault_of false x)) (e refl)
 
 module _ (source : List ℕ) where
   -- ## Within a LocalControl
@@ -130,11 +130,11 @@ module _ (source : List ℕ) where
       (Control n x ∷ [])
   unfolding first_after
   control_flat n c none bs x =
-      let stood : list_any (is_same_part source (Control n x)) (c ++ flat_map (λ y. Control n y ∷ []) bs) ≡
+      let appeared : list_any (is_same_part source (Control n x)) (c ++ flat_map (λ y. Control n y ∷ []) bs) ≡
       list_any (same_control source x) bs =
       none_or (is_same_part source (Control n x)) c (flat_map (λ y. Control n y ∷ []) bs) (none x) ∙
       ap (list_any (is_same_part source (Control n x))) (flat_map_single (Control n) bs) ∙ controls_among n x bs in
-      ap (λ (b : Bool). fault_of b (Control n x)) (sym stood) ∙
+      ap (λ (b : Bool). fault_of b (Control n x)) (sym appeared) ∙
       sym (or_none_else (fault_of (list_any (is_same_part source (Control n x))
       (c ++ flat_map (λ y. Control n y ∷ []) bs)) (Control n x)))
 
@@ -197,7 +197,7 @@ module _ (source : List ℕ) where
   no_word_is_state n (streams.LocalControl xs) b = refl
 
   word_in_media : (n : ℕ) (x : StreamPart) (p : MediaPart) →
-      list_any (is_same_part source (stream_word n x)) (media_parts p) ≡ stands_in source (stream_word n x) n p
+      list_any (is_same_part source (stream_word n x)) (media_parts p) ≡ appears_in source (stream_word n x) n p
   word_in_media n x (media.Part y) = word_in_stream n x 1 y ∙ own_stream n x 1 y
   word_in_media n x (media.Stream k ys) =
       ap (λ (b : Bool). b || list_any (is_same_part source (stream_word n x)) (flat_map (stream_parts k) ys))
@@ -261,7 +261,7 @@ module _ (source : List ℕ) where
   stream_step n c (streams.Local t) guarded = refl
   stream_step n c (streams.Remote t) guarded = refl
   stream_step n c (streams.LocalControl xs) guarded =
-      unless_stood (list_any (is_same_part source (LocalControl n)) c) (LocalControl n)
+      unless_appeared (list_any (is_same_part source (LocalControl n)) c) (LocalControl n)
       (first_after (control_level source n) [] xs)
       (first_after (part_fault source) (c ++ LocalControl n ∷ []) (map (Control n) xs))
       (λ e. controls_flat n (c ++ LocalControl n ∷ [])
@@ -276,20 +276,20 @@ module _ (source : List ℕ) where
       let p = is_same_part source (stream_word n x) in
       let before = flat_map media_parts parts in
       let own = flat_map (stream_parts n) bs in
-      let front : list_any p ((c ++ before) ++ m) ≡ list_any (stands_in source (stream_word n x) n) parts =
+      let front : list_any p ((c ++ before) ++ m) ≡ list_any (appears_in source (stream_word n x) n) parts =
       list_any-append p (c ++ before) m ∙ ap (λ (b : Bool). list_any p (c ++ before) || b) (no_word x) ∙
       or_false (list_any p (c ++ before))
       ∙ none_or p c before (outside.word n x) ∙
-      any_in_all p media_parts (stands_in source (stream_word n x) n) (word_in_media n x) parts in
-      let stood : list_any p (((c ++ before) ++ m) ++ own) ≡ stood_in_media source parts n bs (stream_word n x) =
+      any_in_all p media_parts (appears_in source (stream_word n x) n) (word_in_media n x) parts in
+      let appeared : list_any p (((c ++ before) ++ m) ++ own) ≡ appeared_in_media source parts n bs (stream_word n x) =
       list_any-append p ((c ++ before) ++ m) own
       ∙ ap (λ (b : Bool). b || list_any p own) front
-      ∙ ap (λ (b : Bool). list_any (stands_in source (stream_word n x) n) parts || b)
+      ∙ ap (λ (b : Bool). list_any (appears_in source (stream_word n x) n) parts || b)
       (any_in_all p (stream_parts n) (is_same_word source (stream_word n x) n) (word_in_stream n x n) bs)
-      ∙ or_comm (list_any (stands_in source (stream_word n x) n) parts)
+      ∙ or_comm (list_any (appears_in source (stream_word n x) n) parts)
       (list_any (is_same_word source (stream_word n x) n) bs) in
       ap (λ (b : Bool). option_or (fault_of b (stream_word n x))
-      (first_after (control_level source n) [] (controls_within x))) (sym stood)
+      (first_after (control_level source n) [] (controls_within x))) (sym appeared)
       ∙ stream_step n (((c ++ before) ++ m) ++ own) x
       (guarded_both n ((c ++ before) ++ m) own
       (guarded_both n (c ++ before) m (guarded_both n c before (λ e. outside.control n)
@@ -329,10 +329,10 @@ module _ (source : List ℕ) where
       (sym (no_stream_twice n (c ++ flat_map media_parts bs)))
   media_flat c outside bs (media.TerminationState h) =
       let p = is_same_part source (TerminationState h) in
-      let stood : list_any p (c ++ flat_map media_parts bs) ≡ list_any is_state bs =
+      let appeared : list_any p (c ++ flat_map media_parts bs) ≡ list_any is_state bs =
       none_or p c (flat_map media_parts bs) (outside.state h) ∙
       any_in_all p media_parts is_state (state_in_media h) bs in
-      ap (λ (b : Bool). fault_of b (TerminationState h)) (sym stood) ∙
+      ap (λ (b : Bool). fault_of b (TerminationState h)) (sym appeared) ∙
       sym (or_none_else (fault_of (list_any p (c ++ flat_map media_parts bs)) (TerminationState h)))
 
   medias_flat : (c : List Part) → IsOutside c → (xs : List MediaPart) →
@@ -464,7 +464,7 @@ module _ (source : List ℕ) where
       descriptor_level source bs d ≡ first_after (part_fault source) (parts_of bs) (descriptor_parts d)
   unfolding first_after
   descriptor_flat bs (descriptors.Media xs) =
-      unless_stood (list_any (is_same_descriptor source Media) bs) Media (first_after (media_level source) [] xs)
+      unless_appeared (list_any (is_same_descriptor source Media) bs) Media (first_after (media_level source) [] xs)
       (first_after (part_fault source) (parts_of bs ++ Media ∷ []) (flat_map media_parts xs))
       (λ e. medias_flat (parts_of bs ++ Media ∷ []) (outside_before bs e) xs)
       ∙ ap (λ (b : Bool). option_or (fault_of b Media)

@@ -9,7 +9,7 @@ use Rattle.mg_commands.specs.Part.{parts_of}
 use Rattle.std.specs.Option.{option_or}
 use Rattle.mg_commands.specs.Search.{first_of}
 use Rattle.mg_commands.proofs.LevelLemmas.{option_or-assoc}
-use Rattle.mg_commands.specs.aids.Parameters.{nothing_asked, with_part, with_parts}
+use Rattle.mg_commands.specs.aids.Parameters.{no_parameters, with_part, with_parts}
 
 option_or-none : {A : Type 0} (o : Option A) → o ≡ option_or o None
 option_or-none (Some x) = refl
@@ -64,8 +64,8 @@ all_after source a (x ∷ xs) =
     ) refl
 
 pub parts_ask : (source : List ℕ) (xs : List Descriptor) →
-    with_parts source nothing_asked (parts_of xs) ≡ parameters_of source xs
-parts_ask source xs = all_after source nothing_asked (parts_of xs)
+    with_parts source no_parameters (parts_of xs) ≡ parameters_of source xs
+parts_ask source xs = all_after source no_parameters (parts_of xs)
 
 pub part_taken : (source : List ℕ) (a : CommandParameters) (x : Part) (xs ys : List Part) (next w : CommandParameters)
     → xs ≡ x ∷ ys → next ≡ with_part source a x → with_parts source a xs ≡ w → with_parts source next ys ≡ w

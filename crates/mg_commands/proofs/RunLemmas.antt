@@ -29,11 +29,11 @@ use Rattle.mg_commands.specs.ContextProperties.{action_fault, context_outcome}
 use Rattle.mg_commands.specs.Name.{name_of, written_as, written_name}
 use Rattle.mg_commands.specs.Outcome.{Trial, outcome, check_command, names_for}
 use Rattle.mg_commands.specs.aids.Steps.{all_names}
-use Rattle.mg_commands.specs.Transaction.{ActionState, TransactionState, after_outcome, with_name, and_then, with_names, with_trial, with_command, unless_optional, go_on, with_commands, action_start, id_of, target_of, end_of_action, after_properties, after_commands, with_action, with_actions, replied}
+use Rattle.mg_commands.specs.Transaction.{ActionState, TransactionState, after_outcome, with_name, and_then, with_names, with_trial, with_command, unless_optional, continue_with, with_commands, action_start, id_of, target_of, end_of_action, after_properties, after_commands, with_action, with_actions, replied}
 use Rattle.mg_commands.specs.aids.Steps.{action_unless}
 use Rattle.mg_commands.specs.aids.Runs.{Base, IsPaid, ActionKept, action_kept, IsActionRun, with_all, TransactionKept}
-use Rattle.mg_commands.specs.aids.Runs.{transaction_kept, IsTransaction, TellsProperties}
-use Rattle.mg_commands.specs.Work.{is_edit, edits_told}
+use Rattle.mg_commands.specs.aids.Runs.{transaction_kept, IsTransaction, ReportsProperties}
+use Rattle.mg_commands.specs.Work.{is_edit, edits_reported}
 use Rattle.mg_commands.proofs.PutLemmas.{put_next, put_more}
 use Rattle.mg_commands.proofs.WorkLemmas.{paid_one, paid_still, paid_nothing}
 
@@ -73,20 +73,20 @@ with_outcome source c parameters name run target h =
     ap (λ (t : Target). after_outcome c.word (name_told source c name) run
     (outcome c.word run.gateway t name parameters)) h
 
-made_first : (a b made : Option ℕ) (told : Option ℕ) → a ≡ b → told ≡ option_or b made → option_or a made ≡ told
-made_first a (Some n) made told h e = ap (λ (o : Option ℕ). option_or o made) h ∙ sym e
-made_first a None made told h e = ap (λ (o : Option ℕ). option_or o made) h ∙ sym e
+made_first : (a b made : Option ℕ) (reported : Option ℕ) → a ≡ b → reported ≡ option_or b made → option_or a made ≡ reported
+made_first a (Some n) made reported h e = ap (λ (o : Option ℕ). option_or o made) h ∙ sym e
+made_first a None made reported h e = ap (λ (o : Option ℕ). option_or o made) h ∙ sym e
 
 pub name_done : (source : List ℕ) (c : Command) (parameters : CommandParameters) (name : Name) (old new : EngineState)
-    (progress : Progress) (before told : Answered) (s : Served) (made : Option ℕ) →
+    (progress : Progress) (before reported : Answered) (s : Served) (made : Option ℕ) →
     ((w : Gateway) → StandsFor old w → IsOutcome new (Ok s) (outcome c.word w progress.target name parameters)) →
     RisesAtMost (if is_edit c.word then 4 else 0) old.sums.work new.sums.work →
-    made ≡ option_or progress.made s.made → told ≡ after_put before (item_done c s)
+    made ≡ option_or progress.made s.made → reported ≡ after_put before (item_done c s)
     → (base : Base) → Leads (IsActionRun base) (action_kept old progress before)
-    (action_kept new (record { target = s.target; made = made }) told)
+    (action_kept new (record { target = s.target; made = made }) reported)
     (λ run next. with_name source c parameters name run ≡ (next, true))
-name_done source c parameters name old new progress before told s made came cost is put base run h =
-    let (w, did, stands) = came run.gateway h.gateway in (
+name_done source c parameters name old new progress before reported s made represents cost is put base run h =
+    let (w, did, stands) = represents run.gateway h.gateway in (
       record {
         gateway = w;
         target = s.target;
@@ -105,11 +105,11 @@ name_done source c parameters name old new progress before told s made came cost
     )
 
 -- an action after one more item that tells an error stands where it stood
-failed_stands : (c : Command) (term : List ℕ) (old new : EngineState) (progress : Progress) (before told : Answered)
-    (e : ErrorNumber) → new ≡ old → told ≡ after_put before (item_failed c term e)
+failed_stands : (c : Command) (term : List ℕ) (old new : EngineState) (progress : Progress) (before reported : Answered)
+    (e : ErrorNumber) → new ≡ old → reported ≡ after_put before (item_failed c term e)
     → (base : Base) (run : ActionState) → IsActionRun base (action_kept old progress before) run →
-    IsActionRun base (action_kept new progress told) (record run { items = run.items ++ item_failed c term e ∷ [] })
-failed_stands c term old new progress before told e same put base run h =
+    IsActionRun base (action_kept new progress reported) (record run { items = run.items ++ item_failed c term e ∷ [] })
+failed_stands c term old new progress before reported e same put base run h =
     record {
       gateway = rw same h.gateway;
       target = h.target;
@@ -120,16 +120,16 @@ failed_stands c term old new progress before told e same put base run h =
     }
 
 pub name_failed : (source : List ℕ) (c : Command) (parameters : CommandParameters) (name : Name)
-    (old new : EngineState) (progress : Progress) (before told : Answered) (e : ErrorNumber) →
+    (old new : EngineState) (progress : Progress) (before reported : Answered) (e : ErrorNumber) →
     ((w : Gateway) → StandsFor old w → IsOutcome new (Err e) (outcome c.word w progress.target name parameters)) →
-    new ≡ old → told ≡ after_put before (item_failed c (name_told source c name) e)
-    → (base : Base) → Leads (IsActionRun base) (action_kept old progress before) (action_kept new progress told)
+    new ≡ old → reported ≡ after_put before (item_failed c (name_told source c name) e)
+    → (base : Base) → Leads (IsActionRun base) (action_kept old progress before) (action_kept new progress reported)
     (λ run next. with_name source c parameters name run ≡ (next, false))
-name_failed source c parameters name old new progress before told e came same put base run h = (
+name_failed source c parameters name old new progress before reported e represents same put base run h = (
   record run { items = run.items ++ item_failed c (name_told source c name) e ∷ [] },
   with_outcome source c parameters name run progress.target h.target ∙
-      ap (after_outcome c.word (name_told source c name) run) (came run.gateway h.gateway),
-  failed_stands c (name_told source c name) old new progress before told e same put base run h,
+      ap (after_outcome c.word (name_told source c name) run) (represents run.gateway h.gateway),
+  failed_stands c (name_told source c name) old new progress before reported e same put base run h,
 )
 
 -- ## A command for members
@@ -172,13 +172,13 @@ module _ (source : List ℕ) (c : Command) (parameters : CommandParameters) (mem
       (λ run now. with_names source c parameters (map names.Number members) run ≡
       and_then (with_names source c parameters (map names.Number (drop (i + 1) members))) (now, are_done))
   members_go_on n d new is_done are_done lt is all step run h =
-      let (now, came, stands) = inside run h in
+      let (now, represents, stands) = inside run h in
       let (next, did, left) = step now stands in
       let rest = with_names source c parameters (map names.Number (drop (i + 1) members)) in
       let one = next_member source c parameters members i d now next is_done lt
       (ap (λ (n : ℕ). with_name source c parameters (names.Number n) now) (sym is) ∙ did) in (
         next,
-        came ∙ ap (λ (x : ActionState × Bool). (x.0, were_done && x.1)) one ∙
+        represents ∙ ap (λ (x : ActionState × Bool). (x.0, were_done && x.1)) one ∙
             and_then_twice rest were_done is_done next ∙ ap (λ (b : Bool). and_then rest (next, b)) (sym all),
         left,
       )
@@ -186,9 +186,9 @@ module _ (source : List ℕ) (c : Command) (parameters : CommandParameters) (mem
   pub members_finish : length members ≤ i → Leads (IsActionRun base) entered kept
       (λ run next. with_names source c parameters (map names.Number members) run ≡ (next, were_done))
   members_finish le run h =
-      let (now, came, stands) = inside run h in (
+      let (now, represents, stands) = inside run h in (
         now,
-        came ∙ ap (λ (x : ActionState × Bool). (x.0, were_done && x.1))
+        represents ∙ ap (λ (x : ActionState × Bool). (x.0, were_done && x.1))
             (members_end source c parameters members i now le) ∙ was_done now were_done,
         stands,
       )
@@ -208,16 +208,16 @@ with_matches source c parameters run target r h is =
     ap (λ (r : Result (List Name) ErrorNumber). with_trial source c run (tried_on parameters r)) is
 
 pub all_refused : (source : List ℕ) (c : Command) (parameters : CommandParameters) (kept : EngineState)
-    (progress : Progress) (before told : Answered) (e : ErrorNumber) →
+    (progress : Progress) (before reported : Answered) (e : ErrorNumber) →
     ((w : Gateway) → StandsFor kept w → all_names w progress.target c.word ≡ Err e) →
-    told ≡ after_put before (item_failed c (written_name (text_of source c.term)) e)
-    → (base : Base) → Leads (IsActionRun base) (action_kept kept progress before) (action_kept kept progress told)
+    reported ≡ after_put before (item_failed c (written_name (text_of source c.term)) e)
+    → (base : Base) → Leads (IsActionRun base) (action_kept kept progress before) (action_kept kept progress reported)
     (λ run next. with_all source c parameters run ≡ (next, false))
-all_refused source c parameters kept progress before told e found put base run h =
+all_refused source c parameters kept progress before reported e found put base run h =
     let term = written_name (text_of source c.term) in (
       record run { items = run.items ++ item_failed c term e ∷ [] },
       with_matches source c parameters run progress.target (Err e) h.target (found run.gateway h.gateway),
-      failed_stands c term kept kept progress before told e refl put base run h,
+      failed_stands c term kept kept progress before reported e refl put base run h,
     )
 
 -- ## A command
@@ -268,15 +268,15 @@ command_for_one source c parameters name kept new is_done checked is not_all ran
     )
 
 pub command_refused : (source : List ℕ) (c : Command) (kept : EngineState) (progress : Progress)
-    (before told : Answered) (e : ErrorNumber) → check_command source c ≡ Err e →
-    told ≡ after_put before (item_failed c (written_name (text_of source c.term)) e)
-    → (base : Base) → Leads (IsActionRun base) (action_kept kept progress before) (action_kept kept progress told)
+    (before reported : Answered) (e : ErrorNumber) → check_command source c ≡ Err e →
+    reported ≡ after_put before (item_failed c (written_name (text_of source c.term)) e)
+    → (base : Base) → Leads (IsActionRun base) (action_kept kept progress before) (action_kept kept progress reported)
     (λ run next. with_command source c run ≡ (next, false))
-command_refused source c kept progress before told e checked put base run h =
+command_refused source c kept progress before reported e checked put base run h =
     let term = written_name (text_of source c.term) in (
       record run { items = run.items ++ item_failed c term e ∷ [] },
       with_checked source c run (name_of (text_of source c.term)) (Err e) checked refl,
-      failed_stands c term kept kept progress before told e refl put base run h,
+      failed_stands c term kept kept progress before reported e refl put base run h,
     )
 
 -- ## Commands
@@ -284,26 +284,26 @@ command_refused source c kept progress before told e checked put base run h =
 passed : (source : List ℕ) (c : Command) (run next : ActionState) (is_done : Bool) →
     with_command source c run ≡ (next, is_done) → (c.is_optional || is_done) ≡ true →
     unless_optional c (with_command source c run) ≡ (next, true)
-passed source c run next is_done e goes_on = ap (unless_optional c) e ∙ ap (λ (b : Bool). (next, b)) goes_on
+passed source c run next is_done e continues = ap (unless_optional c) e ∙ ap (λ (b : Bool). (next, b)) continues
 
 stopped : (source : List ℕ) (c : Command) (run next : ActionState) (is_done : Bool) →
     with_command source c run ≡ (next, is_done) → (c.is_optional || is_done) ≡ false →
     unless_optional c (with_command source c run) ≡ (next, false)
-stopped source c run next is_done e goes_on = ap (unless_optional c) e ∙ ap (λ (b : Bool). (next, b)) goes_on
+stopped source c run next is_done e continues = ap (unless_optional c) e ∙ ap (λ (b : Bool). (next, b)) continues
 
 next_done : (source : List ℕ) (cs : List Command) (i : ℕ) (d : Command) (run next : ActionState) → i < length cs →
     unless_optional (get_or cs i d) (with_command source (get_or cs i d) run) ≡ (next, true) →
     with_commands source (drop i cs) run ≡ with_commands source (drop (i + 1) cs) next
 unfolding with_commands
 next_done source cs i d run next lt e = ap (λ (xs : List Command). with_commands source xs run) (drop_more cs i d lt)
-    ∙ ap (go_on (with_commands source (drop (i + 1) cs))) e
+    ∙ ap (continue_with (with_commands source (drop (i + 1) cs))) e
 
 next_failed : (source : List ℕ) (cs : List Command) (i : ℕ) (d : Command) (run next : ActionState) → i < length cs →
     unless_optional (get_or cs i d) (with_command source (get_or cs i d) run) ≡ (next, false) →
     with_commands source (drop i cs) run ≡ (next, false)
 unfolding with_commands
 next_failed source cs i d run next lt e = ap (λ (xs : List Command). with_commands source xs run)
-    (drop_more cs i d lt) ∙ ap (go_on (with_commands source (drop (i + 1) cs))) e
+    (drop_more cs i d lt) ∙ ap (continue_with (with_commands source (drop (i + 1) cs))) e
 
 commands_end : (source : List ℕ) (cs : List Command) (i : ℕ) (run : ActionState) → length cs ≤ i →
     with_commands source (drop i cs) run ≡ (run, true)
@@ -320,13 +320,13 @@ module _ (source : List ℕ) (cs : List Command) (base : Base) (entered kept : A
       (λ run next. with_command source c run ≡ (next, is_done)) →
       Leads (IsActionRun base) entered new (λ run now. with_commands source cs run ≡
       with_commands source (drop (i + 1) cs) now)
-  commands_go_on c d new is_done lt is goes_on step run h =
-      let (now, came, stands) = inside run h in
+  commands_go_on c d new is_done lt is continues step run h =
+      let (now, represents, stands) = inside run h in
       let (next, did, left) = step now stands in (
         next,
-        came ∙ next_done source cs i d now next lt
+        represents ∙ next_done source cs i d now next lt
             (ap (λ (c : Command). unless_optional c (with_command source c now)) (sym is) ∙
-            passed source c now next is_done did goes_on),
+            passed source c now next is_done did continues),
         left,
       )
 
@@ -334,34 +334,34 @@ module _ (source : List ℕ) (cs : List Command) (base : Base) (entered kept : A
       (c.is_optional || is_done) ≡ false → Leads (IsActionRun base) kept new
       (λ run next. with_command source c run ≡ (next, is_done)) →
       Leads (IsActionRun base) entered new (λ run next. with_commands source cs run ≡ (next, false))
-  commands_stop c d new is_done lt is goes_on step run h =
-      let (now, came, stands) = inside run h in
+  commands_stop c d new is_done lt is continues step run h =
+      let (now, represents, stands) = inside run h in
       let (next, did, left) = step now stands in (
         next,
-        came ∙ next_failed source cs i d now next lt
+        represents ∙ next_failed source cs i d now next lt
             (ap (λ (c : Command). unless_optional c (with_command source c now)) (sym is) ∙
-            stopped source c now next is_done did goes_on),
+            stopped source c now next is_done did continues),
         left,
       )
 
   pub commands_finish : length cs ≤ i → Leads (IsActionRun base) entered kept
       (λ run next. with_commands source cs run ≡ (next, true))
   commands_finish le run h =
-      let (now, came, stands) = inside run h in
-      (now, came ∙ commands_end source cs i now le, stands)
+      let (now, represents, stands) = inside run h in
+      (now, represents ∙ commands_end source cs i now le, stands)
 
 -- ## An action
 
 abbrev pub first_progress : Action → Progress
 first_progress a = record { target = target_of a.context; made = None }
 
-pub action_refused : (source : List ℕ) (a : Action) (kept : EngineState) (before fault told : Answered)
+pub action_refused : (source : List ℕ) (a : Action) (kept : EngineState) (before fault reported : Answered)
     (e : ErrorNumber) → action_fault a ≡ Some e → fault ≡ after_put before (replies.Fault e) →
-    told ≡ after_put fault (replies.Action a.context)
-    → (base : Base) → Leads (IsTransaction base) (transaction_kept kept before) (transaction_kept kept told)
+    reported ≡ after_put fault (replies.Action a.context)
+    → (base : Base) → Leads (IsTransaction base) (transaction_kept kept before) (transaction_kept kept reported)
     (λ s next. with_action source a s ≡ (next, false))
 unfolding with_action
-action_refused source a kept before fault told e why first last base s h = (
+action_refused source a kept before fault reported e why first last base s h = (
   record { gateway = s.gateway; items = s.items ++ replies.Fault e ∷ replies.Action a.context ∷ [] },
   ap (λ (o : Option ErrorNumber). action_unless o source a s) why,
   record {
@@ -374,21 +374,21 @@ action_refused source a kept before fault told e why first last base s h = (
 )
 
 -- the end of an action, by what was told of its context, for which no row was touched
-module _ (base : Base) (before told closed : Answered) (kept new : EngineState) (run : ActionState)
+module _ (base : Base) (before reported closed : Answered) (kept new : EngineState) (run : ActionState)
     (h : before ≡ after_all base.reply run.items) (paid : IsPaid base run.items kept)
-    (same : new.sums.work ≡ kept.sums.work) (last : closed ≡ after_put told (replies.Action (id_of run.target))) where
-  close : (w : Gateway) (items : List Item) → StandsFor new w → told ≡ after_all before items →
+    (same : new.sums.work ≡ kept.sums.work) (last : closed ≡ after_put reported (replies.Action (id_of run.target))) where
+  close : (w : Gateway) (items : List Item) → StandsFor new w → reported ≡ after_all before items →
       IsTransaction base (transaction_kept new closed) (end_of_action run w items)
   close w items stands put = record {
     gateway = stands;
-    reply = last ∙ put_next base.reply told (run.items ++ items) (replies.Action (id_of run.target))
-        (put_more base.reply before told run.items items h put);
+    reply = last ∙ put_next base.reply reported (run.items ++ items) (replies.Action (id_of run.target))
+        (put_more base.reply before reported run.items items h put);
     work = paid_still base (run.items ++ items) (replies.Action (id_of run.target) ∷ []) new new
         (paid_still base run.items items kept new paid same) refl;
   }
 
   properties_ended : (is_done : Bool) (r : Result (Gateway × List Item) ErrorNumber) →
-      TellsProperties new before told is_done run.gateway r → (next : TransactionState) ×
+      ReportsProperties new before reported is_done run.gateway r → (next : TransactionState) ×
       (after_properties run r ≡ (next, is_done)) × IsTransaction base (transaction_kept new closed) next
   properties_ended is_done (Ok p) t = (
     end_of_action run p.0 p.1,
@@ -410,47 +410,47 @@ module _ (source : List ℕ) (a : Action) (old middle : EngineState) (before sai
       IsActionRun base (action_kept old (first_progress a) before) (action_start a s)
   as_started base s h = record { gateway = h.gateway; target = refl; made = refl; reply = h.reply; work = h.work }
 
-  goes_on : (s : TransactionState) (run : ActionState) →
+  continues : (s : TransactionState) (run : ActionState) →
       with_commands source a.commands (action_start a s) ≡ (run, were_done) →
       with_action source a s ≡ after_commands source a.properties (run, were_done)
   unfolding with_action
-  goes_on s run did = ap (λ (o : Option ErrorNumber). action_unless o source a s) none ∙
+  continues s run did = ap (λ (o : Option ErrorNumber). action_unless o source a s) none ∙
       ap (after_commands source a.properties) did
 
   -- one failed, so nothing more was done
-  pub action_stopped : (new : EngineState) (told closed : Answered) (is_done : Bool) → were_done ≡ false →
-      is_done ≡ were_done → new ≡ middle → told ≡ said →
-      closed ≡ after_put told (replies.Action (id_of progress.target))
+  pub action_stopped : (new : EngineState) (reported closed : Answered) (is_done : Bool) → were_done ≡ false →
+      is_done ≡ were_done → new ≡ middle → reported ≡ said →
+      closed ≡ after_put reported (replies.Action (id_of progress.target))
       → (base : Base) → Leads (IsTransaction base) (transaction_kept old before) (transaction_kept new closed)
       (λ s next. with_action source a s ≡ (next, is_done))
-  action_stopped new told closed is_done failed done kept said_so last base s h =
+  action_stopped new reported closed is_done failed done kept said_so last base s h =
       let (run, did, stands) = ran base (action_start a s) (as_started base s h) in (
         end_of_action run run.gateway [],
-        goes_on s run did ∙ ap (λ (b : Bool). after_commands source a.properties (run, b)) failed ∙
+        continues s run did ∙ ap (λ (b : Bool). after_commands source a.properties (run, b)) failed ∙
             ap (λ (b : Bool). (end_of_action run run.gateway [], b)) (sym (done ∙ failed)),
-        close base said told closed middle new run stands.reply stands.work
+        close base said reported closed middle new run stands.reply stands.work
             (ap (λ (k : EngineState). k.sums.work) kept) (rw stands.target last) run.gateway []
             (rw kept stands.gateway) said_so,
       )
 
   -- all were done
-  pub action_finished : (new : EngineState) (told closed : Answered) (is_done : Bool) → were_done ≡ true →
-      ((w : Gateway) → StandsFor middle w → TellsProperties new said told is_done w
+  pub action_finished : (new : EngineState) (reported closed : Answered) (is_done : Bool) → were_done ≡ true →
+      ((w : Gateway) → StandsFor middle w → ReportsProperties new said reported is_done w
       (context_outcome source progress.made a.properties w progress.target)) → new.sums.work ≡ middle.sums.work →
-      closed ≡ after_put told (replies.Action (id_of progress.target))
+      closed ≡ after_put reported (replies.Action (id_of progress.target))
       → (base : Base) → Leads (IsTransaction base) (transaction_kept old before) (transaction_kept new closed)
       (λ s next. with_action source a s ≡ (next, is_done))
-  action_finished new told closed is_done all tells same last base s h =
+  action_finished new reported closed is_done all tells same last base s h =
       let (run, did, stands) = ran base (action_start a s) (as_started base s h) in
-      let came = ap (λ (made : Option ℕ). context_outcome source made a.properties run.gateway run.target) stands.made
+      let represents = ap (λ (made : Option ℕ). context_outcome source made a.properties run.gateway run.target) stands.made
       ∙ ap (λ (t : Target). context_outcome source progress.made a.properties run.gateway t) stands.target in
-      let told_so = subst (λ (r : Result (Gateway × List Item) ErrorNumber). TellsProperties new said told is_done
+      let told_so = subst (λ (r : Result (Gateway × List Item) ErrorNumber). ReportsProperties new said reported is_done
       run.gateway
-      r) (sym came) (tells run.gateway stands.gateway) in
-      let (next, is, left) = properties_ended base said told closed middle new run stands.reply stands.work same
+      r) (sym represents) (tells run.gateway stands.gateway) in
+      let (next, is, left) = properties_ended base said reported closed middle new run stands.reply stands.work same
       (rw stands.target last) is_done (context_outcome source run.made a.properties run.gateway run.target)
       told_so in
-      (next, goes_on s run did ∙ ap (λ (b : Bool). after_commands source a.properties (run, b)) all ∙ is, left)
+      (next, continues s run did ∙ ap (λ (b : Bool). after_commands source a.properties (run, b)) all ∙ is, left)
 
 -- ## Actions
 
@@ -478,10 +478,10 @@ module _ (source : List ℕ) (xs : List Action) (base : Base) (entered kept : Tr
       Leads (IsTransaction base) entered new (λ s now. with_actions source xs s ≡
       with_actions source (drop (i + 1) xs) now)
   actions_go_on a d new lt is step s h =
-      let (now, came, stands) = inside s h in
+      let (now, represents, stands) = inside s h in
       let (next, did, left) = step now stands in (
         next,
-        came ∙ next_whole source xs i d now next lt
+        represents ∙ next_whole source xs i d now next lt
             (ap (λ (a : Action). with_action source a now) (sym is) ∙ did),
         left,
       )
@@ -490,10 +490,10 @@ module _ (source : List ℕ) (xs : List Action) (base : Base) (entered kept : Tr
       Leads (IsTransaction base) kept new (λ s next. with_action source a s ≡ (next, false)) →
       Leads (IsTransaction base) entered new (λ s next. with_actions source xs s ≡ next)
   actions_stop a d new lt is step s h =
-      let (now, came, stands) = inside s h in
+      let (now, represents, stands) = inside s h in
       let (next, did, left) = step now stands in (
         next,
-        came ∙ next_last source xs i d now next lt
+        represents ∙ next_last source xs i d now next lt
             (ap (λ (a : Action). with_action source a now) (sym is) ∙ did),
         left,
       )
@@ -501,18 +501,18 @@ module _ (source : List ℕ) (xs : List Action) (base : Base) (entered kept : Tr
   pub actions_finish : length xs ≤ i → Leads (IsTransaction base) entered kept
       (λ s next. with_actions source xs s ≡ next)
   actions_finish le s h =
-      let (now, came, stands) = inside s h in
-      (now, came ∙ actions_end source xs i now le, stands)
+      let (now, represents, stands) = inside s h in
+      (now, represents ∙ actions_end source xs i now le, stands)
 
 -- ## A request
 
 abbrev Answers : List ℕ → Request → Answered → Gateway → Gateway → Type 0
-Answers source request told w next = ((replied source request w).gateway ≡ next) ×
-    (told ≡ after_all (new_reply request.number) (replied source request w).items)
+Answers source request reported w next = ((replied source request w).gateway ≡ next) ×
+    (reported ≡ after_all (new_reply request.number) (replied source request w).items)
 
-module _ (source : List ℕ) (request : Request) (old new : EngineState) (before told : Answered)
+module _ (source : List ℕ) (request : Request) (old new : EngineState) (before reported : Answered)
     (begun : before ≡ new_reply request.number)
-    (ran : (base : Base) → Leads (IsTransaction base) (transaction_kept old before) (transaction_kept new told)
+    (ran : (base : Base) → Leads (IsTransaction base) (transaction_kept old before) (transaction_kept new reported)
     (λ s next. with_actions source request.actions s ≡ next)) where
   abbrev first : Base
   first = record { reply = new_reply request.number; work = old.sums.work }
@@ -520,13 +520,13 @@ module _ (source : List ℕ) (request : Request) (old new : EngineState) (before
   abbrev at_first : Gateway → TransactionState
   at_first w = record { gateway = w; items = [] }
 
-  came : (w : Gateway) → StandsFor old w → (next : TransactionState) ×
-      (with_actions source request.actions (at_first w) ≡ next) × IsTransaction first (transaction_kept new told) next
-  came w h = ran first (at_first w) (record { gateway = h; reply = begun; work = paid_nothing first old refl })
+  represents : (w : Gateway) → StandsFor old w → (next : TransactionState) ×
+      (with_actions source request.actions (at_first w) ≡ next) × IsTransaction first (transaction_kept new reported) next
+  represents w h = ran first (at_first w) (record { gateway = h; reply = begun; work = paid_nothing first old refl })
 
-  pub request_ran : Leads StandsFor old new (Answers source request told)
+  pub request_ran : Leads StandsFor old new (Answers source request reported)
   request_ran w h =
-      let (next, did, stands) = came w h in (
+      let (next, did, stands) = represents w h in (
         next.gateway,
         (
           ap (λ (s : TransactionState). s.gateway) did,
@@ -537,8 +537,8 @@ module _ (source : List ℕ) (request : Request) (old new : EngineState) (before
       )
 
   pub request_paid : (w : Gateway) → StandsFor old w →
-      RisesAtMost (4 * edits_told (replied source request w).items) old.sums.work new.sums.work
+      RisesAtMost (4 * edits_reported (replied source request w).items) old.sums.work new.sums.work
   request_paid w h =
-      let (next, did, stands) = came w h in
-      subst (λ (s : TransactionState). RisesAtMost (4 * edits_told s.items) old.sums.work new.sums.work) (sym did)
+      let (next, did, stands) = represents w h in
+      subst (λ (s : TransactionState). RisesAtMost (4 * edits_reported s.items) old.sums.work new.sums.work) (sym did)
       stands.work

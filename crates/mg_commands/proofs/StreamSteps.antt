@@ -9,7 +9,7 @@ use Rattle.mg_text.specs.declared.media.MediaPart.{MediaPart}
 use Rattle.mg_text.specs.declared.media.MediaPart.TheVariants as media
 use Rattle.mg_commands.specs.declared.part.Part.{Part}
 use Rattle.mg_commands.specs.Search.{first_after}
-use Rattle.mg_commands.specs.aids.Levels.{stands_in, stream_level, media_level, stream_of, greatest_stream}
+use Rattle.mg_commands.specs.aids.Levels.{appears_in, stream_level, media_level, stream_of, greatest_stream}
 
 pub greatest_push : (xs : List MediaPart) (x : MediaPart) →
     greatest_stream (xs ++ x ∷ []) ≡ max (greatest_stream xs) (stream_of x)
@@ -25,14 +25,14 @@ greatest_next xs i x d g s h lt is front stream most =
     omega (arith, pushed, same, front, stream, most)
 
 -- a part of another stream
-stands_not : (source : List ℕ) (p : Part) (n : ℕ) (y : MediaPart) → stream_of y < n → stands_in source p n y ≡ false
+stands_not : (source : List ℕ) (p : Part) (n : ℕ) (y : MediaPart) → stream_of y < n → appears_in source p n y ≡ false
 stands_not source p n (media.Part x) lt = let other : (n == 1) ≡ false = ne_eqb n 1 (λ q. omega arith) in rw other refl
 stands_not source p n (media.Stream k xs) lt = let other : (n == k) ≡ false = ne_eqb n k (λ q. omega arith) in
     rw other refl
 stands_not source p n (media.TerminationState has_content) lt = refl
 
 stands_nowhere : (source : List ℕ) (p : Part) (n : ℕ) (ys : List MediaPart) → greatest_stream ys < n →
-    list_any (stands_in source p n) ys ≡ false
+    list_any (appears_in source p n) ys ≡ false
 stands_nowhere source p n [] lt = refl
 stands_nowhere source p n (y ∷ ys) lt = rw (
   stands_not source p n y (omega arith),

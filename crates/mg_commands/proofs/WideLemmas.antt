@@ -47,7 +47,7 @@ use Rattle.mg_commands.specs.Name.{written_as, written_name}
 use Rattle.mg_commands.specs.ContextProperties.{is_context_audit, action_fault, triples_of, pair_item, audit_pair, audit_pairs, audit_items, context_outcome}
 use Rattle.mg_commands.specs.Outcome.{CommandOutcome, Trial, check_new_name, number_in, in_same_world, outcome, trial_of, reply_parts, served_at, made_at}
 use Rattle.mg_commands.specs.ReplyDescriptors.{descriptors_after, descriptors_before}
-use Rattle.mg_commands.specs.Transaction.{ActionState, TransactionState, after_outcome, with_name, with_names, with_trial, with_command, unless_optional, go_on, with_commands, action_start, end_of_action, after_properties, after_commands, refusal, with_action, go_on_after_action, with_actions, replied}
+use Rattle.mg_commands.specs.Transaction.{ActionState, TransactionState, after_outcome, with_name, with_names, with_trial, with_command, unless_optional, continue_with, with_commands, action_start, end_of_action, after_properties, after_commands, refusal, with_action, continue_after_action, with_actions, replied}
 use Rattle.mg_commands.specs.aids.Steps.{action_unless}
 
 -- ## Texts
@@ -244,7 +244,7 @@ with_trial_wide source c run (Err e) wide =
     after_outcome_wide c.word (written_name (text_of source c.term)) run (Err e) (failed e) wide
 
 go_on_wide : (rest : ActionState → ActionState × Bool) (x : ActionState × Bool) → AreWide x.0.items →
-    ((run : ActionState) → AreWide run.items → AreWide (rest run).0.items) → AreWide (go_on rest x).0.items
+    ((run : ActionState) → AreWide run.items → AreWide (rest run).0.items) → AreWide (continue_with rest x).0.items
 go_on_wide rest (run, true) h k = k run h
 go_on_wide rest (run, false) h k = h
 
@@ -288,15 +288,15 @@ audit_wide ps w c = if_holds AreWide (list_any is_context_audit ps) (audit_pairs
 
 -- what is told of a context, if its properties are done, is wide
 data TellsWide : Result (Gateway × List Item) ErrorNumber → Type 0 where
-  told : (p : Gateway × List Item) → AreWide p.1 → TellsWide (Ok p)
+  reported : (p : Gateway × List Item) → AreWide p.1 → TellsWide (Ok p)
   refused : (e : ErrorNumber) → TellsWide (Err e)
 
 context_wide : (source : List ℕ) (made : Option ℕ) (ps : List ContextProperty) (w : Gateway) (target : Target) →
     TellsWide (context_outcome source made ps w target)
-context_wide source made [] w target = told (w, []) refl
+context_wide source made [] w target = reported (w, []) refl
 context_wide source made (x ∷ ps) w target =
     by_bind TellsWide (apply_triples w target (triples_of source made (x ∷ ps))) _
-    (λ p. told (p.0, audit_items (x ∷ ps) p.0 p.1) (audit_wide (x ∷ ps) p.0 p.1)) refused
+    (λ p. reported (p.0, audit_items (x ∷ ps) p.0 p.1) (audit_wide (x ∷ ps) p.0 p.1)) refused
 
 -- ## Actions
 
@@ -306,7 +306,7 @@ ended_wide run w items h k = wide_last (run.items ++ items) _ (wide_more run.ite
 
 after_properties_wide : (run : ActionState) (r : Result (Gateway × List Item) ErrorNumber) → TellsWide r →
     AreWide run.items → AreWide (after_properties run r).0.items
-after_properties_wide run (Ok p) (told _ k) h = ended_wide run p.0 p.1 h k
+after_properties_wide run (Ok p) (reported _ k) h = ended_wide run p.0 p.1 h k
 after_properties_wide run (Err e) (refused _) h =
     ended_wide run run.gateway (replies.Fault e ∷ []) h (and_from (is_wide (replies.Fault e)) true (fault_wide e) refl)
 
@@ -334,7 +334,7 @@ unfolding with_action
 with_action_wide source a s wide = unless_wide (action_fault a) source a s wide
 
 rest_of_holds : (P : TransactionState → Type 0) (rest : TransactionState → TransactionState)
-    (x : TransactionState × Bool) → P x.0 → ((s : TransactionState) → P s → P (rest s)) → P (go_on_after_action rest x)
+    (x : TransactionState × Bool) → P x.0 → ((s : TransactionState) → P s → P (rest s)) → P (continue_after_action rest x)
 rest_of_holds P rest (s, true) h k = k s h
 rest_of_holds P rest (s, false) h k = h
 

@@ -9,26 +9,26 @@ use Rattle.mg_reply.specs.declared.outcome.Parts.{Parts}
 use Rattle.mg_engine.specs.Stands.{EngineState}
 use Rattle.mg_engine.specs.Work.{RisesAtMost}
 use Rattle.mg_engine.proofs.WorkLemmas.{rises_twice, rises_less, stays}
-use Rattle.mg_commands.specs.Work.{is_edit, tells_edit, edits_told}
+use Rattle.mg_commands.specs.Work.{is_edit, reports_edit, edits_reported}
 use Rattle.mg_commands.specs.aids.Runs.{Base, IsPaid}
 
-edits-append : (xs ys : List Item) → edits_told (xs ++ ys) ≡ edits_told xs + edits_told ys
-edits-append xs ys = sum_by-append (λ x. cond (tells_edit x) 1 0) xs ys
+edits-append : (xs ys : List Item) → edits_reported (xs ++ ys) ≡ edits_reported xs + edits_reported ys
+edits-append xs ys = sum_by-append (λ x. cond (reports_edit x) 1 0) xs ys
 
-edits-one : (x : Item) → edits_told (x ∷ []) ≡ cond (tells_edit x) 1 0
-edits-one x = omega (arith, sum_by-cons (λ y. cond (tells_edit y) 1 0) x [])
+edits-one : (x : Item) → edits_reported (x ∷ []) ≡ cond (reports_edit x) 1 0
+edits-one x = omega (arith, sum_by-cons (λ y. cond (reports_edit y) 1 0) x [])
 
 paid_more : (base : Base) (xs ys : List Item) (old new : EngineState) → IsPaid base xs old →
-    RisesAtMost (4 * edits_told ys) old.sums.work new.sums.work → IsPaid base (xs ++ ys) new
+    RisesAtMost (4 * edits_reported ys) old.sums.work new.sums.work → IsPaid base (xs ++ ys) new
 paid_more base xs ys old new h k =
-    rises_twice (4 * edits_told xs) (4 * edits_told ys) (4 * edits_told (xs ++ ys)) base.work
+    rises_twice (4 * edits_reported xs) (4 * edits_reported ys) (4 * edits_reported (xs ++ ys)) base.work
     old.sums.work new.sums.work (omega (arith, edits-append xs ys)) h k
 
 -- nothing more was done
 pub paid_still : (base : Base) (xs ys : List Item) (old new : EngineState) → IsPaid base xs old →
     new.sums.work ≡ old.sums.work → IsPaid base (xs ++ ys) new
 paid_still base xs ys old new h same = paid_more base xs ys old new h
-    (stays (4 * edits_told ys) old.sums.work new.sums.work same)
+    (stays (4 * edits_reported ys) old.sums.work new.sums.work same)
 
 four_each : (b : Bool) (x y : ℕ) → RisesAtMost (if b then 4 else 0) x y → RisesAtMost (4 * cond b 1 0) x y
 four_each true x y h = h
@@ -41,10 +41,10 @@ pub paid_one : (base : Base) (xs : List Item) (word : CommandWord) (term : List 
     IsPaid base (xs ++ Command word term (Done parts) ∷ []) new
 paid_one base xs word term parts old new h k =
     let one = Command word term (Done parts) in
-    paid_more base xs (one ∷ []) old new h (rises_less (4 * cond (is_edit word) 1 0) (4 * edits_told (one ∷ []))
+    paid_more base xs (one ∷ []) old new h (rises_less (4 * cond (is_edit word) 1 0) (4 * edits_reported (one ∷ []))
     old.sums.work new.sums.work (omega (arith, edits-one one))
     (four_each (is_edit word) old.sums.work new.sums.work k))
 
 -- nothing was done yet
 pub paid_nothing : (base : Base) (engine : EngineState) → engine.sums.work ≡ base.work → IsPaid base [] engine
-paid_nothing base engine same = stays (4 * edits_told []) base.work engine.sums.work same
+paid_nothing base engine same = stays (4 * edits_reported []) base.work engine.sums.work same

@@ -60,8 +60,8 @@ is_unserved (parts.TerminationState has_content) = has_content
 is_unserved _ = false
 
 abbrev pub fault_of : Bool → Part → Option ErrorNumber
-fault_of stood x =
-    if stood then Some DescriptorTwice
+fault_of appeared x =
+    if appeared then Some DescriptorTwice
     else (if is_unserved x then Some DescriptorNotServed else None)
 
 abbrev pub part_fault : List ℕ → List Part → Part → Option ErrorNumber

@@ -72,27 +72,27 @@ OthersAreTried =
     (source : List ℕ) (c : Command) (parameters : CommandParameters) (x : Name) (xs : List Name)
     (run : ActionState) (e : ErrorNumber)
     → outcome c.word run.gateway run.target x parameters ≡ Err e
-    → let told : ActionState = with_error run c.word (written_as (text_of source c.term) x) e in
+    → let reported : ActionState = with_error run c.word (written_as (text_of source c.term) x) e in
     with_names source c parameters (x ∷ xs) run
-    ≡ ((with_names source c parameters xs told).0, false)
+    ≡ ((with_names source c parameters xs reported).0, false)
 
 -- whether an item tells of a command that was done
-abbrev pub tells_done : Item → Bool
-tells_done (replies.Command word term (Done parts)) = true
-tells_done _ = false
+abbrev pub reports_success : Item → Bool
+reports_success (replies.Command word term (Done parts)) = true
+reports_success _ = false
 
 -- an action asks for no topology, or has a command that isn't optional, without which its topology
 -- isn't tried
-abbrev pub hangs_on_commands : Action → Bool
-hangs_on_commands a =
+abbrev pub depends_on_commands : Action → Bool
+depends_on_commands a =
     not (list_any is_topology a.properties) || list_any (λ c. not c.is_optional) a.commands
 
 -- a request of which each command that was tried was refused leaves the gateway as it was
 abbrev pub RefusedRequestsChangeNothing : Type 0
 RefusedRequestsChangeNothing =
     (source : List ℕ) (request : Request) (w : Gateway)
-    → list_all hangs_on_commands request.actions ≡ true
-    → list_any tells_done (replied source request w).items ≡ false
+    → list_all depends_on_commands request.actions ≡ true
+    → list_any reports_success (replied source request w).items ≡ false
     → (replied source request w).gateway ≡ w
 
 -- ## Consistency

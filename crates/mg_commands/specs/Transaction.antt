@@ -82,16 +82,16 @@ abbrev pub unless_optional : Command → ActionState × Bool → ActionState × 
 unless_optional c (run, is_done) = (run, c.is_optional || is_done)
 
 -- what comes of the rest, unless a command failed
-abbrev pub go_on : (ActionState → ActionState × Bool) → ActionState × Bool → ActionState × Bool
-go_on rest (run, true) = rest run
-go_on rest (run, false) = (run, false)
+abbrev pub continue_with : (ActionState → ActionState × Bool) → ActionState × Bool → ActionState × Bool
+continue_with rest (run, true) = rest run
+continue_with rest (run, false) = (run, false)
 
 -- an action after commands, up to the first that fails and isn't optional, and whether there was
 -- none
 unfoldable pub with_commands : List ℕ → List Command → ActionState → ActionState × Bool
 with_commands source [] run = (run, true)
 with_commands source (c ∷ cs) run =
-    go_on (with_commands source cs) (unless_optional c (with_command source c run))
+    continue_with (with_commands source cs) (unless_optional c (with_command source c run))
 
 -- ## Actions
 
@@ -147,15 +147,15 @@ with_action source a s =
     (after_commands source a.properties (with_commands source a.commands (action_start a s)))
 
 -- what comes of the rest, unless an action was not done whole
-abbrev pub go_on_after_action : (TransactionState → TransactionState) → TransactionState × Bool
+abbrev pub continue_after_action : (TransactionState → TransactionState) → TransactionState × Bool
     → TransactionState
-go_on_after_action rest (s, true) = rest s
-go_on_after_action rest (s, false) = s
+continue_after_action rest (s, true) = rest s
+continue_after_action rest (s, false) = s
 
 unfoldable pub with_actions : List ℕ → List Action → TransactionState → TransactionState
 with_actions source [] s = s
 with_actions source (a ∷ actions) s =
-    go_on_after_action (with_actions source actions) (with_action source a s)
+    continue_after_action (with_actions source actions) (with_action source a s)
 
 -- the gateway after a request, and the items of the reply to it
 abbrev pub replied : List ℕ → Request → Gateway → TransactionState

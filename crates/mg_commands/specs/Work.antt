@@ -13,10 +13,10 @@ is_edit AuditValue = false
 is_edit word = true
 
 -- whether an item tells of an edit that was done
-abbrev pub tells_edit : Item → Bool
-tells_edit (Command word term (Done parts)) = is_edit word
-tells_edit item = false
+abbrev pub reports_edit : Item → Bool
+reports_edit (Command word term (Done parts)) = is_edit word
+reports_edit item = false
 
 -- how many items do
-abbrev pub edits_told : List Item → ℕ
-edits_told items = count_by tells_edit items
+abbrev pub edits_reported : List Item → ℕ
+edits_reported items = count_by reports_edit items

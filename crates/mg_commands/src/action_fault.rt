@@ -35,7 +35,7 @@ fn topology_fault(before: &[ContextProperty], triples: &[NamedTriple]) -> Option
 }
 
 /// Whether an audit asks for more than the topology.
-fn asks_for_more(words: &[ContextWord]) -> bool
+fn audits_more(words: &[ContextWord]) -> bool
     ensures value { result ≡ list_any (λ w. not (is_topology_word w)) words.now }
 {
     words
@@ -50,7 +50,7 @@ fn audit_fault(before: &[ContextProperty], words: &[ContextWord]) -> Option<Erro
     if has_context_audit(before) {
         return Some(ErrorNumber::DescriptorTwice);
     }
-    asks_for_more(words).then_some(ErrorNumber::DescriptorNotServed)
+    audits_more(words).then_some(ErrorNumber::DescriptorNotServed)
 }
 
 /// The fault of a property after those before it: a second of its word, or what isn't served.

@@ -1,6 +1,6 @@
 ghost use Rattle.std.specs.Prelude.{◌≡◌};
 ghost use Rattle.std.specs.Option.{option_or};
-ghost use Rattle.mg_commands.specs.aids.Parameters.{nothing_asked, with_part};
+ghost use Rattle.mg_commands.specs.aids.Parameters.{no_parameters, with_part};
 ghost use Rattle.mg_commands.specs.CommandParameters.{mode_in, frames_for, depth_in, setting_of, local_in, remote_in, parameters_of};
 
 use crate::descriptor_fault::is_jitter;
@@ -92,8 +92,8 @@ fn keep_first<T: Drop>(kept: &mut Option<T>, found: Option<T>)
 
 impl CommandParameters {
     /// Nothing is asked for.
-    fn nothing() -> CommandParameters
-        ensures value { result ≡ nothing_asked }
+    fn no_parameters() -> CommandParameters
+        ensures value { result ≡ no_parameters }
     {
         CommandParameters {
             settings: Settings::default(),
@@ -124,7 +124,7 @@ impl CommandParameters {
 pub fn parameters_of(source: &[u8], descriptors: &[Descriptor]) -> CommandParameters
     ensures value { result ≡ parameters_of source.now descriptors.now }
 {
-    let mut parameters = CommandParameters::nothing();
+    let mut parameters = CommandParameters::no_parameters();
     for part in DescriptorParts::new(descriptors) {
         parameters.take(source, part);
     }

@@ -8,7 +8,7 @@ ghost use Rattle.mg_engine.specs.Stands.{StandsFor, IsOutcome};
 ghost use Rattle.mg_engine.specs.Triples.{triple_limit};
 ghost use Rattle.mg_commands.specs.ContextProperties.{term_of, topology_triple_of, triples_in, triples_of, audit_items, context_outcome};
 ghost use Rattle.mg_commands.specs.Search.{first_of};
-ghost use Rattle.mg_commands.specs.aids.Runs.{TellsProperties};
+ghost use Rattle.mg_commands.specs.aids.Runs.{ReportsProperties};
 
 use crate::action_fault::has_context_audit;
 use crate::context_audit::put_pairs;
@@ -71,7 +71,7 @@ fn apply_topology(
     progress: Progress,
 ) -> Result<u32, ErrorNumber>
     requires few { length (unwrap_or (first_of triples_in properties.now) []) ≤ triple_limit }
-    ensures came { (w : Gateway) → StandsFor engine.old w →
+    ensures represents { (w : Gateway) → StandsFor engine.old w →
         IsOutcome engine.new result (apply_triples w progress.target
         (triples_of source.now progress.made properties.now)) }
     ensures refused { OnErr result (engine.new ≡ engine.old) }
@@ -105,7 +105,7 @@ pub fn try_properties(
     reply: &mut Reply,
 ) -> bool
     requires few { length (unwrap_or (first_of triples_in properties.now) []) ≤ triple_limit }
-    ensures came { (w : Gateway) → StandsFor engine.old w → TellsProperties engine.new reply.old reply.new result w
+    ensures represents { (w : Gateway) → StandsFor engine.old w → ReportsProperties engine.new reply.old reply.new result w
         (context_outcome source.now progress.made properties.now w progress.target) }
     ensures work { engine.new.sums.work ≡ engine.old.sums.work }
 {

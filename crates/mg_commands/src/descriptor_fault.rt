@@ -2,7 +2,7 @@ ghost use Rattle.std.specs.Prelude.{◌≡◌, ℕ, List, [], ◌&&◌, ◌||◌
 ghost use Rattle.std.specs.List.{list_any};
 ghost use Rattle.mg_commands.specs.DescriptorFault.{same_other_word, is_jitter, same_control, is_same_part, is_unserved, fault_of, descriptors_fault};
 ghost use Rattle.mg_commands.specs.Search.{first_after};
-ghost use Rattle.mg_commands.specs.aids.Levels.{is_single, control_level, is_same_word, stands_in, stream_level, is_state, media_level, stream_of, greatest_stream, is_same_descriptor, descriptor_level};
+ghost use Rattle.mg_commands.specs.aids.Levels.{is_single, control_level, is_same_word, appears_in, stream_level, is_state, media_level, stream_of, greatest_stream, is_same_descriptor, descriptor_level};
 
 use crate::descriptor_parts::{open_descriptor, open_stream_part};
 use crate::part::Part;
@@ -61,11 +61,11 @@ fn is_same_part(source: &[u8], a: Part, b: Part) -> bool
 }
 
 /// The fault of a part: that its word stood before, or else that it has content and isn't served.
-fn fault_of(stood: bool, part: Part) -> Option<ErrorNumber>
-    ensures value { result ≡ fault_of stood part }
+fn fault_of(appeared: bool, part: Part) -> Option<ErrorNumber>
+    ensures value { result ≡ fault_of appeared part }
 {
     match part {
-        _ if stood => Some(ErrorNumber::DescriptorTwice),
+        _ if appeared => Some(ErrorNumber::DescriptorTwice),
         Part::Other(_, true) | Part::TerminationState(true) => {
             Some(ErrorNumber::DescriptorNotServed)
         }
@@ -86,7 +86,7 @@ fn is_single(source: &[u8], part: &ControlPart) -> bool
 }
 
 /// Whether a part of a LocalControl stood before.
-fn stood_in_control(source: &[u8], part: &ControlPart, before: &[ControlPart]) -> bool
+fn appeared_in_control(source: &[u8], part: &ControlPart, before: &[ControlPart]) -> bool
     ensures value { result ≡ list_any (same_control source.now part.now) before.now }
 {
     is_single(source, part) && before.iter().any(|other| same_control(source, part, other))
@@ -99,8 +99,8 @@ fn controls_fault(source: &[u8], stream: u32, parts: &[ControlPart]) -> Option<E
 {
     for (i, part) in parts.iter().enumerate() {
         let (before, _) = parts.split_at(i);
-        let stood = stood_in_control(source, part, before);
-        if let Some(fault) = fault_of(stood, Part::Control(stream, *part)) {
+        let appeared = appeared_in_control(source, part, before);
+        if let Some(fault) = fault_of(appeared, Part::Control(stream, *part)) {
             return Some(fault);
         }
     }
@@ -115,7 +115,7 @@ fn is_same_word(source: &[u8], part: &Part, stream: u32, other: &StreamPart) -> 
 }
 
 /// Whether a part stands among the parts of a stream.
-fn stands_among(source: &[u8], part: &Part, stream: u32, parts: &[StreamPart]) -> bool
+fn appears_among(source: &[u8], part: &Part, stream: u32, parts: &[StreamPart]) -> bool
     ensures value { result ≡ list_any (is_same_word source.now part.now stream) parts.now }
 {
     parts
@@ -125,25 +125,25 @@ fn stands_among(source: &[u8], part: &Part, stream: u32, parts: &[StreamPart]) -
 
 /// Whether a part of a stream stands in a part of a Media descriptor. The streams' numbers are compared first: a
 /// message has room for some 700 streams.
-fn stands_in(source: &[u8], part: &Part, stream: u32, other: &MediaPart) -> bool
-    ensures value { result ≡ stands_in source.now part.now stream other.now }
+fn appears_in(source: &[u8], part: &Part, stream: u32, other: &MediaPart) -> bool
+    ensures value { result ≡ appears_in source.now part.now stream other.now }
 {
     match other {
         MediaPart::Part(x) => stream == 1 && is_same_word(source, part, 1, x),
         MediaPart::Stream(number, parts) => {
-            stream == *number && stands_among(source, part, *number, parts.as_slice())
+            stream == *number && appears_among(source, part, *number, parts.as_slice())
         }
         MediaPart::TerminationState(_) => false,
     }
 }
 
 /// Whether a part of a stream stands in the parts of a Media descriptor.
-fn stands_in_media(source: &[u8], part: &Part, stream: u32, media: &[MediaPart]) -> bool
-    ensures value { result ≡ list_any (stands_in source.now part.now stream) media.now }
+fn appears_in_media(source: &[u8], part: &Part, stream: u32, media: &[MediaPart]) -> bool
+    ensures value { result ≡ list_any (appears_in source.now part.now stream) media.now }
 {
     media
         .iter()
-        .any(|other| stands_in(source, part, stream, other))
+        .any(|other| appears_in(source, part, stream, other))
 }
 
 /// The first fault of a part of a stream.
@@ -157,9 +157,9 @@ fn stream_part_fault(
     ensures value { result ≡ stream_level source.now media.now stream before.now part.now }
 {
     let (word, controls) = open_stream_part(stream, part);
-    let stood = stands_among(source, &word, stream, before)
-        || stands_in_media(source, &word, stream, media);
-    match fault_of(stood, word) {
+    let appeared = appears_among(source, &word, stream, before)
+        || appears_in_media(source, &word, stream, media);
+    match fault_of(appeared, word) {
         Some(fault) => Some(fault),
         None => controls_fault(source, stream, controls),
     }
@@ -249,7 +249,7 @@ fn media_fault(source: &[u8], parts: &[MediaPart]) -> Option<ErrorNumber>
 }
 
 /// Whether a descriptor's word stood before.
-fn stood_in_command(source: &[u8], word: Part, before: &[Descriptor]) -> bool
+fn appeared_in_command(source: &[u8], word: Part, before: &[Descriptor]) -> bool
     ensures value { result ≡ list_any (is_same_descriptor source.now word) before.now }
 {
     before.iter().any(|other| is_same_part(source, word, open_descriptor(other).0))
@@ -264,7 +264,7 @@ fn descriptor_fault(
     ensures value { result ≡ descriptor_level source.now before.now descriptor.now }
 {
     let (word, media, _) = open_descriptor(descriptor);
-    match fault_of(stood_in_command(source, word, before), word) {
+    match fault_of(appeared_in_command(source, word, before), word) {
         Some(fault) => Some(fault),
         None => media_fault(source, media),
     }

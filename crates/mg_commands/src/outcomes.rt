@@ -49,7 +49,7 @@ fn add_outcome(
     name: Name,
     parameters: &CommandParameters,
 ) -> Result<Served, ErrorNumber>
-    ensures came { (w : Gateway) → StandsFor engine.old w →
+    ensures represents { (w : Gateway) → StandsFor engine.old w →
         IsOutcome engine.new result (add_outcome w target name parameters.now) }
     ensures refused { OnErr result (engine.new ≡ engine.old) }
     ensures work { RisesAtMost 4 engine.old.sums.work engine.new.sums.work }
@@ -68,7 +68,7 @@ fn modify_outcome(
     name: Name,
     parameters: &CommandParameters,
 ) -> Result<Served, ErrorNumber>
-    ensures came { (w : Gateway) → StandsFor engine.old w →
+    ensures represents { (w : Gateway) → StandsFor engine.old w →
         IsOutcome engine.new result (modify_outcome w target name parameters.now) }
     ensures refused { OnErr result (engine.new ≡ engine.old) }
     ensures work { RisesAtMost 4 engine.old.sums.work engine.new.sums.work }
@@ -87,7 +87,7 @@ fn move_outcome(
     name: Name,
     parameters: &CommandParameters,
 ) -> Result<Served, ErrorNumber>
-    ensures came { (w : Gateway) → StandsFor engine.old w →
+    ensures represents { (w : Gateway) → StandsFor engine.old w →
         IsOutcome engine.new result (move_outcome w target name parameters.now) }
     ensures refused { OnErr result (engine.new ≡ engine.old) }
     ensures work { RisesAtMost 4 engine.old.sums.work engine.new.sums.work }
@@ -106,7 +106,7 @@ fn subtract_outcome(
     name: Name,
     parameters: &CommandParameters,
 ) -> Result<Served, ErrorNumber>
-    ensures came { (w : Gateway) → StandsFor engine.old w →
+    ensures represents { (w : Gateway) → StandsFor engine.old w →
         IsOutcome engine.new result (subtract_outcome w target name parameters.now) }
     ensures refused { OnErr result (engine.new ≡ engine.old) }
     ensures work { RisesAtMost 4 engine.old.sums.work engine.new.sums.work }
@@ -176,7 +176,7 @@ pub fn outcome(
     name: Name,
     parameters: &CommandParameters,
 ) -> Result<Served, ErrorNumber>
-    ensures came { (w : Gateway) → StandsFor engine.old w →
+    ensures represents { (w : Gateway) → StandsFor engine.old w →
         IsOutcome engine.new result (outcome word w target name parameters.now) }
     ensures refused { OnErr result (engine.new ≡ engine.old) }
     ensures work { RisesAtMost (if is_edit word then 4 else 0) engine.old.sums.work engine.new.sums.work }

@@ -10,7 +10,7 @@ ghost use Rattle.mg_scan.specs.Span.{text_of};
 ghost use Rattle.mg_text.specs.Proper.{command_is_proper, action_is_proper, request_is_proper};
 ghost use Rattle.mg_commands.specs.Name.{written_name};
 ghost use Rattle.mg_commands.specs.Transaction.{target_of, id_of, with_name, with_names, with_command, with_commands, with_action, with_actions, replied};
-ghost use Rattle.mg_commands.specs.Work.{edits_told};
+ghost use Rattle.mg_commands.specs.Work.{edits_reported};
 ghost use Rattle.mg_commands.specs.aids.Runs.{Base, IsActionRun, action_kept, with_all, IsTransaction, transaction_kept};
 
 use crate::action_fault::action_fault;
@@ -169,8 +169,8 @@ fn try_commands(
     let mut progress = progress;
     for command in commands {
         let (next, is_done) = try_command(engine, source, command, progress, reply);
-        let goes_on = command.is_optional || is_done;
-        if !goes_on {
+        let continues = command.is_optional || is_done;
+        if !continues {
             return (next, false);
         }
         progress = next;
@@ -261,7 +261,7 @@ pub fn transaction(engine: &mut Engine, source: &[u8], request: &Request, reply:
     // At most four rows for each edit that was done: none for a command that is refused or that audits, and none for
     // triples.
     ensures work { (w : Gateway) → StandsFor engine.old w →
-        RisesAtMost (4 * edits_told (replied source.now request.now w).items) engine.old.sums.work
+        RisesAtMost (4 * edits_reported (replied source.now request.now w).items) engine.old.sums.work
         engine.new.sums.work }
 {
     reply.start(request.number);

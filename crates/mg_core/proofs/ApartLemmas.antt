@@ -32,7 +32,7 @@ use Rattle.mg_core.specs.declared.event.Event.{Event}
 use Rattle.mg_core.specs.declared.event.Event.TheVariants.{Control, Media, Tick}
 use Rattle.mg_core.specs.Answer.{answer_head, answered, has_requests, if_asked, item_replied, mark_after, replied_to, run_and_kept, sent_text, without_ranges}
 use Rattle.mg_core.specs.aids.Answers.{unless_kept}
-use Rattle.mg_core.specs.Apart.{AgreeOutside, Both, FirstAlone, SecondAlone, HearsNoneAt, HearsNoneIn}
+use Rattle.mg_core.specs.Apart.{AgreeOutside, Both, FirstOnly, SecondOnly, HearsNoneAt, HearsNoneIn}
 use Rattle.mg_core.specs.Apart.{OneArrivalKeepsAgreement, SameEventKeepsAgreement, SamePacketsFromPort}
 use Rattle.mg_core.specs.Apart.{UnheardChangesNothing, is_packet_from, key_of, packets_from}
 use Rattle.mg_core.specs.Step.{Sent, Packet, Step, answer_to}
@@ -196,10 +196,10 @@ module _ (requests : RequestsKeepAgreement) (reads : OneReading) (media : engine
     (one_arrival : engine.OneArrivalKeepsAgreement) (turned : engine.AgreementIsMutual)
     (ticks : engine.SameTickKeepsAgreement) where
   pub same_event : SameEventKeepsAgreement
-  same_event some a b x y (Control source bytes) s t h (answer, (r, is, came), sent) (other, (q, too, comes), also) =
+  same_event some a b x y (Control source bytes) s t h (answer, (r, is, represents), sent) (other, (q, too, comes), also) =
       let both = answer_agrees requests some bytes r (with_control a) (with_control b)
       (record { gateway = h.gateway; replies = h.replies }) in
-      let first_is : (answered bytes r (with_control a)).1 ≡ x = ap (λ (p : Option (List ℕ) × World). p.1) came in
+      let first_is : (answered bytes r (with_control a)).1 ≡ x = ap (λ (p : Option (List ℕ) × World). p.1) represents in
       let second_is : (answered bytes r (with_control b)).1 ≡ y =
       ap (λ (z : MessageReading). (answered bytes z (with_control b)).1) (reads bytes r q is too) ∙
       ap (λ (p : Option (List ℕ) × World). p.1) comes in
@@ -290,10 +290,10 @@ module _ (same : engine.SamePackets) (some : List ℕ) (port : ℕ) where
   event_same : (a b x y : World) (event : Event) (s t : List Sent) → AgreeOutside some a b →
       HearsNoneIn event some a.gateway port → Step a event s x → Step b event t y →
       packets_from port s ≡ packets_from port t
-  event_same a b x y (Control source bytes) s t h none (answer, came, sent) (other, comes, also) =
+  event_same a b x y (Control source bytes) s t h none (answer, represents, sent) (other, comes, also) =
       ap (packets_from port) sent ∙ no_packets source answer ∙ sym (no_packets source other) ∙
       ap (packets_from port) (sym also)
-  event_same a b x y (Media p source bytes) s t h none (taken, came, sent) (other, comes, also) =
+  event_same a b x y (Media p source bytes) s t h none (taken, represents, sent) (other, comes, also) =
       ap (packets_from port) (sent ∙ sym also)
   event_same a b x y Tick s t h none (sent, is) (also, its) = ap (packets_from port) sent ∙
       tick_same a.gateway b.gateway h.gateway none ∙ ap (packets_from port) (sym also)
@@ -333,12 +333,12 @@ module _ (event : SameEventKeepsAgreement) (one : OneArrivalKeepsAgreement)
               (packets some port a b next also e first second h hears step too) last.0,
           last.1,
         )
-    unheard some port a b x y (FirstAlone p source bytes ∷ xs) s t h (among, later) (first, others, next, step, run, is)
+    unheard some port a b x y (FirstOnly p source bytes ∷ xs) s t h (among, later) (first, others, next, step, run, is)
         runs =
         let agree = one some a b next p source bytes first h among step in
         let last = unheard some port next b x y xs others t agree (later first next step) run runs in
         (ap (packets_from port) (is ∙ ap (λ (l : List Sent). l ++ others) step.2) ∙ last.0, last.1)
-    unheard some port a b x y (SecondAlone p source bytes ∷ xs) s t h (among, later) run
+    unheard some port a b x y (SecondOnly p source bytes ∷ xs) s t h (among, later) run
         (second, rest, also, too, runs, its) =
         let agree = turned some also a (one some b a also p source bytes second (turned some a b h)
         (among_both some a b p h among) too) in

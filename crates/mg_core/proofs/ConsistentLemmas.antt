@@ -69,12 +69,12 @@ module _ (requests : RequestsAreConsistent) (arrivals : ArrivalsAreConsistent) w
   -- each event keeps it
   pub step_keeps : (w : World) (event : Event) (sent : List Sent) (next : World) → IsConsistentWorld w →
       Step w event sent next → IsConsistentWorld next
-  step_keeps w (Control source bytes) sent next h (answer, (reading, is, came), told) =
-      subst IsConsistentWorld (ap (λ (p : Option (List ℕ) × World). p.1) came)
+  step_keeps w (Control source bytes) sent next h (answer, (reading, is, represents), reported) =
+      subst IsConsistentWorld (ap (λ (p : Option (List ℕ) × World). p.1) represents)
       (answer_keeps bytes reading (with_control w) h)
-  step_keeps w (Media port source bytes) sent next h (taken, (g, takes, is), told) =
+  step_keeps w (Media port source bytes) sent next h (taken, (g, takes, is), reported) =
       subst IsConsistentWorld (sym is) (arrivals w.gateway g port source.address bytes taken h takes)
-  step_keeps w Tick sent next h (told, is) = subst IsConsistentWorld (sym is) h
+  step_keeps w Tick sent next h (reported, is) = subst IsConsistentWorld (sym is) h
 
   pub run_keeps : (w last : World) (events : List Event) (sent : List Sent) → IsConsistentWorld w →
       Run w events sent last → IsConsistentWorld last

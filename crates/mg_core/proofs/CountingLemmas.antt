@@ -198,9 +198,9 @@ counted w last [] taken concealed (none, clear, is) =
     no_more : w.tally.concealed ≡ w.tally.concealed + concealed
     no_more = omega (arith, clear)
 counted w last (Control source bytes ∷ events) taken concealed
-    (sent, next, (answer, (reading, read, came), told), run) =
+    (sent, next, (answer, (reading, read, represents), reported), run) =
     let e : Event = Control source bytes in
-    let same : next.tally ≡ (with_control w).tally = ap (λ (p : Option (List ℕ) × World). p.1.tally) (sym came) ∙
+    let same : next.tally ≡ (with_control w).tally = ap (λ (p : Option (List ℕ) × World). p.1.tally) (sym represents) ∙
     answer_tally bytes reading (with_control w) in
     counted next last events taken concealed run ∙ ap (λ (t : Tally). tally_after t events taken concealed) same
     ∙ (λ i. record (tally_after w.tally events taken concealed) {
@@ -212,7 +212,7 @@ counted w last (Media port source bytes ∷ events) taken concealed (first, othe
     counted next last events others concealed run ∙ ap (λ (v : World). tally_after v.tally events others concealed) is
     ∙ one_taken first others concealed w.tally port (Media port source bytes) events refl refl refl
     ∙ ap (λ (ts : List Taken). tally_after w.tally (Media port source bytes ∷ events) ts concealed) (sym are)
-counted w last (Tick ∷ events) taken concealed (sent, others, next, (told, is), run, sum) =
+counted w last (Tick ∷ events) taken concealed (sent, others, next, (reported, is), run, sum) =
     counted next last events taken others run ∙ ap (λ (v : World). tally_after v.tally events taken others) is
     ∙ (λ i. record (tally_after w.tally events taken concealed) {
       control = miss is_control Tick events w.tally.control refl i;
@@ -261,7 +261,7 @@ runs_take w last [] sent (none, is) = ([], 0, (refl, refl, is))
 runs_take w last (Control source bytes ∷ events) sent (first, others, next, step, run, is) =
     let (taken, concealed, runs) = runs_take next last events others run in
     (taken, concealed, (first, next, step, runs))
-runs_take w last (Media port source bytes ∷ events) sent (first, others, next, (t, took, told), run, is) =
+runs_take w last (Media port source bytes ∷ events) sent (first, others, next, (t, took, reported), run, is) =
     let (taken, concealed, runs) = runs_take next last events others run in
     (t ∷ taken, concealed, (t, taken, next, took, runs, refl))
 runs_take w last (Tick ∷ events) sent (first, others, next, step, run, is) =

@@ -4,7 +4,7 @@ use Rattle.std.proofs.lemmas.List.{append-nil}
 use Rattle.mg_words.specs.Leads.{Leads}
 use Rattle.mg_core.specs.declared.event.Event.{Event}
 use Rattle.mg_core.specs.declared.state.CoreState.{CoreState}
-use Rattle.mg_core.specs.Headline.{GoesOn}
+use Rattle.mg_core.specs.Headline.{ExtendsHistory}
 use Rattle.mg_core.specs.Step.{Sent, Step, Run}
 use Rattle.mg_core.specs.World.{World, StandsFor, start_of}
 use Rattle.mg_core.proofs.RunLemmas.{run_both}
@@ -13,9 +13,9 @@ one_event : (w v : World) (event : Event) (sent : List Sent) → Step w event se
 one_event w v event sent step = (sent, [], v, step, (refl, refl), sym (append-nil sent))
 
 -- a step from each world is a step after any list of events
-pub goes_on : (old new : CoreState) (event : Event) (sent : List Sent) →
-    Leads StandsFor old new (λ w next. Step w event sent next) → GoesOn old new event sent
-goes_on old new event sent leads config events before w (run, stands) =
+pub continues : (old new : CoreState) (event : Event) (sent : List Sent) →
+    Leads StandsFor old new (λ w next. Step w event sent next) → ExtendsHistory old new event sent
+continues old new event sent leads config events before w (run, stands) =
     let (next, step, left) = leads w stands in (
       next,
       (

@@ -8,7 +8,7 @@ use Rattle.mg_words.specs.declared.peer.Peer.{Peer}
 use Rattle.mg_engine.specs.declared.taken.Taken.{Taken}
 use Rattle.mg_engine.specs.declared.taken.Taken.TheVariants.{Placed, Dropped}
 use Rattle.mg_engine.specs.Arrival.{Takes}
-use Rattle.mg_engine.specs.Order.{OrderOfTwoIsNothing}
+use Rattle.mg_engine.specs.Order.{ArrivalOrderIsIrrelevant}
 use Rattle.mg_core.specs.declared.event.Event.{Event}
 use Rattle.mg_core.specs.declared.event.Event.TheVariants.{Control, Media, Tick}
 use Rattle.mg_core.specs.Interleaving.{is_elsewhere, seen_at, AreSameToEachPort}
@@ -167,7 +167,7 @@ without_at port at source bytes a before after false here unseen rest same =
 
 module _ (steps_are_one : (w : World) (event : Event) (s t : List Sent) (x y : World) → Step w event s x →
     Step w event t y → (s ≡ t) × (x ≡ y))
-    (two : OrderOfTwoIsNothing) (requests : RequestsAreConsistent) (arrivals : ArrivalsAreConsistent)
+    (two : ArrivalOrderIsIrrelevant) (requests : RequestsAreConsistent) (arrivals : ArrivalsAreConsistent)
   where
     keeps : (w : World) (event : Event) (sent : List Sent) (next : World) → IsConsistentWorld w →
         Step w event sent next → IsConsistentWorld next
@@ -184,11 +184,11 @@ module _ (steps_are_one : (w : World) (event : Event) (s t : List Sent) (x y : W
     turned : (w between last : World) (port at : ℕ) (from source : Peer) (bytes list : List ℕ) (s t : List Sent) →
         IsConsistentWorld w → port ≢ at → Step w (Media port from bytes) s between →
         Step between (Media at source list) t last → AreTurned w (Media port from bytes) (Media at source list) last s t
-    turned w between last port at from source bytes list s t h apart (a, (g, came, is), none)
+    turned w between last port at from source bytes list s t h apart (a, (g, represents, is), none)
         (b, (k, too, its), none_too) =
         let second = subst (λ (x : World). Takes x.gateway at source.address list k b) is too in
         let (m, at_second, at_first) = two w.gateway g k port at from.address source.address bytes list a b h apart
-        came second in
+        represents second in
         record {
           between = record w { gateway = m; tally = with_taken b w.tally };
           one = (b, (m, at_second, refl), refl);

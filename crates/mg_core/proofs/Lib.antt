@@ -6,7 +6,7 @@ pub mod OutputLemmas
 pub mod ChangeLemmas
 pub mod ListenerLemmas
 pub mod QuietLemmas
-pub mod ToldLemmas
+pub mod ReportLemmas
 pub mod LineLemmas
 pub mod RunLemmas
 pub mod HeadlineLemmas
@@ -15,6 +15,6 @@ pub mod ConsistentLemmas
 pub mod InterleavingLemmas
 pub mod ApartLemmas
 pub mod CountingLemmas
-pub mod RepeatLemmas
+pub mod RetransmissionLemmas
 pub mod ReadBackLemmas
 pub mod RecordingLemmas

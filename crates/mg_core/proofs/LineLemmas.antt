@@ -223,12 +223,12 @@ pub changed_steps : (event : Event) (old mid new : CoreState) (kept before after
     LeadsOn (Follows shown old kept) (Follows shown new after) r (λ w next. EventRan shown event w next n m a l r)
 changed_steps event old mid new kept before after n k m a b l r was is counts h put shown w f =
     let (next, ran, stands) = h w f.stands in
-    let told = put shown w next (subst (λ (o : Option (List Listener)). AreKeptListeners shown o w) (sym was) f.same)
+    let reported = put shown w next (subst (λ (o : Option (List Listener)). AreKeptListeners shown o w) (sym was) f.same)
     stands in (
       next,
       subst (λ (j : ℕ). EventRan shown event w next n j a l r) (sym counts)
-          (changed_ran shown event w next n k a b l r ran told.0),
-      follows_after shown new after next r (subst (λ (x : CoreState). StandsFor x next) (sym is) stands) told.1,
+          (changed_ran shown event w next n k a b l r ran reported.0),
+      follows_after shown new after next r (subst (λ (x : CoreState). StandsFor x next) (sym is) stands) reported.1,
     )
 
 -- an event whose datagrams were not all written, or for which there was no memory
@@ -334,5 +334,5 @@ pub line_steps : (shown : Shown) (number : ℕ) (line : List ℕ) (event : Event
     LeadsOn Old New r (λ w next. EventRan shown event w next n m a b r) →
     LeadsOn Old New (line_result r) (λ w next. LineRan shown number line w next n m a b (line_result r))
 line_steps shown number line event Old New n m a b r is h w stands =
-    let (next, came, left) = h w stands in
-    (next, event_line shown number line event w next n m a b r is came, on_line r (New next) left)
+    let (next, represents, left) = h w stands in
+    (next, event_line shown number line event w next n m a b r is represents, on_line r (New next) left)

@@ -22,7 +22,7 @@ use Rattle.mg_engine.proofs.SendingLemmas.{nobody}
 use Rattle.mg_core.specs.declared.event.Event.{Event}
 use Rattle.mg_core.specs.declared.event.Event.TheVariants.{Media, Tick}
 use Rattle.mg_rooms.proofs.SoundLemmas.{sound_if}
-use Rattle.mg_core.specs.Flows.{Listener, NoneIsToldInVain, changes, changes_by, is_same_mode, listener_at, listener_of, listeners_of, told_of_new, told_of_old}
+use Rattle.mg_core.specs.Flows.{Listener, OnlyChangesAreReported, changes, changes_by, is_same_mode, listener_at, listener_of, listeners_of, lines_of_new, lines_of_old}
 use Rattle.mg_core.specs.Step.{Sent, Step}
 use Rattle.mg_core.specs.World.{World, capped}
 
@@ -35,18 +35,18 @@ same_mode ReceiveOnly = refl
 same_mode SendReceive = refl
 same_mode Loopback = refl
 
-none_told : (ticks : ℕ) (x : Listener) → told_of_new ticks (Some x) x ≡ []
+none_told : (ticks : ℕ) (x : Listener) → lines_of_new ticks (Some x) x ≡ []
 none_told ticks x = rw (
   eq-eqb x.context x.context refl,
   same_mode x.mode,
   (bytes_eq-Decides x.talkers x.talkers).1 refl,
 ) refl
 
-none_new : (ticks : ℕ) (x : Listener) (o : Option Listener) → o ≡ Some x → told_of_new ticks o x ≡ []
-none_new ticks x o is = ap (λ (p : Option Listener). told_of_new ticks p x) is ∙ none_told ticks x
+none_new : (ticks : ℕ) (x : Listener) (o : Option Listener) → o ≡ Some x → lines_of_new ticks o x ≡ []
+none_new ticks x o is = ap (λ (p : Option Listener). lines_of_new ticks p x) is ∙ none_told ticks x
 
 none_ended : (ticks : ℕ) (xs : List Listener) (x : Listener) → listener_at xs x.number ≡ Some x →
-    told_of_old ticks xs x ≡ []
+    lines_of_old ticks xs x ≡ []
 none_ended ticks xs x is = rw is refl
 
 nothing_in : {A : Type 0} (f : A → List ℕ) (xs : List A) → All (λ x. f x ≡ []) xs → flat_map f xs ≡ []
@@ -61,8 +61,8 @@ AreFound xs = All (λ x. listener_at xs x.number ≡ Some x) xs
 
 none_changed : (ticks : ℕ) (xs : List Listener) → AreFound xs → changes ticks xs xs ≡ []
 none_changed ticks xs h = rw (
-  nothing_in (told_of_old ticks xs) xs (λ k d lt. none_ended ticks xs (get_or xs k d) (h k d lt)),
-  nothing_in (λ x. told_of_new ticks (listener_at xs x.number) x) xs
+  nothing_in (lines_of_old ticks xs) xs (λ k d lt. none_ended ticks xs (get_or xs k d) (h k d lt)),
+  nothing_in (λ x. lines_of_new ticks (listener_at xs x.number) x) xs
       (λ k d lt. none_new ticks (get_or xs k d) (listener_at xs (get_or xs k d).number) (h k d lt)),
 ) refl
 
@@ -88,8 +88,8 @@ all_found w sound k d lt =
     (sym (get_or-map (listener_of w) rs k nobody d within))
     (found w rs (get_or rs k nobody).number ∙ ap (option_map (listener_of w)) (sound.by_number k nobody within))
 
-pub none_is_told_in_vain : NoneIsToldInVain
-none_is_told_in_vain ticks v w consistent same =
+pub only_changes_are_reported : OnlyChangesAreReported
+only_changes_are_reported ticks v w consistent same =
     ap (changes ticks (listeners_of v)) (sym same) ∙
     none_changed ticks (listeners_of v) (all_found v (sound_if v.rooms consistent))
 
@@ -145,11 +145,11 @@ KeepsQuiet event = (w next : World) (sent : List Sent) → IsSound w.gateway.roo
     IsQuiet w next
 
 pub media_keeps_quiet : (port : ℕ) (source : Peer) (bytes : List ℕ) → KeepsQuiet (Media port source bytes)
-media_keeps_quiet port source bytes w next sent sound (taken, (g, (reading, is_reading, came), is), told) =
+media_keeps_quiet port source bytes w next sent sound (taken, (g, (reading, is_reading, represents), is), reported) =
     quiet w next sound (subst (λ (x : Gateway). IsSame x w.gateway)
-    (ap (λ (p : Gateway × Taken). p.0) came ∙ sym (ap (λ (x : World). x.gateway) is))
+    (ap (λ (p : Gateway × Taken). p.0) represents ∙ sym (ap (λ (x : World). x.gateway) is))
     (by_keeps w.gateway (at_port w.gateway.rooms port) source.address reading))
 
 pub tick_keeps_quiet : KeepsQuiet Tick
-tick_keeps_quiet w next sent sound (told, is) = quiet w next sound
+tick_keeps_quiet w next sent sound (reported, is) = quiet w next sound
     (subst (λ (x : World). IsSame x.gateway w.gateway) (sym is) (record { rooms = refl; edits = refl }))

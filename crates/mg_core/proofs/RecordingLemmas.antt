@@ -13,23 +13,23 @@ use Rattle.mg_core.proofs.ReadBackLemmas.{is_not, at_passes, no_feed, no_return,
 -- ## Lines
 
 -- a line, and what stands after it
-line_then : (ended : Bool) (begun line rest : List ℕ) → list_all (is_not 10) line ≡ true →
-    lines_after ended begun (line ++ 10 ∷ rest) ≡ without_return (begun ++ line) ∷ lines_after ended [] rest
+line_then : (ended : Bool) (partial line rest : List ℕ) → list_all (is_not 10) line ≡ true →
+    lines_after ended partial (line ++ 10 ∷ rest) ≡ without_return (partial ++ line) ∷ lines_after ended [] rest
 unfolding lines_after
-line_then ended begun [] rest h =
-    ap (λ (l : List ℕ). without_return l ∷ lines_after ended [] rest) (sym (append-nil begun))
-line_then ended begun (b ∷ bs) rest h =
+line_then ended partial [] rest h =
+    ap (λ (l : List ℕ). without_return l ∷ lines_after ended [] rest) (sym (append-nil partial))
+line_then ended partial (b ∷ bs) rest h =
     let two = and_parts (is_not 10 b) (list_all (is_not 10) bs) h in
-    let grown : lines_after ended (begun ++ b ∷ []) (bs ++ 10 ∷ rest) ≡
-    without_return (begun ++ b ∷ bs) ∷ lines_after ended [] rest =
-    line_then ended (begun ++ b ∷ []) bs rest two.1 ∙
-    ap (λ (l : List ℕ). without_return l ∷ lines_after ended [] rest) (append_assoc begun (b ∷ []) bs) in
+    let grown : lines_after ended (partial ++ b ∷ []) (bs ++ 10 ∷ rest) ≡
+    without_return (partial ++ b ∷ bs) ∷ lines_after ended [] rest =
+    line_then ended (partial ++ b ∷ []) bs rest two.1 ∙
+    ap (λ (l : List ℕ). without_return l ∷ lines_after ended [] rest) (append_assoc partial (b ∷ []) bs) in
     rw (not-true (eqb b 10) two.0) grown
 
 -- no line ends
-none_whole : (begun front : List ℕ) → list_all (is_not 10) front ≡ true → lines_after false begun front ≡ []
+none_whole : (partial front : List ℕ) → list_all (is_not 10) front ≡ true → lines_after false partial front ≡ []
 unfolding lines_after
-none_whole begun [] h = either (eqb (length begun) 0)
+none_whole partial [] h = either (eqb (length partial) 0)
   where
     none : List (List ℕ)
     none = []
@@ -37,9 +37,9 @@ none_whole begun [] h = either (eqb (length begun) 0)
     either : (q : Bool) → cond q none none ≡ none
     either true = refl
     either false = refl
-none_whole begun (b ∷ bs) h =
+none_whole partial (b ∷ bs) h =
     let two = and_parts (is_not 10 b) (list_all (is_not 10) bs) h in
-    rw (not-true (eqb b 10) two.0) (none_whole (begun ++ b ∷ []) bs two.1)
+    rw (not-true (eqb b 10) two.0) (none_whole (partial ++ b ∷ []) bs two.1)
 
 -- a line without a carriage return at its end
 whole_line : (line : List ℕ) → list_all (is_not 13) line ≡ true → without_return line ≡ line

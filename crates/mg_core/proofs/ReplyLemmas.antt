@@ -29,7 +29,7 @@ use Rattle.mg_engine.specs.Gateway.{Gateway}
 use Rattle.mg_words.specs.Leads.{Leads}
 use Rattle.mg_words.specs.Limits.{reply_limit}
 use Rattle.mg_reply.specs.declared.item.Item.{Item}
-use Rattle.mg_reply.specs.Theorems.{TextAlone, AllThere, is_wide, is_too_long}
+use Rattle.mg_reply.specs.Theorems.{TooLongByText, AllItemsAreKept, is_wide, is_too_long}
 use Rattle.mg_core.specs.Answer.{with_front, item_replied, mark_after, replied_to, request_replied, run_and_kept, sent_text, without_ranges}
 use Rattle.mg_core.specs.aids.Answers.{unless_kept}
 
@@ -86,7 +86,7 @@ sent_is false n r xs number long text there =
     ∙ ap (reply_text n) (there (or_parts r.is_long (ltb reply_limit (length (reply_text r.number r.items))) long).0)
     ∙ sym (ap (sent_by n xs) text)
 
-put_is_sent : TextAlone → AllThere → (n : ℕ) (xs : List Item) → list_all is_wide xs ≡ true
+put_is_sent : TooLongByText → AllItemsAreKept → (n : ℕ) (xs : List Item) → list_all is_wide xs ≡ true
     → (is_refusal xs || last_is_action false xs) ≡ true → put_text (after_all (new_reply n) xs) ≡ sent_text n xs
 put_is_sent alone there n xs wide whole =
     sent_is (ltb reply_limit (length (reply_text n xs))) n (after_all (new_reply n) xs) xs
@@ -94,7 +94,7 @@ put_is_sent alone there n xs wide whole =
     (alone n xs wide whole) refl (there n xs)
 
 -- a request that was run, and whose reply was written and kept
-pub request_run : TextAlone → AllThere → (source sender : List ℕ) (request : Request) (old new : CoreState)
+pub request_run : TooLongByText → AllItemsAreKept → (source sender : List ℕ) (request : Request) (old new : CoreState)
     (reply : Answered) (before text : List ℕ)
     → ((w : Gateway) → list_all is_wide (replied source request w).items ≡ true) →
     ((w : Gateway) → (is_refusal (replied source request w).items || last_is_action false
@@ -106,9 +106,9 @@ pub request_run : TextAlone → AllThere → (source sender : List ℕ) (request
     → text ≡ before ++ put_text reply → TextGrows old new before text
     (λ w. run_and_kept sender request.number w (replied source request w.gateway))
 request_run alone there source sender request old new reply before text wide whole same ran keeps is w h =
-    let (next, came, stands) = ran w.gateway h.gateway in
+    let (next, represents, stands) = ran w.gateway h.gateway in
     let xs = (replied source request w.gateway).items in
-    let sent : put_text reply ≡ sent_text request.number xs = ap put_text came.1 ∙
+    let sent : put_text reply ≡ sent_text request.number xs = ap put_text represents.1 ∙
     put_is_sent alone there request.number xs (wide w.gateway) (whole w.gateway) in
     let kept = λ (l : List ℕ). let r : KeptReply = record { sender = sender; number = request.number; text = l } in r in
     let text_is = sent_text request.number xs in (
@@ -116,7 +116,7 @@ request_run alone there source sender request old new reply before text wide who
       (
         text_is,
         ap (λ (g : Gateway). writing text_is
-            (record w { gateway = g; replies = with_reply (kept text_is) w.replies })) came.0,
+            (record w { gateway = g; replies = with_reply (kept text_is) w.replies })) represents.0,
         is ∙
             ap (λ (l : List ℕ). before ++ l) sent,
       ),
@@ -133,15 +133,15 @@ kept_in : (state : CoreState) (w : World) (sender : List ℕ) (n : ℕ) (o : Opt
 kept_in state w sender n o h is = ap (λ (l : List KeptReply). kept_text l sender n) h.replies ∙ is
 
 -- a request that came again, for which the kept text was written
-pub request_again : (source sender : List ℕ) (request : Request) (state : CoreState) (before told text : List ℕ) →
-    kept_text state.kept sender request.number ≡ Some told
-    → text ≡ before ++ told → TextGrows state state before text (request_replied source sender request)
-request_again source sender request state before told text kept is w h = (
+pub request_again : (source sender : List ℕ) (request : Request) (state : CoreState) (before reported text : List ℕ) →
+    kept_text state.kept sender request.number ≡ Some reported
+    → text ≡ before ++ reported → TextGrows state state before text (request_replied source sender request)
+request_again source sender request state before reported text kept is w h = (
   w,
   (
-    told,
+    reported,
     ap (λ (o : Option (List ℕ)). unless_kept o source sender request w)
-        (kept_in state w sender request.number (Some told) h kept),
+        (kept_in state w sender request.number (Some reported) h kept),
     is,
   ),
   h,
@@ -154,12 +154,12 @@ pub request_new : (source sender : List ℕ) (request : Request) (old new : Core
     TextGrows old new before text (request_replied source sender request)
 request_new source sender request old new before text none ran w h =
     let (next, wrote, stands) = ran w h in
-    let (out, came, is) = wrote in (
+    let (out, represents, is) = wrote in (
       next,
       (
         out,
         ap (λ (o : Option (List ℕ)). unless_kept o source sender request w)
-            (kept_in old w sender request.number None h none) ∙ came,
+            (kept_in old w sender request.number None h none) ∙ represents,
         is,
       ),
       stands,
@@ -171,8 +171,8 @@ pub request_put : (source sender mark : List ℕ) (request : Request) (old new :
     TextGrows old new before text (item_replied source sender mark (items.Request request))
 request_put source sender mark request old new before text ran w h =
     let (next, wrote, stands) = ran w h in
-    let (out, came, is) = wrote in
-    (next, (mark ++ out, ap (with_front mark) came, is ∙ append_assoc before mark out), stands)
+    let (out, represents, is) = wrote in
+    (next, (mark ++ out, ap (with_front mark) represents, is ∙ append_assoc before mark out), stands)
 
 -- replies that were acknowledged
 pub ranges_taken : (source sender mark : List ℕ) (ranges : List Range) (old new : CoreState) (text : List ℕ) →
@@ -232,7 +232,7 @@ pub items_more : (source sender mark next : List ℕ) (xs : List MessageItem) (i
     TextGrows kept new text more (item_replied source sender mark x)
     → IsUnderWay entered new before more f (replied_to source sender next (drop (i + 1) xs))
 items_more source sender mark next xs i x d entered kept new before text more f lt is marked inside step w h =
-    let (now, out, came, written, stands) = inside w h in
+    let (now, out, represents, written, stands) = inside w h in
     let (after, wrote, left) = step now stands in
     let (part, did, grown) = wrote in
     let one = item_done source sender mark xs i d now after part lt
@@ -241,7 +241,7 @@ items_more source sender mark next xs i x d entered kept new before text more f 
     let rest = λ (m : List ℕ). with_front (out ++ part) (replied_to source sender m (drop (i + 1) xs) after) in (
       after,
       out ++ part,
-      came ∙ ap (with_front out) one ∙ after_both out part
+      represents ∙ ap (with_front out) one ∙ after_both out part
           (replied_to source sender (mark_after mark (get_or xs i d)) (drop (i + 1) xs) after) ∙ ap rest mark_is,
       grown ∙ ap (λ (l : List ℕ). l ++ part) written ∙ append_assoc before out part,
       left,
@@ -257,11 +257,11 @@ pub items_end : (source sender mark : List ℕ) (xs : List MessageItem) (i : ℕ
     IsUnderWay entered kept before text f (replied_to source sender mark (drop i xs)) →
     TextGrows entered kept before text f
 items_end source sender mark xs i entered kept before text f le inside w h =
-    let (now, out, came, written, stands) = inside w h in (
+    let (now, out, represents, written, stands) = inside w h in (
       now,
       (
         out,
-        came ∙ ap (with_front out) (no_items source sender mark xs i now le) ∙
+        represents ∙ ap (with_front out) (no_items source sender mark xs i now le) ∙
             ap (λ (l : List ℕ). let q : List ℕ × World = (l, now) in q) (append-nil out),
         written,
       ),

@@ -21,7 +21,7 @@ use Rattle.mg_lines.specs.Lines.{without_return, lines_after, lines_of}
 use Rattle.mg_core.specs.Script.{event_of, events_of, then_all}
 use Rattle.mg_core.specs.Step.{Sent, Run}
 use Rattle.mg_core.specs.Flows.{changes_by}
-use Rattle.mg_core.specs.Run.{IsShownText, TellsChanges, Ran, HasRead, RanBeforeMore, HasBadAfter}
+use Rattle.mg_core.specs.Run.{IsShownText, ReportsChanges, Ran, HasRead, RanBeforeMore, HasBadAfter}
 use Rattle.mg_core.specs.Run.{RanAllRead, lines_for, line_of}
 use Rattle.mg_core.specs.aids.Steps.{Follows, LeadsOn, AllRan, LineRan, BytesRan, Finishes, RanCounted, after_sent, script_fault_of}
 use Rattle.mg_lines.proofs.WriterLemmas.{appends_then, appends_keeps}
@@ -71,10 +71,10 @@ run_both w v u (e ∷ es) fs a b h k = (
 lines_both : (a b : List Sent) → lines_for (a ++ b) ≡ lines_for a ++ lines_for b
 lines_both a b = flat_map-append line_of a b
 
-tells_both : (w v u : World) (es fs : List Event) (s t : List ℕ) → TellsChanges w es s v → TellsChanges v fs t u →
-    TellsChanges w (es ++ fs) (s ++ t) u
-tells_both w v u [] fs s t h k = subst (λ (x : World). TellsChanges x fs (s ++ t) u) h.1
-    (subst (λ (l : List ℕ). TellsChanges v fs l u) (ap (λ (l : List ℕ). l ++ t) (sym h.0)) k)
+tells_both : (w v u : World) (es fs : List Event) (s t : List ℕ) → ReportsChanges w es s v → ReportsChanges v fs t u →
+    ReportsChanges w (es ++ fs) (s ++ t) u
+tells_both w v u [] fs s t h k = subst (λ (x : World). ReportsChanges x fs (s ++ t) u) h.1
+    (subst (λ (l : List ℕ). ReportsChanges v fs l u) (ap (λ (l : List ℕ). l ++ t) (sym h.0)) k)
 tells_both w v u (e ∷ es) fs s t h k = (
   h.0,
   h.1 ++ t,
@@ -171,45 +171,45 @@ module _ (shown : Shown) where
   }
 
   -- no bytes yet
-  pub bytes_start : (n : ℕ) (begun : List ℕ) (w : World) (s : ℕ) (a : Option (List ℕ)) →
-      BytesRan shown n n begun [] begun w w s s a a (Ok tt)
-  bytes_start n begun w s a = ([], λ ended more. refl, omega arith, counted_nothing w s s a refl)
+  pub bytes_start : (n : ℕ) (partial : List ℕ) (w : World) (s : ℕ) (a : Option (List ℕ)) →
+      BytesRan shown n n partial [] partial w w s s a a (Ok tt)
+  bytes_start n partial w s a = ([], λ ended more. refl, omega arith, counted_nothing w s s a refl)
 
-  one_byte : (ended : Bool) (x : ℕ) (begun bytes : List ℕ) → x ≢ 10 →
-      lines_after ended begun (x ∷ bytes) ≡ lines_after ended (begun ++ x ∷ []) bytes
+  one_byte : (ended : Bool) (x : ℕ) (partial bytes : List ℕ) → x ≢ 10 →
+      lines_after ended partial (x ∷ bytes) ≡ lines_after ended (partial ++ x ∷ []) bytes
   unfolding lines_after
-  one_byte ended x begun bytes ne = rw (ne_eqb x 10 ne) refl
+  one_byte ended x partial bytes ne = rw (ne_eqb x 10 ne) refl
 
-  line_feed : (ended : Bool) (begun bytes : List ℕ) →
-      lines_after ended begun (10 ∷ bytes) ≡ without_return begun ∷ lines_after ended [] bytes
+  line_feed : (ended : Bool) (partial bytes : List ℕ) →
+      lines_after ended partial (10 ∷ bytes) ≡ without_return partial ∷ lines_after ended [] bytes
   unfolding lines_after
-  line_feed ended begun bytes = refl
+  line_feed ended partial bytes = refl
 
   regroup : (front : List ℕ) (x : ℕ) (rest : List ℕ) → (front ++ x ∷ []) ++ rest ≡ front ++ (x ∷ rest)
   regroup front x rest = append_assoc front (x ∷ []) rest
 
   -- a byte that ends no line
-  pub bytes_plain : (n m : ℕ) (begun front left : List ℕ) (w v : World) (s t : ℕ) (a b : Option (List ℕ)) (x : ℕ) →
-      x ≢ 10 → BytesRan shown n m begun front left w v s t a b (Ok tt) →
-      BytesRan shown n m begun (front ++ x ∷ []) (left ++ x ∷ []) w v s t a b (Ok tt)
-  bytes_plain n m begun front left w v s t a b x ne h = (
+  pub bytes_plain : (n m : ℕ) (partial front left : List ℕ) (w v : World) (s t : ℕ) (a b : Option (List ℕ)) (x : ℕ) →
+      x ≢ 10 → BytesRan shown n m partial front left w v s t a b (Ok tt) →
+      BytesRan shown n m partial (front ++ x ∷ []) (left ++ x ∷ []) w v s t a b (Ok tt)
+  bytes_plain n m partial front left w v s t a b x ne h = (
     h.0,
-    λ ended more. ap (lines_after ended begun) (regroup front x more) ∙ h.1 ended (x ∷ more) ∙
+    λ ended more. ap (lines_after ended partial) (regroup front x more) ∙ h.1 ended (x ∷ more) ∙
         ap (λ (l : List (List ℕ)). h.0 ++ l) (one_byte ended x left more ne),
     h.2,
     h.3,
   )
 
   -- a byte that ends a line, which was run
-  pub bytes_line : (n m : ℕ) (begun front left : List ℕ) (w v u : World) (s t z : ℕ) (a b c : Option (List ℕ))
-      (number : ℕ) → BytesRan shown n m begun front left w v s t a b (Ok tt) →
+  pub bytes_line : (n m : ℕ) (partial front left : List ℕ) (w v u : World) (s t z : ℕ) (a b c : Option (List ℕ))
+      (number : ℕ) → BytesRan shown n m partial front left w v s t a b (Ok tt) →
       LineRan shown number (without_return left) v u t z b c (Ok tt) →
-      BytesRan shown n (m + 1) begun (front ++ 10 ∷ []) [] w u s z a c (Ok tt)
-  bytes_line n m begun front left w v u s t z a b c number h k =
+      BytesRan shown n (m + 1) partial (front ++ 10 ∷ []) [] w u s z a c (Ok tt)
+  bytes_line n m partial front left w v u s t z a b c number h k =
       let line = without_return left in
       let next : (ended : Bool) (more : List ℕ) →
-      lines_after ended begun ((front ++ 10 ∷ []) ++ more) ≡ (h.0 ++ line ∷ []) ++ lines_after ended [] more =
-      λ ended more. ap (lines_after ended begun) (regroup front 10 more) ∙ h.1 ended (10 ∷ more) ∙
+      lines_after ended partial ((front ++ 10 ∷ []) ++ more) ≡ (h.0 ++ line ∷ []) ++ lines_after ended [] more =
+      λ ended more. ap (lines_after ended partial) (regroup front 10 more) ∙ h.1 ended (10 ∷ more) ∙
       ap (λ (l : List (List ℕ)). h.0 ++ l) (line_feed ended left more) ∙
       sym (append_assoc h.0 (line ∷ []) (lines_after ended [] more)) in (
         h.0 ++ line ∷ [],
@@ -219,52 +219,52 @@ module _ (shown : Shown) where
       )
 
   -- the lines after some bytes, where a line feed stands after the first of them
-  at_feed : (ended : Bool) (begun front left back more : List ℕ) (lines : List (List ℕ)) →
-      ((ended : Bool) (more : List ℕ) → lines_after ended begun (front ++ more) ≡ lines ++ lines_after ended left more)
-      → lines_after ended begun ((front ++ (10 ∷ back)) ++ more) ≡ lines ++ without_return left ∷
+  at_feed : (ended : Bool) (partial front left back more : List ℕ) (lines : List (List ℕ)) →
+      ((ended : Bool) (more : List ℕ) → lines_after ended partial (front ++ more) ≡ lines ++ lines_after ended left more)
+      → lines_after ended partial ((front ++ (10 ∷ back)) ++ more) ≡ lines ++ without_return left ∷
       lines_after ended [] (back ++ more)
-  at_feed ended begun front left back more lines h =
-      ap (lines_after ended begun) (append_assoc front (10 ∷ back) more) ∙ h ended (10 ∷ (back ++ more)) ∙
+  at_feed ended partial front left back more lines h =
+      ap (lines_after ended partial) (append_assoc front (10 ∷ back) more) ∙ h ended (10 ∷ (back ++ more)) ∙
       ap (λ (l : List (List ℕ)). lines ++ l) (line_feed ended left (back ++ more))
 
   -- the same where nothing stands after them
-  at_last_feed : (begun front left back : List ℕ) (lines : List (List ℕ)) →
-      ((ended : Bool) (more : List ℕ) → lines_after ended begun (front ++ more) ≡ lines ++ lines_after ended left more)
-      → lines_after false begun (front ++ (10 ∷ back)) ≡ lines ++ without_return left ∷ lines_after false [] back
-  at_last_feed begun front left back lines h =
+  at_last_feed : (partial front left back : List ℕ) (lines : List (List ℕ)) →
+      ((ended : Bool) (more : List ℕ) → lines_after ended partial (front ++ more) ≡ lines ++ lines_after ended left more)
+      → lines_after false partial (front ++ (10 ∷ back)) ≡ lines ++ without_return left ∷ lines_after false [] back
+  at_last_feed partial front left back lines h =
       h false (10 ∷ back) ∙ ap (λ (l : List (List ℕ)). lines ++ l) (line_feed false left back)
 
   -- a line that was not run
-  pub bytes_stop : (n m p : ℕ) (begun front left back other : List ℕ) (w v u : World) (s t z : ℕ)
-      (a b c : Option (List ℕ)) (e : LineFault) → BytesRan shown n m begun front left w v s t a b (Ok tt) →
+  pub bytes_stop : (n m p : ℕ) (partial front left back other : List ℕ) (w v u : World) (s t z : ℕ)
+      (a b c : Option (List ℕ)) (e : LineFault) → BytesRan shown n m partial front left w v s t a b (Ok tt) →
       LineRan shown (m + 1) (without_return left) v u t z b c (Err e) →
-      BytesRan shown n p begun (front ++ (10 ∷ back)) other w u s z a c (Err e)
-  bytes_stop n m p begun front left back other w v u s t z a b c (faults.Bad k) h l = (
+      BytesRan shown n p partial (front ++ (10 ∷ back)) other w u s z a c (Err e)
+  bytes_stop n m p partial front left back other w v u s t z a b c (faults.Bad k) h l = (
     h.0,
     λ more. record {
       bad = without_return left;
       others = lines_after true [] (back ++ more);
-      parts = at_feed true begun front left back more h.0 h.1;
+      parts = at_feed true partial front left back more h.0 h.1;
       is_bad = l.1;
     },
     omega (arith, l.0, h.2),
     ran_kept w v u h.0 a b c h.3.ran l.2 l.3,
   )
-  bytes_stop n m p begun front left back other w v u s t z a b c faults.Write h l = (
+  bytes_stop n m p partial front left back other w v u s t z a b c faults.Write h l = (
     h.0,
     without_return left,
     lines_after false [] back,
-    at_last_feed begun front left back h.0 h.1,
+    at_last_feed partial front left back h.0 h.1,
     v,
     b,
     h.3.ran,
     l,
   )
-  bytes_stop n m p begun front left back other w v u s t z a b c faults.NoMemory h l = (
+  bytes_stop n m p partial front left back other w v u s t z a b c faults.NoMemory h l = (
     h.0,
     without_return left,
     lines_after false [] back,
-    at_last_feed begun front left back h.0 h.1,
+    at_last_feed partial front left back h.0 h.1,
     ran_kept w v u h.0 a b c h.3.ran l.0 l.1,
   )
 
@@ -278,26 +278,26 @@ module _ (shown : Shown) where
   return_long true line n le = omega (arith, length-take (length line - 1) line)
   return_long false line n le = omega arith
 
-  long_step : (t : Bool) (begun : List ℕ) (x : ℕ) (bytes : List ℕ) → eqb x 10 ≡ t → 140002 ≤ length begun →
-      HasBadAfter [] (lines_after true (begun ++ x ∷ []) bytes) → HasBadAfter [] (lines_after true begun (x ∷ bytes))
+  long_step : (t : Bool) (partial : List ℕ) (x : ℕ) (bytes : List ℕ) → eqb x 10 ≡ t → 140002 ≤ length partial →
+      HasBadAfter [] (lines_after true (partial ++ x ∷ []) bytes) → HasBadAfter [] (lines_after true partial (x ∷ bytes))
   unfolding lines_after
-  long_step true begun x bytes e le h =
+  long_step true partial x bytes e le h =
       rw e (record {
-        bad = without_return begun;
+        bad = without_return partial;
         others = lines_after true [] bytes;
         parts = refl;
         is_bad =
-            long_bad (without_return begun) (return_long (eqb (slice_index begun (length begun - 1)) 13) begun 140001
+            long_bad (without_return partial) (return_long (eqb (slice_index partial (length partial - 1)) 13) partial 140001
             (omega arith));
       })
-  long_step false begun x bytes e le h = rw e h
+  long_step false partial x bytes e le h = rw e h
 
-  long_line : (begun bytes : List ℕ) → 140002 ≤ length begun → HasBadAfter [] (lines_after true begun bytes)
+  long_line : (partial bytes : List ℕ) → 140002 ≤ length partial → HasBadAfter [] (lines_after true partial bytes)
   unfolding lines_after
-  long_line begun [] le = rw (ne_eqb (length begun) 0 (λ e. absurd (omega arith)))
-      (record { bad = begun; others = []; parts = refl; is_bad = long_bad begun (omega arith) })
-  long_line begun (x ∷ bytes) le = long_step (eqb x 10) begun x bytes refl le
-      (long_line (begun ++ x ∷ []) bytes (omega (arith, length-append begun (x ∷ []))))
+  long_line partial [] le = rw (ne_eqb (length partial) 0 (λ e. absurd (omega arith)))
+      (record { bad = partial; others = []; parts = refl; is_bad = long_bad partial (omega arith) })
+  long_line partial (x ∷ bytes) le = long_step (eqb x 10) partial x bytes refl le
+      (long_line (partial ++ x ∷ []) bytes (omega (arith, length-append partial (x ∷ []))))
 
   -- a bad line after some lines stands after those before them too
   bad_later : (before lines others all : List (List ℕ)) → all ≡ before ++ others → HasBadAfter lines others →
@@ -310,15 +310,15 @@ module _ (shown : Shown) where
   }
 
   -- a byte that makes a line too long
-  pub bytes_long : (n m p : ℕ) (begun front left back other : List ℕ) (w v : World) (s t z : ℕ) (a b : Option (List ℕ))
-      (x : ℕ) → x ≢ 10 → 140001 ≤ length left → BytesRan shown n m begun front left w v s t a b (Ok tt) →
-      BytesRan shown n p begun (front ++ (x ∷ back)) other w v s z a b (Err (faults.Bad (m + 1)))
-  bytes_long n m p begun front left back other w v s t z a b x ne le h =
+  pub bytes_long : (n m p : ℕ) (partial front left back other : List ℕ) (w v : World) (s t z : ℕ) (a b : Option (List ℕ))
+      (x : ℕ) → x ≢ 10 → 140001 ≤ length left → BytesRan shown n m partial front left w v s t a b (Ok tt) →
+      BytesRan shown n p partial (front ++ (x ∷ back)) other w v s z a b (Err (faults.Bad (m + 1)))
+  bytes_long n m p partial front left back other w v s t z a b x ne le h =
       let long : (more : List ℕ) → HasBadAfter [] (lines_after true (left ++ x ∷ []) (back ++ more)) =
       λ more. long_line (left ++ x ∷ []) (back ++ more) (omega (arith, length-append left (x ∷ []))) in
-      let split : (more : List ℕ) → lines_after true begun ((front ++ (x ∷ back)) ++ more) ≡ h.0 ++
+      let split : (more : List ℕ) → lines_after true partial ((front ++ (x ∷ back)) ++ more) ≡ h.0 ++
       lines_after true (left ++ x ∷ []) (back ++ more) =
-      λ more. ap (lines_after true begun) (append_assoc front (x ∷ back) more) ∙ h.1 true (x ∷ (back ++ more)) ∙
+      λ more. ap (lines_after true partial) (append_assoc front (x ∷ back) more) ∙ h.1 true (x ∷ (back ++ more)) ∙
       ap (λ (l : List (List ℕ)). h.0 ++ l) (one_byte true x left (back ++ more) ne) in (
         h.0,
         λ more. record {
@@ -334,18 +334,18 @@ module _ (shown : Shown) where
 
   -- How far a run of a script has come: a text was read, the lines that end in it were run on a new gateway, and the
   -- line after them is begun.
-  pub record Progress (config : Config) (input remaining : Option (List ℕ)) (begun : List ℕ) (count : ℕ) (now : World)
+  pub record Progress (config : Config) (input remaining : Option (List ℕ)) (partial : List ℕ) (count : ℕ) (now : World)
       (sent : ℕ) (old new : Option (List ℕ)) : Type 0 where
     pub text : List ℕ
     pub consumed : Consumes input remaining text
     pub lines : List (List ℕ)
-    pub split : (ended : Bool) (more : List ℕ) → lines_of ended (text ++ more) ≡ lines ++ lines_after ended begun more
+    pub split : (ended : Bool) (more : List ℕ) → lines_of ended (text ++ more) ≡ lines ++ lines_after ended partial more
     pub counted : count ≡ length lines
     pub ran : RanCounted shown (start_of config) lines now 0 sent old new
 
-  pub progress_start : (config : Config) (input : Option (List ℕ)) (begun : List ℕ) (count s : ℕ) (a : Option (List ℕ))
-      → begun ≡ [] → count ≡ 0 → s ≡ 0 → Progress config input input begun count (start_of config) s a a
-  progress_start config input begun count s a none zero_is unsent =
+  pub progress_start : (config : Config) (input : Option (List ℕ)) (partial : List ℕ) (count s : ℕ) (a : Option (List ℕ))
+      → partial ≡ [] → count ≡ 0 → s ≡ 0 → Progress config input input partial count (start_of config) s a a
+  progress_start config input partial count s a none zero_is unsent =
       record {
         text = [];
         consumed = Consumes-nil input;
@@ -355,10 +355,10 @@ module _ (shown : Shown) where
         ran = counted_nothing (start_of config) 0 s a unsent;
       }
 
-  pub progress_bytes : (config : Config) (i x y : Option (List ℕ)) (begun bytes left : List ℕ) (n m : ℕ) (v u : World)
-      (s t : ℕ) (a b c : Option (List ℕ)) → Progress config i x begun n v s a b → Consumes x y bytes →
-      BytesRan shown n m begun bytes left v u s t b c (Ok tt) → Progress config i y left m u t a c
-  progress_bytes config i x y begun bytes left n m v u s t a b c p eaten h = record {
+  pub progress_bytes : (config : Config) (i x y : Option (List ℕ)) (partial bytes left : List ℕ) (n m : ℕ) (v u : World)
+      (s t : ℕ) (a b c : Option (List ℕ)) → Progress config i x partial n v s a b → Consumes x y bytes →
+      BytesRan shown n m partial bytes left v u s t b c (Ok tt) → Progress config i y left m u t a c
+  progress_bytes config i x y partial bytes left n m v u s t a b c p eaten h = record {
     text = p.text ++ bytes;
     consumed = Consumes-trans i x y p.text bytes p.consumed eaten;
     lines = p.lines ++ h.0;
@@ -369,67 +369,67 @@ module _ (shown : Shown) where
     ran = counted_both (start_of config) v u p.lines h.0 0 s t a b c p.ran h.3;
   }
 
-  unfinished : (begun : List ℕ) → lines_after false begun [] ≡ []
+  unfinished : (partial : List ℕ) → lines_after false partial [] ≡ []
   unfolding lines_after
   unfinished [] = refl
   unfinished (b ∷ bs) = rw (ne_eqb (length (b ∷ bs)) 0 (λ e. absurd (omega (arith, e)))) refl
 
   -- what was read, where nothing follows it
-  split_at_end : (config : Config) (i x : Option (List ℕ)) (begun : List ℕ) (n : ℕ) (v : World) (s : ℕ)
-      (a b : Option (List ℕ)) (ended : Bool) (p : Progress config i x begun n v s a b) →
-      lines_of ended p.text ≡ p.lines ++ lines_after ended begun []
-  split_at_end config i x begun n v s a b ended p = ap (lines_after ended []) (sym (append-nil p.text)) ∙ p.split ended
+  split_at_end : (config : Config) (i x : Option (List ℕ)) (partial : List ℕ) (n : ℕ) (v : World) (s : ℕ)
+      (a b : Option (List ℕ)) (ended : Bool) (p : Progress config i x partial n v s a b) →
+      lines_of ended p.text ≡ p.lines ++ lines_after ended partial []
+  split_at_end config i x partial n v s a b ended p = ap (lines_after ended []) (sym (append-nil p.text)) ∙ p.split ended
       []
 
   -- the lines that were run are those that end in what was read
-  all_run : (config : Config) (i x : Option (List ℕ)) (begun : List ℕ) (n : ℕ) (v : World) (s : ℕ)
-      (a b : Option (List ℕ)) (p : Progress config i x begun n v s a b) → lines_of false p.text ≡ p.lines
-  all_run config i x begun n v s a b p = split_at_end config i x begun n v s a b false p ∙
-      ap (λ (l : List (List ℕ)). p.lines ++ l) (unfinished begun) ∙ append-nil p.lines
+  all_run : (config : Config) (i x : Option (List ℕ)) (partial : List ℕ) (n : ℕ) (v : World) (s : ℕ)
+      (a b : Option (List ℕ)) (p : Progress config i x partial n v s a b) → lines_of false p.text ≡ p.lines
+  all_run config i x partial n v s a b p = split_at_end config i x partial n v s a b false p ∙
+      ap (λ (l : List (List ℕ)). p.lines ++ l) (unfinished partial) ∙ append-nil p.lines
 
   not_ended : {A : Type 0} → false ≡ true → A
   not_ended e = absurd (cc e)
 
   -- the lines that were run before and in the last bytes
-  run_in_bytes : (config : Config) (i x : Option (List ℕ)) (begun bytes : List ℕ) (n : ℕ) (v : World) (s : ℕ)
+  run_in_bytes : (config : Config) (i x : Option (List ℕ)) (partial bytes : List ℕ) (n : ℕ) (v : World) (s : ℕ)
       (a b : Option (List ℕ)) (lines : List (List ℕ)) → length bytes ≤ 4096 →
-      (p : Progress config i x begun n v s a b) → RanBeforeMore (p.text ++ bytes) false (p.lines ++ lines)
-  run_in_bytes config i x begun bytes n v s a b lines few p = record {
+      (p : Progress config i x partial n v s a b) → RanBeforeMore (p.text ++ bytes) false (p.lines ++ lines)
+  run_in_bytes config i x partial bytes n v s a b lines few p = record {
     before = p.text;
     given = bytes;
     parts = refl;
     size = few;
     end_alone = not_ended;
     later = lines;
-    lines_are = ap (λ (l : List (List ℕ)). l ++ lines) (sym (all_run config i x begun n v s a b p));
+    lines_are = ap (λ (l : List (List ℕ)). l ++ lines) (sym (all_run config i x partial n v s a b p));
   }
 
   -- the line after those that were run, where it is among the last bytes
-  line_in_bytes : (config : Config) (i x : Option (List ℕ)) (begun bytes line : List ℕ) (n : ℕ) (v : World) (s : ℕ)
-      (a b : Option (List ℕ)) (lines others : List (List ℕ)) → lines_after false begun bytes ≡ lines ++ line ∷ others →
-      (p : Progress config i x begun n v s a b) → lines_of false (p.text ++ bytes) ≡ (p.lines ++ lines) ++ line ∷ others
-  line_in_bytes config i x begun bytes line n v s a b lines others is p = p.split false bytes ∙
+  line_in_bytes : (config : Config) (i x : Option (List ℕ)) (partial bytes line : List ℕ) (n : ℕ) (v : World) (s : ℕ)
+      (a b : Option (List ℕ)) (lines others : List (List ℕ)) → lines_after false partial bytes ≡ lines ++ line ∷ others →
+      (p : Progress config i x partial n v s a b) → lines_of false (p.text ++ bytes) ≡ (p.lines ++ lines) ++ line ∷ others
+  line_in_bytes config i x partial bytes line n v s a b lines others is p = p.split false bytes ∙
       ap (λ (l : List (List ℕ)). p.lines ++ l) is ∙ sym (append_assoc p.lines lines (line ∷ others))
 
-  pub progress_fault : (config : Config) (i x y : Option (List ℕ)) (begun bytes left : List ℕ) (n m : ℕ)
+  pub progress_fault : (config : Config) (i x y : Option (List ℕ)) (partial bytes left : List ℕ) (n m : ℕ)
       (state : CoreState) (v u : World) (s t : ℕ) (a b c : Option (List ℕ)) (e : LineFault) →
-      Progress config i x begun n v s a b → Consumes x y bytes → length bytes ≤ 4096 →
-      BytesRan shown n m begun bytes left v u s t b c (Err e) → AllRan config shown i y state m t a c
+      Progress config i x partial n v s a b → Consumes x y bytes → length bytes ≤ 4096 →
+      BytesRan shown n m partial bytes left v u s t b c (Err e) → AllRan config shown i y state m t a c
       (Err (script_fault_of e))
-  progress_fault config i x y begun bytes left n m state v u s t a b c (faults.Bad k) p eaten few h = record {
+  progress_fault config i x y partial bytes left n m state v u s t a b c (faults.Bad k) p eaten few h = record {
     text = p.text ++ bytes;
     ended = false;
     read = record { consumed = Consumes-trans i x y p.text bytes p.consumed eaten; at_end = not_ended };
     lines = p.lines ++ h.0;
-    before_more = run_in_bytes config i x begun bytes n v s a b h.0 few p;
-    bad = λ more none. bad_later p.lines h.0 (lines_after true begun (bytes ++ more))
+    before_more = run_in_bytes config i x partial bytes n v s a b h.0 few p;
+    bad = λ more none. bad_later p.lines h.0 (lines_after true partial (bytes ++ more))
         (lines_of true ((p.text ++ bytes) ++ more))
         (ap (lines_after true []) (append_assoc p.text bytes more) ∙ p.split true (bytes ++ more)) (h.1 more);
     number_is = omega (arith, h.2, p.counted, length-append p.lines h.0);
     last = u;
     ran = ran_both (start_of config) v u p.lines h.0 a b c p.ran.ran h.3;
   }
-  progress_fault config i x y begun bytes left n m state v u s t a b c faults.Write p eaten few h = record {
+  progress_fault config i x y partial bytes left n m state v u s t a b c faults.Write p eaten few h = record {
     line = h.1;
     now = h.4;
     held = h.5;
@@ -438,15 +438,15 @@ module _ (shown : Shown) where
       ended = false;
       read = record { consumed = Consumes-trans i x y p.text bytes p.consumed eaten; at_end = not_ended };
       lines = p.lines ++ h.0;
-      before_more = run_in_bytes config i x begun bytes n v s a b h.0 few p;
+      before_more = run_in_bytes config i x partial bytes n v s a b h.0 few p;
       others = h.2;
-      line_is = line_in_bytes config i x begun bytes h.1 n v s a b h.0 h.2 h.3 p;
+      line_is = line_in_bytes config i x partial bytes h.1 n v s a b h.0 h.2 h.3 p;
       ran = ran_both (start_of config) v h.4 p.lines h.0 a b h.5 p.ran.ran h.6;
     };
     last = u;
     cut = h.7;
   }
-  progress_fault config i x y begun bytes left n m state v u s t a b c faults.NoMemory p eaten few h = record {
+  progress_fault config i x y partial bytes left n m state v u s t a b c faults.NoMemory p eaten few h = record {
     line = h.1;
     now = u;
     up_to = record {
@@ -454,22 +454,22 @@ module _ (shown : Shown) where
       ended = false;
       read = record { consumed = Consumes-trans i x y p.text bytes p.consumed eaten; at_end = not_ended };
       lines = p.lines ++ h.0;
-      before_more = run_in_bytes config i x begun bytes n v s a b h.0 few p;
+      before_more = run_in_bytes config i x partial bytes n v s a b h.0 few p;
       others = h.2;
-      line_is = line_in_bytes config i x begun bytes h.1 n v s a b h.0 h.2 h.3 p;
+      line_is = line_in_bytes config i x partial bytes h.1 n v s a b h.0 h.2 h.3 p;
       ran = ran_both (start_of config) v u p.lines h.0 a b c p.ran.ran h.4;
     };
   }
 
   -- reading failed
-  pub progress_unread : (config : Config) (i x y : Option (List ℕ)) (begun : List ℕ) (n : ℕ) (v : World) (s : ℕ)
-      (a b : Option (List ℕ)) → Progress config i x begun n v s a b → Keeps x y → RanAllRead config shown i y a b
-  progress_unread config i x y begun n v s a b p same = record {
+  pub progress_unread : (config : Config) (i x y : Option (List ℕ)) (partial : List ℕ) (n : ℕ) (v : World) (s : ℕ)
+      (a b : Option (List ℕ)) → Progress config i x partial n v s a b → Keeps x y → RanAllRead config shown i y a b
+  progress_unread config i x y partial n v s a b p same = record {
     text = p.text;
     read = record { consumed = Consumes-kept i x y p.text p.consumed same; at_end = not_ended };
     last = v;
     ran = subst (λ (l : List (List ℕ)). Ran shown (start_of config) l v a b)
-        (sym (all_run config i x begun n v s a b p))
+        (sym (all_run config i x partial n v s a b p))
         p.ran.ran;
   }
 
@@ -490,21 +490,21 @@ module _ (shown : Shown) where
   abbrev AtEnd : Option (List ℕ) → Option (List ℕ) → Type 0
   AtEnd x y = Keeps x y × IsAtEnd y
 
-  read_to_end : (config : Config) (i x y : Option (List ℕ)) (begun : List ℕ) (n : ℕ) (v : World) (s : ℕ)
-      (a b : Option (List ℕ)) → AtEnd x y → (p : Progress config i x begun n v s a b) → HasRead i y p.text true
-  read_to_end config i x y begun n v s a b end p =
+  read_to_end : (config : Config) (i x y : Option (List ℕ)) (partial : List ℕ) (n : ℕ) (v : World) (s : ℕ)
+      (a b : Option (List ℕ)) → AtEnd x y → (p : Progress config i x partial n v s a b) → HasRead i y p.text true
+  read_to_end config i x y partial n v s a b end p =
       record { consumed = Consumes-kept i x y p.text p.consumed end.0; at_end = λ e. end.1 }
 
-  run_to_end : (config : Config) (i x : Option (List ℕ)) (begun : List ℕ) (n : ℕ) (v : World) (s : ℕ)
-      (a b : Option (List ℕ)) (p : Progress config i x begun n v s a b) → RanBeforeMore p.text true p.lines
-  run_to_end config i x begun n v s a b p = record {
+  run_to_end : (config : Config) (i x : Option (List ℕ)) (partial : List ℕ) (n : ℕ) (v : World) (s : ℕ)
+      (a b : Option (List ℕ)) (p : Progress config i x partial n v s a b) → RanBeforeMore p.text true p.lines
+  run_to_end config i x partial n v s a b p = record {
     before = p.text;
     given = [];
     parts = sym (append-nil p.text);
     size = omega arith;
     end_alone = λ e. refl;
     later = [];
-    lines_are = sym (append-nil (lines_of false p.text) ∙ all_run config i x begun n v s a b p);
+    lines_are = sym (append-nil (lines_of false p.text) ∙ all_run config i x partial n v s a b p);
   }
 
   last_of : (config : Config) (i x : Option (List ℕ)) (k : ℕ) (ks : List ℕ) (n : ℕ) (v : World) (s : ℕ)
@@ -579,10 +579,10 @@ module _ (shown : Shown) where
     };
   }
 
-  pub progress_end : (config : Config) (i x y : Option (List ℕ)) (begun : List ℕ) (n m : ℕ) (state : CoreState)
+  pub progress_end : (config : Config) (i x y : Option (List ℕ)) (partial : List ℕ) (n m : ℕ) (state : CoreState)
       (v u : World) (s t : ℕ) (a b c : Option (List ℕ)) (r : Result (Unit {0}) LineFault) →
-      Progress config i x begun n v s a b → AtEnd x y → OnOk r (StandsFor state u) →
-      Finishes shown n m begun v u s t b c r →
+      Progress config i x partial n v s a b → AtEnd x y → OnOk r (StandsFor state u) →
+      Finishes shown n m partial v u s t b c r →
       AllRan config shown i y state m t a c (script_result r)
   progress_end config i x y [] n m state v u s t a b c r p end stands h =
       let all = split_at_end config i x [] n v s a b true p ∙ ap (λ (l : List (List ℕ)). p.lines ++ l) no_line ∙
@@ -613,66 +613,66 @@ module _ (shown : Shown) where
   -- So far, the lines that end in the first bytes were run, by an engine that was entered for each world w.
   abbrev pub HasRun : ℕ → ℕ → List ℕ → List ℕ → List ℕ → LineRunner → LineRunner → ℕ → ℕ → Option (List ℕ) →
       Option (List ℕ) → Result (Unit {0}) LineFault → Type 0
-  HasRun n m begun bytes left entered kept s t a b r =
-      Leaves entered kept r (λ w now. BytesRan shown n m begun bytes left w now s t a b r)
+  HasRun n m partial bytes left entered kept s t a b r =
+      Leaves entered kept r (λ w now. BytesRan shown n m partial bytes left w now s t a b r)
 
-  pub index_start : (n : ℕ) (begun : List ℕ) (kept : LineRunner) (s : ℕ) (a : Option (List ℕ)) →
-      HasRun n n begun [] begun kept kept s s a a (Ok tt)
-  index_start n begun kept s a w h = (w, bytes_start n begun w s a, h)
+  pub index_start : (n : ℕ) (partial : List ℕ) (kept : LineRunner) (s : ℕ) (a : Option (List ℕ)) →
+      HasRun n n partial [] partial kept kept s s a a (Ok tt)
+  index_start n partial kept s a w h = (w, bytes_start n partial w s a, h)
 
-  pub index_plain : (n m : ℕ) (begun bytes left : List ℕ) (entered kept : LineRunner) (s t : ℕ) (a b : Option (List ℕ))
+  pub index_plain : (n m : ℕ) (partial bytes left : List ℕ) (entered kept : LineRunner) (s t : ℕ) (a b : Option (List ℕ))
       (i : ℕ) → i < length bytes → get_or bytes i 0 ≢ 10 →
-      HasRun n m begun (take i bytes) left entered kept s t a b (Ok tt) →
-      HasRun n m begun (take (i + 1) bytes) (left ++ get_or bytes i 0 ∷ []) entered kept s t a b (Ok tt)
-  index_plain n m begun bytes left entered kept s t a b i lt ne inside w h =
+      HasRun n m partial (take i bytes) left entered kept s t a b (Ok tt) →
+      HasRun n m partial (take (i + 1) bytes) (left ++ get_or bytes i 0 ∷ []) entered kept s t a b (Ok tt)
+  index_plain n m partial bytes left entered kept s t a b i lt ne inside w h =
       let (now, ran, stands) = inside w h in (
         now,
-        subst (λ (l : List ℕ). BytesRan shown n m begun l (left ++ get_or bytes i 0 ∷ []) w now s t a b (Ok tt))
-            (sym (take_more bytes i 0 lt)) (bytes_plain n m begun (take i bytes) left w now s t a b (get_or bytes i 0)
+        subst (λ (l : List ℕ). BytesRan shown n m partial l (left ++ get_or bytes i 0 ∷ []) w now s t a b (Ok tt))
+            (sym (take_more bytes i 0 lt)) (bytes_plain n m partial (take i bytes) left w now s t a b (get_or bytes i 0)
             ne
             ran),
         stands,
       )
 
-  pub index_line : (n m : ℕ) (begun bytes left : List ℕ) (entered kept new : LineRunner) (s t z : ℕ)
+  pub index_line : (n m : ℕ) (partial bytes left : List ℕ) (entered kept new : LineRunner) (s t z : ℕ)
       (a b c : Option (List ℕ)) (i number : ℕ) → i < length bytes → get_or bytes i 0 ≡ 10 →
-      HasRun n m begun (take i bytes) left entered kept s t a b (Ok tt) →
+      HasRun n m partial (take i bytes) left entered kept s t a b (Ok tt) →
       Leaves kept new (Ok tt) (λ w after. LineRan shown number (without_return left) w after t z b c (Ok tt)) →
-      HasRun n (m + 1) begun (take (i + 1) bytes) [] entered new s z a c (Ok tt)
-  index_line n m begun bytes left entered kept new s t z a b c i number lt feed inside step w h =
+      HasRun n (m + 1) partial (take (i + 1) bytes) [] entered new s z a c (Ok tt)
+  index_line n m partial bytes left entered kept new s t z a b c i number lt feed inside step w h =
       let (now, ran, stands) = inside w h in
       let (after, line, last) = step now stands in (
         after,
-        subst (λ (l : List ℕ). BytesRan shown n (m + 1) begun l [] w after s z a c (Ok tt))
+        subst (λ (l : List ℕ). BytesRan shown n (m + 1) partial l [] w after s z a c (Ok tt))
             (sym (take_more bytes i 0 lt ∙ ap (λ (x : ℕ). take i bytes ++ x ∷ []) feed))
-            (bytes_line n m begun (take i bytes) left w now after s t z a b c number ran line),
+            (bytes_line n m partial (take i bytes) left w now after s t z a b c number ran line),
         last,
       )
 
-  pub index_stop : (n m p : ℕ) (begun bytes left other : List ℕ) (entered kept new : LineRunner) (s t z : ℕ)
+  pub index_stop : (n m p : ℕ) (partial bytes left other : List ℕ) (entered kept new : LineRunner) (s t z : ℕ)
       (a b c : Option (List ℕ)) (i : ℕ) (e : LineFault) → i < length bytes → get_or bytes i 0 ≡ 10 →
-      HasRun n m begun (take i bytes) left entered kept s t a b (Ok tt) →
+      HasRun n m partial (take i bytes) left entered kept s t a b (Ok tt) →
       Leaves kept new (Err e) (λ w after. LineRan shown (m + 1) (without_return left) w after t z b c (Err e)) →
-      HasRun n p begun bytes other entered new s z a c (Err e)
-  index_stop n m p begun bytes left other entered kept new s t z a b c i e lt feed inside step w h =
+      HasRun n p partial bytes other entered new s z a c (Err e)
+  index_stop n m p partial bytes left other entered kept new s t z a b c i e lt feed inside step w h =
       let (now, ran, stands) = inside w h in
       let (after, line, last) = step now stands in (
         after,
-        subst (λ (l : List ℕ). BytesRan shown n p begun l other w after s z a c (Err e))
+        subst (λ (l : List ℕ). BytesRan shown n p partial l other w after s z a c (Err e))
             (ap (λ (x : ℕ). take i bytes ++ (x ∷ drop (i + 1) bytes)) (sym feed) ∙ around bytes i lt)
-            (bytes_stop n m p begun (take i bytes) left (drop (i + 1) bytes) other w now after s t z a b c e ran line),
+            (bytes_stop n m p partial (take i bytes) left (drop (i + 1) bytes) other w now after s t z a b c e ran line),
         last,
       )
 
-  pub index_long : (n m p : ℕ) (begun bytes left other : List ℕ) (entered kept : LineRunner) (s t z : ℕ)
+  pub index_long : (n m p : ℕ) (partial bytes left other : List ℕ) (entered kept : LineRunner) (s t z : ℕ)
       (a b : Option (List ℕ)) (i : ℕ) → i < length bytes → get_or bytes i 0 ≢ 10 → 140001 ≤ length left →
-      HasRun n m begun (take i bytes) left entered kept s t a b (Ok tt) →
-      HasRun n p begun bytes other entered kept s z a b (Err (faults.Bad (m + 1)))
-  index_long n m p begun bytes left other entered kept s t z a b i lt ne long inside w h =
+      HasRun n m partial (take i bytes) left entered kept s t a b (Ok tt) →
+      HasRun n p partial bytes other entered kept s z a b (Err (faults.Bad (m + 1)))
+  index_long n m p partial bytes left other entered kept s t z a b i lt ne long inside w h =
       let (now, ran, stands) = inside w h in (
         now,
-        subst (λ (l : List ℕ). BytesRan shown n p begun l other w now s z a b (Err (faults.Bad (m + 1))))
-            (around bytes i lt) (bytes_long n m p begun (take i bytes) left (drop (i + 1) bytes) other w now s t z a b
+        subst (λ (l : List ℕ). BytesRan shown n p partial l other w now s z a b (Err (faults.Bad (m + 1))))
+            (around bytes i lt) (bytes_long n m p partial (take i bytes) left (drop (i + 1) bytes) other w now s t z a b
             (get_or bytes i 0) ne long ran),
         tt,
       )
@@ -682,45 +682,45 @@ module _ (shown : Shown) where
   -- a run of the script came this far, and the engine stands for the world that it came to
   abbrev pub Comes : Config → Option (List ℕ) → Option (List ℕ) → List ℕ → ℕ → LineRunner → ℕ → Option (List ℕ) →
       Option (List ℕ) → Type 0
-  Comes config input remaining begun count kept s old new = (now : World) ×
-      Progress config input remaining begun count now s old new × Followed shown kept now
+  Comes config input remaining partial count kept s old new = (now : World) ×
+      Progress config input remaining partial count now s old new × Followed shown kept now
 
-  pub comes_start : (config : Config) (input : Option (List ℕ)) (begun : List ℕ) (count : ℕ) (kept : LineRunner) (s : ℕ)
-      (a : Option (List ℕ)) → begun ≡ [] → count ≡ 0 → s ≡ 0 → Followed shown kept (start_of config) →
-      Comes config input input begun count kept s a a
-  comes_start config input begun count kept s a none zero_is unsent stands =
-      (start_of config, progress_start config input begun count s a none zero_is unsent, stands)
+  pub comes_start : (config : Config) (input : Option (List ℕ)) (partial : List ℕ) (count : ℕ) (kept : LineRunner) (s : ℕ)
+      (a : Option (List ℕ)) → partial ≡ [] → count ≡ 0 → s ≡ 0 → Followed shown kept (start_of config) →
+      Comes config input input partial count kept s a a
+  comes_start config input partial count kept s a none zero_is unsent stands =
+      (start_of config, progress_start config input partial count s a none zero_is unsent, stands)
 
-  pub comes_bytes : (config : Config) (i x y : Option (List ℕ)) (begun bytes left : List ℕ) (n m : ℕ)
-      (kept new : LineRunner) (s t : ℕ) (a b c : Option (List ℕ)) → Comes config i x begun n kept s a b →
-      Consumes x y bytes → HasRun n m begun bytes left kept new s t b c (Ok tt) → Comes config i y left m new t a c
-  comes_bytes config i x y begun bytes left n m kept new s t a b c come eaten step =
+  pub comes_bytes : (config : Config) (i x y : Option (List ℕ)) (partial bytes left : List ℕ) (n m : ℕ)
+      (kept new : LineRunner) (s t : ℕ) (a b c : Option (List ℕ)) → Comes config i x partial n kept s a b →
+      Consumes x y bytes → HasRun n m partial bytes left kept new s t b c (Ok tt) → Comes config i y left m new t a c
+  comes_bytes config i x y partial bytes left n m kept new s t a b c come eaten step =
       let (now, p, stands) = come in
       let (after, h, last) = step now stands in
-      (after, progress_bytes config i x y begun bytes left n m now after s t a b c p eaten h, last)
+      (after, progress_bytes config i x y partial bytes left n m now after s t a b c p eaten h, last)
 
-  pub comes_unread : (config : Config) (i x y : Option (List ℕ)) (begun : List ℕ) (n : ℕ) (kept : LineRunner) (s : ℕ)
-      (a b : Option (List ℕ)) → Comes config i x begun n kept s a b → Keeps x y → RanAllRead config shown i y a b
-  comes_unread config i x y begun n kept s a b come same =
+  pub comes_unread : (config : Config) (i x y : Option (List ℕ)) (partial : List ℕ) (n : ℕ) (kept : LineRunner) (s : ℕ)
+      (a b : Option (List ℕ)) → Comes config i x partial n kept s a b → Keeps x y → RanAllRead config shown i y a b
+  comes_unread config i x y partial n kept s a b come same =
       let (now, p, stands) = come in
-      progress_unread config i x y begun n now s a b p same
+      progress_unread config i x y partial n now s a b p same
 
-  pub comes_fault : (config : Config) (i x y : Option (List ℕ)) (begun bytes left : List ℕ) (n m : ℕ)
+  pub comes_fault : (config : Config) (i x y : Option (List ℕ)) (partial bytes left : List ℕ) (n m : ℕ)
       (kept new : LineRunner) (s t : ℕ) (a b c : Option (List ℕ)) (e : LineFault) →
-      Comes config i x begun n kept s a b →
-      Consumes x y bytes → length bytes ≤ 4096 → HasRun n m begun bytes left kept new s t b c (Err e) →
+      Comes config i x partial n kept s a b →
+      Consumes x y bytes → length bytes ≤ 4096 → HasRun n m partial bytes left kept new s t b c (Err e) →
       AllRan config shown i y new.core.state m t a c (Err (script_fault_of e))
-  comes_fault config i x y begun bytes left n m kept new s t a b c e come eaten few step =
+  comes_fault config i x y partial bytes left n m kept new s t a b c e come eaten few step =
       let (now, p, stands) = come in
       let (next, h, last) = step now stands in
-      progress_fault config i x y begun bytes left n m new.core.state now next s t a b c e p eaten few h
+      progress_fault config i x y partial bytes left n m new.core.state now next s t a b c e p eaten few h
 
-  pub comes_end : (config : Config) (i x y : Option (List ℕ)) (begun : List ℕ) (n m : ℕ) (kept new : LineRunner)
-      (s t : ℕ) (a b c : Option (List ℕ)) (r : Result (Unit {0}) LineFault) → Comes config i x begun n kept s a b →
-      Keeps x y × IsAtEnd y → Leaves kept new r (λ w next. Finishes shown n m begun w next s t b c r) →
+  pub comes_end : (config : Config) (i x y : Option (List ℕ)) (partial : List ℕ) (n m : ℕ) (kept new : LineRunner)
+      (s t : ℕ) (a b c : Option (List ℕ)) (r : Result (Unit {0}) LineFault) → Comes config i x partial n kept s a b →
+      Keeps x y × IsAtEnd y → Leaves kept new r (λ w next. Finishes shown n m partial w next s t b c r) →
       AllRan config shown i y new.core.state m t a c (script_result r)
-  comes_end config i x y begun n m kept new s t a b c r come end step =
+  comes_end config i x y partial n m kept new s t a b c r come end step =
       let (now, p, stands) = come in
       let (next, h, last) = step now stands in
-      progress_end config i x y begun n m new.core.state now next s t a b c r p end
+      progress_end config i x y partial n m new.core.state now next s t a b c r p end
       (on_ok r (λ (f : Followed shown new next). f.stands) last) h

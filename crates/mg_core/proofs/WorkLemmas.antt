@@ -8,7 +8,7 @@ use Rattle.mg_text.specs.declared.request.Request.{Request}
 use Rattle.mg_engine.specs.Work.{RisesAtMost}
 use Rattle.mg_engine.proofs.WorkLemmas.{rises_twice, stays}
 use Rattle.mg_commands.specs.Transaction.{replied}
-use Rattle.mg_commands.specs.Work.{edits_told}
+use Rattle.mg_commands.specs.Work.{edits_reported}
 use Rattle.mg_core.specs.declared.state.CoreState.{CoreState}
 use Rattle.mg_core.specs.Answer.{item_replied}
 use Rattle.mg_core.specs.World.{World, StandsFor}
@@ -30,7 +30,7 @@ kept_in state w sender n o h is = sym is ∙ ap (λ (l : List KeptReply). kept_t
 -- a request that was run
 pub request_paid : (source sender : List ℕ) (request : Request) (old new : CoreState) →
     kept_text old.kept sender request.number ≡ None
-    → IsPaid old new (λ w. edits_told (replied source request w.gateway).items) →
+    → IsPaid old new (λ w. edits_reported (replied source request w.gateway).items) →
     IsPaid old new (edits_by_item source sender (items.Request request))
 request_paid source sender request old new none paid w h =
     subst (λ (o : Option (List ℕ)). RisesAtMost (4 * edits_of source request o w) old.engine.sums.work

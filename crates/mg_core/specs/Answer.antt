@@ -13,7 +13,7 @@ use Rattle.mg_text.specs.declared.body.MessageItem.TheVariants as items
 use Rattle.mg_text.specs.Message.{items_of}
 use Rattle.mg_text.specs.MessageReading.{MessageReading, Read, TooMany, OtherVersion, NoMessage}
 use Rattle.mg_text.specs.MessageReading.{IsMessageReading}
-use Rattle.mg_reply.specs.declared.item.Item.TheVariants as told
+use Rattle.mg_reply.specs.declared.item.Item.TheVariants as reported
 use Rattle.mg_words.specs.declared.error_number.ErrorNumber.{ErrorNumber}
 use Rattle.mg_words.specs.declared.error_number.ErrorNumber.TheVariants.{Syntax, Version, NotServed}
 use Rattle.mg_words.specs.declared.error_number.ErrorNumber.TheVariants.{ReplyTooLong}
@@ -30,7 +30,7 @@ use Rattle.mg_core.specs.World.{World}
 abbrev pub sent_text : ℕ → List Item → List ℕ
 sent_text n items =
     if nat_lt reply_limit (length (reply_text n items))
-    then reply_text n (told.Fault ReplyTooLong ∷ [])
+    then reply_text n (reported.Fault ReplyTooLong ∷ [])
     else reply_text n items
 
 -- ## The items of a message

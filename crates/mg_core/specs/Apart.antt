@@ -13,7 +13,7 @@ use Rattle.mg_core.specs.declared.event.Event.{Event}
 use Rattle.mg_core.specs.declared.event.Event.TheVariants.{Media, Tick}
 use Rattle.mg_core.specs.declared.shown.Shown.{Shown}
 use Rattle.mg_core.specs.declared.state.CoreState.{CoreState}
-use Rattle.mg_core.specs.Headline.{CameTo}
+use Rattle.mg_core.specs.Headline.{HasHistory}
 use Rattle.mg_core.specs.Run.{RanToEnd}
 use Rattle.mg_core.specs.Step.{Sent, Reply, Packet, Step, Run}
 use Rattle.mg_core.specs.World.{World, start_of}
@@ -76,21 +76,21 @@ SamePacketsFromPort =
 -- An event that comes to both of two worlds, or an RTP datagram that comes to one of them alone.
 pub data Happening : Type 0 where
   Both : (event : Event) → Happening
-  FirstAlone : (port : ℕ) (source : Peer) (bytes : List ℕ) → Happening
-  SecondAlone : (port : ℕ) (source : Peer) (bytes : List ℕ) → Happening
+  FirstOnly : (port : ℕ) (source : Peer) (bytes : List ℕ) → Happening
+  SecondOnly : (port : ℕ) (source : Peer) (bytes : List ℕ) → Happening
 
 -- what comes to the one, and to the other
 abbrev pub to_first : List Happening → List Event
 to_first [] = []
 to_first (Both event ∷ xs) = event ∷ to_first xs
-to_first (FirstAlone port source bytes ∷ xs) = Media port source bytes ∷ to_first xs
-to_first (SecondAlone port source bytes ∷ xs) = to_first xs
+to_first (FirstOnly port source bytes ∷ xs) = Media port source bytes ∷ to_first xs
+to_first (SecondOnly port source bytes ∷ xs) = to_first xs
 
 abbrev pub to_second : List Happening → List Event
 to_second [] = []
 to_second (Both event ∷ xs) = event ∷ to_second xs
-to_second (FirstAlone port source bytes ∷ xs) = to_second xs
-to_second (SecondAlone port source bytes ∷ xs) = Media port source bytes ∷ to_second xs
+to_second (FirstOnly port source bytes ∷ xs) = to_second xs
+to_second (SecondOnly port source bytes ∷ xs) = Media port source bytes ∷ to_second xs
 
 -- Whatever comes to one of the worlds alone comes to a port that one of some terminations has at
 -- that time, and in each tick whoever has this port hears none of them.
@@ -99,11 +99,11 @@ IsUnheardAt some port w [] = Unit {0}
 IsUnheardAt some port w (Both event ∷ xs) =
     HearsNoneIn event some w.gateway port
     × ((s : List Sent) (next : World) → Step w event s next → IsUnheardAt some port next xs)
-IsUnheardAt some port w (FirstAlone other source bytes ∷ xs) =
+IsUnheardAt some port w (FirstOnly other source bytes ∷ xs) =
     IsPortAmong some w.gateway other
     × ((s : List Sent) (next : World) → Step w (Media other source bytes) s next
     → IsUnheardAt some port next xs)
-IsUnheardAt some port w (SecondAlone other source bytes ∷ xs) =
+IsUnheardAt some port w (SecondOnly other source bytes ∷ xs) =
     IsPortAmong some w.gateway other × IsUnheardAt some port w xs
 
 -- Two lists of events that differ in what some terminations send, in nothing else: from the port of
@@ -121,7 +121,7 @@ UnheardInHistories =
     (some : List ℕ) (port : ℕ) (config : Config) (xs : List Happening) (s t : List Sent)
     (v w : World) (one other : CoreState)
     → IsUnheardAt some port (start_of config) xs
-    → CameTo config (to_first xs) s v one → CameTo config (to_second xs) t w other
+    → HasHistory config (to_first xs) s v one → HasHistory config (to_second xs) t w other
     → packets_from port s ≡ packets_from port t
 
 -- .. and of two scripts that were run whole, in either form.

@@ -8,7 +8,7 @@ use Rattle.mg_engine.specs.Tick.{concealed_in_tick}
 use Rattle.mg_core.specs.declared.event.Event.{Event}
 use Rattle.mg_core.specs.declared.event.Event.TheVariants.{Control, Media, Tick}
 use Rattle.mg_core.specs.Step.{Sent, Step, Run}
-use Rattle.mg_core.specs.World.{World, Tally, Took, cause_of, placed_counter, start_of}
+use Rattle.mg_core.specs.World.{World, Tally, TakesMedia, cause_of, placed_counter, start_of}
 
 -- ## Events, and what became of RTP datagrams
 
@@ -33,7 +33,7 @@ RunTaking w (Control source bytes ∷ events) taken concealed last =
     × Step w (Control source bytes) sent next × RunTaking next events taken concealed last
 RunTaking w (Media port source bytes ∷ events) taken concealed last =
     (first : Taken) × (others : List Taken) × (next : World)
-    × Took w port source bytes next first × RunTaking next events others concealed last
+    × TakesMedia w port source bytes next first × RunTaking next events others concealed last
     × (taken ≡ first ∷ others)
 RunTaking w (Tick ∷ events) taken concealed last =
     (sent : List Sent) × (others : ℕ) × (next : World)

@@ -56,22 +56,22 @@ is_same_mode a b = false
 abbrev pub line_head : ℕ → ℕ → List ℕ
 line_head ticks n = codes "# " ++ (decimal ticks ++ (codes " ticks: RTP/" ++ decimal n))
 
-abbrev pub telling : ℕ → Listener → List ℕ → List ℕ
-telling ticks x what = line_head ticks x.number ++ (what ++ codes "\n")
+abbrev pub change_line : ℕ → Listener → List ℕ → List ℕ
+change_line ticks x what = line_head ticks x.number ++ (what ++ codes "\n")
 
 abbrev pub ended_line : ℕ → Listener → List ℕ
-ended_line ticks x = telling ticks x (codes " ended")
+ended_line ticks x = change_line ticks x (codes " ended")
 
 abbrev pub made_line : ℕ → Listener → List ℕ
 made_line ticks x =
-    telling ticks x
+    change_line ticks x
     (codes " made in context " ++ (decimal x.context ++ (codes " at port " ++ decimal x.port)))
 
 abbrev pub moved_line : ℕ → Listener → List ℕ
-moved_line ticks x = telling ticks x (codes " moved to context " ++ decimal x.context)
+moved_line ticks x = change_line ticks x (codes " moved to context " ++ decimal x.context)
 
 abbrev pub in_mode : ℕ → Listener → List ℕ
-in_mode ticks x = telling ticks x (codes " mode " ++ mode_text x.mode)
+in_mode ticks x = change_line ticks x (codes " mode " ++ mode_text x.mode)
 
 abbrev pub name_in_line : ℕ → List ℕ
 name_in_line n = codes " RTP/" ++ decimal n
@@ -80,21 +80,21 @@ abbrev pub names_in_line : List ℕ → List ℕ
 names_in_line ns = if length ns == 0 then codes " nobody" else flat_map name_in_line ns
 
 abbrev pub hearing : ℕ → Listener → List ℕ
-hearing ticks x = telling ticks x (codes " hears" ++ names_in_line x.talkers)
+hearing ticks x = change_line ticks x (codes " hears" ++ names_in_line x.talkers)
 
 -- ## Changes
 
 -- one that was there is there no more
-abbrev pub told_of_old : ℕ → List Listener → Listener → List ℕ
-told_of_old ticks after x = if is_some (listener_at after x.number) then [] else ended_line ticks x
+abbrev pub lines_of_old : ℕ → List Listener → Listener → List ℕ
+lines_of_old ticks after x = if is_some (listener_at after x.number) then [] else ended_line ticks x
 
 -- Of one that wasn't there all is told. Of one that was, what is another now: its context, its
 -- mode, and whose speech goes to it.
-abbrev pub told_of_new : ℕ → Option Listener → Listener → List ℕ
-told_of_new ticks None x =
+abbrev pub lines_of_new : ℕ → Option Listener → Listener → List ℕ
+lines_of_new ticks None x =
     made_line ticks x ++ (in_mode ticks x ++
     (if length x.talkers == 0 then [] else hearing ticks x))
-told_of_new ticks (Some old) x =
+lines_of_new ticks (Some old) x =
     (if old.context == x.context then [] else moved_line ticks x) ++
     ((if is_same_mode old.mode x.mode then [] else in_mode ticks x) ++
     (if bytes_eq old.talkers x.talkers then [] else hearing ticks x))
@@ -102,8 +102,8 @@ told_of_new ticks (Some old) x =
 -- all that changed, from who was there before to who is there after
 abbrev pub changes : ℕ → List Listener → List Listener → List ℕ
 changes ticks before after =
-    flat_map (told_of_old ticks after) before
-    ++ flat_map (λ x. told_of_new ticks (listener_at before x.number) x) after
+    flat_map (lines_of_old ticks after) before
+    ++ flat_map (λ x. lines_of_new ticks (listener_at before x.number) x) after
 
 -- what an event changed that led from one world to the next
 abbrev pub changes_by : World → World → List ℕ
@@ -118,14 +118,14 @@ but_port x = record x { port = 0 }
 
 -- Where nothing is told the same terminations are there, in the same contexts and modes, and the
 -- same speech goes to each.
-abbrev pub NoneIsUntold : Type 0
-NoneIsUntold =
+abbrev pub EachChangeIsReported : Type 0
+EachChangeIsReported =
     (ticks : ℕ) (v w : Gateway) → IsConsistent v.rooms → IsConsistent w.rooms
     → changes ticks (listeners_of v) (listeners_of w) ≡ []
     → map but_port (listeners_of v) ≡ map but_port (listeners_of w)
 
 -- Where all is the same, nothing is told.
-abbrev pub NoneIsToldInVain : Type 0
-NoneIsToldInVain =
+abbrev pub OnlyChangesAreReported : Type 0
+OnlyChangesAreReported =
     (ticks : ℕ) (v w : Gateway) → IsConsistent v.rooms → listeners_of v ≡ listeners_of w
     → changes ticks (listeners_of v) (listeners_of w) ≡ []

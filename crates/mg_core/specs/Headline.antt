@@ -16,43 +16,43 @@ use Rattle.mg_core.specs.Step.{Sent, Run}
 
 -- A gateway was started with this configuration, these events came to it, one after another, and
 -- these datagrams were sent. That led to the world w, and the state stands for it.
-abbrev pub CameTo : Config → List Event → List Sent → World → CoreState → Type 0
-CameTo config events sent w state = Run (start_of config) events sent w × StandsFor state w
+abbrev pub HasHistory : Config → List Event → List Sent → World → CoreState → Type 0
+HasHistory config events sent w state = Run (start_of config) events sent w × StandsFor state w
 
 -- Such a list of events leads to one world, and has one list of datagrams sent.
-abbrev pub EventsLeadToOneWorld : Type 0
-EventsLeadToOneWorld =
+abbrev pub EventsDetermineOutcome : Type 0
+EventsDetermineOutcome =
     (config : Config) (events : List Event) (s t : List Sent) (v w : World) (state : CoreState)
-    → CameTo config events s v state → CameTo config events t w state → (s ≡ t) × (v ≡ w)
+    → HasHistory config events s v state → HasHistory config events t w state → (s ≡ t) × (v ≡ w)
 
 -- one event more came, and these datagrams more were sent, whatever happened before
-abbrev pub GoesOn : CoreState → CoreState → Event → List Sent → Type 0
-GoesOn old new event sent =
+abbrev pub ExtendsHistory : CoreState → CoreState → Event → List Sent → Type 0
+ExtendsHistory old new event sent =
     (config : Config) (events : List Event) (before : List Sent) (w : World)
-    → CameTo config events before w old
-    → (next : World) × CameTo config (events ++ event ∷ []) (before ++ sent) next new
+    → HasHistory config events before w old
+    → (next : World) × HasHistory config (events ++ event ∷ []) (before ++ sent) next new
 
 -- After any list of events the flow that is answered is the one computed anew: from the context,
 -- the modes, and all edits of contexts.
-abbrev pub FlowIsAnew : CoreState → ℕ → ℕ → Bool → Type 0
-FlowIsAnew state talker listener answer =
+abbrev pub FlowIsRecomputed : CoreState → ℕ → ℕ → Bool → Type 0
+FlowIsRecomputed state talker listener answer =
     (config : Config) (events : List Event) (sent : List Sent) (w : World)
-    → CameTo config events sent w state → answer ≡ flow w.gateway talker listener
+    → HasHistory config events sent w state → answer ≡ flow w.gateway talker listener
 
 -- After any list of events the total that is answered is the one computed anew: from the members
 -- of the context, their modes and their current frames.
-abbrev pub TotalIsAnew : CoreState → ℕ → ℕ → Option ℤ → Type 0
-TotalIsAnew state context i answer =
+abbrev pub TotalIsRecomputed : CoreState → ℕ → ℕ → Option ℤ → Type 0
+TotalIsRecomputed state context i answer =
     (config : Config) (events : List Event) (sent : List Sent) (w : World)
-    → CameTo config events sent w state → answer ≡ total_at w.gateway context i
+    → HasHistory config events sent w state → answer ≡ total_at w.gateway context i
 
 -- After any list of events the packets of a tick are those computed anew, no more and no fewer, in
 -- the order of their terminations' numbers: each payload byte is the encoding of the sum, limited
 -- once, over all whose flow to the listener is open.
-abbrev pub PacketsAreAnew : CoreState → List Datagram → Type 0
-PacketsAreAnew state outbox =
+abbrev pub PacketsAreRecomputed : CoreState → List Datagram → Type 0
+PacketsAreRecomputed state outbox =
     (config : Config) (events : List Event) (sent : List Sent) (w : World)
-    → CameTo config events sent w state → outbox ≡ packets_of w
+    → HasHistory config events sent w state → outbox ≡ packets_of w
 
 -- ## After a refused command
 
@@ -64,8 +64,8 @@ abbrev pub is_of_media : Event → Bool
 is_of_media (Control source bytes) = false
 is_of_media _ = true
 
-abbrev pub OneGatewayOneFuture : Type 0
-OneGatewayOneFuture =
+abbrev pub GatewayDeterminesFuture : Type 0
+GatewayDeterminesFuture =
     (a b : World) (events : List Event) (s t : List Sent) (x y : World)
     → a.gateway ≡ b.gateway → list_all is_of_media events ≡ true
     → Run a events s x → Run b events t y → (s ≡ t) × (x.gateway ≡ y.gateway)

@@ -6,7 +6,7 @@ use Rattle.mg_core.specs.declared.event.Event.{Event}
 use Rattle.mg_core.specs.declared.event.Event.TheVariants.{Media}
 use Rattle.mg_core.specs.declared.shown.Shown.{Shown}
 use Rattle.mg_core.specs.declared.state.CoreState.{CoreState}
-use Rattle.mg_core.specs.Headline.{CameTo, IsStart}
+use Rattle.mg_core.specs.Headline.{HasHistory, IsStart}
 use Rattle.mg_core.specs.Run.{RanToEnd}
 use Rattle.mg_core.specs.Step.{Sent, Run}
 use Rattle.mg_core.specs.World.{World, start_of}
@@ -27,23 +27,23 @@ AreSameToEachPort a b = (port : ℕ) → seen_at port a ≡ seen_at port b
 
 -- Two lists of events that are the same to each port have the same datagrams sent, byte for byte
 -- and in the same order, and lead to one world.
-abbrev pub OrderOfPortsIsNothing : Type 0
-OrderOfPortsIsNothing =
+abbrev pub PortOrderIsIrrelevant : Type 0
+PortOrderIsIrrelevant =
     (config : Config) (a b : List Event) (s t : List Sent) (v w : World)
     → IsStart config → AreSameToEachPort a b
     → Run (start_of config) a s v → Run (start_of config) b t w → (s ≡ t) × (v ≡ w)
 
 -- So it is of what came to two gateways that were started alike ..
-abbrev pub HistoriesAreOne : Type 0
-HistoriesAreOne =
+abbrev pub PortOrderInHistories : Type 0
+PortOrderInHistories =
     (config : Config) (a b : List Event) (s t : List Sent) (v w : World) (one other : CoreState)
     → IsStart config → AreSameToEachPort a b
-    → CameTo config a s v one → CameTo config b t w other → (s ≡ t) × (v ≡ w)
+    → HasHistory config a s v one → HasHistory config b t w other → (s ≡ t) × (v ≡ w)
 
 -- .. and of two scripts that were run whole, in either form: they have had the same datagrams
 -- written.
-abbrev pub ScriptsAreOne : Type 0
-ScriptsAreOne =
+abbrev pub PortOrderInScripts : Type 0
+PortOrderInScripts =
     (config : Config) (first second : Shown) (one other : List ℕ) (counts more : Counts)
     (old new was is : Option (List ℕ)) → IsStart config
     → (a : RanToEnd config first one counts old new)

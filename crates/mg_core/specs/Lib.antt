@@ -12,5 +12,5 @@ pub mod Headline
 pub mod Interleaving
 pub mod Apart
 pub mod Counting
-pub mod Repeats
+pub mod Retransmissions
 pub mod aids

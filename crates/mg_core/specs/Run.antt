@@ -42,21 +42,21 @@ lines_for sent = flat_map line_of sent
 
 -- Events one after another, each in the world that the one before it left. Of each the lines for
 -- what it sends are written, and after them those that tell what it changed.
-abbrev pub TellsChanges : World → List Event → List ℕ → World → Type 0
-TellsChanges w [] text last = (text ≡ []) × (last ≡ w)
-TellsChanges w (event ∷ events) text last =
+abbrev pub ReportsChanges : World → List Event → List ℕ → World → Type 0
+ReportsChanges w [] text last = (text ≡ []) × (last ≡ w)
+ReportsChanges w (event ∷ events) text last =
     (sent : List Sent) × (others : List ℕ) × (next : World)
-    × Step w event sent next × TellsChanges next events others last
+    × Step w event sent next × ReportsChanges next events others last
     × (text ≡ lines_for sent ++ (changes_by w next ++ others))
 
 -- what is written of events, one after another, that have these datagrams sent
 abbrev pub IsShownText : Shown → World → List Event → List Sent → List ℕ → World → Type 0
 IsShownText shows.Sent w events sent text last = text ≡ lines_for sent
-IsShownText shows.SentAndFlows w events sent text last = TellsChanges w events text last
+IsShownText shows.SentAndFlows w events sent text last = ReportsChanges w events text last
 
 -- events that run in a world have one text, in each form
-abbrev pub TextsAreOne : Type 0
-TextsAreOne =
+abbrev pub TextIsDetermined : Type 0
+TextIsDetermined =
     (shown : Shown) (w x y : World) (events : List Event) (s t : List Sent) (a b : List ℕ)
     → Run w events s x → Run w events t y
     → IsShownText shown w events s a x → IsShownText shown w events t b y → a ≡ b

@@ -9,7 +9,7 @@ use Rattle.mg_core.specs.declared.event.Event.{Event}
 use Rattle.mg_core.specs.declared.event.Event.TheVariants.{Control, Media, Tick}
 use Rattle.mg_core.specs.declared.answer.Answer.{Answer}
 use Rattle.mg_core.specs.declared.answer.Answer.TheVariants.{Send, Silent}
-use Rattle.mg_core.specs.World.{World, Took, with_control, world_after_tick, packets_of}
+use Rattle.mg_core.specs.World.{World, TakesMedia, with_control, world_after_tick, packets_of}
 use Rattle.mg_core.specs.Answer.{Answers}
 
 -- a datagram that is sent: an answer from the control port, or a packet of a tick
@@ -22,9 +22,9 @@ abbrev pub answer_to : Peer → Option (List ℕ) → List Sent
 answer_to source answer = option_map_or (λ text. Reply source text ∷ []) answer []
 
 -- the answer that a core tells, with its text
-abbrev pub told : Answer → List ℕ → Option (List ℕ)
-told Send text = Some text
-told Silent text = None
+abbrev pub reported : Answer → List ℕ → Option (List ℕ)
+reported Send text = Some text
+reported Silent text = None
 
 -- In the world w an event has these datagrams sent, in this order, and the world comes to be the
 -- next: a control datagram is answered, an RTP datagram is taken, and a tick sends its packets.
@@ -33,7 +33,7 @@ Step w (Control source bytes) sent next =
     (answer : Option (List ℕ)) × Answers bytes (with_control w) answer next
     × (sent ≡ answer_to source answer)
 Step w (Media port source bytes) sent next =
-    (taken : Taken) × Took w port source bytes next taken × (sent ≡ [])
+    (taken : Taken) × TakesMedia w port source bytes next taken × (sent ≡ [])
 Step w Tick sent next = (sent ≡ map Packet (packets_of w)) × (next ≡ world_after_tick w)
 
 -- events one after another, each in the world that the one before it left

@@ -9,14 +9,14 @@ use Rattle.mg_text.specs.MessageReading.{MessageReading, Read}
 use Rattle.mg_text.specs.MessageReading.{IsMessageReading}
 use Rattle.mg_reply.specs.declared.item.Item.{Item}
 use Rattle.mg_commands.specs.Transaction.{replied}
-use Rattle.mg_commands.specs.Work.{edits_told}
+use Rattle.mg_commands.specs.Work.{edits_reported}
 use Rattle.mg_core.specs.Answer.{item_replied}
 use Rattle.mg_core.specs.World.{World}
 
 -- a request that is answered by a kept reply has none done
 abbrev pub edits_unless_kept : Option (List ℕ) → List Item → ℕ
-edits_unless_kept (Some text) told = 0
-edits_unless_kept None told = edits_told told
+edits_unless_kept (Some text) reported = 0
+edits_unless_kept None reported = edits_reported reported
 
 -- the edits that an item of a message has done, which came from a sender in the world w
 abbrev pub edits_by_item : List ℕ → List ℕ → MessageItem → World → ℕ
@@ -38,7 +38,7 @@ edits_by source (Read m) w = edits_by_items source (text_of source m.sender) (it
 edits_by source _ w = 0
 
 -- a datagram that comes in the world w has so many edits done, by what it reads as
-abbrev pub HasDone : List ℕ → World → ℕ → Type 0
-HasDone source w edits =
+abbrev pub CausesEdits : List ℕ → World → ℕ → Type 0
+CausesEdits source w edits =
     (reading : MessageReading) × IsMessageReading source reading
     × (edits ≡ edits_by source reading w)

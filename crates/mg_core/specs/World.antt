@@ -107,8 +107,8 @@ abbrev pub with_control : World → World
 with_control w = record w { tally = record w.tally { control = w.tally.control + 1 } }
 
 -- what became of an RTP datagram at a port, and the world after it
-abbrev pub Took : World → ℕ → Peer → List ℕ → World → Taken → Type 0
-Took w port source bytes after result =
+abbrev pub TakesMedia : World → ℕ → Peer → List ℕ → World → Taken → Type 0
+TakesMedia w port source bytes after result =
     (g : engine.Gateway) × Takes w.gateway port source.address bytes g result
     × (after ≡ record w { gateway = g; tally = with_taken result w.tally })
 

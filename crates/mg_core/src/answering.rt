@@ -1,6 +1,6 @@
 ghost use Rattle.std.specs.Prelude.{◌≡◌, ◌≤◌, ◌+◌, ◌*◌, ◌++◌, [], ◌∷◌, true, length, None};
 ghost use Rattle.mg_commands.specs.Transaction.{replied};
-ghost use Rattle.mg_commands.specs.Work.{edits_told};
+ghost use Rattle.mg_commands.specs.Work.{edits_reported};
 ghost use Rattle.mg_engine.specs.Work.{RisesAtMost};
 ghost use Rattle.mg_kept.specs.KeptReplies.{kept_text};
 ghost use Rattle.mg_reply.specs.Bytes.{appended};
@@ -17,7 +17,7 @@ ghost use Rattle.mg_core.specs.aids.Steps.{TextGrows, put_text, refusal_of};
 use crate::state::CoreState;
 use mg_commands::{Kept, transaction};
 use mg_engine::Config;
-use mg_reply::theorems::too_long_by_text_alone;
+use mg_reply::theorems::too_long_by_text;
 use mg_text::{
     Body, Bytes, ErrorNumber, Item, MessageItem, REPLY_LIMIT, Range, ReadFault, Reply, Request,
     write_error, write_head, write_reply,
@@ -100,14 +100,14 @@ fn run_request(
     ensures ran { TextGrows state.old state.new answer.old.text answer.new.text (λ w.
         run_and_kept sender.now request.now.number w (replied source.now request.now w.gateway)) }
     ensures work { (w : World) → StandsFor state.old w →
-        RisesAtMost (4 * edits_told (replied source.now request.now w.gateway).items) state.old.engine.sums.work
+        RisesAtMost (4 * edits_reported (replied source.now request.now w.gateway).items) state.old.engine.sums.work
         state.new.engine.sums.work }
     ensures total { answer.new.room + length answer.new.text ≡ answer.old.room + length answer.old.text }
     ensures short { length answer.new.text ≤ length answer.old.text + REPLY_LIMIT }
 {
     let start = answer.as_slice().len();
     transaction(&mut state.engine, source, request, reply);
-    too_long_by_text_alone();
+    too_long_by_text();
     put_reply(reply, answer);
     let (_, text) = answer.as_slice().split_at(start);
     state.kept.keep(sender, request.number, text);

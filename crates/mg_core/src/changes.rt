@@ -2,7 +2,7 @@
 
 ghost use Rattle.std.specs.Prelude.{◌≡◌, ◌≤◌, ◌+◌, ◌*◌, ◌++◌, length, codes, decimal, flat_map, MatchOption, None, Some};
 ghost use Rattle.mg_reply.specs.Bytes.{appended};
-ghost use Rattle.mg_core.specs.Flows.{changes, ended_line, hearing, in_mode, is_same_mode, line_head, listener_at, made_line, moved_line, name_in_line, names_in_line, told_of_new, told_of_old};
+ghost use Rattle.mg_core.specs.Flows.{changes, ended_line, hearing, in_mode, is_same_mode, line_head, listener_at, made_line, moved_line, name_in_line, names_in_line, lines_of_new, lines_of_old};
 
 use crate::listener::KeptListener;
 use itoa::Buffer;
@@ -152,8 +152,8 @@ fn push_talkers(ticks: u64, new: &KeptListener, out: &mut Bytes)
 #[tactic(auto, using(crate::proofs::ChangeLemmas::steps))]
 fn push_new(ticks: u64, new: &KeptListener, out: &mut Bytes)
     requires room { 1854 ≤ out.old.room }
-    ensures value { out.new ≡ appended out.old (told_of_new ticks None new.now) }
-    ensures short { length (told_of_new ticks None new.now) ≤ 1854 }
+    ensures value { out.new ≡ appended out.old (lines_of_new ticks None new.now) }
+    ensures short { length (lines_of_new ticks None new.now) ≤ 1854 }
 {
     push_made(ticks, new, out);
     push_mode(ticks, new, out);
@@ -173,8 +173,8 @@ fn is_same_mode(a: Mode, b: Mode) -> bool
 #[tactic(auto, using(crate::proofs::ChangeLemmas::steps))]
 fn push_changed(ticks: u64, old: &KeptListener, new: &KeptListener, out: &mut Bytes)
     requires room { 1854 ≤ out.old.room }
-    ensures value { out.new ≡ appended out.old (told_of_new ticks (Some old.now) new.now) }
-    ensures short { length (told_of_new ticks (Some old.now) new.now) ≤ 1854 }
+    ensures value { out.new ≡ appended out.old (lines_of_new ticks (Some old.now) new.now) }
+    ensures short { length (lines_of_new ticks (Some old.now) new.now) ≤ 1854 }
 {
     if old.context != new.context {
         push_moved(ticks, new, out);
@@ -204,8 +204,8 @@ fn listener_at(listeners: &[KeptListener], number: u32) -> Option<&KeptListener>
 #[tactic(auto, using(crate::proofs::ChangeLemmas::steps))]
 fn push_old(ticks: u64, after: &[KeptListener], old: &KeptListener, out: &mut Bytes)
     requires room { 61 ≤ out.old.room }
-    ensures value { out.new ≡ appended out.old (told_of_old ticks after.now old.now) }
-    ensures short { length (told_of_old ticks after.now old.now) ≤ 61 }
+    ensures value { out.new ≡ appended out.old (lines_of_old ticks after.now old.now) }
+    ensures short { length (lines_of_old ticks after.now old.now) ≤ 61 }
 {
     match listener_at(after, old.number) {
         Some(_) => {}
@@ -217,8 +217,8 @@ fn push_old(ticks: u64, after: &[KeptListener], old: &KeptListener, out: &mut By
 #[tactic(auto, using(crate::proofs::ChangeLemmas::steps))]
 fn push_listener(ticks: u64, before: &[KeptListener], new: &KeptListener, out: &mut Bytes)
     requires room { 1854 ≤ out.old.room }
-    ensures value { out.new ≡ appended out.old (told_of_new ticks (listener_at before.now new.now.number) new.now) }
-    ensures short { length (told_of_new ticks (listener_at before.now new.now.number) new.now) ≤ 1854 }
+    ensures value { out.new ≡ appended out.old (lines_of_new ticks (listener_at before.now new.now.number) new.now) }
+    ensures short { length (lines_of_new ticks (listener_at before.now new.now.number) new.now) ≤ 1854 }
 {
     match listener_at(before, new.number) {
         Some(old) => push_changed(ticks, old, new, out),
@@ -230,8 +230,8 @@ fn push_listener(ticks: u64, before: &[KeptListener], new: &KeptListener, out: &
 #[tactic(auto, using(crate::proofs::ChangeLemmas::steps))]
 fn push_all_old(ticks: u64, before: &[KeptListener], after: &[KeptListener], out: &mut Bytes)
     requires room { 61 * length before.now ≤ out.old.room }
-    ensures value { out.new ≡ appended out.old (flat_map (told_of_old ticks after.now) before.now) }
-    ensures short { length (flat_map (told_of_old ticks after.now) before.now) ≤ 61 * length before.now }
+    ensures value { out.new ≡ appended out.old (flat_map (lines_of_old ticks after.now) before.now) }
+    ensures short { length (flat_map (lines_of_old ticks after.now) before.now) ≤ 61 * length before.now }
 {
     for old in before {
         push_old(ticks, after, old, out);
@@ -243,8 +243,8 @@ fn push_all_old(ticks: u64, before: &[KeptListener], after: &[KeptListener], out
 fn push_all_new(ticks: u64, before: &[KeptListener], after: &[KeptListener], out: &mut Bytes)
     requires room { 1854 * length after.now ≤ out.old.room }
     ensures value { out.new ≡ appended out.old
-        (flat_map (λ x. told_of_new ticks (listener_at before.now x.number) x) after.now) }
-    ensures short { length (flat_map (λ x. told_of_new ticks (listener_at before.now x.number) x) after.now)
+        (flat_map (λ x. lines_of_new ticks (listener_at before.now x.number) x) after.now) }
+    ensures short { length (flat_map (λ x. lines_of_new ticks (listener_at before.now x.number) x) after.now)
         ≤ 1854 * length after.now }
 {
     for new in after {

@@ -12,7 +12,7 @@
 //! in `specs/World.antt`): each call that hands it an event is a step from each of them to the next (`Step` in
 //! `specs/Step.antt`). So after any list of events its flows, totals and packets are those computed anew
 //! (`specs/Headline.antt`). A request that comes again is answered by the reply that was kept for it, and not run twice
-//! (`specs/Repeats.antt`).
+//! (`specs/Retransmissions.antt`).
 #![tactic(auto)]
 
 mod answer;

@@ -165,7 +165,7 @@ impl LineRunner {
             EventRan shown event.now w next self.old.sent self.new.sent (W.contents writer.old) (W.contents writer.new)
             result) }
     {
-        self.core.know();
+        self.core.assert_invariant();
         match event {
             Event::Tick => self.take_tick(writer),
             Event::Media(port, source, bytes) => {

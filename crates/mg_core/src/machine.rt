@@ -13,11 +13,11 @@ ghost use Rattle.mg_text.specs.Message.{IsMessage, items_of};
 ghost use Rattle.mg_text.specs.Proper.{are_proper};
 ghost use Rattle.mg_core.specs.declared.event.Event.TheVariants as events;
 ghost use Rattle.mg_core.specs.Answer.{to_message, refused};
-ghost use Rattle.mg_core.specs.Headline.{CameTo, GoesOn, FlowIsAnew, TotalIsAnew, PacketsAreAnew};
-ghost use Rattle.mg_core.specs.Step.{Step, Packet, answer_to, told};
+ghost use Rattle.mg_core.specs.Headline.{HasHistory, ExtendsHistory, FlowIsRecomputed, TotalIsRecomputed, PacketsAreRecomputed};
+ghost use Rattle.mg_core.specs.Step.{Step, Packet, answer_to, reported};
 ghost use Rattle.mg_words.specs.Leads.{Leads};
-ghost use Rattle.mg_core.specs.Work.{HasDone, edits_by_items};
-ghost use Rattle.mg_core.specs.World.{World, StandsFor, Took, counts_of, packets_of, start_of, world_after_tick, with_control};
+ghost use Rattle.mg_core.specs.Work.{CausesEdits, edits_by_items};
+ghost use Rattle.mg_core.specs.World.{World, StandsFor, TakesMedia, counts_of, packets_of, start_of, world_after_tick, with_control};
 
 use crate::answer::Answer;
 use crate::answering::{has_requests, items_of, put_error, put_replies, refusal_of};
@@ -75,7 +75,7 @@ impl Core {
         ensures bad { (result ≡ Err StartFault.BadConfig) ↔ ¬ IsValidConfig config }
         ensures started { IfOk result (λ core. (core.answer ≡ []) × (core.outbox ≡ []) ×
             StandsFor core.state (start_of config)) }
-        ensures headline { IfOk result (λ core. CameTo config [] [] (start_of config) core.state) }
+        ensures headline { IfOk result (λ core. HasHistory config [] [] (start_of config) core.state) }
         ensures sound { OnOk result (IsValidConfig config) }
     {
         let engine = Engine::new(alloc, config)?;
@@ -96,11 +96,11 @@ impl Core {
     /// and where it runs out nothing has changed but the last answer, which is empty.
     pub fn control(&mut self, alloc: Global, source: Peer, bytes: &[u8]) -> Result<Answer, NoMemory>
         ensures answered { IfOk result (λ answer. Leads StandsFor self.old.state self.new.state (λ w next.
-            Step w (events.Control source bytes.now) (answer_to source (told answer self.new.answer)) next)) }
-        ensures headline { IfOk result (λ answer. GoesOn self.old.state self.new.state
-            (events.Control source bytes.now) (answer_to source (told answer self.new.answer))) }
+            Step w (events.Control source bytes.now) (answer_to source (reported answer self.new.answer)) next)) }
+        ensures headline { IfOk result (λ answer. ExtendsHistory self.old.state self.new.state
+            (events.Control source bytes.now) (answer_to source (reported answer self.new.answer))) }
         ensures work { IfOk result (λ _. (w : World) → StandsFor self.old.state w → (edits : ℕ)
-            × HasDone bytes.now (with_control w) edits
+            × CausesEdits bytes.now (with_control w) edits
             × RisesAtMost (4 * edits) self.old.state.engine.sums.work self.new.state.engine.sums.work) }
         ensures silent { result ≡ Ok Answer.Silent → self.new.answer ≡ [] }
         ensures no_memory { OnErr result (self.new ≡ record self.old { answer = [] }) }
@@ -132,7 +132,7 @@ impl Core {
         requires sender { length (text_of source.now message.now.sender) ≤ sender_limit }
         requires empty { self.old.answer ≡ [] }
         ensures replied { Leads StandsFor self.old.state self.new.state (λ w next.
-            to_message source.now message.now w ≡ (told result self.new.answer, next)) }
+            to_message source.now message.now w ≡ (reported result self.new.answer, next)) }
         ensures work { (w : World) → StandsFor self.old.state w →
             RisesAtMost (4 * edits_by_items source.now (text_of source.now message.now.sender)
             (items_of message.now.body) w)
@@ -167,7 +167,7 @@ impl Core {
     fn refuse(&mut self, number: ErrorNumber)
         requires empty { self.old.answer ≡ [] }
         ensures refused { (w : World) → StandsFor self.old.state w →
-            refused number w ≡ (told Answer.Send self.new.answer, w) }
+            refused number w ≡ (reported Answer.Send self.new.answer, w) }
         ensures state { self.new.state ≡ self.old.state }
         ensures outbox { self.new.outbox ≡ self.old.outbox }
         ensures short { length self.new.answer ≤ ANSWER_LIMIT }
@@ -186,8 +186,8 @@ impl Core {
     /// Takes an RTP datagram that came to one of the media ports.
     pub fn media(&mut self, port: u16, source: Peer, bytes: &[u8]) -> Taken
         ensures taken { Leads StandsFor self.old.state self.new.state (λ w next.
-            Took w port source bytes.now next result) }
-        ensures headline { GoesOn self.old.state self.new.state (events.Media port source bytes.now) [] }
+            TakesMedia w port source bytes.now next result) }
+        ensures headline { ExtendsHistory self.old.state self.new.state (events.Media port source bytes.now) [] }
         ensures work { self.new.state.engine.sums.work ≡ self.old.state.engine.sums.work }
         ensures answer { self.new.answer ≡ self.old.answer }
         ensures outbox { self.new.outbox ≡ self.old.outbox }
@@ -201,8 +201,8 @@ impl Core {
     pub fn tick(&mut self)
         ensures sent { (w : World) → StandsFor self.old.state w → self.new.outbox ≡ packets_of w }
         ensures next { (w : World) → StandsFor self.old.state w → StandsFor self.new.state (world_after_tick w) }
-        ensures packets { PacketsAreAnew self.old.state self.new.outbox }
-        ensures headline { GoesOn self.old.state self.new.state events.Tick (map Packet self.new.outbox) }
+        ensures packets { PacketsAreRecomputed self.old.state self.new.outbox }
+        ensures headline { ExtendsHistory self.old.state self.new.state events.Tick (map Packet self.new.outbox) }
         ensures work { (w : World) → StandsFor self.old.state w →
             RisesAtMost (tick_work w.gateway) self.old.state.engine.sums.work self.new.state.engine.sums.work }
         ensures answer { self.new.answer ≡ self.old.answer }
@@ -222,7 +222,7 @@ impl Core {
     /// Whether a talker's speech goes to a listener. It is false for a number that names no termination.
     pub fn flow(&self, talker: u32, listener: u32) -> bool
         ensures value { (w : World) → StandsFor self.now.state w → result ≡ flow w.gateway talker listener }
-        ensures headline { FlowIsAnew self.now.state talker listener result }
+        ensures headline { FlowIsRecomputed self.now.state talker listener result }
     {
         self.state.engine.flow(talker, listener)
     }
@@ -231,7 +231,7 @@ impl Core {
     /// where the context isn't there, or where a frame has no such sample.
     pub fn total(&self, context: u32, i: usize) -> Option<i32>
         ensures value { (w : World) → StandsFor self.now.state w → result ≡ total_at w.gateway context i }
-        ensures headline { TotalIsAnew self.now.state context i result }
+        ensures headline { TotalIsRecomputed self.now.state context i result }
     {
         self.state.engine.total(context, i)
     }
@@ -262,7 +262,7 @@ impl Core {
     }
 
     /// Shows what holds of the terminations, and does nothing.
-    pub(crate) fn know(&self)
+    pub(crate) fn assert_invariant(&self)
         ensures sound { IsSound self.now.state.engine.rooms }
     {
         let _count = self.state.engine.terminations();

@@ -50,7 +50,7 @@ fn run_whole<R: Read, W: Write>(
     writer: &mut W,
 ) -> Result<Counts, RunFault>
     requires lines { runner.old.lines ≡ 0 }
-    requires begun { runner.old.begun.text ≡ [] }
+    requires partial { runner.old.partial.text ≡ [] }
     requires sent { runner.old.runner.sent ≡ 0 }
     ensures script { (config : Config) (shown : Shown) →
         Follows shown runner.old.runner.core.state runner.old.runner.watched (start_of config) →

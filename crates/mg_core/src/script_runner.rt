@@ -17,7 +17,7 @@ use std::alloc::Global;
 use std::io::{Read, Write};
 
 /// The bytes of the longest line that is begun: one that is not too long, and a carriage return.
-const BEGUN_LIMIT: usize = 140001;
+const PARTIAL_LIMIT: usize = 140001;
 
 /// Runs a script on a gateway, in whatever pieces it comes.
 #[derive(Drop)]
@@ -25,8 +25,8 @@ pub struct ScriptRunner {
     pub runner: LineRunner,
     /// Lines that were run.
     pub lines: u64,
-    pub begun: Bytes,
-    ghost begun_size: { begun.room + length begun.text ≡ 140001 },
+    pub partial: Bytes,
+    ghost partial_size: { partial.room + length partial.text ≡ 140001 },
 }
 
 impl ScriptRunner {
@@ -38,31 +38,31 @@ impl ScriptRunner {
             Follows shown s.runner.core.state s.runner.watched (start_of config)) }
         ensures lines { IfOk result (λ s. s.lines ≡ 0) }
         ensures sent { IfOk result (λ s. s.runner.sent ≡ 0) }
-        ensures begun { IfOk result (λ s. s.begun.text ≡ []) }
+        ensures partial { IfOk result (λ s. s.partial.text ≡ []) }
     {
         let runner = LineRunner::new(alloc, config, shown)?;
         Ok(ScriptRunner {
             runner,
             lines: 0,
-            begun: Bytes::new(alloc, BEGUN_LIMIT)?,
+            partial: Bytes::new(alloc, PARTIAL_LIMIT)?,
         })
     }
 
     /// Takes the line that was begun, which ends here.
     fn end_line<W: Write>(&mut self, alloc: Global, writer: &mut W) -> Result<(), LineFault>
         requires few { self.old.lines + 1 < 2 ^ 64 }
-        ensures begun { OnOk result (self.new.begun.text ≡ []) }
+        ensures partial { OnOk result (self.new.partial.text ≡ []) }
         ensures lines { OnOk result (self.new.lines ≡ self.old.lines + 1) }
         ensures value { (shown : Shown) → LeadsOn (Follows shown self.old.runner.core.state self.old.runner.watched)
             (Follows shown self.new.runner.core.state self.new.runner.watched) result (λ w next.
-            LineRan shown (self.old.lines + 1) (without_return self.old.begun.text)
+            LineRan shown (self.old.lines + 1) (without_return self.old.partial.text)
             w next self.old.runner.sent self.new.runner.sent (W.contents writer.old) (W.contents writer.new) result) }
     {
         let number = self.lines + 1;
-        let line = without_return(self.begun.as_slice());
+        let line = without_return(self.partial.as_slice());
         self.runner.take_line(alloc, number, line, writer)?;
         self.lines = number;
-        self.begun.clear();
+        self.partial.clear();
         Ok(())
     }
 
@@ -77,7 +77,7 @@ impl ScriptRunner {
         ensures lines { OnOk result (self.new.lines ≤ self.old.lines + length bytes.now) }
         ensures value { (shown : Shown) → LeadsOn (Follows shown self.old.runner.core.state self.old.runner.watched)
             (Follows shown self.new.runner.core.state self.new.runner.watched) result (λ w next.
-            BytesRan shown self.old.lines self.new.lines self.old.begun.text bytes.now self.new.begun.text
+            BytesRan shown self.old.lines self.new.lines self.old.partial.text bytes.now self.new.partial.text
             w next self.old.runner.sent self.new.runner.sent (W.contents writer.old) (W.contents writer.new) result) }
     {
         for b in bytes {
@@ -85,10 +85,10 @@ impl ScriptRunner {
                 self.end_line(alloc, writer)?;
                 continue;
             }
-            if self.begun.room() == 0 {
+            if self.partial.room() == 0 {
                 return Err(LineFault::Bad(self.lines + 1));
             }
-            self.begun.push(&[*b]);
+            self.partial.push(&[*b]);
         }
         Ok(())
     }
@@ -98,10 +98,10 @@ impl ScriptRunner {
         requires few { self.old.lines + 1 < 2 ^ 64 }
         ensures value { (shown : Shown) → LeadsOn (Follows shown self.old.runner.core.state self.old.runner.watched)
             (Follows shown self.new.runner.core.state self.new.runner.watched) result (λ w next.
-            Finishes shown self.old.lines self.new.lines self.old.begun.text w next self.old.runner.sent
+            Finishes shown self.old.lines self.new.lines self.old.partial.text w next self.old.runner.sent
             self.new.runner.sent (W.contents writer.old) (W.contents writer.new) result) }
     {
-        let line = self.begun.as_slice();
+        let line = self.partial.as_slice();
         if line.is_empty() {
             return Ok(());
         }
@@ -119,7 +119,7 @@ impl ScriptRunner {
         writer: &mut W,
     ) -> Result<(), ScriptFault>
         requires lines { self.old.lines ≡ 0 }
-        requires begun { self.old.begun.text ≡ [] }
+        requires partial { self.old.partial.text ≡ [] }
         requires sent { self.old.runner.sent ≡ 0 }
         ensures value { (shown : Shown) (config : Config) →
             Follows shown self.old.runner.core.state self.old.runner.watched (start_of config) →

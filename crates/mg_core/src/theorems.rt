@@ -5,13 +5,13 @@ ghost use Rattle.mg_core.specs.declared.event.Event.{Event};
 ghost use Rattle.mg_commands.specs.Theorems.{RefusedNamesChangeNothing, RefusedCommandsChangeNothing, RefusedActionsChangeNothing, RefusedTopologiesChangeNothing, OthersAreTried, RefusedRequestsChangeNothing};
 ghost use Rattle.mg_core.specs.Apart.{SameEventKeepsAgreement, OneArrivalKeepsAgreement, SamePacketsFromPort, UnheardChangesNothing, UnheardInHistories, UnheardInScripts};
 ghost use Rattle.mg_core.specs.Counting.{EventsAreCounted, RunsTake};
-ghost use Rattle.mg_core.specs.Headline.{EventsLeadToOneWorld, OneGatewayOneFuture, WorldsAreConsistent};
-ghost use Rattle.mg_engine.specs.Isolation.{NobodyHearsHimself, OwnSpeechChangesNoPacket, IsolatedAreNotHeard, UnheardChangesNoPacket, PayloadsAreMixes};
-ghost use Rattle.mg_core.specs.Interleaving.{OrderOfPortsIsNothing, HistoriesAreOne, ScriptsAreOne};
+ghost use Rattle.mg_core.specs.Headline.{EventsDetermineOutcome, GatewayDeterminesFuture, WorldsAreConsistent};
+ghost use Rattle.mg_engine.specs.Isolation.{NoneHearsItself, OwnSpeechChangesNoPacket, IsolatedAreNotHeard, UnheardChangesNoPacket, PayloadsAreMixes};
+ghost use Rattle.mg_core.specs.Interleaving.{PortOrderIsIrrelevant, PortOrderInHistories, PortOrderInScripts};
 ghost use Rattle.mg_core.specs.Recording.{RecordingsAreRead, CutRecordingsAreRead};
-ghost use Rattle.mg_core.specs.Repeats.{KeptRepliesAreSent, RepetitionsAreAnsweredAlike, OthersAreRun, RepliesLast, NoneIsNewer, AcknowledgedAreGone, PushedOutAreGone, GoneAreRun, RepliesAreKept};
-ghost use Rattle.mg_core.specs.Flows.{NoneIsToldInVain, NoneIsUntold};
-ghost use Rattle.mg_core.specs.Run.{TextsAreOne};
+ghost use Rattle.mg_core.specs.Retransmissions.{KeptRepliesAreSent, RetransmissionsAreAnsweredAlike, OthersAreRun, RepliesPersist, NewReplyIsNewest, AcknowledgedAreDropped, EvictedAreDropped, DroppedRequestsAreRerun, RepliesAreKept};
+ghost use Rattle.mg_core.specs.Flows.{OnlyChangesAreReported, EachChangeIsReported};
+ghost use Rattle.mg_core.specs.Run.{TextIsDetermined};
 ghost use Rattle.mg_core.specs.Step.{Sent, Step, Run};
 ghost use Rattle.mg_core.specs.World.{World};
 
@@ -30,12 +30,12 @@ pub fn each_event_has_an_outcome(event: &Event)
 
 /// In each world each event has at most one outcome, and so have events one after another: one world, the same
 /// datagrams sent, and the same text written.
-pub fn outcomes_are_one()
+pub fn outcomes_are_unique()
     ensures event { (w : World) (event : Event) (a b : List Sent) (x y : World) →
         Step w event a x → Step w event b y → (a ≡ b) × (x ≡ y) }
     ensures events { (w : World) (events : List Event) (a b : List Sent) (x y : World) →
         Run w events a x → Run w events b y → (a ≡ b) × (x ≡ y) }
-    ensures texts { TextsAreOne }
+    ensures texts { TextIsDetermined }
 {
     mg_text::theorems::one_reading(b"");
     mg_engine::theorems::one_arrival(b"");
@@ -44,16 +44,16 @@ pub fn outcomes_are_one()
 /// What a refused command leaves is the gateway as it was, so no flow, total or later packet differs by it: these are
 /// of the gateway alone, whatever replies are kept.
 pub fn refused_commands_change_no_packet()
-    ensures theorem { OneGatewayOneFuture }
+    ensures theorem { GatewayDeterminesFuture }
 {
     mg_engine::theorems::one_arrival(b"");
 }
 
 /// A request that comes again while its reply is kept is answered alike, and nothing is done a second time; any other
 /// is run.
-pub fn repetitions_are_answered_alike()
+pub fn retransmissions_are_answered_alike()
     ensures kept { KeptRepliesAreSent }
-    ensures again { RepetitionsAreAnsweredAlike }
+    ensures again { RetransmissionsAreAnsweredAlike }
     ensures others { OthersAreRun }
 {
     mg_kept::theorems::kept_reply_is_found();
@@ -61,16 +61,16 @@ pub fn repetitions_are_answered_alike()
 
 /// How long a request that comes again is answered alike: until an acknowledgement names its reply, or 32 other replies
 /// were kept. After that it is run again. The replies that are kept answer different requests.
-pub fn replies_last()
-    ensures last { RepliesLast }
-    ensures newest { NoneIsNewer }
-    ensures acknowledged { AcknowledgedAreGone }
-    ensures pushed { PushedOutAreGone }
-    ensures gone { GoneAreRun }
+pub fn replies_persist()
+    ensures last { RepliesPersist }
+    ensures newest { NewReplyIsNewest }
+    ensures acknowledged { AcknowledgedAreDropped }
+    ensures pushed { EvictedAreDropped }
+    ensures gone { DroppedRequestsAreRerun }
     ensures kept { RepliesAreKept }
 {
     mg_kept::theorems::kept_reply_is_found();
-    mg_kept::theorems::acknowledged_alone_is_gone();
+    mg_kept::theorems::only_acknowledged_is_dropped();
     mg_kept::theorems::replies_stay_while_few_are_newer();
 }
 
@@ -87,13 +87,13 @@ pub fn worlds_are_consistent()
 /// In which order the packets of different callers came makes no difference: two lists of events with the same control
 /// datagrams and ticks, between any two of which each port has the same RTP datagrams in the same order, have the same
 /// datagrams sent, byte for byte, and lead to one world.
-pub fn order_of_ports_is_nothing()
-    ensures events { OrderOfPortsIsNothing }
-    ensures histories { HistoriesAreOne }
-    ensures scripts { ScriptsAreOne }
+pub fn port_order_is_irrelevant()
+    ensures events { PortOrderIsIrrelevant }
+    ensures histories { PortOrderInHistories }
+    ensures scripts { PortOrderInScripts }
 {
-    outcomes_are_one();
-    mg_engine::theorems::order_of_ports_is_nothing();
+    outcomes_are_unique();
+    mg_engine::theorems::port_order_is_irrelevant();
     mg_engine::theorems::worlds_are_consistent();
     mg_commands::theorems::requests_are_consistent();
 }
@@ -112,14 +112,14 @@ pub fn unheard_changes_nothing()
 {
     mg_text::theorems::one_reading(b"");
     mg_engine::theorems::agreement_lasts();
-    mg_engine::theorems::packets_are_of_what_is_heard();
+    mg_engine::theorems::packets_depend_on_heard();
     mg_commands::theorems::requests_keep_agreement();
 }
 
 /// Where nothing is told of changes nothing changed, and where nothing changed nothing is told.
-pub fn changes_are_told()
-    ensures untold { NoneIsUntold }
-    ensures vain { NoneIsToldInVain }
+pub fn changes_are_reported()
+    ensures untold { EachChangeIsReported }
+    ensures vain { OnlyChangesAreReported }
 {}
 
 /// The counts are the numbers of the events that came: control datagrams, RTP datagrams, those of them that were placed
@@ -141,7 +141,7 @@ pub fn recordings_are_read()
 /// what each packet of it carries, that what is refused changes nothing and no later packet, that nobody hears himself,
 /// and that who was isolated isn't heard.
 pub fn headline()
-    ensures world { EventsLeadToOneWorld }
+    ensures world { EventsDetermineOutcome }
     ensures packets { PayloadsAreMixes }
     ensures refused_names { RefusedNamesChangeNothing }
     ensures refused_commands { RefusedCommandsChangeNothing }
@@ -149,16 +149,16 @@ pub fn headline()
     ensures refused_topologies { RefusedTopologiesChangeNothing }
     ensures others { OthersAreTried }
     ensures refused_requests { RefusedRequestsChangeNothing }
-    ensures later { OneGatewayOneFuture }
-    ensures himself { NobodyHearsHimself }
+    ensures later { GatewayDeterminesFuture }
+    ensures himself { NoneHearsItself }
     ensures own { OwnSpeechChangesNoPacket }
     ensures isolated { IsolatedAreNotHeard }
     ensures unheard { UnheardChangesNoPacket }
 {
-    outcomes_are_one();
+    outcomes_are_unique();
     mg_engine::theorems::payloads_are_mixes();
     mg_commands::theorems::refused_commands_change_nothing();
     refused_commands_change_no_packet();
-    mg_engine::theorems::nobody_hears_himself();
+    mg_engine::theorems::none_hears_itself();
     mg_engine::theorems::isolated_are_not_heard();
 }

@@ -25,10 +25,10 @@ use Rattle.mg_engine.specs.Steps.{counted_up}
 use Rattle.mg_engine.specs.Gateway.{Gateway, TerminationMedia, ContextEdit, Enter, Leave, frame_of, media_of, new_media}
 use Rattle.mg_engine.specs.aids.Found.{frame_in}
 use Rattle.mg_engine.specs.Isolation.{hears_itself, progress_of}
-use Rattle.mg_engine.specs.Outcome.{added, modified, moved, subtracted, apply_triples, context_there, done_with, tuned}
+use Rattle.mg_engine.specs.Outcome.{added, modified, moved, subtracted, apply_triples, existing_context, done_with, tuned}
 use Rattle.mg_engine.specs.Tick.{all_ended, all_played, played, sends_at, sent}
 use Rattle.mg_engine.specs.Triples.{check_triples, with_triples}
-use Rattle.mg_engine.proofs.IsolationLemmas.{packets_are_of_what_is_heard}
+use Rattle.mg_engine.proofs.IsolationLemmas.{packets_depend_on_heard}
 use Rattle.mg_engine.proofs.OrderLemmas.{found_passes}
 
 -- ## Media that are alike
@@ -297,7 +297,7 @@ module _ (some : List ℕ) where
   -- triples applied to the members of these rooms, after these edits
   abbrev applied : Target → List TopologyTriple → rooms.Registry → List ContextEdit → Gateway →
       Result (Gateway × ℕ) ErrorNumber
-  applied target xs z es w = context_there z target >>=
+  applied target xs z es w = existing_context z target >>=
       (λ c. check_triples (members_at z c) xs >>=
       (λ _. Ok (record w { edits = with_triples (members_at z c) xs es }, c)))
 
@@ -317,7 +317,7 @@ module _ (some : List ℕ) where
   ends_applied : (target : Target) (xs : List TopologyTriple) (a b : Gateway) → AgreeOutside some a b →
       EndsAlike some (applied target xs a.rooms a.edits a) (applied target xs b.rooms b.edits b)
   ends_applied target xs a b h =
-      let same = ends_there (context_there a.rooms target) (λ c. check_triples (members_at a.rooms c) xs)
+      let same = ends_there (existing_context a.rooms target) (λ c. check_triples (members_at a.rooms c) xs)
       (λ c. with_triples (members_at a.rooms c) xs a.edits) a b h in
       let on_rooms = subst (λ (z : rooms.Registry). EndsAlike some (applied target xs a.rooms a.edits a)
       (applied target xs z a.edits b)) h.rooms same in
@@ -500,7 +500,7 @@ same_packets some a b r h none =
     let after = all_play some a b h in
     let first = all_played a in
     let second = all_played b in
-    packets_are_of_what_is_heard first second r after.config after.rooms after.edits
+    packets_depend_on_heard first second r after.config after.rooms after.edits
     (progress_like some (media_of first r.number) (media_of second r.number)
     (found some r.number first.media second.media (media_like some first second after)))
     (λ talker flows. frame_same some first second talker after

@@ -38,7 +38,7 @@ use Rattle.mg_engine.proofs.GatewayLemmas.{found_too, found_key, has_media, medi
 
 -- ## Media of the termination that an edit is done on
 
-begun_is : (config : Config) (n : ℕ) → IsMediaOf config (media_steps.begun config) silence (new_media n)
+begun_is : (config : Config) (n : ℕ) → IsMediaOf config (media_steps.initial_media config) silence (new_media n)
 begun_is config n = record {
   play = refl;
   frame = refl;
@@ -109,16 +109,16 @@ whole_added config old new d pool kept after held now before flows seating seate
     }
 
 -- media that begin and are tuned
-pub begun_tuned : (kept first after : List media.SlotMedia) (slot : ℕ) (begun : media.SlotMedia) (depth : Option ℕ) →
-    slot < length kept → first ≡ set kept slot begun →
+pub begun_tuned : (kept first after : List media.SlotMedia) (slot : ℕ) (initial_media : media.SlotMedia) (depth : Option ℕ) →
+    slot < length kept → first ≡ set kept slot initial_media →
     after ≡ set first slot (media_steps.slot_tuned depth (media_at first slot)) →
-    after ≡ set kept slot (media_steps.slot_tuned depth begun)
-begun_tuned kept first after slot begun depth lt one two =
+    after ≡ set kept slot (media_steps.slot_tuned depth initial_media)
+begun_tuned kept first after slot initial_media depth lt one two =
     two
     ∙ ap (λ (ms : List media.SlotMedia). set ms slot (media_steps.slot_tuned depth (media_at ms slot))) one
-    ∙ ap (λ (m : media.SlotMedia). set (set kept slot begun) slot (media_steps.slot_tuned depth m))
-    (get_or-set_same kept slot begun idle lt)
-    ∙ set-set kept slot begun (media_steps.slot_tuned depth begun)
+    ∙ ap (λ (m : media.SlotMedia). set (set kept slot initial_media) slot (media_steps.slot_tuned depth m))
+    (get_or-set_same kept slot initial_media idle lt)
+    ∙ set-set kept slot initial_media (media_steps.slot_tuned depth initial_media)
 
 -- no termination had the number before
 pub unknown_before : (old new : rooms.Registry) (d : Record) → Adds old new d → IsSound new →
@@ -170,7 +170,7 @@ added_media : (k : EngineState) (new : rooms.Registry) (after : List media.SlotM
     (w : Gateway) (settings : Settings) (d : Record) (r : Record) → Adds k.rooms new d → IsSound new → Slots new →
     Others k.rooms new d.number → record_at new d.number ≡ Some r
     → r.slot < length k.media → r.slot < length k.sums.frames →
-    after ≡ set k.media r.slot (media_steps.slot_tuned settings.depth (media_steps.begun k.config)) →
+    after ≡ set k.media r.slot (media_steps.slot_tuned settings.depth (media_steps.initial_media k.config)) →
     frames ≡ set k.sums.frames r.slot silence → StandsFor k w
     → (m : ℕ) (q : Record) (s : TerminationMedia) → record_at new m ≡ Some q →
     find (λ s. eqb s.number m) (w.media ++ newcomer settings d ∷ []) ≡ Some s → (b : Bool) → eqb d.number m ≡ b →
@@ -182,18 +182,18 @@ added_media k new after frames w settings d r a sound slots others made lt in_ro
     let none = none_too k w d.number h.numbers (unknown_before k.rooms new d a sound) (media_of w d.number) refl in
     let pushed = found_push (λ s. s.number) m w.media (newcomer settings d) e (ap (media_of w) (sym same) ∙ none) in
     let stream : newcomer settings d ≡ s = same_Some (newcomer settings d) s (sym pushed ∙ there) in
-    let kept : media_at after q.slot ≡ media_steps.slot_tuned settings.depth (media_steps.begun k.config) =
+    let kept : media_at after q.slot ≡ media_steps.slot_tuned settings.depth (media_steps.initial_media k.config) =
     ap (λ (x : Record). media_at after x.slot) (sym is) ∙
     ap (λ (ms : List media.SlotMedia). media_at ms r.slot) set_to ∙
-    get_or-set_same k.media r.slot (media_steps.slot_tuned settings.depth (media_steps.begun k.config)) idle lt in
+    get_or-set_same k.media r.slot (media_steps.slot_tuned settings.depth (media_steps.initial_media k.config)) idle lt in
     let row : get_or frames q.slot [] ≡ silence =
     ap (λ (x : Record). get_or frames x.slot []) (sym is) ∙ ap (λ (fs : List (List ℤ)). get_or fs r.slot []) silent ∙
     get_or-set_same k.sums.frames r.slot silence [] in_rows in
-    media_is k.config (media_at after q.slot) (media_steps.slot_tuned settings.depth (media_steps.begun k.config))
+    media_is k.config (media_at after q.slot) (media_steps.slot_tuned settings.depth (media_steps.initial_media k.config))
     (get_or frames q.slot []) silence s kept row
     (subst (λ (x : TerminationMedia). IsMediaOf k.config
-    (media_steps.slot_tuned settings.depth (media_steps.begun k.config)) silence
-    x) stream (tuned_is k.config settings (media_steps.begun k.config) silence (new_media d.number)
+    (media_steps.slot_tuned settings.depth (media_steps.initial_media k.config)) silence
+    x) stream (tuned_is k.config settings (media_steps.initial_media k.config) silence (new_media d.number)
     (begun_is k.config d.number)))
 added_media k new after frames w settings d r a sound slots others made lt in_rows set_to silent h m q s found there
     false e =
@@ -202,7 +202,7 @@ added_media k new after frames w settings d r a sound slots others made lt in_ro
     let stream = sym (found_push_other (λ s. s.number) m w.media (newcomer settings d) e) ∙ there in
     let kept : media_at after q.slot ≡ media_at k.media q.slot =
     ap (λ (ms : List media.SlotMedia). media_at ms q.slot) set_to ∙
-    others_kept new k.media (media_steps.slot_tuned settings.depth (media_steps.begun k.config)) m d.number r q slots
+    others_kept new k.media (media_steps.slot_tuned settings.depth (media_steps.initial_media k.config)) m d.number r q slots
     made found
     apart in
     let row = ap (λ (fs : List (List ℤ)). get_or fs q.slot []) silent ∙
@@ -214,7 +214,7 @@ pub added_stands : (k : EngineState) (new : rooms.Registry) (after : List media.
     (kept : sums.SumsState) (w : Gateway) (settings : Settings) (d : Record) (r : Record) → Adds k.rooms new d →
     IsSound new → Slots new → Others k.rooms new d.number → record_at new d.number ≡ Some r
     → r.slot < length k.media → r.slot < length k.sums.frames →
-    after ≡ set k.media r.slot (media_steps.slot_tuned settings.depth (media_steps.begun k.config)) →
+    after ≡ set k.media r.slot (media_steps.slot_tuned settings.depth (media_steps.initial_media k.config)) →
     kept.frames ≡ set k.sums.frames r.slot silence → Hears new flows (Enter d.number ∷ w.edits) → StandsFor k w
     → StandsFor (with_rooms k new after flows kept) (added w settings new d)
 added_stands k new after flows kept w settings d r a sound slots others made lt in_rows set_to silent hears h = record {

@@ -12,10 +12,10 @@ use Rattle.mg_flow.specs.Table as flow
 use Rattle.mg_engine.specs.Gateway.{Gateway, mode_of, context_of}
 use Rattle.mg_engine.specs.aids.Found.{context_in}
 use Rattle.mg_engine.specs.aids.Found.{mode_or_inactive}
-use Rattle.mg_engine.specs.Flow.{lets_hear, share_context, is_silenced}
+use Rattle.mg_engine.specs.Flow.{may_hear, share_context, is_silenced}
 use Rattle.mg_engine.specs.Flow as worlds
 use Rattle.mg_engine.specs.Place.{place_of, IsOnPlace}
-use Rattle.mg_engine.specs.Masks.{TellsFlows}
+use Rattle.mg_engine.specs.Masks.{RepresentsFlows}
 use Rattle.mg_engine.specs.Stands.{EngineState, StandsFor, ShareContext}
 use Rattle.mg_engine.specs.aids.Members.{HasMembers}
 use Rattle.mg_engine.specs.aids.Sending.{flows_between, flows_now}
@@ -153,7 +153,7 @@ module _ (k : EngineState) (w : Gateway) (one_room : OneRoom k.rooms) (all : Has
         e,
         one_place k.rooms talker listener t l p q first second (eqb-true talker listener e),
       )
-      (nobody_hears_itself k.flows q ∙ sym (ap (λ (b : Bool). b && lets_hear w.edits talker listener)
+      (nobody_hears_itself k.flows q ∙ sym (ap (λ (b : Bool). b && may_hear w.edits talker listener)
       (and-false (eqb t.context l.context))))
   hears_case talker listener t l p q first second false true e f =
       rw (shared talker listener t l first.found second.found, e, f) (h.hears talker listener t l p q (record {
@@ -204,7 +204,7 @@ module _ (k : EngineState) (w : Gateway) (one_room : OneRoom k.rooms) (all : Has
         one_place k.rooms talker listener t l p q first second (eqb-true talker listener e),
       )
       (not_itself k.flows q ∙ sym (ap (λ (b : Bool). b &&
-      (worlds_talk && not (lets_hear w.edits talker listener))) (and-false (eqb t.context l.context)))) where
+      (worlds_talk && not (may_hear w.edits talker listener))) (and-false (eqb t.context l.context)))) where
         worlds_talk : Bool
         worlds_talk = mode.talks (mode_of w talker)
   silenced_case seats talker listener t l p q first second false true e f =
@@ -225,7 +225,7 @@ module _ (k : EngineState) (w : Gateway) (one_room : OneRoom k.rooms) (all : Has
   silenced_places seats talker listener t l p q first second =
       silenced_case seats talker listener t l p q first second (eqb talker listener) (eqb t.context l.context) refl refl
 
-  pub tells : OneSeat k.rooms → TellsFlows w k.flows
+  pub tells : OneSeat k.rooms → RepresentsFlows w k.flows
   tells seats = record {
     held = λ n r p on. (all.each n r p (subst (λ (x : rooms.Registry). IsOnPlace x n r p) h.rooms on)).held;
     nobody = λ p held. let (n, r, on) = all.nobody p held in

@@ -10,7 +10,7 @@ use Rattle.std.proofs.lemmas.List.FromFn.{get_or-map-range_with_len}
 use Rattle.mg_g711.specs.Law.{byte_of}
 use Rattle.mg_rtp.specs.Header.{header_bytes, plain}
 use Rattle.mg_sdp.specs.declared.chosen.Chosen.{Chosen}
-use Rattle.mg_topology.specs.Triple.{lets}
+use Rattle.mg_topology.specs.Triple.{permits}
 use Rattle.mg_words.specs.Mode.{talks, listens}
 use Rattle.mg_words.specs.declared.association.Association.TheVariants.{Isolate}
 use Rattle.mg_rooms.specs.declared.record.Record.{Record}
@@ -22,19 +22,19 @@ use Rattle.mg_sums.proofs.SumLemmas.{sum_of-same}
 use Rattle.mg_engine.specs.declared.datagram.Datagram.{Datagram}
 use Rattle.mg_engine.specs.Gateway.{Gateway, TerminationMedia, ContextEdit, Enter, Leave, Apply, media_of, frame_of, mode_of, context_of, numbers_of}
 use Rattle.mg_engine.specs.aids.Found.{frame_in}
-use Rattle.mg_engine.specs.Flow.{flow, is_forward, speaks_of, lets_hear}
+use Rattle.mg_engine.specs.Flow.{flow, is_forward, mentions, may_hear}
 use Rattle.mg_engine.specs.Mix.{played_sample, part_of_mix, heard, mix, mixed, is_loopback}
 use Rattle.mg_engine.specs.Tick.{packet, header_of, sent_to, type_of}
 use Rattle.mg_engine.specs.aids.Found.{packet_to}
-use Rattle.mg_engine.specs.Isolation.{NobodyHearsHimself, leaves_isolated, IsolatedAreNotHeard, replayed, with_frame, hears_itself, progress_of, PacketsAreOfWhatIsHeard, OwnSpeechChangesNoPacket, UnheardChangesNoPacket, PayloadsAreMixes}
+use Rattle.mg_engine.specs.Isolation.{NoneHearsItself, leaves_isolated, IsolatedAreNotHeard, replayed, with_frame, hears_itself, progress_of, PacketsDependOnHeard, OwnSpeechChangesNoPacket, UnheardChangesNoPacket, PayloadsAreMixes}
 
 and_none : (x y : Bool) → y ≡ false → (x && y) ≡ false
 and_none true y h = h
 and_none false y h = refl
 
-pub nobody_hears_himself : NobodyHearsHimself
-nobody_hears_himself w n =
-    let rest = talks (mode_of w n) && (listens (mode_of w n) && lets_hear w.edits n n) in
+pub none_hears_itself : NoneHearsItself
+none_hears_itself w n =
+    let rest = talks (mode_of w n) && (listens (mode_of w n) && may_hear w.edits n n) in
     and_none (eqb (context_of w n) (context_of w n)) (not (eqb n n) && rest)
     (ap (λ (b : Bool). not b && rest) (eq-eqb n n refl))
 
@@ -47,22 +47,22 @@ or_other false true = refl
 or_other false false = refl
 
 not_heard : (since : List ContextEdit) (first second : List ℕ) (before : List ContextEdit) (a b : ℕ) →
-    speaks_of first second a b ≡ true → list_all (leaves_isolated a b) since ≡ true
-    → lets_hear (since ++ Apply first second Isolate ∷ before) a b ≡ false
-not_heard [] first second before a b on left = ap (λ (x : Bool). if x then false else lets_hear before a b) on
+    mentions first second a b ≡ true → list_all (leaves_isolated a b) since ≡ true
+    → may_hear (since ++ Apply first second Isolate ∷ before) a b ≡ false
+not_heard [] first second before a b on left = ap (λ (x : Bool). if x then false else may_hear before a b) on
 not_heard (Enter n ∷ since) first second before a b on left =
-    let rest = lets_hear (since ++ Apply first second Isolate ∷ before) a b in
+    let rest = may_hear (since ++ Apply first second Isolate ∷ before) a b in
     let all = list_all (leaves_isolated a b) since in
     ap (λ (x : Bool). if x then true else rest)
     (not-true (eqb a n || eqb b n) (and_parts (not (eqb a n || eqb b n)) all left).0)
     ∙ not_heard since first second before a b on (and_parts (not (eqb a n || eqb b n)) all left).1
 not_heard (Leave n ∷ since) first second before a b on left = not_heard since first second before a b on left
 not_heard (Apply f s association ∷ since) first second before a b on left =
-    let rest = lets_hear (since ++ Apply first second Isolate ∷ before) a b in
+    let rest = may_hear (since ++ Apply first second Isolate ∷ before) a b in
     let all = list_all (leaves_isolated a b) since in
-    ap (λ (x : Bool). if x then lets association (is_forward f s a b) else rest)
-    (not-true (speaks_of f s a b) (and_parts (not (speaks_of f s a b)) all left).0)
-    ∙ not_heard since first second before a b on (and_parts (not (speaks_of f s a b)) all left).1
+    ap (λ (x : Bool). if x then permits association (is_forward f s a b) else rest)
+    (not-true (mentions f s a b) (and_parts (not (mentions f s a b)) all left).0)
+    ∙ not_heard since first second before a b on (and_parts (not (mentions f s a b)) all left).1
 
 leaves_both : (a b : ℕ) (e : ContextEdit) → leaves_isolated b a e ≡ leaves_isolated a b e
 leaves_both a b (Enter n) = ap not (or_other (eqb b n) (eqb a n))
@@ -74,20 +74,20 @@ all_leave a b [] = refl
 all_leave a b (e ∷ es) = ap (λ (x : Bool). x && list_all (leaves_isolated b a) es) (leaves_both a b e) ∙
     ap (λ (x : Bool). leaves_isolated a b e && x) (all_leave a b es)
 
-no_flow : (w : Gateway) (a b : ℕ) → lets_hear w.edits a b ≡ false → flow w a b ≡ false
+no_flow : (w : Gateway) (a b : ℕ) → may_hear w.edits a b ≡ false → flow w a b ≡ false
 no_flow w a b h =
-    let heard = and_none (listens (mode_of w b)) (lets_hear w.edits a b) h in
-    let talked = and_none (talks (mode_of w a)) (listens (mode_of w b) && lets_hear w.edits a b) heard in
-    let apart = and_none (not (eqb a b)) (talks (mode_of w a) && (listens (mode_of w b) && lets_hear w.edits a b))
+    let heard = and_none (listens (mode_of w b)) (may_hear w.edits a b) h in
+    let talked = and_none (talks (mode_of w a)) (listens (mode_of w b) && may_hear w.edits a b) heard in
+    let apart = and_none (not (eqb a b)) (talks (mode_of w a) && (listens (mode_of w b) && may_hear w.edits a b))
     talked in
     and_none (eqb (context_of w a) (context_of w b))
-    (not (eqb a b) && (talks (mode_of w a) && (listens (mode_of w b) && lets_hear w.edits a b))) apart
+    (not (eqb a b) && (talks (mode_of w a) && (listens (mode_of w b) && may_hear w.edits a b))) apart
 
 pub isolated_are_not_heard : IsolatedAreNotHeard
 isolated_are_not_heard w a b h = (
-  no_flow w a b (ap (λ (es : List ContextEdit). lets_hear es a b) h.edits ∙
+  no_flow w a b (ap (λ (es : List ContextEdit). may_hear es a b) h.edits ∙
       not_heard h.since h.first h.second h.before a b h.isolated h.left),
-  no_flow w b a (ap (λ (es : List ContextEdit). lets_hear es b a) h.edits
+  no_flow w b a (ap (λ (es : List ContextEdit). may_hear es b a) h.edits
       ∙ not_heard h.since h.first h.second h.before b a
       (or_other (is_forward h.first h.second b a) (is_forward h.first h.second a b) ∙ h.isolated)
       (all_leave a b h.since ∙ h.left)),
@@ -167,8 +167,8 @@ module _ (a b : Gateway) (same_rooms : a.rooms ≡ b.rooms) (same_edits : a.edit
   packet_to_same r None same e samples = refl
   packet_to_same r (Some to) same e samples = sent_same r to (media_of a r.number) (media_of b r.number) same e samples
 
-pub packets_are_of_what_is_heard : PacketsAreOfWhatIsHeard
-packets_are_of_what_is_heard a b r config same_rooms edits progress same own =
+pub packets_depend_on_heard : PacketsDependOnHeard
+packets_depend_on_heard a b r config same_rooms edits progress same own =
     packet_to_same a b same_rooms edits r (sent_to r) config progress
     (map_agree (mix a r.number) (mix b r.number) (range_with_len 0 160)
     (λ k. mix_same a b same_rooms edits r.number k same own))
@@ -239,14 +239,14 @@ other_than false h = refl
 
 pub unheard_changes_no_packet : UnheardChangesNoPacket
 unheard_changes_no_packet w t frame r none other =
-    packets_are_of_what_is_heard (with_frame w t frame) w r refl refl refl (progress_stays t frame w r.number)
+    packets_depend_on_heard (with_frame w t frame) w r refl refl refl (progress_stays t frame w r.number)
     (λ k flows. frame_stays t frame w k (not_it t frame w r.number k none flows))
     (λ own. frame_stays t frame w r.number (other_than (eqb r.number t)
     (ap (λ (x : Bool). eqb r.number t && x) (sym own) ∙ other)))
 
 pub own_speech_changes_no_packet : OwnSpeechChangesNoPacket
 own_speech_changes_no_packet w frame r h =
-    unheard_changes_no_packet w r.number frame r (nobody_hears_himself w r.number)
+    unheard_changes_no_packet w r.number frame r (none_hears_itself w r.number)
     (and_none (eqb r.number r.number) (hears_itself w r.number) h)
 
 -- ## Payloads

@@ -29,5 +29,5 @@ pub mod OutcomeLemmas
 pub mod IsolationLemmas
 pub mod OrderLemmas
 pub mod ElsewhereLemmas
-pub mod LeftAloneLemmas
+pub mod UnaffectedLemmas
 pub mod ApartLemmas

@@ -12,7 +12,7 @@ use Rattle.mg_rooms.specs.Registry as rooms
 use Rattle.mg_rooms.specs.Registry.{record_at, context_at}
 use Rattle.mg_rooms.specs.Sound.{IsSound}
 use Rattle.mg_flow.specs.declared.place.Place.{Place}
-use Rattle.mg_flow.specs.Place.{beside}
+use Rattle.mg_flow.specs.Place.{sibling_place}
 use Rattle.mg_flow.specs.Table as flow
 use Rattle.mg_sums.specs.Samples.{sum_of, nearest_sample}
 use Rattle.mg_sums.proofs.SumLemmas.{sum_of-same}
@@ -49,9 +49,9 @@ somewhere seat None h e = absurd (cc h)
 -- ## Who sits on the seats of a mask
 
 -- a test tells the seats of the mask, and nobody in another room
-module _ (p : Place) (mask : ℕ) (test : Place → Bool) (kept : (seat : ℕ) → has_seat mask seat ≡ test (beside p seat))
+module _ (p : Place) (mask : ℕ) (test : Place → Bool) (kept : (seat : ℕ) → has_seat mask seat ≡ test (sibling_place p seat))
     (apart : (q : Place) → eqb q.room p.room ≡ false → test q ≡ false) where
-  here : (q : Place) → q.room ≡ p.room → beside p q.seat ≡ q
+  here : (q : Place) → q.room ≡ p.room → sibling_place p q.seat ≡ q
   here q same = ap (λ (r : ℕ). let x : Place = record { room = r; seat = q.seat } in x) (sym same)
 
   seated_by : (q : Place) (b : Bool) → eqb q.room p.room ≡ b → (eqb q.room p.room && has_seat mask q.seat) ≡ test q
@@ -68,7 +68,7 @@ pub flows_apart : (table : List flow.RoomFlows) (p q : Place) → eqb p.room q.r
 flows_apart table p q e = no_hearing table p q (hears_apart table p q e)
 
 module _ (k : EngineState) (l : Record) (p : Place) (mask : ℕ) (on : place_of k.rooms l ≡ Some p)
-    (kept : (seat : ℕ) → has_seat mask seat ≡ flow.flows k.flows (beside p seat) p) where
+    (kept : (seat : ℕ) → has_seat mask seat ≡ flow.flows k.flows (sibling_place p seat) p) where
   flows_by : (o : Option Place) → flows_between k.flows o (Some p) ≡ is_seated_in p.room mask o
   flows_by (Some q) = sym (seated_is p mask (λ x. flow.flows k.flows x p) kept (λ x e. flows_apart k.flows x p e) q)
   flows_by None = refl
@@ -95,7 +95,7 @@ SeatWithin w = (n : ℕ) (r : Record) → record_at w n ≡ Some r → r.seat < 
 module _ (w : rooms.Registry) (seating : List ℕ) (l : Record) (p : Place) (y : Context) (mask : ℕ) (sound : IsSound w)
     (seats : AreSeated w seating) (by_number : ByNumber w) (there : HaveContexts w) (one_room : OneRoom w)
     (within : SeatWithin w) (context : context_at w l.context ≡ Some y) (is : seated l.seat y ≡ p)
-    (held : (seat : ℕ) → IsTrue (has_seat mask seat) → (n : ℕ) × (r : Record) × IsOnPlace w n r (beside p seat))
+    (held : (seat : ℕ) → IsTrue (has_seat mask seat) → (n : ℕ) × (r : Record) × IsOnPlace w n r (sibling_place p seat))
     (f : ℕ → ℤ) where
   abbrev on_seat : ℕ → ℤ
   on_seat seat = f (slot_at seating (record { room = p.room; seat = seat }))
@@ -113,7 +113,7 @@ module _ (w : rooms.Registry) (seating : List ℕ) (l : Record) (p : Place) (y :
   room_is = ap (λ (x : Place). x.room) is
 
   -- one in the listener's context is on a seat beside it
-  beside_it : (t : Record) → t.context ≡ l.context → place_of w t ≡ Some (beside p t.seat)
+  beside_it : (t : Record) → t.context ≡ l.context → place_of w t ≡ Some (sibling_place p t.seat)
   beside_it t same =
       ap (λ (c : ℕ). option_map (seated t.seat) (context_at w c)) same
       ∙ ap (option_map (seated t.seat)) context
@@ -123,8 +123,8 @@ module _ (w : rooms.Registry) (seating : List ℕ) (l : Record) (p : Place) (y :
       seated_part t ≡ cond b (seat_part t.seat) (pos 0)
   part_is t true found e =
       let on = beside_it t (eqb-true t.context l.context e) in
-      let slot : slot_at seating (beside p t.seat) ≡ t.slot =
-      seats t.number t (beside p t.seat) (record { found = found; place = on }) in
+      let slot : slot_at seating (sibling_place p t.seat) ≡ t.slot =
+      seats t.number t (sibling_place p t.seat) (record { found = found; place = on }) in
       ap (λ (o : Option Place). cond (is_seated_in p.room mask o) (f t.slot) (pos 0)) on
       ∙ ap (λ (b : Bool). cond (b && has_seat mask t.seat) (f t.slot) (pos 0)) (eq-eqb p.room p.room refl)
       ∙ ap (λ (s : ℕ). cond (has_seat mask t.seat) (f s) (pos 0)) (sym slot)
@@ -145,7 +145,7 @@ module _ (w : rooms.Registry) (seating : List ℕ) (l : Record) (p : Place) (y :
       1 ≤ count_by (λ t. eqb t.context l.context && eqb t.seat seat) w.terminations
   counted seat h =
       let (n, r, on) = held seat h in
-      let (x, at, placed) = seats_there r.seat (context_at w r.context) (beside p seat) on.place in
+      let (x, at, placed) = seats_there r.seat (context_at w r.context) (sibling_place p seat) on.place in
       let same : r.context ≡ l.context = one_room r.context l.context x y at context
       (ap (λ (q : Place). q.room) placed ∙ sym room_is) in
       let sits : r.seat ≡ seat = ap (λ (q : Place). q.seat) placed in

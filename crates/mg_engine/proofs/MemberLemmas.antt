@@ -13,7 +13,7 @@ use Rattle.mg_flow.specs.Place.{is_same_place, are_together}
 use Rattle.mg_flow.specs.Table as flow
 use Rattle.mg_flow.specs.Table.{RoomFlows, holds, talks_at, listens_at, hears, SetsPlace}
 use Rattle.mg_engine.specs.Gateway.{ContextEdit, Enter}
-use Rattle.mg_engine.specs.Flow.{lets_hear}
+use Rattle.mg_engine.specs.Flow.{may_hear}
 use Rattle.mg_engine.specs.Place.{place_of, IsOnPlace}
 use Rattle.mg_engine.specs.Stands.{ShareContext}
 use Rattle.mg_engine.specs.aids.Seating.{AreSeated}
@@ -112,11 +112,11 @@ pub record HasOthers (w : Registry) (n : ℕ) (table : List RoomFlows) : Type 0 
 -- who hears whom among the members other than n
 abbrev pub HearsOthers : Registry → ℕ → List RoomFlows → List ContextEdit → Type 0
 HearsOthers w n table es = (talker listener : ℕ) (t l : Record) (p q : Place) → talker ≢ n → listener ≢ n →
-    ShareContext w talker listener t l p q → hears table p q ≡ lets_hear es talker listener
+    ShareContext w talker listener t l p q → hears table p q ≡ may_hear es talker listener
 
 abbrev pub Hears : Registry → List RoomFlows → List ContextEdit → Type 0
 Hears w table es = (talker listener : ℕ) (t l : Record) (p q : Place) → ShareContext w talker listener t l p q →
-    hears table p q ≡ lets_hear es talker listener
+    hears table p q ≡ may_hear es talker listener
 
 pub carry : (old new : Registry) (n : ℕ) (table : List RoomFlows) → SameOthers old new n → HasOthers old n table →
     HasOthers new n table
@@ -236,27 +236,27 @@ unequal m n e same = neither (sym (eq-eqb m n same) ∙ e)
 
 module _ (w : Registry) (n : ℕ) (r : Record) (p : Place) (old new : List RoomFlows) (rooms : OneRoom w)
     (seats : OneSeat w)
-    (on : IsOnPlace w n r p) (came : Enters old new p r.mode) (h : HasOthers w n old) where
+    (on : IsOnPlace w n r p) (represents : Enters old new p r.mode) (h : HasOthers w n old) where
   entered_says : (m : ℕ) (x : Record) (q : Place) → IsOnPlace w m x q → (b : Bool) → eqb m n ≡ b → SaysOf new x q
   entered_says m x q there true e =
       let same = eqb-true m n e in
       let mode = ap (λ (y : Record). y.mode) (one_record w m n x r there.found on.found same) in
       rw (one_place w m n x r q p there on same, mode)
       (record {
-        held = held_here old new p true _ _ came.place;
-        talks = talks_here old new p true _ _ came.place;
-        listens = listens_here old new p true _ _ came.place;
+        held = held_here old new p true _ _ represents.place;
+        talks = talks_here old new p true _ _ represents.place;
+        listens = listens_here old new p true _ _ represents.place;
       })
   entered_says m x q there false e =
       let apart = unequal m n e in
-      elsewhere old new p true _ _ came.place q x (apart_places w m n x r q p rooms seats there on apart)
+      elsewhere old new p true _ _ represents.place q x (apart_places w m n x r q p rooms seats there on apart)
       (h.each m x q apart there)
 
   entered_nobody : (q : Place) → IsTrue (holds new q) → (b : Bool) → is_same_place q p ≡ b → (m : ℕ) × (x : Record) ×
       IsOnPlace w m x q
   entered_nobody q held true e = (n, r, subst (λ (z : Place). IsOnPlace w n r z) (sym (is_place q p e)) on)
   entered_nobody q held false e =
-      let (m, x, apart, there) = h.nobody q (held_elsewhere old new p true _ _ came.place q e held) in
+      let (m, x, apart, there) = h.nobody q (held_elsewhere old new p true _ _ represents.place q e held) in
       (m, x, there)
 
   pub has_entered : HasMembers w new
@@ -285,7 +285,7 @@ module _ (w : Registry) (n : ℕ) (r : Record) (p : Place) (old new : List RoomF
       ShareContext w talker listener t l a b
       → (x y : Bool) → eqb talker n ≡ x → eqb listener n ≡ y →
       cond (x || y) (are_together (holds new) a b) (hears old a b) ≡
-      cond (x || y) true (lets_hear es talker listener)
+      cond (x || y) true (may_hear es talker listener)
   pair es k talker listener t l a b s true true e f = together talker listener t l a b s
   pair es k talker listener t l a b s true false e f = together talker listener t l a b s
   pair es k talker listener t l a b s false true e f = together talker listener t l a b s
@@ -294,7 +294,7 @@ module _ (w : Registry) (n : ℕ) (r : Record) (p : Place) (old new : List RoomF
 
   pub hears_entered : (es : List ContextEdit) → HearsOthers w n old es → Hears w new (Enter n ∷ es)
   hears_entered es k talker listener t l a b s =
-      came.hears a b
+      represents.hears a b
       ∙ ap (λ (x : Bool). cond (x || is_same_place b p) (are_together (holds new) a b) (hears old a b))
       (is_newcomer talker t a s.first (eqb talker n) refl)
       ∙ ap (λ (x : Bool). cond (eqb talker n || x) (are_together (holds new) a b) (hears old a b))

@@ -17,7 +17,7 @@ use Rattle.mg_rooms.specs.declared.record.Record.{Record}
 use Rattle.mg_rooms.specs.Sound.{IsSound}
 use Rattle.mg_rooms.specs.Registry.{record_at, context_at}
 use Rattle.mg_flow.specs.declared.place.Place.{Place}
-use Rattle.mg_flow.specs.Place.{beside}
+use Rattle.mg_flow.specs.Place.{sibling_place}
 use Rattle.mg_flow.specs.Table as flow
 use Rattle.mg_sums.specs.Sums.{SumsState, AreOfRoom, sample_in, is_joined, total_of, heard_of, left_out_by, mix_of}
 use Rattle.mg_sums.specs.Samples.{sum_of, nearest_sample}
@@ -133,8 +133,8 @@ module _ (k : EngineState) (seating : List ℕ) (l : Record) (p : Place) (y : Co
     r.slot ≡ s.slot → a ≡ b)
     (context : context_at k.rooms l.context ≡ Some y) (is : seated l.seat y ≡ p) (on : IsOnPlace k.rooms l.number l p)
     (listens : mode.listens l.mode ≡ true)
-    (kept : (seat : ℕ) → has_seat mask seat ≡ flow.is_silenced k.flows (beside p seat) p)
-    (holds : (seat : ℕ) → IsTrue (has_seat mask seat) → IsTrue (flow.holds k.flows (beside p seat))) where
+    (kept : (seat : ℕ) → has_seat mask seat ≡ flow.is_silenced k.flows (sibling_place p seat) p)
+    (holds : (seat : ℕ) → IsTrue (has_seat mask seat) → IsTrue (flow.holds k.flows (sibling_place p seat))) where
   abbrev row_on : ℕ → ℕ
   row_on seat = slot_at seating (record { room = p.room; seat = seat })
 
@@ -144,8 +144,8 @@ module _ (k : EngineState) (seating : List ℕ) (l : Record) (p : Place) (y : Co
   abbrev pub minus : List ℕ
   minus = map row_on (seats_of mask)
 
-  held : (seat : ℕ) → IsTrue (has_seat mask seat) → (n : ℕ) × (r : Record) × IsOnPlace k.rooms n r (beside p seat)
-  held seat h = members.nobody (beside p seat) (holds seat h)
+  held : (seat : ℕ) → IsTrue (has_seat mask seat) → (n : ℕ) × (r : Record) × IsOnPlace k.rooms n r (sibling_place p seat)
+  held seat h = members.nobody (sibling_place p seat) (holds seat h)
 
   silenced_is : (o : Option Place) → is_seated_in p.room mask o ≡ is_silenced_between k.flows o (Some p)
   silenced_is (Some q) = seated_is p mask (λ x. flow.is_silenced k.flows x p) kept
@@ -156,10 +156,10 @@ module _ (k : EngineState) (seating : List ℕ) (l : Record) (p : Place) (y : Co
 
   -- whose seat is silenced talks in the room
   talks_there : (seat : ℕ) (n : ℕ) (r : Record) → IsTrue (has_seat mask seat) →
-      IsOnPlace k.rooms n r (beside p seat) → mode.talks r.mode ≡ true
+      IsOnPlace k.rooms n r (sibling_place p seat) → mode.talks r.mode ≡ true
   talks_there seat n r h at =
-      sym (members.each n r (beside p seat) at).talks
-      ∙ first_true (flow.talks_at k.flows (beside p seat)) _ (sym (kept seat) ∙ h) where
+      sym (members.each n r (sibling_place p seat) at).talks
+      ∙ first_true (flow.talks_at k.flows (sibling_place p seat)) _ (sym (kept seat) ∙ h) where
         first_true : (a b : Bool) → (a && b) ≡ true → a ≡ true
         first_true true b e = refl
         first_true false b e = absurd (cc e)
@@ -167,8 +167,8 @@ module _ (k : EngineState) (seating : List ℕ) (l : Record) (p : Place) (y : Co
   row_joined : (seat : ℕ) → IsTrue (has_seat mask seat) → IsTrue (is_joined k.sums.rooms p.room (row_on seat))
   row_joined seat h =
       let (n, r, at) = held seat h in
-      ap (λ (row : ℕ). is_joined k.sums.rooms p.room row) (seats n r (beside p seat) at)
-      ∙ joined_is k.sums.rooms r (beside p seat) p.room (joined.each n r (beside p seat) at)
+      ap (λ (row : ℕ). is_joined k.sums.rooms p.room row) (seats n r (sibling_place p seat) at)
+      ∙ joined_is k.sums.rooms r (sibling_place p seat) p.room (joined.each n r (sibling_place p seat) at)
       ∙ ap (λ (b : Bool). b && eqb p.room p.room) (talks_there seat n r h at)
       ∙ eq-eqb p.room p.room refl
 
@@ -176,9 +176,9 @@ module _ (k : EngineState) (seating : List ℕ) (l : Record) (p : Place) (y : Co
   rows_differ a b h g same =
       let (m, r, at) = held a h in
       let (n, s, to) = held b g in
-      let equal = slots m n r s at.found to.found (sym (seats m r (beside p a) at) ∙ same ∙ seats n s (beside p b) to)
+      let equal = slots m n r s at.found to.found (sym (seats m r (sibling_place p a) at) ∙ same ∙ seats n s (sibling_place p b) to)
       in
-      ap (λ (x : Place). x.seat) (one_place k.rooms m n r s (beside p a) (beside p b) at to equal)
+      ap (λ (x : Place). x.seat) (one_place k.rooms m n r s (sibling_place p a) (sibling_place p b) at to equal)
 
   minus_joined : All (λ row. IsTrue (is_joined k.sums.rooms p.room row)) minus
   minus_joined = All-map (λ row. IsTrue (is_joined k.sums.rooms p.room row)) row_on (seats_of mask)
@@ -193,8 +193,8 @@ module _ (k : EngineState) (seating : List ℕ) (l : Record) (p : Place) (y : Co
   own_apart : (seat : ℕ) → IsTrue (has_seat mask seat) → l.slot ≢ row_on seat
   own_apart seat h same =
       let (n, r, at) = held seat h in
-      let equal = slots l.number n l r on.found at.found (same ∙ seats n r (beside p seat) at) in
-      let here : p ≡ beside p seat = one_place k.rooms l.number n l r p (beside p seat) on at equal in
+      let equal = slots l.number n l r on.found at.found (same ∙ seats n r (sibling_place p seat) at) in
+      let here : p ≡ sibling_place p seat = one_place k.rooms l.number n l r p (sibling_place p seat) on at equal in
       let false_too = ap (λ (q : Place). flow.is_silenced k.flows q p) (sym here) ∙ not_itself k.flows p in
       let never : true ≡ false = sym h ∙ kept seat ∙ false_too in
       cc never

@@ -20,8 +20,8 @@ use Rattle.mg_engine.specs.declared.topology_triple.TopologyTriple.{TopologyTrip
 use Rattle.mg_engine.specs.Arrival.{Arrived, Takes, arrived, at_port, frame_placed, frame_placed_at, taken_at}
 use Rattle.mg_engine.specs.aids.Found.{taken_by}
 use Rattle.mg_engine.specs.Gateway.{Gateway, TerminationMedia, media_of}
-use Rattle.mg_engine.specs.Order.{OrderOfTwoIsNothing}
-use Rattle.mg_engine.specs.Outcome.{apply_triples, context_there, done_with}
+use Rattle.mg_engine.specs.Order.{ArrivalOrderIsIrrelevant}
+use Rattle.mg_engine.specs.Outcome.{apply_triples, existing_context, done_with}
 use Rattle.mg_engine.specs.Triples.{check_triples, with_triples}
 use Rattle.mg_engine.proofs.KeyLemmas.{found_other}
 
@@ -211,10 +211,10 @@ taken_rooms w (Some r) source reading = arrived_rooms w r.number (arrived r sour
 
 pub takes_rooms : (w next : Gateway) (port : ℕ) (source bytes : List ℕ) (result : Taken) →
     Takes w port source bytes next result → next.rooms ≡ w.rooms
-takes_rooms w next port source bytes result (reading, is, came) =
-    ap (λ (p : Gateway × Taken). p.0.rooms) (sym came) ∙ taken_rooms w (at_port w.rooms port) source reading
+takes_rooms w next port source bytes result (reading, is, represents) =
+    ap (λ (p : Gateway × Taken). p.0.rooms) (sym represents) ∙ taken_rooms w (at_port w.rooms port) source reading
 
-pub order_of_two : OrderOfTwoIsNothing
+pub order_of_two : ArrivalOrderIsIrrelevant
 order_of_two w between last port other from source bytes list a b h ports (x, is, first) (y, too, second) =
     let o = at_port w.rooms port in
     let k = at_port w.rooms other in
@@ -222,9 +222,9 @@ order_of_two w between last port other from source bytes list a b h ports (x, is
     let turned = (taken_by w k source y).0 in
     let at_first = ap (λ (p : Gateway × Taken). p.0) first in
     let same_rooms = ap (λ (g : Gateway). g.rooms) (sym at_first) ∙ taken_rooms w o from x in
-    let came = ap (λ (g : Gateway). taken_by g k source y) at_first ∙
+    let represents = ap (λ (g : Gateway). taken_by g k source y) at_first ∙
     ap (λ (z : rooms.Registry). taken_by between (at_port z other) source y) (sym same_rooms) ∙ second in
-    let both : (end, (taken_by w k source y).1) ≡ (last, b) = sym after ∙ came in
+    let both : (end, (taken_by w k source y).1) ≡ (last, b) = sym after ∙ represents in
     let is_last = ap (λ (p : Gateway × Taken). p.0) both in
     let is_b = ap (λ (p : Gateway × Taken). p.1) both in
     let is_a = ap (λ (p : Gateway × Taken). p.1) first in (
@@ -263,7 +263,7 @@ pub triples_rooms : (w next : Gateway) (target : Target) (xs : List TopologyTrip
     apply_triples w target xs ≡ Ok (next, c) → next.rooms ≡ w.rooms
 unfolding apply_triples
 triples_rooms w next target xs c e =
-    let (there, checked) = bind_is (context_there w.rooms target) _ (next, c) e in
+    let (there, checked) = bind_is (existing_context w.rooms target) _ (next, c) e in
     let (u, done) = bind_is (check_triples (members_at w.rooms there) xs) _ (next, c) checked in
     let both : (record w { edits = with_triples (members_at w.rooms there) xs w.edits }, there) ≡ (next, c) = cc done in
     sym (ap (λ (p : Gateway × ℕ). p.0.rooms) both)

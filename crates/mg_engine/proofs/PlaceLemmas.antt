@@ -8,7 +8,7 @@ use Rattle.mg_rooms.specs.declared.context.Context.{Context}
 use Rattle.mg_rooms.specs.declared.record.Record.{Record}
 use Rattle.mg_rooms.specs.declared.member.Member.{Member}
 use Rattle.mg_rooms.specs.Consistent.{IsTermination, IsContext}
-use Rattle.mg_rooms.specs.Member.{IsThereAs}
+use Rattle.mg_rooms.specs.Member.{ExistsAs}
 use Rattle.mg_rooms.specs.Sound.{IsSound}
 use Rattle.mg_rooms.specs.Registry.{Registry, record_at, context_at}
 use Rattle.mg_flow.specs.declared.place.Place.{Place}
@@ -99,7 +99,7 @@ within w n r p h termination context =
     record { room = omega (arith, x.room, a.room); seat = omega (arith, t.seat, a.seat) }
 
 -- a member is on its place
-pub on_its_place : (w : Registry) (n : ℕ) (m : Member) → IsThereAs w n m → IsOnPlace w n m.record (member_place m)
+pub on_its_place : (w : Registry) (n : ℕ) (m : Member) → ExistsAs w n m → IsOnPlace w n m.record (member_place m)
 on_its_place w n m h = record { found = h.found; place = at_room (context_at w m.record.context) h.room }
   where
     at_room : (o : Option Context) → option_map (λ x. x.room) o ≡ Some m.room →
@@ -109,7 +109,7 @@ on_its_place w n m h = record { found = h.found; place = at_room (context_at w m
     at_room None room = absurd (cc room)
 
 -- a member's place is within the limits
-pub member_within : (w : Registry) (n : ℕ) (m : Member) → IsSound w → IsThereAs w n m → IsWithinLimits (member_place m)
+pub member_within : (w : Registry) (n : ℕ) (m : Member) → IsSound w → ExistsAs w n m → IsWithinLimits (member_place m)
 member_within w n m sound h = within w n m.record (member_place m) (on_its_place w n m h) sound.termination
     sound.context
 

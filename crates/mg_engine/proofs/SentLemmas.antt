@@ -27,7 +27,7 @@ use Rattle.mg_engine.specs.aids.Found.{packet_to}
 use Rattle.mg_engine.specs.aids.Members.{HasMembers}
 use Rattle.mg_engine.specs.aids.Sending.{flows_now, sample_at, part_now, heard_now, mix_now, mixed_now, packet_now, packets_now}
 use Rattle.mg_engine.specs.Stands.{EngineState, StandsFor, IsMediaOf, media_at}
-use Rattle.mg_engine.specs.aids.Playing.{AreOld}
+use Rattle.mg_engine.specs.aids.Playing.{HaveTicked}
 use Rattle.mg_sums.proofs.HeardLemmas.{map_agree}
 use Rattle.mg_engine.proofs.SumLemmas.{sum-cong}
 use Rattle.mg_engine.proofs.SendingLemmas.{nobody}
@@ -132,7 +132,7 @@ abbrev some : Datagram → Option Datagram
 some d = Some d
 
 packet_to_is : (k : EngineState) (w : Gateway) (r : Record) (to : Option Chosen) → AreApart k.rooms →
-    HasMembers k.rooms k.flows → ByNumber k.rooms → AreOld w → StandsFor k w → record_at k.rooms r.number ≡ Some r →
+    HasMembers k.rooms k.flows → ByNumber k.rooms → HaveTicked w → StandsFor k w → record_at k.rooms r.number ≡ Some r →
     packet_to w r to ≡ option_map (packet_now k r) to
 packet_to_is k w r None sound members by_number old h found = refl
 packet_to_is k w r (Some to) sound members by_number old h found =
@@ -142,7 +142,7 @@ packet_to_is k w r (Some to) sound members by_number old h found =
     (old r.number s there))
 
 pub packets_are : (k : EngineState) (w : Gateway) → AreApart k.rooms → HasMembers k.rooms k.flows → ByNumber k.rooms →
-    AreOld w → StandsFor k w → packets w ≡ packets_now k
+    HaveTicked w → StandsFor k w → packets w ≡ packets_now k
 packets_are k w sound members by_number old h =
     ap (λ (x : rooms.Registry). filter_map (packet_of w) x.terminations) h.rooms
     ∙ gathered-cong (packet_of w) (λ r. option_map (packet_now k r) (sent_to r)) k.rooms.terminations nobody

@@ -20,7 +20,7 @@ use Rattle.mg_engine.specs.Media as media
 use Rattle.mg_engine.specs.aids.MediaSteps as media_steps
 use Rattle.mg_engine.specs.Tick.{played, all_played, sent, sends_at, all_ended}
 use Rattle.mg_engine.specs.aids.Found.{has_destination}
-use Rattle.mg_engine.specs.aids.Playing.{AreOld, IsPlayed}
+use Rattle.mg_engine.specs.aids.Playing.{HaveTicked, IsPlayed}
 use Rattle.mg_engine.specs.aids.Sending.{slot_sends, with_mixes, IsEnded}
 use Rattle.mg_engine.specs.Stands.{EngineState, StandsFor, IsMediaOf, media_at}
 use Rattle.mg_engine.proofs.GatewayLemmas.{found_in_map, found_key, media_is}
@@ -154,6 +154,6 @@ mixed_stands k w work shares h = record {
 }
 
 -- a stream whose frame was played is a tick old at least
-pub played_old : (w : Gateway) → AreOld (all_played w)
+pub played_old : (w : Gateway) → HaveTicked (all_played w)
 played_old w n s there = from_mapped played (λ t. 1 ≤ t.ticks) (media_of w n) s
     (sym (found_in_map (λ x. x.number) played n w.media (λ t. refl)) ∙ there) (λ t was. omega arith)

@@ -18,11 +18,11 @@ use Rattle.mg_flow.specs.Place.{are_together}
 use Rattle.mg_flow.specs.Table.{RoomFlows, holds, hears, hears_after, KeepsPlaces, KeepsOthers}
 use Rattle.mg_topology.specs.Topology as topology
 use Rattle.mg_topology.specs.Triple as seats
-use Rattle.mg_topology.specs.Triple.{lets}
+use Rattle.mg_topology.specs.Triple.{permits}
 use Rattle.mg_rooms.specs.declared.target.Target.{Target}
 use Rattle.mg_engine.specs.Gateway.{Gateway, ContextEdit, Apply}
-use Rattle.mg_engine.specs.Flow.{lets_hear}
-use Rattle.mg_engine.specs.Outcome.{context_there, apply_triples}
+use Rattle.mg_engine.specs.Flow.{may_hear}
+use Rattle.mg_engine.specs.Outcome.{existing_context, apply_triples}
 use Rattle.mg_engine.specs.Stands.{EngineState, StandsFor, ShareContext, IsOutcome}
 use Rattle.mg_engine.specs.Flow.{has}
 use Rattle.mg_engine.specs.Place.{place_of, IsOnPlace}
@@ -257,9 +257,9 @@ module _ (w : Registry) (c : ℕ) (members : List ℕ) (talker listener : ℕ) (
 
   -- one triple, of two in its context: whether it speaks of them, and what it says
   one_word : (x : TopologyTriple) (y : Triple) (es : List ContextEdit) (b : Bool) → t.context ≡ c → l.context ≡ c →
-      IsMatched w c members x y → b ≡ lets_hear es talker listener
-      → cond (seats.speaks_of y p.seat q.seat) (seats.word_of y p.seat q.seat) b ≡
-      lets_hear (Apply (matched members x.first) (matched members x.second) x.association ∷ es) talker listener
+      IsMatched w c members x y → b ≡ may_hear es talker listener
+      → cond (seats.mentions y p.seat q.seat) (seats.word_of y p.seat q.seat) b ≡
+      may_hear (Apply (matched members x.first) (matched members x.second) x.association ∷ es) talker listener
   one_word x y es b here there m e =
       rw (
         m.first.same talker p.seat (from_seat here),
@@ -271,8 +271,8 @@ module _ (w : Registry) (c : ℕ) (members : List ℕ) (talker listener : ℕ) (
       ) refl
 
   pub all_words : (xs : List TopologyTriple) (ys : List Triple) (es : List ContextEdit) (b : Bool) → t.context ≡ c →
-      l.context ≡ c → AreMatched w c members xs ys → b ≡ lets_hear es talker listener
-      → hears_after ys p.seat q.seat b ≡ lets_hear (with_triples members xs es) talker listener
+      l.context ≡ c → AreMatched w c members xs ys → b ≡ may_hear es talker listener
+      → hears_after ys p.seat q.seat b ≡ may_hear (with_triples members xs es) talker listener
   all_words [] [] es b here there m e = e
   all_words [] (y ∷ ys) es b here there m e = absurd m
   all_words (x ∷ xs) [] es b here there m e = absurd m
@@ -296,7 +296,7 @@ nowhere a b false d h k = rw h refl
 pub other_words : (w : Registry) (c : ℕ) (members : List ℕ) (talker listener : ℕ) (t : Record) →
     record_at w talker ≡ Some t → (t.context ≡ c → ⊥) →
     (xs : List TopologyTriple) (ys : List Triple) (es : List ContextEdit) → AreMatched w c members xs ys
-    → lets_hear (with_triples members xs es) talker listener ≡ lets_hear es talker listener
+    → may_hear (with_triples members xs es) talker listener ≡ may_hear es talker listener
 other_words w c members talker listener t found elsewhere [] [] es m = refl
 other_words w c members talker listener t found elsewhere [] (y ∷ ys) es m = absurd m
 other_words w c members talker listener t found elsewhere (x ∷ xs) [] es m = absurd m
@@ -307,9 +307,9 @@ other_words w c members talker listener t found elsewhere (x ∷ xs) (y ∷ ys) 
     (has (matched members x.second) talker) refl in
     other_words w c members talker listener t found elsewhere xs ys
     (Apply (matched members x.first) (matched members x.second) x.association ∷ es) m.1
-    ∙ ap (λ (b : Bool). cond b (lets x.association
+    ∙ ap (λ (b : Bool). cond b (permits x.association
     (has (matched members x.first) talker && has (matched members x.second) listener))
-    (lets_hear es talker listener))
+    (may_hear es talker listener))
     (nowhere (has (matched members x.first) talker) (has (matched members x.second) listener)
     (has (matched members x.first) listener) (has (matched members x.second) talker) first second)
 
@@ -320,7 +320,7 @@ module _ (w : Registry) (c room : ℕ) (old new : List RoomFlows) (xs : List Top
     IsTrue (are_together (holds old) t l) → hears new t l ≡ hears_after ys t.seat l.seat (hears old t l)) where
   in_context : Hears w old es → (talker listener : ℕ) (t l : Record) (p q : Place) →
       ShareContext w talker listener t l p q → t.context ≡ c →
-      hears new p q ≡ lets_hear (with_triples (members_at w c) xs es) talker listener
+      hears new p q ≡ may_hear (with_triples (members_at w c) xs es) talker listener
   in_context h talker listener t l p q s here =
       let there = sym s.same ∙ here in
       let same_room = in_one_room w t l p q s.first.place s.second.place s.same in
@@ -337,7 +337,7 @@ module _ (w : Registry) (c room : ℕ) (old new : List RoomFlows) (xs : List Top
 
   elsewhere : Hears w old es → (talker listener : ℕ) (t l : Record) (p q : Place) →
       ShareContext w talker listener t l p q → (t.context ≡ c → ⊥) →
-      hears new p q ≡ lets_hear (with_triples (members_at w c) xs es) talker listener
+      hears new p q ≡ may_hear (with_triples (members_at w c) xs es) talker listener
   elsewhere h talker listener t l p q s away =
       let apart : p.room ≡ room → ⊥ = λ e. away (context_is w c room t p one_room is s.first.place e) in
       ap (λ (r : _). (p.room == q.room) && topology.hears r.topology p.seat q.seat) (others p.room apart)
@@ -346,7 +346,7 @@ module _ (w : Registry) (c room : ℕ) (old new : List RoomFlows) (xs : List Top
 
   triples_case : Hears w old es → (talker listener : ℕ) (t l : Record) (p q : Place) →
       ShareContext w talker listener t l p q → (b : Bool) → eqb t.context c ≡ b →
-      hears new p q ≡ lets_hear (with_triples (members_at w c) xs es) talker listener
+      hears new p q ≡ may_hear (with_triples (members_at w c) xs es) talker listener
   triples_case h talker listener t l p q s true e = in_context h talker listener t l p q s (eqb-true t.context c e)
   triples_case h talker listener t l p q s false e = elsewhere h talker listener t l p q s (unequal t.context c e)
 
@@ -356,18 +356,18 @@ module _ (w : Registry) (c room : ℕ) (old new : List RoomFlows) (xs : List Top
 -- ## What an engine answers
 
 pub refused_there : (k : EngineState) (w : Gateway) (target : Target) (xs : List TopologyTriple) (e : ErrorNumber) →
-    StandsFor k w → context_there k.rooms target ≡ Err e → apply_triples w target xs ≡ Err e
+    StandsFor k w → existing_context k.rooms target ≡ Err e → apply_triples w target xs ≡ Err e
 unfolding apply_triples
 refused_there k w target xs e h there = rw (h.rooms, there) refl
 
 pub refused_triples : (k : EngineState) (w : Gateway) (target : Target) (xs : List TopologyTriple) (c : ℕ)
-    (e : ErrorNumber) → StandsFor k w → context_there k.rooms target ≡ Ok c →
+    (e : ErrorNumber) → StandsFor k w → existing_context k.rooms target ≡ Ok c →
     check_triples (members_at k.rooms c) xs ≡ Err e → apply_triples w target xs ≡ Err e
 unfolding apply_triples
 refused_triples k w target xs c e h there checked = rw (h.rooms, there, checked) refl
 
 pub done_triples : (k : EngineState) (w : Gateway) (target : Target) (xs : List TopologyTriple) (c : ℕ) →
-    StandsFor k w → context_there k.rooms target ≡ Ok c → check_triples (members_at k.rooms c) xs ≡ Ok tt →
+    StandsFor k w → existing_context k.rooms target ≡ Ok c → check_triples (members_at k.rooms c) xs ≡ Ok tt →
     apply_triples w target xs ≡ Ok (record w { edits = with_triples (members_at k.rooms c) xs w.edits }, c)
 unfolding apply_triples
 done_triples k w target xs c h there checked = rw (h.rooms, there, checked) refl

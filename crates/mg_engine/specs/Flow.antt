@@ -3,7 +3,7 @@
 use Rattle.std.specs.Prelude.{ℕ, ◌==◌, ◌&&◌, ◌||◌, not, Bool, true, List, [], ◌∷◌, is_some}
 use Rattle.std.specs.Prelude.{if◌then◌else◌}
 use Rattle.std.specs.List.{list_any}
-use Rattle.mg_topology.specs.Triple.{lets}
+use Rattle.mg_topology.specs.Triple.{permits}
 use Rattle.mg_words.specs.Mode.{talks, listens}
 use Rattle.mg_rooms.specs.Registry.{record_at}
 use Rattle.mg_engine.specs.Gateway.{Gateway, ContextEdit, Enter, Leave, Apply, context_of, mode_of}
@@ -16,21 +16,21 @@ abbrev pub is_forward : List ℕ → List ℕ → ℕ → ℕ → Bool
 is_forward first second talker listener = has first talker && has second listener
 
 -- a triple speaks of a pair where one of the two is in its first set and the other in its second
-abbrev pub speaks_of : List ℕ → List ℕ → ℕ → ℕ → Bool
-speaks_of first second a b = is_forward first second a b || is_forward first second b a
+abbrev pub mentions : List ℕ → List ℕ → ℕ → ℕ → Bool
+mentions first second a b = is_forward first second a b || is_forward first second b a
 
 -- The last word on a pair, looked for from the newest edit backwards: the last triple that speaks
 -- of it after the latest time that each of the two entered a context. Where there is none, each
 -- hears the other.
-abbrev pub lets_hear : List ContextEdit → ℕ → ℕ → Bool
-lets_hear [] talker listener = true
-lets_hear (Enter n ∷ es) talker listener =
-    if (talker == n) || (listener == n) then true else lets_hear es talker listener
-lets_hear (Leave n ∷ es) talker listener = lets_hear es talker listener
-lets_hear (Apply first second association ∷ es) talker listener =
-    if speaks_of first second talker listener
-    then lets association (is_forward first second talker listener)
-    else lets_hear es talker listener
+abbrev pub may_hear : List ContextEdit → ℕ → ℕ → Bool
+may_hear [] talker listener = true
+may_hear (Enter n ∷ es) talker listener =
+    if (talker == n) || (listener == n) then true else may_hear es talker listener
+may_hear (Leave n ∷ es) talker listener = may_hear es talker listener
+may_hear (Apply first second association ∷ es) talker listener =
+    if mentions first second talker listener
+    then permits association (is_forward first second talker listener)
+    else may_hear es talker listener
 
 -- whether both are terminations, different ones of one context
 abbrev pub share_context : Gateway → ℕ → ℕ → Bool
@@ -42,14 +42,14 @@ share_context w a b =
 -- whether the listener hears the talker, whatever their modes: they share a context, and the last
 -- word lets it
 abbrev pub hears : Gateway → ℕ → ℕ → Bool
-hears w talker listener = share_context w talker listener && lets_hear w.edits talker listener
+hears w talker listener = share_context w talker listener && may_hear w.edits talker listener
 
 -- whether the talker is silenced for the listener: they share a context, it talks, and the last
 -- word keeps it from the listener
 abbrev pub is_silenced : Gateway → ℕ → ℕ → Bool
 is_silenced w talker listener =
     share_context w talker listener
-    && (talks (mode_of w talker) && not (lets_hear w.edits talker listener))
+    && (talks (mode_of w talker) && not (may_hear w.edits talker listener))
 
 -- The talker's speech goes to the listener: both are in one context, they differ, the one talks,
 -- the other listens, and the last word lets it. A number that names no termination has no flow, for
@@ -60,4 +60,4 @@ flow w talker listener =
     && (not (talker == listener)
     && (talks (mode_of w talker)
     && (listens (mode_of w listener)
-    && lets_hear w.edits talker listener)))
+    && may_hear w.edits talker listener)))

@@ -9,13 +9,13 @@ use Rattle.mg_words.specs.declared.association.Association.TheVariants.{Isolate}
 use Rattle.mg_rooms.specs.declared.record.Record.{Record}
 use Rattle.mg_engine.specs.Gateway.{Gateway, TerminationMedia, ContextEdit, Enter, Leave, Apply}
 use Rattle.mg_engine.specs.Gateway.{frame_of, media_of, mode_of}
-use Rattle.mg_engine.specs.Flow.{flow, speaks_of}
+use Rattle.mg_engine.specs.Flow.{flow, mentions}
 use Rattle.mg_engine.specs.Mix.{mix, is_loopback}
 use Rattle.mg_engine.specs.Tick.{packet, packet_of}
 
 -- nobody hears himself: no termination's own speech goes to it
-abbrev pub NobodyHearsHimself : Type 0
-NobodyHearsHimself = (w : Gateway) (n : ℕ) → flow w n n ≡ false
+abbrev pub NoneHearsItself : Type 0
+NoneHearsItself = (w : Gateway) (n : ℕ) → flow w n n ≡ false
 
 abbrev pub replayed : ℕ → List ℤ → TerminationMedia → TerminationMedia
 replayed n frame s = if s.number == n then record s { frame = frame } else s
@@ -42,7 +42,7 @@ OwnSpeechChangesNoPacket =
 abbrev pub leaves_isolated : ℕ → ℕ → ContextEdit → Bool
 leaves_isolated a b (Enter n) = not (a == n || b == n)
 leaves_isolated a b (Leave n) = true
-leaves_isolated a b (Apply first second association) = not (speaks_of first second a b)
+leaves_isolated a b (Apply first second association) = not (mentions first second a b)
 
 -- two were isolated from each other, and all that happened since leaves them so
 pub record AreIsolated (w : Gateway) (a b : ℕ) : Type 0 where
@@ -51,7 +51,7 @@ pub record AreIsolated (w : Gateway) (a b : ℕ) : Type 0 where
   pub second : List ℕ
   pub before : List ContextEdit
   pub edits : w.edits ≡ since ++ Apply first second Isolate ∷ before
-  pub isolated : speaks_of first second a b ≡ true
+  pub isolated : mentions first second a b ≡ true
   pub left : list_all (leaves_isolated a b) since ≡ true
 
 -- the speech of neither goes to the other
@@ -69,8 +69,8 @@ progress_of s = (s.number, (s.ticks, (s.packets, s.sent_last)))
 -- A packet is a function of the configuration, the terminations and contexts, all edits, where its
 -- listener's packets stand, and the frames of all whose speech goes to the listener: its own in a
 -- loopback.
-abbrev pub PacketsAreOfWhatIsHeard : Type 0
-PacketsAreOfWhatIsHeard =
+abbrev pub PacketsDependOnHeard : Type 0
+PacketsDependOnHeard =
     (a b : Gateway) (r : Record) → a.config ≡ b.config → a.rooms ≡ b.rooms → a.edits ≡ b.edits
     → option_map progress_of (media_of a r.number) ≡ option_map progress_of (media_of b r.number)
     → ((talker : ℕ) → flow a talker r.number ≡ true → frame_of a talker ≡ frame_of b talker)

@@ -16,6 +16,6 @@ pub mod Totals
 pub mod Work
 pub mod Isolation
 pub mod Order
-pub mod LeftAlone
+pub mod Unaffected
 pub mod Apart
 pub mod aids

@@ -11,7 +11,7 @@ use Rattle.mg_engine.specs.Stands.{ShareContext}
 
 -- Each member's place is held, and no other. Of each two members of a context, the one's speech
 -- goes to the other, and the one is silenced for the other, exactly where the world says so.
-pub record TellsFlows (w : Gateway) (rooms : List table.RoomFlows) : Type 0 where
+pub record RepresentsFlows (w : Gateway) (rooms : List table.RoomFlows) : Type 0 where
   pub held : (n : ℕ) (r : Record) (p : Place) → IsOnPlace w.rooms n r p
       → IsTrue (table.holds rooms p)
   pub nobody : (p : Place) → IsTrue (table.holds rooms p)

@@ -7,8 +7,8 @@ use Rattle.mg_engine.specs.Gateway.{Gateway}
 
 -- Two RTP datagrams, one after the other, at two ports of a gateway whose terminations and contexts
 -- are consistent: the other way round the same becomes of each, and of the gateway.
-abbrev pub OrderOfTwoIsNothing : Type 0
-OrderOfTwoIsNothing =
+abbrev pub ArrivalOrderIsIrrelevant : Type 0
+ArrivalOrderIsIrrelevant =
     (w between last : Gateway) (port other : ℕ) (from source bytes list : List ℕ) (a b : Taken)
     → IsConsistent w.rooms → port ≢ other
     → Takes w port from bytes between a → Takes between other source list last b

@@ -81,17 +81,17 @@ subtract w target n = done_with (subtracted w) (outcomes.subtract w.rooms target
 -- ## Triples
 
 -- the number of an action's context that is there
-abbrev pub context_there : rooms.Registry → Target → Result ℕ ErrorNumber
-context_there w (targets.Number c) = do
+abbrev pub existing_context : rooms.Registry → Target → Result ℕ ErrorNumber
+existing_context w (targets.Number c) = do
   _ ← outcomes.there w c
   Ok c
-context_there w _ = Err UnknownContext
+existing_context w _ = Err UnknownContext
 
 -- all triples are applied to the members that are there now, or none
 unfoldable pub apply_triples : Gateway → Target → List TopologyTriple
     → Result (Gateway × ℕ) ErrorNumber
 apply_triples w target xs = do
-  c ← context_there w.rooms target
+  c ← existing_context w.rooms target
   _ ← check_triples (members_at w.rooms c) xs
   Ok (record w { edits = with_triples (members_at w.rooms c) xs w.edits }, c)
 

@@ -9,7 +9,7 @@ use Rattle.mg_flow.specs.declared.place.Place.{Place}
 use Rattle.mg_flow.specs.Table as flow
 use Rattle.mg_engine.specs.declared.config.Config.{Config}
 use Rattle.mg_engine.specs.Gateway.{Gateway, TerminationMedia, media_of}
-use Rattle.mg_engine.specs.Flow.{lets_hear}
+use Rattle.mg_engine.specs.Flow.{may_hear}
 use Rattle.mg_engine.specs.Media as media
 use Rattle.mg_engine.specs.Media.{timestamp_before}
 use Rattle.mg_engine.specs.Place.{IsOnPlace}
@@ -62,7 +62,7 @@ pub record StandsFor (kept : EngineState) (w : Gateway) : Type 0 where
       → IsMediaOf kept.config (media_at kept.media r.slot) (sums.frame_of_row kept.sums r.slot) s
   pub hears : (talker listener : ℕ) (t l : Record) (p q : Place)
       → ShareContext kept.rooms talker listener t l p q
-      → flow.hears kept.flows p q ≡ lets_hear w.edits talker listener
+      → flow.hears kept.flows p q ≡ may_hear w.edits talker listener
 
 -- what a call returned is the outcome, and where it was done the engine stands for the world after
 -- it

@@ -9,7 +9,7 @@ use Rattle.mg_engine.specs.Mix.{total}
 
 -- The frame in the row of each termination's slot is the one that it plays in this tick. The total
 -- of each context's room is the sum over those of its members who talk.
-pub record TellsTotals (w : Gateway) (kept : sums.SumsState) : Type 0 where
+pub record RepresentsTotals (w : Gateway) (kept : sums.SumsState) : Type 0 where
   pub frames : (n : ℕ) (r : Record) → record_at w.rooms n ≡ Some r
       → sums.frame_of_row kept r.slot ≡ frame_of w n
   pub totals : (c i : ℕ) (x : Context) → context_at w.rooms c ≡ Some x → i < 160

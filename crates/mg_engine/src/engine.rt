@@ -7,14 +7,14 @@ ghost use Rattle.mg_rooms.specs.Outcome.{is_number};
 ghost use Rattle.mg_rooms.specs.Registry.{holder_of, record_at, context_at, members_at};
 ghost use Rattle.mg_words.specs.Limits.{context_limit, termination_limit};
 ghost use Rattle.mg_sums.specs.Samples.{nearest_sample};
-ghost use Rattle.mg_engine.specs.Outcome.{outcome, add, modify, move_to, subtract, context_there, apply_triples};
+ghost use Rattle.mg_engine.specs.Outcome.{outcome, add, modify, move_to, subtract, existing_context, apply_triples};
 ghost use Rattle.mg_engine.specs.aids.Triples.{IsRoomOf};
 ghost use Rattle.mg_rooms.specs.Sound.{IsSound};
-ghost use Rattle.mg_engine.specs.aids.Playing.{AreApart, AreOld, IsPlayed};
+ghost use Rattle.mg_engine.specs.aids.Playing.{AreApart, HaveTicked, IsPlayed};
 ghost use Rattle.mg_engine.specs.aids.Sending.{heard_now, mixed_now, silenced_now, mix_work_now, sending_work_now, packet_now, packets_now, slot_sends, with_mixes, IsEnded, PlacedAt};
 ghost use Rattle.mg_engine.specs.aids.Shares.{AreShared, IsPut, payload_of};
-ghost use Rattle.mg_engine.specs.Masks.{TellsFlows};
-ghost use Rattle.mg_engine.specs.Totals.{TellsTotals};
+ghost use Rattle.mg_engine.specs.Masks.{RepresentsFlows};
+ghost use Rattle.mg_engine.specs.Totals.{RepresentsTotals};
 ghost use Rattle.mg_engine.specs.Work.{RisesAtMost, sending_work, tick_work};
 ghost use Rattle.mg_engine.specs.declared.datagram.Datagram.{Datagram};
 ghost use Rattle.mg_engine.specs.Place.{IsOnPlace, IsOnSeat};
@@ -27,10 +27,10 @@ ghost use Rattle.mg_engine.specs.aids.Seating.{place_count};
 ghost use Rattle.mg_rtp.specs.aids.Read.{reading_of};
 ghost use Rattle.mg_engine.specs.Arrival.{at_port, arrived, Takes};
 ghost use Rattle.mg_engine.specs.Flow.{flow, hears};
-ghost use Rattle.mg_engine.specs.LeftAlone.{IsLeftAlone, IsElsewhere, IsEditElsewhere, IsPortElsewhere};
+ghost use Rattle.mg_engine.specs.Unaffected.{IsUnaffected, IsElsewhere, IsEditElsewhere, IsPortElsewhere};
 ghost use Rattle.mg_engine.specs.Mix.{total_at};
 ghost use Rattle.mg_engine.specs.Media.{idle};
-ghost use Rattle.mg_engine.specs.aids.MediaSteps.{begun, slot_ended, is_concealing, slot_tuned as tuned_media};
+ghost use Rattle.mg_engine.specs.aids.MediaSteps.{initial_media, slot_ended, is_concealing, slot_tuned as tuned_media};
 ghost use Rattle.mg_engine.specs.Config.{IsValidConfig};
 ghost use Rattle.mg_engine.specs.Gateway.{Gateway, start_of, stats_of};
 ghost use Rattle.mg_sums.specs.Samples.{silence};
@@ -207,7 +207,7 @@ impl Engine {
     /// Who hears whom, by the places of members.
     pub fn flows(&self) -> &FlowTable
         ensures value { result.now ≡ self.now.flows }
-        ensures told { (w : Gateway) → StandsFor self.now w → TellsFlows w result.now }
+        ensures represented { (w : Gateway) → StandsFor self.now w → RepresentsFlows w result.now }
     {
         &self.flows
     }
@@ -215,7 +215,7 @@ impl Engine {
     /// The frame of each termination, in the row of its slot, and the total of each context, in its room.
     pub fn sums(&self) -> &Sums
         ensures value { result.now ≡ self.now.sums }
-        ensures told { (w : Gateway) → StandsFor self.now w → TellsTotals w result.now }
+        ensures represented { (w : Gateway) → StandsFor self.now w → RepresentsTotals w result.now }
     {
         &self.sums
     }
@@ -226,7 +226,7 @@ impl Engine {
         ensures refused { OnErr result (self.new ≡ self.old) }
         ensures others { (w next : Gateway) (done : Done) (c : ℕ) → StandsFor self.old w →
             outcome w edit.now ≡ Ok (next, done) →
-            IsSome (context_at w.rooms c) → IsEditElsewhere w c edit.now → IsLeftAlone w next c }
+            IsSome (context_at w.rooms c) → IsEditElsewhere w c edit.now → IsUnaffected w next c }
         ensures work { RisesAtMost 4 self.old.sums.work self.new.sums.work }
     {
         match edit {
@@ -267,7 +267,7 @@ impl Engine {
         ensures refused { OnErr result (self.new ≡ self.old) }
         ensures others { (w next : Gateway) (r : Record) (c : ℕ) → StandsFor self.old w →
             add w target settings.now ≡ Ok (next, r) →
-            IsSome (context_at w.rooms c) → is_number target c ≡ false → IsLeftAlone w next c }
+            IsSome (context_at w.rooms c) → is_number target c ≡ false → IsUnaffected w next c }
         ensures work { RisesAtMost 4 self.old.sums.work self.new.sums.work }
     {
         let made = self.rooms.add(target, settings)?;
@@ -291,7 +291,7 @@ impl Engine {
         ensures refused { OnErr result (self.new ≡ self.old) }
         ensures others { (w next : Gateway) (r : Record) (c : ℕ) → StandsFor self.old w →
             modify w target number settings.now ≡ Ok (next, r) →
-            IsElsewhere w c target number → IsLeftAlone w next c }
+            IsElsewhere w c target number → IsUnaffected w next c }
         ensures work { RisesAtMost 4 self.old.sums.work self.new.sums.work }
     {
         let changed = self.rooms.modify(target, number, settings)?;
@@ -313,7 +313,7 @@ impl Engine {
         ensures refused { OnErr result (self.new ≡ self.old) }
         ensures others { (w next : Gateway) (r : Record) (c : ℕ) → StandsFor self.old w →
             move_to w target number settings.now ≡ Ok (next, r) →
-            IsSome (context_at w.rooms c) → IsElsewhere w c target number → IsLeftAlone w next c }
+            IsSome (context_at w.rooms c) → IsElsewhere w c target number → IsUnaffected w next c }
         ensures work { RisesAtMost 4 self.old.sums.work self.new.sums.work }
     {
         let moved = self.rooms.move_to(target, number, settings)?;
@@ -330,7 +330,7 @@ impl Engine {
         ensures refused { OnErr result (self.new ≡ self.old) }
         ensures others { (w next : Gateway) (r : Record) (c : ℕ) → StandsFor self.old w →
             subtract w target number ≡ Ok (next, r) →
-            IsElsewhere w c target number → IsLeftAlone w next c }
+            IsElsewhere w c target number → IsUnaffected w next c }
         ensures work { RisesAtMost 4 self.old.sums.work self.new.sums.work }
     {
         let gone = self.rooms.subtract(target, number)?;
@@ -352,7 +352,7 @@ impl Engine {
         ensures refused { OnErr result (self.new ≡ self.old) }
         ensures others { (w next : Gateway) (context c : ℕ) → StandsFor self.old w →
             apply_triples w target triples.now.items ≡ Ok (next, context) →
-            is_number target c ≡ false → IsLeftAlone w next c }
+            is_number target c ≡ false → IsUnaffected w next c }
         ensures work { self.new.sums.work ≡ self.old.sums.work }
     {
         let at = topology_room(&self.rooms, target)?;
@@ -421,7 +421,7 @@ impl Engine {
             × Takes w port source.address bytes.now after result × StandsFor self.new after }
         ensures others { (w next : Gateway) (c : ℕ) → StandsFor self.old w →
             Takes w port source.address bytes.now next result →
-            IsPortElsewhere w c port → IsLeftAlone w next c }
+            IsPortElsewhere w c port → IsUnaffected w next c }
         ensures work { self.new.sums.work ≡ self.old.sums.work }
     {
         let packet = read(bytes);
@@ -538,7 +538,7 @@ impl Engine {
 
     /// Fills an outbox with the packets of those who send.
     fn send_all(&mut self, outbox: &mut Outbox)
-        ensures sent { (w : Gateway) → AreOld w → StandsFor self.old w → outbox.new.items ≡ packets w }
+        ensures sent { (w : Gateway) → HaveTicked w → StandsFor self.old w → outbox.new.items ≡ packets w }
         ensures after { (w : Gateway) → StandsFor self.old w → StandsFor self.new w }
         ensures work { (w : Gateway) → StandsFor self.old w →
             RisesAtMost (sum_by (sending_work w) w.rooms.terminations) self.old.sums.work self.new.sums.work }
@@ -785,8 +785,8 @@ fn stats_in(media: &[HeldMedia], slot: u8) -> Stats
 fn topology_room(rooms: &Rooms, target: Target) -> Result<TopologyRoom, ErrorNumber>
     requires sound { IsSound rooms.now }
     ensures value { MatchResult result
-        (λ at. (context_there rooms.now target ≡ Ok at.context) × IsRoomOf rooms.now at.context at.room)
-        (λ e. context_there rooms.now target ≡ Err e) }
+        (λ at. (existing_context rooms.now target ≡ Ok at.context) × IsRoomOf rooms.now at.context at.room)
+        (λ e. existing_context rooms.now target ≡ Err e) }
     ensures room { IfOk result (λ at. at.room < context_limit) }
 {
     match target {
@@ -818,7 +818,7 @@ fn tune(media: &mut Vec<HeldMedia>, slot: u8, depth: Option<u16>)
 /// Begins the media of a slot, with a silent frame.
 fn begin(media: &mut Vec<HeldMedia>, sums: &mut Sums, slot: u8, config: &Config)
     requires slot { (slot < length media.old.items) × (slot < termination_limit) }
-    ensures begun { media.new.items ≡ slice_set media.old.items slot (begun config.now) }
+    ensures initial_media { media.new.items ≡ slice_set media.old.items slot (initial_media config.now) }
     ensures silent { sums.new.frames ≡ slice_set sums.old.frames slot silence }
     ensures joined { sums.new.rooms ≡ sums.old.rooms }
     ensures rows { length sums.old.frames ≡ termination_limit }

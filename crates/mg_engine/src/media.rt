@@ -37,7 +37,7 @@ impl Model for HeldMedia {
 
 impl HeldMedia {
     ghost use Rattle.mg_engine.specs.Media.{idle};
-    ghost use Rattle.mg_engine.specs.aids.MediaSteps.{begun_at, slot_tuned, slot_placed, slot_played, frame_played, is_concealing, header, slot_ended};
+    ghost use Rattle.mg_engine.specs.aids.MediaSteps.{initial_media_at, slot_tuned, slot_placed, slot_played, frame_played, is_concealing, header, slot_ended};
     ghost use Rattle.mg_playout.specs.Played.{is_concealed, sound_of};
     ghost use Rattle.mg_sums.specs.Samples.{frame_or_silence};
 
@@ -57,7 +57,7 @@ impl HeldMedia {
     /// Begins anew, for a termination that is made, with the timestamp of its first tick and the sequence number of
     /// its first packet.
     pub fn begin(&mut self, timestamp: u32, sequence: u16)
-        ensures value { self.new ≡ begun_at timestamp sequence }
+        ensures value { self.new ≡ initial_media_at timestamp sequence }
     {
         self.play.clear();
         self.stats = Stats::new();

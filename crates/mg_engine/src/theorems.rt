@@ -14,9 +14,9 @@ ghost use Rattle.mg_engine.specs.Arrival.{Takes};
 ghost use Rattle.mg_engine.specs.Config.{IsValidConfig};
 ghost use Rattle.mg_engine.specs.Gateway.{Gateway, start_of};
 ghost use Rattle.mg_engine.specs.Outcome.{add, modify, move_to, subtract, apply_triples};
-ghost use Rattle.mg_engine.specs.LeftAlone.{EditsLeaveOthersAlone, DatagramsLeaveOthersAlone};
-ghost use Rattle.mg_engine.specs.Order.{OrderOfTwoIsNothing};
-ghost use Rattle.mg_engine.specs.Isolation.{NobodyHearsHimself, OwnSpeechChangesNoPacket, PacketsAreOfWhatIsHeard, IsolatedAreNotHeard, UnheardChangesNoPacket, PayloadsAreMixes};
+ghost use Rattle.mg_engine.specs.Unaffected.{EditsDoNotAffectOthers, DatagramsDoNotAffectOthers};
+ghost use Rattle.mg_engine.specs.Order.{ArrivalOrderIsIrrelevant};
+ghost use Rattle.mg_engine.specs.Isolation.{NoneHearsItself, OwnSpeechChangesNoPacket, PacketsDependOnHeard, IsolatedAreNotHeard, UnheardChangesNoPacket, PayloadsAreMixes};
 ghost use Rattle.mg_engine.specs.Triples.{triple_limit};
 
 use crate::topology_triple::TRIPLES;
@@ -34,8 +34,8 @@ pub fn one_arrival(bytes: &[u8])
 
 /// Nobody hears himself: a termination's own speech never goes to it, and what it says changes nothing of what it is
 /// sent, but in Loopback.
-pub fn nobody_hears_himself()
-    ensures flow { NobodyHearsHimself }
+pub fn none_hears_itself()
+    ensures flow { NoneHearsItself }
     ensures packets { OwnSpeechChangesNoPacket }
 {}
 
@@ -83,18 +83,18 @@ pub fn worlds_are_consistent()
 
 /// Which of two RTP datagrams came first makes no difference where they came to two ports: the same becomes of each,
 /// and of the gateway.
-pub fn order_of_ports_is_nothing()
-    ensures theorem { OrderOfTwoIsNothing }
+pub fn port_order_is_irrelevant()
+    ensures theorem { ArrivalOrderIsIrrelevant }
 {}
 
 /// An edit leaves the other contexts alone, and so does an RTP datagram: the members and their order, the record and
 /// the media of each, who of them hears whom, what flows between them, and the total. An edit is about the action's
 /// context and that of the termination that it names, a datagram about that of the termination that has its port.
-pub fn other_contexts_are_left_alone()
-    ensures edits { EditsLeaveOthersAlone }
-    ensures media { DatagramsLeaveOthersAlone }
+pub fn other_contexts_are_unaffected()
+    ensures edits { EditsDoNotAffectOthers }
+    ensures media { DatagramsDoNotAffectOthers }
 {
-    mg_rooms::theorems::what_is_consistent_is_sound();
+    mg_rooms::theorems::consistent_registries_are_sound();
 }
 
 /// Two gateways that agree outside some terminations do so after the same edit, after the same RTP datagram, after an
@@ -113,7 +113,7 @@ pub fn agreement_lasts()
 
 /// A packet is a function of what its listener hears and of where its packets stand. So in a tick two gateways that
 /// agree outside some terminations send the same packet, byte for byte, to each that hears none of these.
-pub fn packets_are_of_what_is_heard()
-    ensures theorem { PacketsAreOfWhatIsHeard }
+pub fn packets_depend_on_heard()
+    ensures theorem { PacketsDependOnHeard }
     ensures packets { SamePackets }
 {}

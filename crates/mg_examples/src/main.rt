@@ -58,15 +58,15 @@ const SCRIPTS: [&str; 56] = [
     "rules/the_order_of_callers_second",
     "rules/the_order_of_callers_third",
     "rules/two_conferences_share_nothing",
-    "rules/what_becomes_of_a_frame",
-    "rules/what_fails_ends_a_request",
-    "rules/what_is_dropped",
-    "rules/what_is_no_message",
-    "rules/what_was_done_is_told",
-    "rules/who_comes_back_hears_all",
+    "rules/outcomes_of_a_frame",
+    "rules/a_failure_ends_a_request",
+    "rules/dropped_datagrams",
+    "rules/malformed_messages",
+    "rules/completed_commands_are_reported",
+    "rules/a_returning_member_hears_all",
     "rules/who_hears_whom",
     "rules/who_listens_and_who_talks",
-    "rules/who_moves_is_heard_elsewhere",
+    "rules/a_mover_is_heard_elsewhere",
 ];
 
 /// Those of them whose output is stored with what each event changed, too.

@@ -4,11 +4,11 @@ use Rattle.std.proofs.Math.Bool.{Bool-set}
 use Rattle.std.proofs.Math.Logic.{∥∥₁_elim}
 use Rattle.std.proofs.lemmas.Bool.Decides.{nat_tests}
 use Rattle.mg_topology.specs.declared.triple.Triple.{Triple}
-use Rattle.mg_topology.specs.Triple.{speaks_of, word_of}
+use Rattle.mg_topology.specs.Triple.{mentions, word_of}
 use Rattle.mg_topology.specs.Edits as topology
 use Rattle.mg_flow.specs.declared.place.Place.{Place}
 use Rattle.mg_flow.specs.Place.{is_same_place, are_together}
-use Rattle.mg_flow.specs.Edits.{FlowEdit, Enter, Leave, SetMode, Apply, apply_in_room, edits_in, is_held, lets_hear}
+use Rattle.mg_flow.specs.Edits.{FlowEdit, Enter, Leave, SetMode, Apply, apply_in_room, edits_in, is_held, may_hear}
 use Rattle.mg_flow.specs.Edits.{hears_in}
 use Rattle.mg_flow.specs.Table.{RoomFlows, holds, hears, hears_after, StandsFor, StandsForSome}
 use Rattle.mg_flow.proofs.TableLemmas.{own_triples, hears-stands}
@@ -34,10 +34,10 @@ is_held-entered : (es : List FlowEdit) (place p : Place) (t l : Bool) →
     is_held (Enter place t l ∷ es) p ≡ cond (is_same_place p place) true (is_held es p)
 is_held-entered es place p t l = grind (arith, nat_tests)
 
-lets_hear-entered : (es : List FlowEdit) (place a b : Place) (t l : Bool) → (a.room == b.room) ≡ true
-    → lets_hear (Enter place t l ∷ es) a b ≡ cond (is_same_place a place || is_same_place b place) true
-    (lets_hear es a b)
-lets_hear-entered es place a b t l same = grind (arith, nat_tests)
+may_hear-entered : (es : List FlowEdit) (place a b : Place) (t l : Bool) → (a.room == b.room) ≡ true
+    → may_hear (Enter place t l ∷ es) a b ≡ cond (is_same_place a place || is_same_place b place) true
+    (may_hear es a b)
+may_hear-entered es place a b t l same = grind (arith, nat_tests)
 
 -- the answers of a pair, from those of its places: a, b whether a place is the one, x, y whether it was held
 pair-entered : (a b x y r d w w' : Bool) → (r ≡ true → w' ≡ cond (a || b) true w)
@@ -52,8 +52,8 @@ hears_in-entered : (es : List FlowEdit) (place a b : Place) (t l : Bool)
 hears_in-entered es place a b t l =
     rw (is_held-entered es place a t l, is_held-entered es place b t l)
     (pair-entered (is_same_place a place) (is_same_place b place) (is_held es a) (is_held es b) (a.room == b.room)
-    (a.seat == b.seat) (lets_hear es a b) _
-    (lets_hear-entered es place a b t l))
+    (a.seat == b.seat) (may_hear es a b) _
+    (may_hear-entered es place a b t l))
 
 pub enter_hears : (old new : List RoomFlows) (place : Place) (t l : Bool) → StandsForSome old
     → ((es : List FlowEdit) → StandsFor old es → StandsFor new (Enter place t l ∷ es)) → (a b : Place)
@@ -74,8 +74,8 @@ is_held-left : (es : List FlowEdit) (place p : Place) →
     is_held (Leave place ∷ es) p ≡ cond (is_same_place p place) false (is_held es p)
 is_held-left es place p = grind (arith, nat_tests)
 
-lets_hear-left : (es : List FlowEdit) (place a b : Place) → lets_hear (Leave place ∷ es) a b ≡ lets_hear es a b
-lets_hear-left es place a b = grind (arith, nat_tests)
+may_hear-left : (es : List FlowEdit) (place a b : Place) → may_hear (Leave place ∷ es) a b ≡ may_hear es a b
+may_hear-left es place a b = grind (arith, nat_tests)
 
 pair-left : (a b x y z w : Bool) → ((cond a false x && (cond b false y && z)) && w) ≡
     cond (a || b) false ((x && (y && z)) && w)
@@ -84,9 +84,9 @@ pair-left a b x y z w = grind arith
 hears_in-left : (es : List FlowEdit) (place a b : Place)
     → hears_in (Leave place ∷ es) a b ≡ cond (is_same_place a place || is_same_place b place) false (hears_in es a b)
 hears_in-left es place a b =
-    rw (is_held-left es place a, is_held-left es place b, lets_hear-left es place a b)
+    rw (is_held-left es place a, is_held-left es place b, may_hear-left es place a b)
     (pair-left (is_same_place a place) (is_same_place b place) (is_held es a) (is_held es b)
-    ((a.room == b.room) && not (a.seat == b.seat)) (lets_hear es a b))
+    ((a.room == b.room) && not (a.seat == b.seat)) (may_hear es a b))
 
 pub leave_hears : (old new : List RoomFlows) (place : Place) → StandsForSome old
     → ((es : List FlowEdit) → StandsFor old es → StandsFor new (Leave place ∷ es)) → (a b : Place)
@@ -113,11 +113,11 @@ allows-triple x o t l true = refl
 allows-triple x o t l false = refl
 
 words-triples : (triples : List Triple) (es : List topology.TopologyEdit) (t l : ℕ)
-    → topology.lets_hear (topology.apply_all triples es) t l ≡ hears_after triples t l (topology.lets_hear es t l)
+    → topology.may_hear (topology.apply_all triples es) t l ≡ hears_after triples t l (topology.may_hear es t l)
 words-triples [] es t l = refl
 words-triples (x ∷ xs) es t l =
     words-triples xs (topology.Apply x ∷ es) t l
-    ∙ ap (hears_after xs t l) (allows-triple x (topology.last_word es t l) t l (speaks_of x t l))
+    ∙ ap (hears_after xs t l) (allows-triple x (topology.last_word es t l) t l (mentions x t l))
 
 is_held-triple : (b : Bool) (x : Triple) (es : List topology.TopologyEdit) (s : ℕ) →
     topology.is_held (cond b (topology.Apply x ∷ es) es) s ≡ topology.is_held es s
@@ -130,9 +130,9 @@ is_held-triples room [] es p = refl
 is_held-triples room (x ∷ xs) es p =
     is_held-triples room xs (Apply room x ∷ es) p ∙ is_held-triple (room == p.room) x (edits_in p.room es) p.seat
 
-lets_hear-triples : (triples : List Triple) (es : List FlowEdit) (a b : Place)
-    → lets_hear (apply_in_room a.room triples es) a b ≡ hears_after triples a.seat b.seat (lets_hear es a b)
-lets_hear-triples triples es a b = rw (own_triples a.room triples es)
+may_hear-triples : (triples : List Triple) (es : List FlowEdit) (a b : Place)
+    → may_hear (apply_in_room a.room triples es) a b ≡ hears_after triples a.seat b.seat (may_hear es a b)
+may_hear-triples triples es a b = rw (own_triples a.room triples es)
     (words-triples triples (edits_in a.room es) a.seat b.seat)
 
 -- of two who are together the word alone tells
@@ -144,9 +144,9 @@ hears_in-triples : (triples : List Triple) (es : List FlowEdit) (a b : Place) �
 hears_in-triples triples es a b together =
     let after : are_together (is_held (apply_in_room a.room triples es)) a b ≡ true =
     rw (is_held-triples a.room triples es a, is_held-triples a.room triples es b) together in
-    word_alone _ (lets_hear (apply_in_room a.room triples es) a b) after
-    ∙ lets_hear-triples triples es a b
-    ∙ ap (hears_after triples a.seat b.seat) (sym (word_alone _ (lets_hear es a b) together))
+    word_alone _ (may_hear (apply_in_room a.room triples es) a b) after
+    ∙ may_hear-triples triples es a b
+    ∙ ap (hears_after triples a.seat b.seat) (sym (word_alone _ (may_hear es a b) together))
 
 pub triples_hear : (old new : List RoomFlows) (room : ℕ) (triples : List Triple) → StandsForSome old
     → ((es : List FlowEdit) → StandsFor old es → StandsFor new (apply_in_room room triples es)) → (a b : Place)

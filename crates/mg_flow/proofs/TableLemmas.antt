@@ -11,10 +11,10 @@ use Rattle.mg_topology.specs.Mask.{seat_limit, has_seat}
 use Rattle.mg_topology.specs.Edits as topology
 use Rattle.mg_topology.specs.Topology as kept
 use Rattle.mg_flow.specs.declared.place.Place.{Place}
-use Rattle.mg_flow.specs.Place.{is_same_place, beside, are_together}
+use Rattle.mg_flow.specs.Place.{is_same_place, sibling_place, are_together}
 use Rattle.mg_flow.specs.Edits.{FlowEdit, Enter, Leave, SetMode, Apply, apply_in_room, edits_in, is_held, talks_in}
-use Rattle.mg_flow.specs.Edits.{listens_in, lets_hear, hears_in, flows_in, is_silenced_in}
-use Rattle.mg_flow.specs.aids.RoomFlows.{flows_to, is_kept_from, IsVacant, SetsSeat}
+use Rattle.mg_flow.specs.Edits.{listens_in, may_hear, hears_in, flows_in, is_silenced_in}
+use Rattle.mg_flow.specs.aids.RoomFlows.{flows_to, is_blocked_for, IsVacant, SetsSeat}
 use Rattle.mg_flow.specs.aids.Table.{IsFlowTable}
 use Rattle.mg_flow.specs.Table.{RoomFlows, vacant, room_at, talks_at, listens_at, holds, hears, flows, is_silenced}
 use Rattle.mg_flow.specs.Table.{StandsFor}
@@ -287,15 +287,15 @@ is_silenced-stands table es t l h =
       (h.topologies t.room).seats t.seat,
       (h.topologies l.room).seats l.seat,
     )
-    (ap (λ x. talks_in es t && x) (not_both (are_together (is_held es) t l) (lets_hear es t l)))
+    (ap (λ x. talks_in es t && x) (not_both (are_together (is_held es) t l) (may_hear es t l)))
 
 -- what the masks of a room that is read tell of a place, as the table tells it
 
 pub flows-read : {table : List RoomFlows} {place : Place} {i s : ℕ} {room : RoomFlows} → IsRead table place i s room
-    → (seat : ℕ) → flows_to room.topology room.talks room.listens seat s ≡ flows table (beside place seat) place
+    → (seat : ℕ) → flows_to room.topology room.talks room.listens seat s ≡ flows table (sibling_place place seat) place
 flows-read {table} {place} read seat = rw (found read, read.seat, eq-eqb place.room place.room refl) refl
 
 pub is_silenced-read : {table : List RoomFlows} {place : Place} {i s : ℕ} {room : RoomFlows} →
     IsRead table place i s room
-    → (seat : ℕ) → is_kept_from room.topology room.talks seat s ≡ is_silenced table (beside place seat) place
+    → (seat : ℕ) → is_blocked_for room.topology room.talks seat s ≡ is_silenced table (sibling_place place seat) place
 is_silenced-read {table} {place} read seat = rw (found read, read.seat, eq-eqb place.room place.room refl) (grind arith)

@@ -40,34 +40,34 @@ abbrev pub is_held : List FlowEdit → Place → Bool
 is_held es place = topology.is_held (edits_in place.room es) place.seat
 
 -- what was last said of the member on the place: a side of whether it talks and whether it listens
-abbrev pub last_said : (Bool → Bool → Bool) → List FlowEdit → Place → Bool
-last_said side [] place = false
-last_said side (Enter p talks listens ∷ es) place =
-    if is_same_place place p then side talks listens else last_said side es place
-last_said side (Leave p ∷ es) place =
-    if is_same_place place p then false else last_said side es place
-last_said side (SetMode p talks listens ∷ es) place =
-    if is_same_place place p then side talks listens else last_said side es place
-last_said side (Apply room triple ∷ es) place = last_said side es place
+abbrev pub last_setting : (Bool → Bool → Bool) → List FlowEdit → Place → Bool
+last_setting side [] place = false
+last_setting side (Enter p talks listens ∷ es) place =
+    if is_same_place place p then side talks listens else last_setting side es place
+last_setting side (Leave p ∷ es) place =
+    if is_same_place place p then false else last_setting side es place
+last_setting side (SetMode p talks listens ∷ es) place =
+    if is_same_place place p then side talks listens else last_setting side es place
+last_setting side (Apply room triple ∷ es) place = last_setting side es place
 
 -- whether the member on the place talks
 abbrev pub talks_in : List FlowEdit → Place → Bool
-talks_in = last_said (λ talks listens. talks)
+talks_in = last_setting (λ talks listens. talks)
 
 -- whether it listens
 abbrev pub listens_in : List FlowEdit → Place → Bool
-listens_in = last_said (λ talks listens. listens)
+listens_in = last_setting (λ talks listens. listens)
 
 -- whether the last word on two places of one room lets the listener hear the talker
-abbrev pub lets_hear : List FlowEdit → Place → Place → Bool
-lets_hear es talker listener =
-    topology.lets_hear (edits_in talker.room es) talker.seat listener.seat
+abbrev pub may_hear : List FlowEdit → Place → Place → Bool
+may_hear es talker listener =
+    topology.may_hear (edits_in talker.room es) talker.seat listener.seat
 
 -- whether the listener hears the talker: they are different members of one room, and the last word
 -- lets it
 abbrev pub hears_in : List FlowEdit → Place → Place → Bool
 hears_in es talker listener =
-    are_together (is_held es) talker listener && lets_hear es talker listener
+    are_together (is_held es) talker listener && may_hear es talker listener
 
 -- whether the talker's speech goes to the listener: the one talks, the other listens and hears it
 abbrev pub flows_in : List FlowEdit → Place → Place → Bool
@@ -79,4 +79,4 @@ flows_in es talker listener =
 abbrev pub is_silenced_in : List FlowEdit → Place → Place → Bool
 is_silenced_in es talker listener =
     talks_in es talker
-    && (are_together (is_held es) talker listener && not (lets_hear es talker listener))
+    && (are_together (is_held es) talker listener && not (may_hear es talker listener))

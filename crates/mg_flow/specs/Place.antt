@@ -14,8 +14,8 @@ abbrev pub is_same_place : Place → Place → Bool
 is_same_place a b = (a.room == b.room) && (a.seat == b.seat)
 
 -- the place of a seat in the same room
-abbrev pub beside : Place → ℕ → Place
-beside place seat = record { room = place.room; seat = seat }
+abbrev pub sibling_place : Place → ℕ → Place
+sibling_place place seat = record { room = place.room; seat = seat }
 
 -- whether two places are held, by a test that tells it, and are different ones of one room
 abbrev pub are_together : (Place → Bool) → Place → Place → Bool

@@ -4,7 +4,7 @@ use Rattle.std.specs.Prelude.{slice_index_or}
 use Rattle.mg_topology.specs.declared.triple.Triple.{Triple}
 use Rattle.mg_topology.specs.Mask.{has_seat}
 use Rattle.mg_topology.specs.Topology as topology
-use Rattle.mg_topology.specs.Triple.{speaks_of, word_of}
+use Rattle.mg_topology.specs.Triple.{mentions, word_of}
 use Rattle.mg_flow.specs.declared.place.Place.{Place}
 use Rattle.mg_flow.specs.Place.{is_same_place, are_together}
 use Rattle.mg_flow.specs.Edits.{FlowEdit, edits_in, talks_in, listens_in}
@@ -89,4 +89,4 @@ abbrev pub hears_after : List Triple → ℕ → ℕ → Bool → Bool
 hears_after [] talker listener did = did
 hears_after (x ∷ xs) talker listener did =
     hears_after xs talker listener
-    (if speaks_of x talker listener then word_of x talker listener else did)
+    (if mentions x talker listener then word_of x talker listener else did)

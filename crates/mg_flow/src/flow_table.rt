@@ -4,7 +4,7 @@ ghost use Rattle.std.specs.Prelude.{◌≡◌, ℕ, ◌<◌, ◌||◌, if◌then
 ghost use Rattle.mg_words.specs.Limits.{context_limit};
 ghost use Rattle.mg_topology.specs.Mask.{has_seat};
 ghost use Rattle.mg_topology.specs.Triple.{Overlaps};
-ghost use Rattle.mg_flow.specs.Place.{IsWithinLimits, is_same_place, beside, are_together};
+ghost use Rattle.mg_flow.specs.Place.{IsWithinLimits, is_same_place, sibling_place, are_together};
 
 use crate::place::Place;
 use crate::room_flows::RoomFlows;
@@ -20,9 +20,9 @@ use std::marker::Model;
 /// talk and of those who listen, and read it by the words of `specs/Table.antt`.
 /// [`FlowTable::new`] stands for the empty list of edits, and each call leads from the lists that
 /// the table stood for to those with its edits. So each table stands for one
-/// ([`each_table_stands_for_edits`]).
+/// ([`each_table_represents_edits`]).
 ///
-/// [`each_table_stands_for_edits`]: crate::theorems::each_table_stands_for_edits
+/// [`each_table_represents_edits`]: crate::theorems::each_table_represents_edits
 #[derive(Debug, Drop)]
 pub struct FlowTable {
     rooms: Vec<RoomFlows>,
@@ -102,11 +102,11 @@ impl FlowTable {
     pub fn open(&self, place: Place) -> &Mask
         requires { IsTrue (holds self.now place) }
         ensures kept { (seat : ℕ) →
-            has_seat result.now seat ≡ flows self.now (beside place seat) place }
+            has_seat result.now seat ≡ flows self.now (sibling_place place seat) place }
         ensures edits { (es : List FlowEdit) → StandsFor self.now es → (seat : ℕ) →
-            has_seat result.now seat ≡ flows_in es (beside place seat) place }
+            has_seat result.now seat ≡ flows_in es (sibling_place place seat) place }
         ensures held { (seat : ℕ) → IsTrue (has_seat result.now seat) →
-            IsTrue (holds self.now (beside place seat)) }
+            IsTrue (holds self.now (sibling_place place seat)) }
     {
         let room = &self.rooms[usize::from(place.room)];
         room.open(usize::from(place.seat))
@@ -117,11 +117,11 @@ impl FlowTable {
     pub fn silenced(&self, place: Place) -> &Mask
         requires { IsTrue (holds self.now place) }
         ensures kept { (seat : ℕ) →
-            has_seat result.now seat ≡ is_silenced self.now (beside place seat) place }
+            has_seat result.now seat ≡ is_silenced self.now (sibling_place place seat) place }
         ensures edits { (es : List FlowEdit) → StandsFor self.now es → (seat : ℕ) →
-            has_seat result.now seat ≡ is_silenced_in es (beside place seat) place }
+            has_seat result.now seat ≡ is_silenced_in es (sibling_place place seat) place }
         ensures held { (seat : ℕ) → IsTrue (has_seat result.now seat) →
-            IsTrue (holds self.now (beside place seat)) }
+            IsTrue (holds self.now (sibling_place place seat)) }
     {
         let room = &self.rooms[usize::from(place.room)];
         room.silenced(usize::from(place.seat))
@@ -190,7 +190,7 @@ impl FlowTable {
     }
 
     /// Shows that each table stands for some list of edits, and does nothing.
-    pub(crate) fn know(&self)
+    pub(crate) fn assert_invariant(&self)
         ensures { StandsForSome self.now }
     {
         let _rooms = &self.rooms;

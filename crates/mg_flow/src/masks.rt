@@ -2,7 +2,7 @@
 
 ghost use Rattle.std.specs.Prelude.{◌≡◌, ℕ, ◌<◌};
 ghost use Rattle.mg_topology.specs.Mask.{has_seat};
-ghost use Rattle.mg_flow.specs.aids.RoomFlows.{flows_to, is_kept_from};
+ghost use Rattle.mg_flow.specs.aids.RoomFlows.{flows_to, is_blocked_for};
 
 use mg_topology::Topology;
 use mg_topology::mask::{self, Mask, SEATS};
@@ -53,7 +53,7 @@ fn open_row(topology: &Topology, talks: Mask, listens: Mask, listener: usize) ->
 fn silenced_row(topology: &Topology, talks: Mask, listener: usize) -> Mask
     requires { listener < SEATS }
     ensures { (talker : ℕ) →
-        has_seat result talker ≡ is_kept_from topology.now talks talker listener }
+        has_seat result talker ≡ is_blocked_for topology.now talks talker listener }
 {
     if topology.holds(listener) {
         let talking = mask::intersection(topology.held(), talks);

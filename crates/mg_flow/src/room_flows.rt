@@ -3,7 +3,7 @@ ghost use Rattle.mg_topology.specs.Mask.{seat_limit, has_seat};
 ghost use Rattle.mg_topology.specs.Triple.{Overlaps};
 ghost use Rattle.mg_topology.specs.Edits.{TopologyEdit, Enter, Leave, apply_all};
 ghost use Rattle.mg_topology.specs.Topology.{holds, hears, StandsFor};
-ghost use Rattle.mg_flow.specs.aids.RoomFlows.{flows_to, is_kept_from};
+ghost use Rattle.mg_flow.specs.aids.RoomFlows.{flows_to, is_blocked_for};
 
 use crate::masks::Masks;
 use mg_topology::mask::{self, Mask};
@@ -82,7 +82,7 @@ impl RoomFlows {
     pub(crate) fn silenced(&self, listener: usize) -> &Mask
         requires { listener < seat_limit }
         ensures { (talker : ℕ) → has_seat result.now talker ≡
-            is_kept_from self.now.topology self.now.talks talker listener }
+            is_blocked_for self.now.topology self.now.talks talker listener }
     {
         &self.masks.silenced[listener]
     }

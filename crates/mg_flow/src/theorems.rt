@@ -5,19 +5,19 @@
 
 ghost use Rattle.std.specs.Prelude.{◌≡◌, ℕ, ◌∷◌, ◌==◌, ◌&&◌, ◌||◌, Bool, true, false, if◌then◌else◌, List, IsTrue, IsFalse};
 ghost use Rattle.mg_topology.specs.declared.triple.Triple.{Triple};
-ghost use Rattle.mg_topology.specs.Triple.{speaks_of, word_of};
+ghost use Rattle.mg_topology.specs.Triple.{mentions, word_of};
 ghost use Rattle.mg_flow.specs.declared.place.Place.{Place};
 ghost use Rattle.mg_flow.specs.Place.{is_same_place, are_together};
-ghost use Rattle.mg_flow.specs.Edits.{FlowEdit, Enter, Leave, SetMode, Apply, is_held, talks_in, listens_in, lets_hear, flows_in, is_silenced_in};
+ghost use Rattle.mg_flow.specs.Edits.{FlowEdit, Enter, Leave, SetMode, Apply, is_held, talks_in, listens_in, may_hear, flows_in, is_silenced_in};
 ghost use Rattle.mg_flow.specs.Table.{StandsForSome};
 
 use crate::flow_table::FlowTable;
 
 /// Each table stands for some list of edits.
-pub fn each_table_stands_for_edits(table: &FlowTable)
+pub fn each_table_represents_edits(table: &FlowTable)
     ensures { StandsForSome table.now }
 {
-    table.know();
+    table.assert_invariant();
 }
 
 /// Which places are held after one more edit.
@@ -37,17 +37,17 @@ pub fn edits_change_who_is_held()
 /// two takes it back, and a triple in their room that speaks of them is the last word then.
 pub fn edits_change_last_words()
     ensures enter { (es : List FlowEdit) (place a b : Place) (talks listens : Bool) → a.room ≡ b.room →
-        lets_hear (Enter place talks listens ∷ es) a b ≡
-        (if is_same_place a place || is_same_place b place then true else lets_hear es a b) }
+        may_hear (Enter place talks listens ∷ es) a b ≡
+        (if is_same_place a place || is_same_place b place then true else may_hear es a b) }
     ensures leave { (es : List FlowEdit) (place a b : Place) →
-        lets_hear (Leave place ∷ es) a b ≡ lets_hear es a b }
+        may_hear (Leave place ∷ es) a b ≡ may_hear es a b }
     ensures mode { (es : List FlowEdit) (place a b : Place) (talks listens : Bool) →
-        lets_hear (SetMode place talks listens ∷ es) a b ≡ lets_hear es a b }
+        may_hear (SetMode place talks listens ∷ es) a b ≡ may_hear es a b }
     ensures apply { (es : List FlowEdit) (room : ℕ) (triple : Triple) (a b : Place) →
-        lets_hear (Apply room triple ∷ es) a b ≡
-        (if (room == a.room) && speaks_of triple a.seat b.seat
+        may_hear (Apply room triple ∷ es) a b ≡
+        (if (room == a.room) && mentions triple a.seat b.seat
         then word_of triple a.seat b.seat
-        else lets_hear es a b) }
+        else may_hear es a b) }
 {}
 
 /// For one who listens, each other talker of its room is either open or silenced.
@@ -60,7 +60,7 @@ pub fn talkers_are_open_or_silenced()
 {}
 
 /// Nobody is silenced for a newcomer, nor it for anybody, whatever was said before of its place.
-pub fn newcomer_is_in_no_silence()
+pub fn newcomer_is_not_silenced()
     ensures { (es : List FlowEdit) (newcomer other : Place) (talks listens : Bool) →
         IsFalse (is_silenced_in (Enter newcomer talks listens ∷ es) other newcomer)
         × IsFalse (is_silenced_in (Enter newcomer talks listens ∷ es) newcomer other) }

@@ -4,7 +4,7 @@ use Rattle.std.proofs.lemmas.Bool.{false≢true, false_from_ne_true}
 use Rattle.std.proofs.lemmas.Bool.Decides.{nat_tests}
 use Rattle.std.specs.Str.{str_eq_ignore_ascii_case}
 use Rattle.mg_kept.specs.KeptReplies.{KeptReply, is_from, is_reply_to, is_in_range}
-use Rattle.mg_kept.specs.Theorems.{AcknowledgedIsGone, OtherSendersStay, OtherNumbersStay}
+use Rattle.mg_kept.specs.Theorems.{AcknowledgedIsDropped, OtherSendersStay, OtherNumbersStay}
 use Rattle.mg_words.proofs.CutLemmas.{same_letters, letters_same}
 use Rattle.mg_kept.proofs.FindLemmas.{none_in_filter, same_in_filter}
 
@@ -13,8 +13,8 @@ named_fails : (first last number other : ℕ) (from : Bool) → first ≤ number
 named_fails first last number other true low high h = grind (arith, nat_tests)
 named_fails first last number other false low high h = grind (arith, nat_tests)
 
-pub acknowledged_is_gone : AcknowledgedIsGone
-acknowledged_is_gone replies sender same first last number one low high =
+pub acknowledged_is_dropped : AcknowledgedIsDropped
+acknowledged_is_dropped replies sender same first last number one low high =
     rw (none_in_filter (is_reply_to same number) (λ r. not (is_in_range sender first last r))
     (λ r h. rw (same_letters same sender one) (named_fails first last number r.number (is_from sender r) low high h))
     replies) refl

@@ -6,7 +6,7 @@ use Rattle.std.proofs.lemmas.List.Elements.{All-weaker}
 use Rattle.std.specs.List.{find}
 use Rattle.mg_words.specs.Limits.{kept_limit}
 use Rattle.mg_kept.specs.KeptReplies.{KeptReply, is_from, is_reply_to, with_reply}
-use Rattle.mg_kept.specs.Theorems.{KeptIsFound, LettersAreOne, OthersStay, OldestAloneGoes, OldestIsGone}
+use Rattle.mg_kept.specs.Theorems.{KeptIsFound, CaseIsIgnored, OthersStay, OnlyOldestIsDropped, OldestIsDropped}
 use Rattle.mg_words.proofs.CutLemmas.{same_letters, letters_same}
 use Rattle.mg_kept.proofs.FindLemmas.{none_found, find_agree, same_sender, none_in_drop, find_before, find_last, none_from_all, first_differs}
 
@@ -32,7 +32,7 @@ kept_is_found replies reply sender none from =
           (and_from (eqb reply.number reply.number) _ (eq-eqb reply.number reply.number refl) from),
     ) refl
 
-pub letters_are_one : LettersAreOne
+pub letters_are_one : CaseIsIgnored
 letters_are_one replies sender same number one =
     ap (option_map (λ (r : KeptReply). r.text))
     (sym (find_agree (is_reply_to sender number) (is_reply_to same number) (same_sender sender same number one)
@@ -43,8 +43,8 @@ others_stay replies reply sender number room not_this =
     let none_goes : length replies + 1 - kept_limit ≡ 0 = omega arith in
     rw (kept_is_last reply replies, none_goes, find_before (is_reply_to sender number) replies reply not_this) refl
 
-pub oldest_alone_goes : OldestAloneGoes
-oldest_alone_goes oldest rest reply sender number full not_oldest not_this =
+pub only_oldest_goes : OnlyOldestIsDropped
+only_oldest_goes oldest rest reply sender number full not_oldest not_this =
     let one_goes : length (oldest ∷ rest) + 1 - kept_limit ≡ 1 = omega arith in
     rw (
       kept_is_last reply (oldest ∷ rest),
@@ -64,8 +64,8 @@ differs sender oldest later from h = false_from_ne_true _ (λ t.
     sym (same_letters later.sender sender two.1))) in
     false≢true (sym h ∙ same))
 
-pub oldest_is_gone : OldestIsGone
-oldest_is_gone oldest rest reply sender kept full from not_this =
+pub oldest_is_dropped : OldestIsDropped
+oldest_is_dropped oldest rest reply sender kept full from not_this =
     let one_goes : length (oldest ∷ rest) + 1 - kept_limit ≡ 1 = omega arith in
     let others : All (λ later. is_reply_to later.sender later.number oldest ≡ false) rest =
     first_differs (λ a b. is_reply_to b.sender b.number a ≡ false) oldest rest kept.distinct in

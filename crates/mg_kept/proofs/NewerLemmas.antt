@@ -8,10 +8,10 @@ use Rattle.std.specs.List.{find, filter}
 use Rattle.std.specs.Str.{str_eq_ignore_ascii_case}
 use Rattle.mg_words.specs.Limits.{kept_limit}
 use Rattle.mg_kept.specs.KeptReplies.{KeptReply, AreDistinct, AreKept, is_from, is_in_range, is_reply_to, kept_text, newer_than, with_reply, without_range}
-use Rattle.mg_kept.specs.Theorems.{FewNewerStay, AsManyNewerPushOut, LastIsNewest, UnnamedStay, GoneStayGone, KeptStayDistinct}
+use Rattle.mg_kept.specs.Theorems.{FewNewerStay, NewerRepliesEvict, LastIsNewest, UnnamedStay, DroppedStayDropped, KeptStayDistinct}
 use Rattle.mg_words.proofs.CutLemmas.{same_letters, letters_same}
 use Rattle.mg_kept.proofs.FindLemmas.{none_found, find_agree, same_sender, none_in_drop, find_before, same_in_filter, fails_at, rest_is_distinct, later_none}
-use Rattle.mg_kept.proofs.KeepLemmas.{kept_is_last, oldest_is_gone}
+use Rattle.mg_kept.proofs.KeepLemmas.{kept_is_last, oldest_is_dropped}
 
 -- ## In any list, by any test
 
@@ -164,15 +164,15 @@ pushes_out (oldest ∷ rest) reply sender number kept many not_this =
           let two = and_parts (eqb oldest.number number) (is_from sender oldest) e in
           let same : oldest.number ≡ number = eqb-true oldest.number number two.0 in
           subst (λ (k : ℕ). kept_text (with_reply reply (oldest ∷ rest)) sender k ≡ None) same
-          (oldest_is_gone oldest rest reply sender kept (omega arith) two.1
+          (oldest_is_dropped oldest rest reply sender kept (omega arith) two.1
           (subst (λ (k : ℕ). is_reply_to sender k reply ≡ false) (sym same) not_this))
       | inr e ↦
           let fewer : length (after (is_reply_to sender number) rest) + 1 ≡ kept_limit = rw e at many in
           absurd (omega (arith, after-shorter (is_reply_to sender number) rest (omega arith)))
     ]
 
-pub as_many_newer_push_out : AsManyNewerPushOut
-as_many_newer_push_out replies reply sender number kept many not_this =
+pub newer_replies_evict : NewerRepliesEvict
+newer_replies_evict replies reply sender number kept many not_this =
     pushes_out replies reply sender number kept
     (sym (ap (λ (l : List KeptReply). length l + 1) (newer_is_after replies sender number)) ∙ many) not_this
 
@@ -221,8 +221,8 @@ text_of_none : (replies : List KeptReply) (sender : List ℕ) (number : ℕ) →
     find (is_reply_to sender number) replies ≡ None → kept_text replies sender number ≡ None
 text_of_none replies sender number h = ap (option_map (λ (r : KeptReply). r.text)) h
 
-pub gone_stay_gone : GoneStayGone
-gone_stay_gone replies sender number none =
+pub dropped_stay_dropped : DroppedStayDropped
+dropped_stay_dropped replies sender number none =
     let p = is_reply_to sender number in
     let before : find p replies ≡ None = none_found replies sender number none in (
       λ reply not_this.

@@ -14,8 +14,8 @@ KeptIsFound =
     → kept_text (with_reply reply replies) sender reply.number ≡ Some reply.text
 
 -- What is found for a sender is found for it in letters of any case.
-abbrev pub LettersAreOne : Type 0
-LettersAreOne =
+abbrev pub CaseIsIgnored : Type 0
+CaseIsIgnored =
     (replies : List KeptReply) (sender same : List ℕ) (number : ℕ)
     → str_eq_ignore_ascii_case sender same ≡ true
     → kept_text replies same number ≡ kept_text replies sender number
@@ -28,8 +28,8 @@ OthersStay =
     → kept_text (with_reply reply replies) sender number ≡ kept_text replies sender number
 
 -- Where there is none, it stays for all requests but the one that the oldest answers.
-abbrev pub OldestAloneGoes : Type 0
-OldestAloneGoes =
+abbrev pub OnlyOldestIsDropped : Type 0
+OnlyOldestIsDropped =
     (oldest : KeptReply) (rest : List KeptReply) (reply : KeptReply) (sender : List ℕ) (number : ℕ)
     → length (oldest ∷ rest) ≡ kept_limit → is_reply_to sender number oldest ≡ false
     → is_reply_to sender number reply ≡ false
@@ -37,16 +37,16 @@ OldestAloneGoes =
     ≡ kept_text (oldest ∷ rest) sender number
 
 -- A reply that was pushed out isn't found.
-abbrev pub OldestIsGone : Type 0
-OldestIsGone =
+abbrev pub OldestIsDropped : Type 0
+OldestIsDropped =
     (oldest : KeptReply) (rest : List KeptReply) (reply : KeptReply) (sender : List ℕ)
     → AreKept (oldest ∷ rest) → length (oldest ∷ rest) ≡ kept_limit
     → is_from sender oldest ≡ true → is_reply_to sender oldest.number reply ≡ false
     → kept_text (with_reply reply (oldest ∷ rest)) sender oldest.number ≡ None
 
 -- A reply that was acknowledged isn't found.
-abbrev pub AcknowledgedIsGone : Type 0
-AcknowledgedIsGone =
+abbrev pub AcknowledgedIsDropped : Type 0
+AcknowledgedIsDropped =
     (replies : List KeptReply) (sender same : List ℕ) (first last number : ℕ)
     → str_eq_ignore_ascii_case same sender ≡ true → first ≤ number → number ≤ last
     → kept_text (without_range sender first last replies) same number ≡ None
@@ -80,8 +80,8 @@ FewNewerStay =
     ≡ length (newer_than replies sender number) + 1)
 
 -- Where as many are newer as may be, one more pushes it out.
-abbrev pub AsManyNewerPushOut : Type 0
-AsManyNewerPushOut =
+abbrev pub NewerRepliesEvict : Type 0
+NewerRepliesEvict =
     (replies : List KeptReply) (reply : KeptReply) (sender : List ℕ) (number : ℕ)
     → AreKept replies → length (newer_than replies sender number) + 1 ≡ kept_limit
     → is_reply_to sender number reply ≡ false
@@ -105,8 +105,8 @@ UnnamedStay =
     ≤ length (newer_than replies sender number))
 
 -- What isn't found comes back by its own request alone.
-abbrev pub GoneStayGone : Type 0
-GoneStayGone =
+abbrev pub DroppedStayDropped : Type 0
+DroppedStayDropped =
     (replies : List KeptReply) (sender : List ℕ) (number : ℕ)
     → kept_text replies sender number ≡ None
     → ((reply : KeptReply) → is_reply_to sender number reply ≡ false

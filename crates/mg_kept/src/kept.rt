@@ -88,7 +88,7 @@ impl Kept {
     }
 
     /// Shows what holds of the replies that are kept, and does nothing.
-    pub(crate) fn know(&self)
+    pub(crate) fn assert_invariant(&self)
         ensures { AreKept self.now }
     {
         let _len = self.len;

@@ -3,7 +3,7 @@
 //! The functions here do nothing: their contracts are the theorems, in the words of `specs/Theorems.antt`.
 
 ghost use Rattle.mg_kept.specs.KeptReplies.{AreKept};
-ghost use Rattle.mg_kept.specs.Theorems.{KeptIsFound, LettersAreOne, OthersStay, OldestAloneGoes, OldestIsGone, AcknowledgedIsGone, OtherSendersStay, OtherNumbersStay, FewNewerStay, AsManyNewerPushOut, LastIsNewest, UnnamedStay, GoneStayGone, KeptStayDistinct};
+ghost use Rattle.mg_kept.specs.Theorems.{KeptIsFound, CaseIsIgnored, OthersStay, OnlyOldestIsDropped, OldestIsDropped, AcknowledgedIsDropped, OtherSendersStay, OtherNumbersStay, FewNewerStay, NewerRepliesEvict, LastIsNewest, UnnamedStay, DroppedStayDropped, KeptStayDistinct};
 
 use crate::kept::Kept;
 
@@ -13,29 +13,29 @@ use crate::kept::Kept;
 pub fn kept_replies_are_distinct(kept: &Kept)
     ensures { AreKept kept.now }
 {
-    kept.know();
+    kept.assert_invariant();
 }
 
 /// A reply that was kept is found by its sender, in letters of any case.
 #[tactic(auto, using(crate::proofs::KeepLemmas::kept_is_found, crate::proofs::KeepLemmas::letters_are_one))]
 pub fn kept_reply_is_found()
     ensures theorem { KeptIsFound }
-    ensures letters { LettersAreOne }
+    ensures letters { CaseIsIgnored }
 {}
 
 /// Keeping one more reply changes nothing that is found for other requests. Where it pushes out the oldest, that one
 /// isn't found any more, and the others are.
-#[tactic(auto, using(crate::proofs::KeepLemmas::others_stay, crate::proofs::KeepLemmas::oldest_alone_goes, crate::proofs::KeepLemmas::oldest_is_gone))]
-pub fn oldest_alone_makes_room()
+#[tactic(auto, using(crate::proofs::KeepLemmas::others_stay, crate::proofs::KeepLemmas::only_oldest_goes, crate::proofs::KeepLemmas::oldest_is_dropped))]
+pub fn only_oldest_is_dropped()
     ensures room { OthersStay }
-    ensures others { OldestAloneGoes }
-    ensures oldest { OldestIsGone }
+    ensures others { OnlyOldestIsDropped }
+    ensures oldest { OldestIsDropped }
 {}
 
 /// A reply that was acknowledged isn't found any more. What the acknowledgement doesn't name is still found.
-#[tactic(auto, using(crate::proofs::AckLemmas::acknowledged_is_gone, crate::proofs::AckLemmas::other_senders_stay, crate::proofs::AckLemmas::other_numbers_stay))]
-pub fn acknowledged_alone_is_gone()
-    ensures named { AcknowledgedIsGone }
+#[tactic(auto, using(crate::proofs::AckLemmas::acknowledged_is_dropped, crate::proofs::AckLemmas::other_senders_stay, crate::proofs::AckLemmas::other_numbers_stay))]
+pub fn only_acknowledged_is_dropped()
+    ensures named { AcknowledgedIsDropped }
     ensures senders { OtherSendersStay }
     ensures numbers { OtherNumbersStay }
 {}
@@ -44,9 +44,9 @@ pub fn acknowledged_alone_is_gone()
 /// back by its own request alone.
 pub fn replies_stay_while_few_are_newer()
     ensures few { FewNewerStay }
-    ensures many { AsManyNewerPushOut }
+    ensures many { NewerRepliesEvict }
     ensures last { LastIsNewest }
     ensures unnamed { UnnamedStay }
-    ensures gone { GoneStayGone }
+    ensures gone { DroppedStayDropped }
     ensures distinct { KeptStayDistinct }
 {}

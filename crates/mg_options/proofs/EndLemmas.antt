@@ -4,7 +4,7 @@ use Rattle.clap.specs.declared.error.kind.ErrorKind.{ErrorKind}
 use Rattle.clap.specs.declared.error.kind.ErrorKind.TheVariants.{OutOfMemory, DisplayHelp, DisplayVersion}
 use Rattle.mg_options.specs.declared.status.Status.{Status}
 use Rattle.mg_options.specs.declared.status.Status.TheVariants.{Done, Usage, NoMemory}
-use Rattle.mg_options.specs.Ends.{Tells}
+use Rattle.mg_options.specs.Ends.{ReportsError}
 use Rattle.mg_options.specs.Status.{code_of}
 
 pub done_is_small : code_of Done ≤ 4
@@ -21,11 +21,11 @@ no_memory_is_small = omega arith
 
 -- no port is bound for words that are refused
 pub told_is_small : {W : Type 0} (kind : ErrorKind) (unprinted : Status) (old new : W) (status : Status) →
-    code_of unprinted ≤ 4 → Tells kind unprinted old new status
+    code_of unprinted ≤ 4 → ReportsError kind unprinted old new status
     → code_of status ≤ 4
-told_is_small OutOfMemory unprinted old new status small told = rw told.0 no_memory_is_small
+told_is_small OutOfMemory unprinted old new status small reported = rw reported.0 no_memory_is_small
 told_is_small DisplayHelp unprinted old new status small (inl done) = rw done done_is_small
 told_is_small DisplayHelp unprinted old new status small (inr failed) = rw failed small
 told_is_small DisplayVersion unprinted old new status small (inl done) = rw done done_is_small
 told_is_small DisplayVersion unprinted old new status small (inr failed) = rw failed small
-told_is_small kind unprinted old new status small told = rw told.0 usage_is_small
+told_is_small kind unprinted old new status small reported = rw reported.0 usage_is_small

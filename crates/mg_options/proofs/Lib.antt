@@ -1,4 +1,4 @@
 pub mod NumberLemmas
 pub mod CommandLemmas
-pub mod AskedLemmas
+pub mod RequestedLemmas
 pub mod EndLemmas

@@ -1,5 +1,5 @@
 pub mod Line
 pub mod Numbers
-pub mod Asked
+pub mod Requested
 pub mod Status
 pub mod Ends

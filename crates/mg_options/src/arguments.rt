@@ -11,7 +11,7 @@ fn words(rt: &HostRuntime) -> io::Result<Vec<String>> {
 }
 
 /// Tells why the arguments can't be read, and answers how the program ends.
-fn tell<E: Write>(error: &io::Error, errors: &mut E) -> Status
+fn report_error<E: Write>(error: &io::Error, errors: &mut E) -> Status
     ensures memory { error_kind error.now ≡ ErrorKind.OutOfMemory → result ≡ Status.NoMemory }
     ensures usage { error_kind error.now ≢ ErrorKind.OutOfMemory → result ≡ Status.Usage }
 {
@@ -31,6 +31,6 @@ pub fn program_arguments<E: Write>(
 ) -> Result<Vec<String>, Status> {
     match words(rt) {
         Ok(words) => Ok(words),
-        Err(error) => Err(tell(&error, errors)),
+        Err(error) => Err(report_error(&error, errors)),
     }
 }

@@ -19,12 +19,12 @@ mod arguments;
 mod command;
 mod rule;
 mod status;
-mod telling;
+mod reporting;
 mod value;
 
 pub use arguments::program_arguments;
 pub use command::{VERSION, program_command};
 pub use rule::{long_number, short_number};
 pub use status::Status;
-pub use telling::tell;
+pub use reporting::report_error;
 pub use value::{long_value, short_value};

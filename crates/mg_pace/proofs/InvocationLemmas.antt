@@ -6,9 +6,9 @@ use Rattle.clap.specs.Kinds.{Kinds}
 use Rattle.clap.specs.Faults.{fault_of, is_simple_and_free}
 use Rattle.clap.specs.Matches.{found_of}
 use Rattle.clap.specs.declared.parser.matches.ArgMatches.{ArgMatches}
-use Rattle.mg_options.specs.Asked.{asked_by}
-use Rattle.mg_options.proofs.AskedLemmas.{matches_are, no_fault}
-use Rattle.mg_pace.specs.Options.{asked, command_line, options_in}
+use Rattle.mg_options.specs.Requested.{requested_by}
+use Rattle.mg_options.proofs.RequestedLemmas.{matches_are, no_fault}
+use Rattle.mg_pace.specs.Options.{requested, command_line, options_in}
 
 pub is_simple_line : is_simple_and_free command_line ≡ true
 unfolding command_line
@@ -26,10 +26,10 @@ few_polls found = omega arith
 -- matches ask for a run by their options
 pub asks_run : (line : App) (words : List Text) → line ≡ command_line → (m : ArgMatches) →
     (is_simple_and_free line ≡ true → fault_of line words ≡ []) → HasMatchesOf line words m
-    → asked words ≡ Ok (options_in (rows_of (found_of m)))
-unfolding asked
+    → requested words ≡ Ok (options_in (rows_of (found_of m)))
+unfolding requested
 asks_run line words is m passes matches =
-    ap (λ (kinds : Kinds). asked_by kinds (Ok (options_in (matches_of command_line words))))
+    ap (λ (kinds : Kinds). requested_by kinds (Ok (options_in (matches_of command_line words))))
     (no_fault line command_line words is is_simple_line passes)
     ∙ ap (λ (rows : List Row). Ok (options_in rows))
     (sym (matches_are line command_line words is is_simple_line m matches))

@@ -1,4 +1,4 @@
-pub mod AskedRows
+pub mod RequestedRows
 pub mod DueLemmas
 pub mod InvocationLemmas
 pub mod OneLemmas

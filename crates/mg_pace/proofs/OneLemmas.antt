@@ -3,7 +3,7 @@ use Rattle.std.proofs.Common.{◌≡◌, ℕ, ◌+◌, ◌*◌, ◌<◌, ◌≤�
 use Rattle.std.proofs.lemmas.Bool.{cases_lt}
 use Rattle.std.proofs.lemmas.Nat.{mul-le}
 use Rattle.mg_pace.specs.Pace.{Pace, Advances, Paces, Waits}
-use Rattle.mg_pace.specs.Theorems.{OnePace}
+use Rattle.mg_pace.specs.Theorems.{PaceIsDeterministic}
 
 not_more : (p m n : Pace) (t : ℕ) → Advances p t m → Advances p t n → m.left < n.left → ⊥
 not_more p m n t a b lt =
@@ -77,5 +77,5 @@ paces_one p (t ∷ u ∷ ts) (d ∷ ds) (e ∷ es) q r even run other =
     one_more p run.0 other.0 t d e (u ∷ ts) ds es q r run.1 other.1 run.2 other.2 other.3
     (λ later. paces_one run.0 (u ∷ ts) ds es q r (omega (arith, even)) run.3 later)
 
-pub one_pace : OnePace
+pub one_pace : PaceIsDeterministic
 one_pace = paces_one

@@ -19,7 +19,7 @@ pub record SoFar {E : Type 0} (options : Options) (count : ℕ) (r0 r1 w0 w1 old
     (p : Pace) : Type 0 where
   pub readings : List ℕ
   pub waits : List ℕ
-  pub tells : Appends r0 r1 readings
+  pub reports : Appends r0 r1 readings
   pub waited : Appends w0 w1 waits
   pub counts : length readings ≡ count
   pub even : length waits ≡ length readings
@@ -64,7 +64,7 @@ pub so_far_start : {E : Type 0} (options : Options) (a b c : Option (List ℕ)) 
 so_far_start options a b c e some = record {
   readings = [];
   waits = [];
-  tells = nothing_yet a;
+  reports = nothing_yet a;
   waited = nothing_yet b;
   counts = refl;
   even = refl;
@@ -79,7 +79,7 @@ not_yet wanted q is = rw (← is) refl
 
 module _ {E : Type 0} (options : Options) (count t : ℕ) (r0 r1 r2 w0 w1 w2 o n m : Option (List ℕ)) (e0 e1 e2 : E)
     (p q : Pace)
-    (s : SoFar options count r0 r1 w0 w1 o n e0 e1 p) (told : Appends r1 r2 (t ∷ [])) (kept : Keeps w1 w2)
+    (s : SoFar options count r0 r1 w0 w1 o n e0 e1 p) (reported : Appends r1 r2 (t ∷ [])) (kept : Keeps w1 w2)
     (step : Advances p t q)
     (hush : q.left ≡ p.left → e2 ≡ e1) where
   silent_so_far : q.left ≡ 0 → e2 ≡ e0
@@ -92,7 +92,7 @@ module _ {E : Type 0} (options : Options) (count t : ℕ) (r0 r1 r2 w0 w1 w2 o n
   so_far_more d r3 w3 turn wait still made = record {
     readings = s.readings ++ t ∷ [];
     waits = s.waits ++ d ∷ [];
-    tells = appends_keeps r0 r2 r3 (s.readings ++ t ∷ []) (appends_then r0 r1 r2 s.readings (t ∷ []) s.tells told)
+    reports = appends_keeps r0 r2 r3 (s.readings ++ t ∷ []) (appends_then r0 r1 r2 s.readings (t ∷ []) s.reports reported)
         still;
     waited = appends_then w0 w2 w3 s.waits (d ∷ []) (appends_keeps w0 w1 w2 s.waits s.waited kept) made;
     counts = length_more s.readings t ∙ ap (λ (k : ℕ). k + 1) s.counts;
@@ -114,7 +114,7 @@ module _ {E : Type 0} (options : Options) (count t : ℕ) (r0 r1 r2 w0 w1 w2 o n
     readings = s.readings ++ t ∷ [];
     waits = s.waits;
     pace = q;
-    tells = appends_then r0 r1 r2 s.readings (t ∷ []) s.tells told;
+    reports = appends_then r0 r1 r2 s.readings (t ∷ []) s.reports reported;
     waited = appends_keeps w0 w1 w2 s.waits s.waited kept;
     paces = paces_last (start options.polls) s.readings s.waits t p q s.even s.paces step;
     ends = (
@@ -133,7 +133,7 @@ module _ {E : Type 0} (options : Options) (count t : ℕ) (r0 r1 r2 w0 w1 w2 o n
     readings = s.readings ++ t ∷ [];
     waits = s.waits;
     pace = q;
-    tells = appends_then r0 r1 r2 s.readings (t ∷ []) s.tells told;
+    reports = appends_then r0 r1 r2 s.readings (t ∷ []) s.reports reported;
     waited = appends_keeps w0 w1 w2 s.waits s.waited kept;
     paces = paces_last (start options.polls) s.readings s.waits t p q s.even s.paces step;
     ends = (

@@ -4,7 +4,7 @@ use Rattle.clap.specs.Walk.{Row, Text}
 use Rattle.clap.specs.Simple.{App, matches_of, with_rule}
 use Rattle.clap.specs.Kinds.{Kinds}
 use Rattle.clap.specs.Faults.{fault_of}
-use Rattle.mg_options.specs.Asked.{asked_by}
+use Rattle.mg_options.specs.Requested.{requested_by}
 use Rattle.mg_options.specs.Line.{program_line}
 use Rattle.mg_options.specs.Numbers.{number_or, number_rule}
 use Rattle.mg_pace.specs.declared.options.Options.{Options}
@@ -24,6 +24,6 @@ options_in found = record {
 }
 
 -- What words ask of the program: a run with options, or none.
-unfoldable pub asked : List Text → Result Options Kinds
-asked words =
-    asked_by (fault_of command_line words) (Ok (options_in (matches_of command_line words)))
+unfoldable pub requested : List Text → Result Options Kinds
+requested words =
+    requested_by (fault_of command_line words) (Ok (options_in (matches_of command_line words)))

@@ -43,7 +43,7 @@ pub record Paced (options : Options) (failed silent : Type 0) (old new : Seen)
   pub readings : List ℕ
   pub waits : List ℕ
   pub pace : Pace
-  pub tells : Appends old.readings new.readings readings
+  pub reports : Appends old.readings new.readings readings
   pub waited : Appends old.waits new.waits waits
   pub paces : Paces (start options.polls) readings waits pace
   pub ends : RunEnds options.ticks pace (length readings) (length waits) failed silent old.written

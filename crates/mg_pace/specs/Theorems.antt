@@ -18,7 +18,7 @@ abbrev pub Bounded : Type 0
 Bounded = (p q : Pace) (t : ℕ) → 0 < p.polls → Advances p t q → ticks q ≤ ticks p + 50
 
 -- Readings lead from a pace to one other, and leave one way to wait.
-abbrev pub OnePace : Type 0
-OnePace = (p : Pace) (readings waits others : List ℕ) (q r : Pace)
+abbrev pub PaceIsDeterministic : Type 0
+PaceIsDeterministic = (p : Pace) (readings waits others : List ℕ) (q r : Pace)
     → length waits ≡ length others → Paces p readings waits q → Paces p readings others r
     → (waits ≡ others) × (q ≡ r)

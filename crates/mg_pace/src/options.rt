@@ -1,12 +1,12 @@
 ghost use Rattle.std.specs.Prelude.{◌≡◌, ◌<◌, ◌≤◌, IfErr, IfOk, Ok, codes, map, max, min, unwrap_or};
 ghost use Rattle.clap.specs.Words.{app_of, found_of, kind_of, rows_of, rule_of};
-ghost use Rattle.mg_options.specs.Asked.{IsRefused};
+ghost use Rattle.mg_options.specs.Requested.{IsRefused};
 ghost use Rattle.mg_options.specs.Numbers.{number_rule};
-ghost use Rattle.mg_pace.specs.Options.{asked, command_line, options_in};
+ghost use Rattle.mg_pace.specs.Options.{requested, command_line, options_in};
 
 use clap::error::ErrorKind;
 use clap::{Arg, ArgMatches, Command, Error, value_parser};
-use mg_clock::MOST_POLLS;
+use mg_clock::MAX_POLLS;
 use mg_options::{long_number, long_value, program_command, short_value};
 use std::alloc::Global;
 use std::convert::AsStr;
@@ -61,7 +61,7 @@ fn ticks_wanted(named: Option<u32>) -> u64
 fn bounded_polls(polls: u16) -> u16
     ensures value { result ≡ max 1 (min 1000 polls) }
 {
-    polls.clamp(1, MOST_POLLS)
+    polls.clamp(1, MAX_POLLS)
 }
 
 /// The options that were given, and the standard ones for the others.
@@ -78,11 +78,11 @@ fn options_of(matches: &ArgMatches<'_>) -> Options
 ///
 /// Where they ask for no run the error says why, and is told to the caller: a fault of theirs, a call for help or the
 /// version, or want of memory.
-pub fn asked_options<'a, S: AsStr>(alloc: Global, words: &'a [S]) -> Result<Options, Error>
-    ensures asked { IfOk result (λ options. asked (map S.text words.now) ≡ Ok options) }
+pub fn requested_options<'a, S: AsStr>(alloc: Global, words: &'a [S]) -> Result<Options, Error>
+    ensures requested { IfOk result (λ options. requested (map S.text words.now) ≡ Ok options) }
     ensures some { IfOk result (λ options. 0 < options.polls) }
     ensures few { IfOk result (λ options. options.polls ≤ 1000) }
-    ensures refused { IfErr result (λ error. IsRefused (asked (map S.text words.now)) (kind_of error)) }
+    ensures refused { IfErr result (λ error. IsRefused (requested (map S.text words.now)) (kind_of error)) }
 {
     let matches = command(alloc)?.try_get_matches_from(words)?;
     Ok(options_of(&matches))

@@ -12,7 +12,7 @@ use mg_lines::WriteFailed;
 use std::io::Write;
 
 /// Tells how many ticks were left out.
-fn tell<E: Write>(left: u64, errors: &mut E)
+fn report_left_out<E: Write>(left: u64, errors: &mut E)
     ensures quiet { left ≡ 0 → errors.new ≡ errors.old }
 {
     if left > 0 {
@@ -37,7 +37,7 @@ fn turn<W: Write, E: Write>(
     let left = schedule.left();
     let polls = schedule.polls();
     schedule.advance(now);
-    tell(schedule.left().saturating_sub(left), errors);
+    report_left_out(schedule.left().saturating_sub(left), errors);
     let last = wanted.saturating_mul(polls);
     if schedule.steps() < last {
         write_steps(polls, from, schedule.steps(), output)?;

@@ -1,15 +1,15 @@
 ghost use Rattle.std.specs.Prelude.{◌≡◌, ◌<◌, ◌≤◌, map};
 ghost use Rattle.mg_options.specs.Ends.{EndsWith};
-ghost use Rattle.mg_pace.specs.Options.{asked};
+ghost use Rattle.mg_pace.specs.Options.{requested};
 ghost use Rattle.mg_pace.specs.Program.{Runs};
 ghost use Rattle.mg_pace.specs.Run.{seen};
 
 use crate::fault::PaceFault;
-use crate::options::{Options, asked_options};
+use crate::options::{Options, requested_options};
 use crate::pacer::pace;
 use crate::status::status_of;
 use mg_clock::Watch;
-use mg_options::{Status, tell};
+use mg_options::{Status, report_error};
 use std::alloc::Global;
 use std::convert::AsStr;
 use std::io::Write;
@@ -50,12 +50,12 @@ pub fn program<'a, S: AsStr, K: Watch, W: Write, E: Write>(
     ensures ends { EndsWith (λ options status. Runs options (K.Fails watch.new) (errors.new ≡ errors.old)
         (seen (K.readings watch.old) (K.waits watch.old) (W.contents output.old))
         (seen (K.readings watch.new) (K.waits watch.new) (W.contents output.new)) status)
-        (asked (map S.text words.now)) Status.Done (watch.new ≡ watch.old) (errors.new ≡ errors.old) output.old
+        (requested (map S.text words.now)) Status.Done (watch.new ≡ watch.old) (errors.new ≡ errors.old) output.old
         output.new result }
 {
-    let status = match asked_options(alloc, words) {
+    let status = match requested_options(alloc, words) {
         Ok(options) => run(options, watch, output, errors),
-        Err(error) => tell(&error, Status::Done, output, errors),
+        Err(error) => report_error(&error, Status::Done, output, errors),
     };
     status.code()
 }

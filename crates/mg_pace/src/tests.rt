@@ -84,7 +84,7 @@ fn ticks_at_each_point(rt: HostRuntime) {
 }
 
 #[test]
-fn makes_up_for_fifty_ticks(rt: HostRuntime) {
+fn catches_up_fifty_ticks(rt: HostRuntime) {
     let (result, output, errors) = outcome(rt.alloc(), ENDLESS, &[20 * MS, 1020 * MS, 2100 * MS]);
     assert_eq!(rt; result, Err(PaceFault::Clock));
     assert_eq!(rt; output.len(), 101 * b"poll\ntick\n".len());
@@ -93,7 +93,7 @@ fn makes_up_for_fifty_ticks(rt: HostRuntime) {
 }
 
 #[test]
-fn goes_on_where_the_clock_goes_back(rt: HostRuntime) {
+fn continues_when_the_clock_goes_back(rt: HostRuntime) {
     let (_, output, _) = outcome(rt.alloc(), ENDLESS, &[40 * MS, 0, 59_999_999, 60 * MS]);
     let wanted = b"poll\ntick\npoll\ntick\npoll\ntick\n";
     assert_eq!(rt; output.as_slice(), wanted.as_slice());
@@ -125,7 +125,7 @@ fn reads_options(rt: HostRuntime) {
 }
 
 #[test]
-fn tells_a_clock_that_fails(rt: HostRuntime) {
+fn reports_a_failing_clock(rt: HostRuntime) {
     let (status, output, errors) = answer(rt.alloc(), &["--polls", "1"], &[20 * MS]);
     assert_eq!(rt; status, 3);
     assert_eq!(rt; output.as_slice(), b"poll\ntick\n".as_slice());

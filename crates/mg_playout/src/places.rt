@@ -51,7 +51,7 @@ impl Places {
     }
 
     /// Shows what holds of the frames of every play list, and does nothing.
-    pub(crate) fn know(&self)
+    pub(crate) fn assert_invariant(&self)
         ensures last { IfSome self.now.last IsFrame }
         ensures places { ArePlaces self.now.places }
     {

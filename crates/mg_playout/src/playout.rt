@@ -125,10 +125,10 @@ impl Playout {
     }
 
     /// Shows what holds of every play list, and does nothing.
-    pub(crate) fn know(&self)
+    pub(crate) fn assert_invariant(&self)
         ensures { IsValidList self.now }
     {
-        self.places.know();
+        self.places.assert_invariant();
         let _next = self.source.map(|source| source.next);
     }
 

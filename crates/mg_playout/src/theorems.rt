@@ -21,18 +21,18 @@ use crate::source::Source;
 pub fn play_lists_are_valid(list: &Playout)
     ensures { IsValidList list.now }
 {
-    list.know();
+    list.assert_invariant();
 }
 
 /// The distance between two sequence numbers leads from the one to the other, modulo 65536.
-pub fn distances_lead_to_the_number()
+pub fn distances_recover_the_number()
     ensures range { (from to : ℕ) → FitsSigned w16 (distance_of from to) }
     ensures sum { (from to : ℕ) → from < 65536 → to < 65536 →
         int_rem_euclid (pos from +ℤ distance_of from to) (pos 65536) ≡ pos to }
 {}
 
 /// A frame that is taken in waits under its own sequence number, whenever it came.
-pub fn taken_frame_waits_under_its_number()
+pub fn placed_frame_waits_under_its_number()
     ensures { (list : PlayList) (ssrc sequence : ℕ) (frame : List ℤ) →
         IsValidList list → sequence < 65536 →
         (placed list ssrc sequence frame).1 ≢ Placed.Late →

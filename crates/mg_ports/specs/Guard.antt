@@ -10,6 +10,6 @@ may_command controllers address =
     length controllers == 0 || list_any (λ (listed : List ℕ). bytes_eq listed address) controllers
 
 -- a datagram that ports give at a slot is no stranger's message: slot 0 is the control port
-abbrev pub GivesNoStrangers : List (List ℕ) → ℕ → Peer → Type 0
-GivesNoStrangers controllers slot source =
+abbrev pub AdmitsNoStrangers : List (List ℕ) → ℕ → Peer → Type 0
+AdmitsNoStrangers controllers slot source =
     slot ≡ 0 → may_command controllers source.address ≡ true

@@ -28,11 +28,11 @@ fn receipt_of(
     answer: Result<Option<(usize, Peer)>, PortFault>,
     buffer: &[u8],
 ) -> Result<Receipt, AllocError>
-    requires within { IfOk answer (λ came. IfSome came (λ d. d.0 ≤ length buffer.now)) }
+    requires within { IfOk answer (λ received. IfSome received (λ d. d.0 ≤ length buffer.now)) }
     ensures value { IfOk result (λ r. r ≡ receipt_of answer buffer.now) }
 {
     match answer {
-        Ok(Some((n, source))) => Ok(Receipt::Came(source, Payload::new(alloc, &buffer[..n])?)),
+        Ok(Some((n, source))) => Ok(Receipt::Delivered(source, Payload::new(alloc, &buffer[..n])?)),
         Ok(None) => Ok(Receipt::Nothing),
         Err(_) => Ok(Receipt::Failed),
     }
@@ -78,7 +78,7 @@ impl FakePorts {
         buffer: &mut [u8],
     ) -> Result<Option<(usize, Peer)>, PortFault>
         ensures log { self.new.log ≡ self.old.log }
-        ensures within { IfOk result (λ came. IfSome came (λ d. d.0 ≤ length buffer.new)) }
+        ensures within { IfOk result (λ received. IfSome received (λ d. d.0 ≤ length buffer.new)) }
         ensures fault { OnErr result (IsCounted self.old.failures self.new.failures) }
     {
         self.begin()?;
@@ -108,7 +108,7 @@ impl Ports for FakePorts {
             Ok(receipt) => Some(Call::Receive(slot, receipt)),
             Err(_) => None,
         };
-        self.log.tell(call);
+        self.log.add_call(call);
         answer
     }
 
@@ -118,7 +118,7 @@ impl Ports for FakePorts {
             Ok(bytes) => Some(Call::Send(slot, to, bytes)),
             Err(_) => None,
         };
-        self.log.tell(call);
+        self.log.add_call(call);
         answer
     }
 

@@ -1,13 +1,13 @@
 ghost use Rattle.std.specs.Prelude.{◌≡◌, ◌≤◌, length, IfOk, IfSome, OnErr};
 ghost use Rattle.mg_ports.specs.Calls.{IsCounted};
-ghost use Rattle.mg_ports.specs.Guard.{GivesNoStrangers, may_command};
+ghost use Rattle.mg_ports.specs.Guard.{AdmitsNoStrangers, may_command};
 
 use crate::port_fault::PortFault;
 use crate::ports::Ports;
 use mg_words::Peer;
 
 /// The most datagrams of strangers that one receive lets fall.
-const MOST_STRANGERS: usize = 64;
+const MAX_STRANGERS: usize = 64;
 
 /// Ports that give messages of some controllers alone: a datagram that came to the control port from another address is
 /// let fall. Where no controller is listed, anybody may send messages. Datagrams at media ports are given whoever sent
@@ -44,11 +44,11 @@ impl<'a, P: Ports> GuardedPorts<'a, P> {
         slot: usize,
         buffer: &mut [u8],
     ) -> Result<Option<(usize, Peer)>, PortFault>
-        ensures within { IfOk result (λ came. IfSome came (λ d. d.0 ≤ length buffer.new)) }
-        ensures guarded { IfOk result (λ came. IfSome came (λ d. GivesNoStrangers self.new.controllers.now slot d.1)) }
+        ensures within { IfOk result (λ received. IfSome received (λ d. d.0 ≤ length buffer.new)) }
+        ensures guarded { IfOk result (λ received. IfSome received (λ d. AdmitsNoStrangers self.new.controllers.now slot d.1)) }
         ensures failures { self.new.failures ≡ self.old.failures }
     {
-        for _ in 0..MOST_STRANGERS {
+        for _ in 0..MAX_STRANGERS {
             let answer = self.ports.receive(slot, buffer);
             match answer {
                 Ok(Some((_, source)))
@@ -65,7 +65,7 @@ impl<'a, P: Ports> GuardedPorts<'a, P> {
 impl<'a, P: Ports> Ports for GuardedPorts<'a, P> {
     ghost failed = { λ p. p.failures };
 
-    ghost Gives = { λ p slot source. GivesNoStrangers p.controllers.now slot source };
+    ghost Gives = { λ p slot source. AdmitsNoStrangers p.controllers.now slot source };
 
     fn receive(
         &mut self,

@@ -1,5 +1,5 @@
 ghost use Rattle.std.specs.Prelude.{◌≡◌, Some, None, [], IfSome, IfNone};
-ghost use Rattle.mg_ports.specs.aids.Log.{TellsNext};
+ghost use Rattle.mg_ports.specs.aids.Log.{LogsNext};
 
 use crate::call::Call;
 use std::alloc::Global;
@@ -31,8 +31,8 @@ impl Log {
     }
 
     /// Tells a call, or nothing from now on.
-    pub fn tell(&mut self, call: Option<Call>)
-        ensures value { TellsNext self.old self.new call }
+    pub fn add_call(&mut self, call: Option<Call>)
+        ensures value { LogsNext self.old self.new call }
     {
         let Some(call) = call else {
             self.calls = None;

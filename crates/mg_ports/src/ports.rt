@@ -2,7 +2,7 @@ ghost use Rattle.std.specs.Prelude.{◌≡◌, ℕ, ◌≤◌, [], ◌∷◌, le
 ghost use Rattle.mg_words.specs.declared.peer.Peer.{Peer};
 ghost use Rattle.mg_ports.specs.declared.call.Call.{Call};
 ghost use Rattle.mg_ports.specs.declared.call.Call.TheVariants.{Receive, Send};
-ghost use Rattle.mg_ports.specs.Calls.{Told, IsCounted, receipt_of};
+ghost use Rattle.mg_ports.specs.Calls.{Logged, IsCounted, receipt_of};
 
 use crate::port_fault::PortFault;
 use mg_words::Peer;
@@ -25,14 +25,14 @@ pub trait Ports {
         slot: usize,
         buffer: &mut [u8],
     ) -> Result<Option<(usize, Peer)>, PortFault>
-        ensures within { IfOk result (λ came. IfSome came (λ d. d.0 ≤ length buffer.new)) }
-        ensures told { Told (calls self.old) (calls self.new) (Receive slot (receipt_of result buffer.new) ∷ []) }
-        ensures gives { IfOk result (λ came. IfSome came (λ d. Gives self.new slot d.1)) }
+        ensures within { IfOk result (λ received. IfSome received (λ d. d.0 ≤ length buffer.new)) }
+        ensures logged { Logged (calls self.old) (calls self.new) (Receive slot (receipt_of result buffer.new) ∷ []) }
+        ensures gives { IfOk result (λ received. IfSome received (λ d. Gives self.new slot d.1)) }
         ensures fault { OnErr result (IsCounted (failed self.old) (failed self.new)) };
 
     /// Sends a datagram. This doesn't wait.
     fn send(&mut self, slot: usize, to: Peer, bytes: &[u8]) -> Result<(), PortFault>
-        ensures told { Told (calls self.old) (calls self.new) (Send slot to bytes.now ∷ []) }
+        ensures logged { Logged (calls self.old) (calls self.new) (Send slot to bytes.now ∷ []) }
         ensures fault { OnErr result (IsCounted (failed self.old) (failed self.new)) };
 
     /// How many receives and sends failed. This stays at its greatest value.

@@ -5,7 +5,7 @@ use mg_words::Peer;
 #[derive(Drop)]
 pub enum Receipt {
     /// A datagram, with where it came from.
-    Came(Peer, Payload),
+    Delivered(Peer, Payload),
     /// None was there.
     Nothing,
     Failed,

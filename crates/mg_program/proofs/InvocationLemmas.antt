@@ -18,14 +18,14 @@ use Rattle.clap.specs.declared.parser.matches.ArgMatches.{ArgMatches}
 use Rattle.clap.specs.declared.parser.matches.ArgMatches.TheViews.{out-ArgMatches, out-SubCommand}
 use Rattle.clap.specs.declared.parser.matches.SubCommand.{SubCommand}
 use Rattle.mg_words.specs.ResultSteps.{◌>>=◌}
-use Rattle.mg_options.specs.Asked.{IsRefused, asked_by}
-use Rattle.mg_options.proofs.AskedLemmas.{no_fault, subcommand_is}
+use Rattle.mg_options.specs.Requested.{IsRefused, requested_by}
+use Rattle.mg_options.proofs.RequestedLemmas.{no_fault, subcommand_is}
 use Rattle.mg_engine.specs.declared.config.Config.{Config}
 use Rattle.mg_engine.specs.Config.{standard}
 use Rattle.mg_program.specs.declared.invocation.Invocation.{Invocation}
 use Rattle.mg_program.specs.declared.address.AddressFault.{AddressFault}
 use Rattle.mg_program.specs.declared.controller_fault.ControllerFault.{ControllerFault}
-use Rattle.mg_program.specs.Options.{address_in, asked, command_line, config_at, controllers_in, options, run_in, run_of, valid}
+use Rattle.mg_program.specs.Options.{address_in, requested, command_line, config_at, controllers_in, options, run_in, run_of, valid}
 
 abbrev has_kinds : Kinds → Bool
 has_kinds [] = false
@@ -72,9 +72,9 @@ has_met words none = level_met (built command_line).top (names_of (built command
     (argument_words command_line words))) wants_subcommand none
 
 run_by : (kinds : Kinds) (found : Option (Text × List Row)) (run : Text × List Row) → kinds ≡ [] → found ≡ Some run
-    → asked_by kinds (option_map_or (λ (f : Text × List Row). run_in f.0 f.1) found (Err [])) ≡ run_in run.0 run.1
+    → requested_by kinds (option_map_or (λ (f : Text × List Row). run_in f.0 f.1) found (Err [])) ≡ run_in run.0 run.1
 run_by kinds found run none is =
-    ap₂ (λ (ks : Kinds) (o : Option (Text × List Row)). asked_by ks (option_map_or
+    ap₂ (λ (ks : Kinds) (o : Option (Text × List Row)). requested_by ks (option_map_or
     (λ (f : Text × List Row). run_in f.0 f.1) o (Err []))) none is
 
 pub is_some-map : {A B : Type 0} (f : A → B) (o : Option A) → is_some (option_map f o) ≡ is_some o
@@ -103,8 +103,8 @@ module _ (line : App) (words : List Text) (is : line ≡ command_line) where
       (is_simple_and_free line ≡ true → fault_of line words ≡ [])
       → HasMatchesOf line words m → Some name ≡ subcommand_name_of m →
       Some rows ≡ option_map (λ f. f.1) (subcommand_rows_of m)
-      → asked words ≡ run_in name rows
-  unfolding asked
+      → requested words ≡ run_in name rows
+  unfolding requested
   asks_run m name rows passes matches named found =
       run_by _ _ (name, rows) (no_fault line command_line words is is_simple_line passes)
       (sym (subcommand_is line command_line words is is_simple_line m matches) ∙
@@ -118,9 +118,9 @@ named_or_standard rows config found is named =
     named ∙ ap (λ (c : Config). address_in (codes "address") c.address rows) is
 
 -- a step by a value that is valid, or by none
-goes_on : {A B E : Type 0} (value : A) (read : Result A E) (next : A → Result B Kinds) → Ok value ≡ read →
+continues : {A B E : Type 0} (value : A) (read : Result A E) (next : A → Result B Kinds) → Ok value ≡ read →
     (valid read >>= next) ≡ next value
-goes_on {A = A} {E = E} value read next is = ap (λ (r : Result A E). valid r >>= next) (sym is)
+continues {A = A} {E = E} value read next is = ap (λ (r : Result A E). valid r >>= next) (sym is)
 
 stops : {A B E : Type 0} (fault : E) (read : Result A E) (next : A → Result B Kinds) → Err fault ≡ read →
     (valid read >>= next) ≡ Err (ValueValidation ∷ [])
@@ -141,14 +141,14 @@ with_address name rows address =
 at_address : (name : Text) (rows : List Row) (address : List ℕ) → Ok address ≡ address_in (codes "address")
     standard.address rows → run_in name rows ≡ with_address name rows address
 at_address name rows address named =
-    goes_on address (address_in (codes "address") standard.address rows) (with_address name rows) named
+    continues address (address_in (codes "address") standard.address rows) (with_address name rows) named
 
 at_control : (name : Text) (rows : List Row) (address control : List ℕ) → Ok address ≡ address_in (codes "address")
     standard.address rows → Ok control ≡ address_in (codes "control-address") address rows
     → run_in name rows ≡ with_control name rows address control
 at_control name rows address control named commanded =
     at_address name rows address named ∙
-    goes_on control (address_in (codes "control-address") address rows) (with_control name rows address) commanded
+    continues control (address_in (codes "control-address") address rows) (with_control name rows address) commanded
 
 -- the run of a subcommand at an address
 pub run_is : (name : Text) (rows : List Row) (address control : List ℕ) (controllers : List (List ℕ)) (config : Config)
@@ -158,7 +158,7 @@ pub run_is : (name : Text) (rows : List Row) (address control : List ℕ) (contr
     → run ≡ run_of name config controllers rows → run_in name rows ≡ Ok run
 run_is name rows address control controllers config run named commanded listed configured is =
     at_control name rows address control named commanded ∙
-    (goes_on controllers (controllers_in rows) (with_controllers name rows address control) listed ∙
+    (continues controllers (controllers_in rows) (with_controllers name rows address control) listed ∙
     rw (is, configured) refl)
 
 -- there is none at a text that names no address
@@ -185,14 +185,14 @@ refuses_controllers name rows address control fault named commanded listed =
     stops fault (controllers_in rows) (with_controllers name rows address control) listed
 
 -- an error says why words ask for none
-pub refuses : (asked : Result Invocation Kinds) (name : Text) (rows : List Row) (kind : ErrorKind) →
-    asked ≡ run_in name rows → run_in name rows ≡ Err (ValueValidation ∷ []) → kind ≡ ValueValidation →
-    IsRefused asked kind
-refuses asked name rows kind asks refused is = rw (asks ∙ refused, is) (inr (inl refl))
+pub refuses : (requested : Result Invocation Kinds) (name : Text) (rows : List Row) (kind : ErrorKind) →
+    requested ≡ run_in name rows → run_in name rows ≡ Err (ValueValidation ∷ []) → kind ≡ ValueValidation →
+    IsRefused requested kind
+refuses requested name rows kind asks refused is = rw (asks ∙ refused, is) (inr (inl refl))
 
 -- want of memory that was passed on
-pub memory_passed_on : {T : Type 0} (r : Result T Error) (asked : Result Invocation Kinds) →
+pub memory_passed_on : {T : Type 0} (r : Result T Error) (requested : Result Invocation Kinds) →
     IsErrAnd r (λ e. kind_of e ≡ OutOfMemory)
-    → IfErr r (λ e. IsRefused asked (kind_of e))
-memory_passed_on (Ok value) asked why = tt
-memory_passed_on (Err e) asked why = inl why
+    → IfErr r (λ e. IsRefused requested (kind_of e))
+memory_passed_on (Ok value) requested why = tt
+memory_passed_on (Err e) requested why = inl why

@@ -1,5 +1,5 @@
 pub mod InvocationLemmas
-pub mod AskedRows
+pub mod RequestedRows
 pub mod ControllerLemmas
 pub mod EndLemmas
 pub mod ReadinessLemmas

@@ -5,7 +5,7 @@ use Rattle.mio.specs.Event.{event_token}
 use Rattle.mio.specs.declared.event.event.Event.{Event}
 use Rattle.std.proofs.lemmas.Bool.{cases_lt}
 use Rattle.mg_words.specs.Limits.{termination_limit}
-use Rattle.mg_program.specs.Readiness.{AreReadyBelow, AreStillReady, AreTold, IsReady}
+use Rattle.mg_program.specs.Readiness.{AreReadyBelow, AreStillReady, AreReported, IsReady}
 
 pub still_set : (ready : List Bool) (at : ℕ) → AreStillReady ready (slice_set ready at true)
 still_set [] at slot is = is
@@ -30,15 +30,15 @@ below_set ready n within below slot lt =
     ]
 
 -- what is left to tell is all that isn't ready yet, however much more becomes so
-abbrev pub LeavesToTell : List Event → List Event → List Bool → Type 0
-LeavesToTell all rest ready = (later : List Bool) → AreStillReady ready later → AreTold rest later → AreTold all later
+abbrev pub LeavesToReport : List Event → List Event → List Bool → Type 0
+LeavesToReport all rest ready = (later : List Bool) → AreStillReady ready later → AreReported rest later → AreReported all later
 
 -- one more is told
 pub one_told : (all rest more : List Event) (event : Event) (ready : List Bool) →
-    length ready ≡ termination_limit + 1 → rest ≡ event ∷ more → LeavesToTell all rest ready
-    → LeavesToTell all more (slice_set ready (event_token event).0 true)
-one_told all rest more event ready long is so_far later still told =
+    length ready ≡ termination_limit + 1 → rest ≡ event ∷ more → LeavesToReport all rest ready
+    → LeavesToReport all more (slice_set ready (event_token event).0 true)
+one_told all rest more event ready long is so_far later still reported =
     let slot = (event_token event).0 in
     so_far later (λ other was. still other (still_set ready slot other was))
-    (subst (λ (events : List Event). AreTold events later) (sym is)
-    ((λ lt. still slot (is_set ready slot (omega (arith, lt, long)))), told))
+    (subst (λ (events : List Event). AreReported events later) (sym is)
+    ((λ lt. still slot (is_set ready slot (omega (arith, lt, long)))), reported))

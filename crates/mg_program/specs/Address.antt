@@ -6,11 +6,11 @@ use Rattle.mg_words.specs.Address.{address_of}
 use Rattle.mg_words.specs.ResultSteps.{◌>>=◌}
 use Rattle.mg_program.specs.declared.address.AddressFault.{AddressFault}
 use Rattle.mg_program.specs.declared.address.AddressFault.TheVariants.{Unreadable, Unspecified}
-use Rattle.mg_program.specs.declared.address.AddressFault.TheVariants.{OfMany}
+use Rattle.mg_program.specs.declared.address.AddressFault.TheVariants.{Multicast}
 
 -- addresses from 224.0.0.0 on are those of groups, of no use, or of all
-abbrev pub is_of_many : List ℕ → Bool
-is_of_many address = nat_le 224 (slice_index address 0)
+abbrev pub is_multicast : List ℕ → Bool
+is_multicast address = nat_le 224 (slice_index address 0)
 
 -- The address that a text in dotted decimal names. Callers are told it, or the gateway is named by
 -- it. So it isn't 0.0.0.0, and one machine's.
@@ -18,4 +18,4 @@ abbrev pub own_address : List ℕ → Result (List ℕ) AddressFault
 own_address text = do
   address ← ok_or (address_of text) Unreadable
   if bytes_eq address (0 ∷ 0 ∷ 0 ∷ 0 ∷ []) then Err Unspecified
-      else (if is_of_many address then Err OfMany else Ok address)
+      else (if is_multicast address then Err Multicast else Ok address)

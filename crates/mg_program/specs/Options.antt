@@ -11,7 +11,7 @@ use Rattle.clap.specs.Faults.{fault_of}
 use Rattle.clap.specs.declared.builder.action.ArgAction.TheVariants.{Append, SetTrue}
 use Rattle.clap.specs.declared.error.kind.ErrorKind.TheVariants.{ValueValidation}
 use Rattle.mg_words.specs.ResultSteps.{◌>>=◌}
-use Rattle.mg_options.specs.Asked.{asked_by}
+use Rattle.mg_options.specs.Requested.{requested_by}
 use Rattle.mg_options.specs.Line.{program_line, text_rule}
 use Rattle.mg_options.specs.Numbers.{number_or, number_rule}
 use Rattle.mg_core.specs.declared.shown.Shown.TheVariants.{Sent, SentAndFlows}
@@ -136,6 +136,6 @@ run_in name found = do
 
 -- A run of a subcommand, or none. There is none where the parser of words has a fault to tell, or
 -- an address can't be a gateway's or a controller's.
-unfoldable pub asked : List Text → Result Invocation Kinds
-asked words = asked_by (fault_of command_line words) (option_map_or
+unfoldable pub requested : List Text → Result Invocation Kinds
+requested words = requested_by (fault_of command_line words) (option_map_or
     (λ found. run_in found.0 found.1) (subcommand_of command_line words) (Err []))

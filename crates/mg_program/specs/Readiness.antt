@@ -17,8 +17,8 @@ abbrev pub AreReadyBelow : ℕ → List Bool → Type 0
 AreReadyBelow limit ready = (slot : ℕ) → slot < limit → IsReady ready slot
 
 -- those that the system told of do: one is the control port's, and each other one a media port's
-abbrev pub AreTold : List Event → List Bool → Type 0
-AreTold [] ready = Unit {0}
-AreTold (event ∷ events) ready =
+abbrev pub AreReported : List Event → List Bool → Type 0
+AreReported [] ready = Unit {0}
+AreReported (event ∷ events) ready =
     ((event_token event).0 < termination_limit + 1 → IsReady ready (event_token event).0)
-    × AreTold events ready
+    × AreReported events ready

@@ -17,11 +17,11 @@ IsPortOf config port = (port ≡ config.control_port)
     ⊎ ((slot : ℕ) × (slot < config.slots) × (port ≡ config.base_port + 2 * slot))
 
 -- why a run didn't begin: only a sound configuration's ports are bound
-abbrev pub IsNotBegun : Config → Status → Type 0
-IsNotBegun config Usage = IsValidConfig config → ⊥
-IsNotBegun config NoPort = IsValidConfig config
-IsNotBegun config NoMemory = Unit {0}
-IsNotBegun config status = ⊥
+abbrev pub FailsToStart : Config → Status → Type 0
+FailsToStart config Usage = IsValidConfig config → ⊥
+FailsToStart config NoPort = IsValidConfig config
+FailsToStart config NoMemory = Unit {0}
+FailsToStart config status = ⊥
 
 -- The ports were bound, and a gateway was served as far as the status says. Its sockets don't tell
 -- their calls. Where it records, what it printed is a recording, which has a title.
@@ -30,7 +30,7 @@ pub record ServesOnPorts (config : Config) (records : Bool)
   pub outcome : Result Counts RunFault
   pub is : status ≡ status_of outcome
   pub sound : IsValidConfig config
-  pub begun : outcome ≢ Err faults.BadConfig
+  pub started : outcome ≢ Err faults.BadConfig
   pub title : Option (List ℕ)
   pub titled : is_some title ≡ records
   pub served : ServedSession config title input rest None None held written outcome
@@ -41,7 +41,7 @@ abbrev pub Serves : {R W : Type 0} → (R → Option (List ℕ)) → (W → Opti
 Serves remaining contents config records input rest old new status =
     ServesOnPorts config records (remaining input) (remaining rest) (contents old) (contents new)
     status
-    ⊎ (IsNotBegun config status × (rest ≡ input) × (new ≡ old))
+    ⊎ (FailsToStart config status × (rest ≡ input) × (new ≡ old))
 
 -- A gateway was served by the clock, whose lines nobody else gives and which never ends, or nothing
 -- was printed: it didn't begin, or the clock couldn't be read.
@@ -49,4 +49,4 @@ abbrev pub ServesByClock : {W : Type 0} → (W → Option (List ℕ)) → Config
     → Type 0
 ServesByClock contents config records old new status =
     ServesOnPorts config records None None (contents old) (contents new) status
-    ⊎ ((IsNotBegun config status ⊎ (status ≡ Failed)) × (new ≡ old))
+    ⊎ ((FailsToStart config status ⊎ (status ≡ Failed)) × (new ≡ old))

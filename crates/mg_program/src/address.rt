@@ -1,5 +1,5 @@
 ghost use Rattle.std.specs.Prelude.{◌≡◌};
-ghost use Rattle.mg_program.specs.Address.{is_of_many, own_address};
+ghost use Rattle.mg_program.specs.Address.{is_multicast, own_address};
 
 use mg_words::address_of;
 
@@ -11,7 +11,7 @@ pub enum AddressFault {
     /// It is 0.0.0.0, which stands for all addresses of a machine: nobody can send to it.
     Unspecified,
     /// It is from 224.0.0.0 on: an address of multicast or broadcast, or of no use.
-    OfMany,
+    Multicast,
 }
 
 impl AddressFault {
@@ -21,7 +21,7 @@ impl AddressFault {
             AddressFault::Unreadable => {
                 "invalid value for '--address <ADDRESS>': it is no IPv4 address in dotted decimal"
             }
-            AddressFault::OfMany => {
+            AddressFault::Multicast => {
                 "invalid value for '--address <ADDRESS>': callers are told this address, and it is none of one machine"
             }
             AddressFault::Unspecified => {
@@ -36,7 +36,7 @@ impl AddressFault {
             AddressFault::Unreadable => {
                 "invalid value for '--control-address <ADDRESS>': it is no IPv4 address in dotted decimal"
             }
-            AddressFault::OfMany => {
+            AddressFault::Multicast => {
                 "invalid value for '--control-address <ADDRESS>': the gateway is named by this address, and it is none of one machine"
             }
             AddressFault::Unspecified => {
@@ -47,8 +47,8 @@ impl AddressFault {
 }
 
 /// Whether an address is one of multicast or broadcast, or of no use: those from 224.0.0.0 on.
-pub fn is_of_many(address: [u8; 4]) -> bool
-    ensures value { result ≡ is_of_many address }
+pub fn is_multicast(address: [u8; 4]) -> bool
+    ensures value { result ≡ is_multicast address }
 {
     address[0] >= 224
 }
@@ -59,7 +59,7 @@ pub fn own_address(text: &str) -> Result<[u8; 4], AddressFault>
 {
     match address_of(text.as_bytes()) {
         Some(address) if address == [0; 4] => Err(AddressFault::Unspecified),
-        Some(address) if is_of_many(address) => Err(AddressFault::OfMany),
+        Some(address) if is_multicast(address) => Err(AddressFault::Multicast),
         Some(address) => Ok(address),
         None => Err(AddressFault::Unreadable),
     }

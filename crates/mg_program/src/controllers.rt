@@ -7,12 +7,12 @@ use mg_words::address_of;
 use std::marker::Model;
 
 /// The most controllers that can be listed.
-const MOST: usize = 8;
+const MAX_CONTROLLERS: usize = 8;
 
 /// The addresses of the controllers, eight at most. Where none is listed, anybody may command the gateway.
 #[derive(Drop)]
 pub struct Controllers {
-    addresses: ArrayVec<[u8; 4], MOST>,
+    addresses: ArrayVec<[u8; 4], MAX_CONTROLLERS>,
 }
 
 impl Model for Controllers {
@@ -28,7 +28,7 @@ impl Controllers {
     pub fn of(texts: &[&str]) -> Result<Self, ControllerFault>
         ensures value { result ≡ controllers_of (map (λ text. text.now) texts.now) }
     {
-        if texts.len() > MOST {
+        if texts.len() > MAX_CONTROLLERS {
             return Err(ControllerFault::TooMany);
         }
         let mut addresses = ArrayVec::new();

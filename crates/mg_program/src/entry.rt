@@ -1,14 +1,14 @@
 ghost use Rattle.std.specs.Prelude.{◌≡◌, ◌≤◌, map};
 ghost use Rattle.mg_options.specs.Ends.{EndsWith};
-ghost use Rattle.mg_program.specs.Options.{asked};
+ghost use Rattle.mg_program.specs.Options.{requested};
 ghost use Rattle.mg_program.specs.Program.{Runs};
 
 use crate::invocation::Invocation;
 use crate::live::live;
-use crate::options::asked_run;
+use crate::options::requested_run;
 use crate::replay::replay;
 use crate::serve::serve;
-use mg_options::{Status, tell};
+use mg_options::{Status, report_error};
 use std::alloc::Global;
 use std::convert::AsStr;
 use std::io::{Read, Write};
@@ -33,10 +33,10 @@ pub fn program<'a, N: Net, C: Clock, S: AsStr, R: Read, W: Write, E: Write, T: W
     // What the words ask for was done as far as the status says.
     ensures ends { EndsWith
         (Runs R.remaining W.contents (errors.new ≡ errors.old) input.old input.new output.old output.new)
-        (asked (map S.text words.now)) Status.Failed (input.new ≡ input.old) (errors.new ≡ errors.old) output.old
+        (requested (map S.text words.now)) Status.Failed (input.new ≡ input.old) (errors.new ≡ errors.old) output.old
         output.new result }
 {
-    let status = match asked_run(alloc, words) {
+    let status = match requested_run(alloc, words) {
         Ok(Invocation::Replay(config, shown)) => {
             replay(alloc, config, shown, input, output, errors)
         }
@@ -46,7 +46,7 @@ pub fn program<'a, N: Net, C: Clock, S: AsStr, R: Read, W: Write, E: Write, T: W
         Ok(Invocation::Live(config, service, late)) => live(
             net, clock, alloc, config, &service, late, output, errors, reports,
         ),
-        Err(error) => tell(&error, Status::Failed, output, errors),
+        Err(error) => report_error(&error, Status::Failed, output, errors),
     };
     status.code()
 }

@@ -7,7 +7,7 @@
 //! let status = program(&rt, &rt, alloc, &words, &mut input, &mut output, &mut errors, &mut reports);
 //! ```
 //!
-//! [`asked_run`] is what the words ask for. [`Sockets`] are the ports of a gateway, bound at the start; no call of theirs
+//! [`requested_run`] is what the words ask for. [`Sockets`] are the ports of a gateway, bound at the start; no call of theirs
 //! waits, and a port of which the system told nothing is not asked. [`UdpPorts`] lend them to a session (`mg_serve`),
 //! and don't send what is too late by a [`Deadline`]: there is none by lines ([`NoDeadline`]), and by the clock one of
 //! so many ticks ([`TickDeadline`]).
@@ -43,7 +43,7 @@ pub use crate::deadline::Deadline;
 pub use crate::entry::program;
 pub use crate::invocation::Invocation;
 pub use crate::no_deadline::NoDeadline;
-pub use crate::options::asked_run;
+pub use crate::options::requested_run;
 pub use crate::readiness::SOCKETS;
 pub use crate::service::Service;
 pub use crate::sockets::Sockets;

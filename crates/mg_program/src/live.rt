@@ -31,7 +31,7 @@ fn serve_by<K: Watch + Drop, W: Write, E: Write, T: Write>(
     late: u16,
     sockets: Sockets,
     clock: K,
-    again: K,
+    duplicate: K,
     output: &mut W,
     errors: &mut E,
     reports: &mut T,
@@ -41,7 +41,7 @@ fn serve_by<K: Watch + Drop, W: Write, E: Write, T: Write>(
     ensures bad { (result ≡ Err RunFault.BadConfig) ↔ ¬ IsValidConfig config }
 {
     let ticks = Cell::new(0);
-    let deadline = TickDeadline::new(again, &ticks, late, errors);
+    let deadline = TickDeadline::new(duplicate, &ticks, late, errors);
     let ports = UdpPorts::new(sockets, deadline);
     let mut ports = GuardedPorts::new(ports, service.controllers.as_slice());
     let title = title_of(&config);
@@ -80,16 +80,16 @@ pub fn live<N: Net, C: Clock, W: Write, E: Write, T: Write>(
         Ok(sockets) => sockets,
         Err(status) => return status,
     };
-    let watch = match SystemWatch::begun(clock) {
+    let watch = match SystemWatch::start_now(clock) {
         Ok(watch) => watch,
         Err(failed) => {
             let _ = writeln!(errors, "{failed}");
             return Status::Failed;
         }
     };
-    let again = watch.again();
+    let duplicate = watch.duplicate();
     let outcome = serve_by(
-        alloc, config, service, late, sockets, watch, again, output, errors, reports,
+        alloc, config, service, late, sockets, watch, duplicate, output, errors, reports,
     );
     status_after(&outcome, &config, errors)
 }

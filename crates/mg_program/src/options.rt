@@ -1,10 +1,10 @@
 ghost use Rattle.std.specs.Prelude.{◌≡◌, ◌∷◌, [], Err, IfErr, IfOk, Ok, codes, fold, if◌then◌else◌, map};
 ghost use Rattle.clap.specs.declared.error.kind.ErrorKind.TheVariants.{ValueValidation};
 ghost use Rattle.clap.specs.Words.{app_of, found_of, kind_of, rows_of, rule_of, with_rule};
-ghost use Rattle.mg_options.specs.Asked.{IsRefused};
+ghost use Rattle.mg_options.specs.Requested.{IsRefused};
 ghost use Rattle.mg_options.specs.Line.{text_rule};
 ghost use Rattle.mg_options.specs.Numbers.{number_or};
-ghost use Rattle.mg_program.specs.Options.{address_in, asked, command_line, config_at, controller_rule, controllers_in};
+ghost use Rattle.mg_program.specs.Options.{address_in, requested, command_line, config_at, controller_rule, controllers_in};
 ghost use Rattle.mg_program.specs.Options.{flag_rule, is_set, live_line, options, replay_line, run_of, service_of};
 ghost use Rattle.mg_program.specs.Options.{run_in, sockets_line, subcommand_line};
 
@@ -295,9 +295,9 @@ fn run_in(name: &str, matches: &ArgMatches<'_>) -> Result<Invocation, &'static s
 ///
 /// Where they ask for no run the error says why, and is told to the caller: a fault of theirs, a call for help or the
 /// version, or want of memory.
-pub fn asked_run<'a, S: AsStr>(alloc: Global, words: &'a [S]) -> Result<Invocation, Error>
-    ensures run { IfOk result (λ run. asked (map S.text words.now) ≡ Ok run) }
-    ensures refused { IfErr result (λ error. IsRefused (asked (map S.text words.now)) (kind_of error)) }
+pub fn requested_run<'a, S: AsStr>(alloc: Global, words: &'a [S]) -> Result<Invocation, Error>
+    ensures run { IfOk result (λ run. requested (map S.text words.now) ≡ Ok run) }
+    ensures refused { IfErr result (λ error. IsRefused (requested (map S.text words.now)) (kind_of error)) }
 {
     let mut command = command(alloc)?;
     let matches = command.try_get_matches_from_mut(words)?;

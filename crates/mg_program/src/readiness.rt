@@ -1,7 +1,7 @@
 ghost use Rattle.std.specs.Prelude.{◌≡◌, ◌+◌, false, slice_index_or, slice_set};
 ghost use Rattle.mio.specs.Events.{items};
 ghost use Rattle.mg_words.specs.Limits.{termination_limit};
-ghost use Rattle.mg_program.specs.Readiness.{AreReadyBelow, AreStillReady, AreTold};
+ghost use Rattle.mg_program.specs.Readiness.{AreReadyBelow, AreStillReady, AreReported};
 
 use mg_core::TERMINATIONS;
 use mio::event::Source;
@@ -54,14 +54,14 @@ impl Readiness {
 
     /// Asks the system which sockets have had a datagram since it was last asked. This doesn't wait. Where the system
     /// can't tell, all count as ready.
-    pub fn ask(&mut self)
+    pub fn refresh(&mut self)
         ensures kept { AreStillReady self.old self.new }
     {
-        let asked = self.poll.poll(&mut self.events, Some(Duration::ZERO));
-        if asked.is_err() {
+        let polled = self.poll.poll(&mut self.events, Some(Duration::ZERO));
+        if polled.is_err() {
             set_all(&mut self.ready);
         }
-        set_told(&self.events, &mut self.ready);
+        set_reported(&self.events, &mut self.ready);
     }
 
     /// Whether a receive from a slot's socket may find something.
@@ -72,7 +72,7 @@ impl Readiness {
     }
 
     /// A receive from a slot's socket found nothing.
-    pub fn found_nothing(&mut self, slot: usize)
+    pub fn clear_ready(&mut self, slot: usize)
         ensures value { self.new ≡ slice_set self.old slot false }
     {
         set(&mut self.ready, slot, false);
@@ -80,9 +80,9 @@ impl Readiness {
 }
 
 /// Has the sockets that the system told of count as ready.
-fn set_told(events: &Events, ready: &mut [bool; SOCKETS])
+fn set_reported(events: &Events, ready: &mut [bool; SOCKETS])
     ensures kept { AreStillReady ready.old ready.new }
-    ensures told { AreTold (items events.now) ready.new }
+    ensures reported { AreReported (items events.now) ready.new }
 {
     for event in events.iter() {
         set(ready, event.token().0, true);

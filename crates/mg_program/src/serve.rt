@@ -1,6 +1,6 @@
 ghost use Rattle.std.specs.Prelude.{◌≡◌, IfErr, OnOk};
 ghost use Rattle.mg_engine.specs.Config.{IsValidConfig};
-ghost use Rattle.mg_program.specs.Serve.{IsNotBegun, Serves};
+ghost use Rattle.mg_program.specs.Serve.{FailsToStart, Serves};
 
 use crate::config_fault::ConfigFault;
 use crate::no_deadline::NoDeadline;
@@ -28,7 +28,7 @@ pub fn bind<N: Net, E: Write>(
     errors: &mut E,
 ) -> Result<Sockets, Status>
     ensures sound { OnOk result (IsValidConfig config.now) }
-    ensures ends { IfErr result (IsNotBegun config.now) }
+    ensures ends { IfErr result (FailsToStart config.now) }
     ensures quiet { OnOk result (errors.new ≡ errors.old) }
 {
     if let Some(fault) = ConfigFault::of(config) {

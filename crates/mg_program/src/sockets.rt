@@ -59,8 +59,8 @@ fn peer_of(address: SocketAddr) -> Result<Peer, PortFault> {
 
 /// The datagram that a socket gave, if it gave one. Where it would wait there is none.
 fn datagram_of(answer: io::Result<(usize, SocketAddr)>) -> Result<Option<(usize, Peer)>, PortFault>
-    ensures within { (limit : ℕ) → IfOk answer (λ came. came.0 ≤ limit)
-        → IfOk result (λ came. IfSome came (λ d. d.0 ≤ limit)) }
+    ensures within { (limit : ℕ) → IfOk answer (λ received. received.0 ≤ limit)
+        → IfOk result (λ received. IfSome received (λ d. d.0 ≤ limit)) }
 {
     match answer {
         Ok((n, address)) => Ok(Some((n, peer_of(address)?))),
@@ -109,7 +109,7 @@ impl Sockets {
         slot: usize,
         buffer: &mut [u8],
     ) -> Result<Option<(usize, Peer)>, PortFault>
-        ensures within { IfOk result (λ came. IfSome came (λ d. d.0 ≤ length buffer.new)) }
+        ensures within { IfOk result (λ received. IfSome received (λ d. d.0 ≤ length buffer.new)) }
     {
         datagram_of(self.socket(slot)?.recv_from(buffer))
     }
@@ -121,17 +121,17 @@ impl Sockets {
         slot: usize,
         buffer: &mut [u8],
     ) -> Result<Option<(usize, Peer)>, PortFault>
-        ensures within { IfOk result (λ came. IfSome came (λ d. d.0 ≤ length buffer.new)) }
+        ensures within { IfOk result (λ received. IfSome received (λ d. d.0 ≤ length buffer.new)) }
     {
         if slot == 0 {
-            self.readiness.ask();
+            self.readiness.refresh();
         }
         if slot < self.sockets.len() && !self.readiness.is_ready(slot) {
             return Ok(None);
         }
         let answer = self.try_receive(slot, buffer);
         if answer == Ok(None) {
-            self.readiness.found_nothing(slot);
+            self.readiness.clear_ready(slot);
         }
         answer
     }

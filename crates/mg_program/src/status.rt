@@ -22,7 +22,7 @@ fn status_of(outcome: &Result<Counts, RunFault>) -> Status
 }
 
 /// Tells a fault of a run, and of a configuration which option is at fault.
-fn tell<E: Write>(fault: &RunFault, config: &Config, errors: &mut E) {
+fn report_fault<E: Write>(fault: &RunFault, config: &Config, errors: &mut E) {
     let _ = match ConfigFault::of(config) {
         Some(why) if *fault == RunFault::BadConfig => writeln!(errors, "{fault}: {why}"),
         _ => writeln!(errors, "{fault}"),
@@ -39,7 +39,7 @@ pub fn status_after<E: Write>(
     ensures quiet { result ≡ Status.Done → errors.new ≡ errors.old }
 {
     if let Err(fault) = outcome {
-        tell(fault, config, errors);
+        report_fault(fault, config, errors);
     }
     status_of(outcome)
 }

@@ -27,7 +27,7 @@ impl<'a, K: Watch, E: Write> TickDeadline<'a, K, E> {
     }
 
     /// Tells how many packets were too late, if some were.
-    fn tell(&mut self) {
+    fn report_late(&mut self) {
         if self.late > 0 {
             let _ = writeln!(self.errors, "{} packets were too late", self.late);
             self.late = 0;
@@ -44,7 +44,7 @@ impl<'a, K: Watch, E: Write> Deadline for TickDeadline<'a, K, E> {
         if late {
             self.late = self.late.saturating_add(1);
         } else {
-            self.tell();
+            self.report_late();
         }
         late
     }

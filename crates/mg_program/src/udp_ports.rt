@@ -1,7 +1,7 @@
 ghost use Rattle.std.specs.Prelude.{◌≡◌, ◌≤◌, length, IfOk, IfSome, OnErr};
 ghost use Rattle.mg_ports.specs.Calls.{IsCounted};
 
-use crate::address::is_of_many;
+use crate::address::is_multicast;
 use crate::deadline::Deadline;
 use crate::sockets::Sockets;
 use mg_core::Peer;
@@ -17,8 +17,8 @@ pub struct UdpPorts<D: Deadline> {
 
 /// Whether an address is none of a caller's: 0.0.0.0, by which a call is held, would be this machine's own, and others
 /// are those of many.
-fn is_no_callers(address: [u8; 4]) -> bool {
-    address == [0; 4] || is_of_many(address)
+fn is_unusable_destination(address: [u8; 4]) -> bool {
+    address == [0; 4] || is_multicast(address)
 }
 
 impl<D: Deadline> UdpPorts<D> {
@@ -37,7 +37,7 @@ impl<D: Deadline> UdpPorts<D> {
     fn send_in_time(&mut self, slot: usize, to: Peer, bytes: &[u8]) -> Result<(), PortFault>
         ensures failures { self.new.failures ≡ self.old.failures }
     {
-        if slot > 0 && (is_no_callers(to.address) || self.deadline.is_late()) {
+        if slot > 0 && (is_unusable_destination(to.address) || self.deadline.is_late()) {
             return Err(PortFault);
         }
         self.sockets.try_send(slot, to, bytes)

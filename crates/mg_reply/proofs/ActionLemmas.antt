@@ -28,10 +28,10 @@ last_item mark pending ys (Action own) id e =
     let same : own ≡ id = cc in
     ap (λ (x : ContextId). mark ++ (action_text x pending ++ actions_text (codes ",") [] ys)) same
 
-pub goes_on : (d : Drafted) (mark : List ℕ) (xs : List Item) (from i : ℕ) (x : Item) → from ≤ i → i < length xs →
+pub continues : (d : Drafted) (mark : List ℕ) (xs : List Item) (from i : ℕ) (x : Item) → from ≤ i → i < length xs →
     action_id (get_or xs i x) ≡ None → drafted d (actions_text mark (drop from (take (i + 1) xs)) (drop (i + 1) xs)) ≡
     drafted d (actions_text mark (drop from (take i xs)) (drop i xs))
-goes_on d mark xs from i x le lt none =
+continues d mark xs from i x le lt none =
     let front : length (take i xs) ≡ i = length-take-le i xs (omega arith) in
     let more = drop-append-le from (take i xs) (get_or xs i x ∷ []) (omega arith) in
     rw (take_more xs i x lt, more, drop_more xs i x lt)

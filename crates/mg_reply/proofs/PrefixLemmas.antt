@@ -38,7 +38,7 @@ use Rattle.mg_words.specs.Mode.{mode_text}
 use Rattle.mg_words.specs.Association.{association_text}
 use Rattle.mg_words.specs.CommandWord.{command_text}
 use Rattle.mg_words.specs.ContextId.{context_text}
-use Rattle.mg_reply.specs.Media.{control_text, local_text, remote_text, optional, told_stream, media_text, statistics_text, told_parts}
+use Rattle.mg_reply.specs.Media.{control_text, local_text, remote_text, optional, reported_stream, media_text, statistics_text, reported_parts}
 use Rattle.mg_reply.specs.Entries.{outcome_text, item_text, is_of, texts_of, topology_entry, entries_of}
 use Rattle.mg_reply.specs.Written.{action_text, actions_text, items_text, reply_text}
 use Rattle.mg_reply.specs.Theorems.{has_terms, NoProperPrefix}
@@ -162,7 +162,7 @@ optional_passed : {A : Type 0} (text : A → List ℕ) (o : Option A) → ((a : 
 optional_passed text None each = tt
 optional_passed text (Some a) each = (each a, tt)
 
-stream_passed : (m : Media) → ArePassed (told_stream m)
+stream_passed : (m : Media) → ArePassed (reported_stream m)
 stream_passed (Local c) = (local_passed c, tt)
 stream_passed (Whole control local remote) = (
   control_passed control,
@@ -172,7 +172,7 @@ stream_passed (Whole control local remote) = (
 
 media_passed : (m : Media) → IsPassed (media_text m)
 unfolding media_text
-media_passed m = passed_inside (grouped (told_stream m)) (grouped_passed (told_stream m) (stream_passed m))
+media_passed m = passed_inside (grouped (reported_stream m)) (grouped_passed (reported_stream m) (stream_passed m))
 
 statistics_passed : (s : Stats) → IsPassed (statistics_text s)
 unfolding statistics_text
@@ -190,14 +190,14 @@ statistics_passed s =
     ∙ decimal_passed s.os (suc (suc d)) ((codes ",nt/or=" ++ fourth) ++ t)
     ∙ passed_inside (decimal s.or_) (decimal_is_passed s.or_) d t
 
-parts_passed : (p : Parts) → ArePassed (told_parts p)
+parts_passed : (p : Parts) → ArePassed (reported_parts p)
 parts_passed p = are_passed-append (optional media_text p.media) (optional statistics_text p.statistics)
     (optional_passed media_text p.media media_passed) (optional_passed statistics_text p.statistics statistics_passed)
 
 -- items
 outcome_passed : (o : Outcome) → IsPassed (outcome_text o)
 outcome_passed (Failed e) = grouped_passed (error_text e ∷ []) (error_passed e, tt)
-outcome_passed (Done parts) = grouped_passed (told_parts parts) (parts_passed parts)
+outcome_passed (Done parts) = grouped_passed (reported_parts parts) (parts_passed parts)
 
 item_passed : (x : Item) → has_terms x ≡ true → IsPassed (item_text x)
 item_passed (Triple a b association) h =

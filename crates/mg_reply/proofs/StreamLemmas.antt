@@ -5,7 +5,7 @@ use Rattle.mg_reply.specs.declared.control.Control.{Control}
 use Rattle.mg_reply.specs.declared.media.Media.TheVariants.{Whole}
 use Rattle.mg_reply.specs.aids.Draft.{Drafted, drafted}
 use Rattle.mg_reply.specs.Listed.{listed, grouped}
-use Rattle.mg_reply.specs.Media.{control_text, local_text, remote_text, optional, told_stream}
+use Rattle.mg_reply.specs.Media.{control_text, local_text, remote_text, optional, reported_stream}
 use Rattle.mg_reply.proofs.DraftLemmas.{drafted-drafted}
 use Rattle.mg_reply.proofs.ListedLemmas.{listed-append}
 
@@ -17,7 +17,7 @@ whole_is a xs ys = simp (listed-append xs ys, append_assoc)
 pub whole_parts : (d : Drafted) (control : Control) (local remote : Option Chosen) →
     drafted (drafted (drafted (drafted (drafted d (codes "{")) (control_text control))
     (listed (codes ",") (optional local_text local))) (listed (codes ",") (optional remote_text remote))) (codes "}")
-    ≡ drafted d (grouped (told_stream (Whole control local remote)))
+    ≡ drafted d (grouped (reported_stream (Whole control local remote)))
 whole_parts d control local remote =
     simp (drafted-drafted) (ap (drafted d) (whole_is (control_text control) (optional local_text local)
     (optional remote_text remote)))

@@ -16,7 +16,7 @@ use Rattle.mg_reply.specs.Entries.{item_text, texts_of, topology_entry, entries_
 use Rattle.mg_reply.specs.Written.{action_text, actions_text, items_text, reply_text}
 use Rattle.mg_reply.specs.Reply.{Answered, new_reply, is_action, last_is_action, is_refusal, marked, with_item, after_put, after_all}
 use Rattle.mg_reply.specs.aids.Room.{places_of}
-use Rattle.mg_reply.specs.Theorems.{is_wide, TextAlone, AllThere}
+use Rattle.mg_reply.specs.Theorems.{is_wide, TooLongByText, AllItemsAreKept}
 
 -- the bytes of parts, each with a comma
 weight : List (List ℕ) → ℕ
@@ -303,7 +303,7 @@ long-text n xs w whole many = by_refusal (is_refusal xs) refl whole
         let all = actions-long [] 1 [] xs (omega arith) refl w (ends xs h) in
         omega (arith, all, ap length (actions-are xs e), reply-longer n xs)
 
-pub text_alone : TextAlone
+pub text_alone : TooLongByText
 text_alone n xs w whole =
     elim (leb_tells (places_of false xs) 1600) [
       | inl t ↦
@@ -314,7 +314,7 @@ text_alone n xs w whole =
           rw (over (new_reply n) xs t.1) (sym (lt-ltb 16000 (length (reply_text n xs)) long))
     ]
 
-pub all_there : AllThere
+pub all_there : AllItemsAreKept
 all_there n xs h =
     elim (leb_tells (places_of false xs) 1600) [
       | inl t ↦ (fits (new_reply n) xs refl t.1).1

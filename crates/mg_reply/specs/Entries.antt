@@ -12,12 +12,12 @@ use Rattle.mg_reply.specs.declared.item.Item.{Item}
 use Rattle.mg_reply.specs.declared.item.Item.TheVariants.{Triple, Command, Fault, Action}
 use Rattle.mg_words.specs.ErrorNumber.{error_text}
 use Rattle.mg_reply.specs.Listed.{listed, grouped}
-use Rattle.mg_reply.specs.Media.{told_parts}
+use Rattle.mg_reply.specs.Media.{reported_parts}
 
 -- what stands after the name of a command's termination: its error alone, or its parts
 abbrev pub outcome_text : Outcome → List ℕ
 outcome_text (Failed e) = grouped (error_text e ∷ [])
-outcome_text (Done parts) = grouped (told_parts parts)
+outcome_text (Done parts) = grouped (reported_parts parts)
 
 -- an item by itself: a triple, a command or an error
 abbrev pub item_text : Item → List ℕ

@@ -29,13 +29,13 @@ optional text None = []
 optional text (Some a) = text a ∷ []
 
 -- the parts of the stream
-abbrev pub told_stream : Media → List (List ℕ)
-told_stream (Local chosen) = local_text chosen ∷ []
-told_stream (Whole control local remote) =
+abbrev pub reported_stream : Media → List (List ℕ)
+reported_stream (Local chosen) = local_text chosen ∷ []
+reported_stream (Whole control local remote) =
     control_text control ∷ (optional local_text local ++ optional remote_text remote)
 
 unfoldable pub media_text : Media → List ℕ
-media_text media = codes "Media{Stream=1" ++ (grouped (told_stream media) ++ codes "}")
+media_text media = codes "Media{Stream=1" ++ (grouped (reported_stream media) ++ codes "}")
 
 unfoldable pub statistics_text : Stats → List ℕ
 statistics_text s =
@@ -43,5 +43,5 @@ statistics_text s =
     ++ (codes ",nt/os=" ++ (decimal s.os ++ (codes ",nt/or=" ++ (decimal s.or_ ++ codes "}")))))))
 
 -- what a command tells: its media, then its statistics
-abbrev pub told_parts : Parts → List (List ℕ)
-told_parts parts = optional media_text parts.media ++ optional statistics_text parts.statistics
+abbrev pub reported_parts : Parts → List (List ℕ)
+reported_parts parts = optional media_text parts.media ++ optional statistics_text parts.statistics

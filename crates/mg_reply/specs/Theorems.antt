@@ -37,13 +37,13 @@ is_too_long r = r.is_long || nat_lt reply_limit (length (reply_text r.number r.i
 
 -- Whole items, put into a new reply, make it too long exactly where their text is longer than a
 -- reply may be, those that found no room among them. Where they don't, they are all there.
-abbrev pub TextAlone : Type 0
-TextAlone =
+abbrev pub TooLongByText : Type 0
+TooLongByText =
     (n : ℕ) (xs : List Item) → list_all is_wide xs ≡ true
     → (is_refusal xs || last_is_action false xs) ≡ true
     → is_too_long (after_all (new_reply n) xs) ≡ nat_lt reply_limit (length (reply_text n xs))
 
-abbrev pub AllThere : Type 0
-AllThere =
+abbrev pub AllItemsAreKept : Type 0
+AllItemsAreKept =
     (n : ℕ) (xs : List Item) → (after_all (new_reply n) xs).is_long ≡ false
     → (after_all (new_reply n) xs).items ≡ xs

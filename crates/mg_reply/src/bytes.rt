@@ -47,7 +47,7 @@ impl Bytes {
     }
 
     /// An empty text without room, with another's allocator. This takes no memory.
-    pub(crate) fn none_like(other: &Bytes) -> Self
+    pub(crate) fn empty_like(other: &Bytes) -> Self
         ensures value { result ≡ record { text = []; room = 0 } }
     {
         let alloc = *other.bytes.allocator();

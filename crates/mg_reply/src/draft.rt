@@ -38,7 +38,7 @@ impl Draft {
         requires room { reply_limit ≤ bytes.old.room }
         ensures value { result ≡ record { front = bytes.old.text; room = bytes.old.room; text = Some [] } }
     {
-        let empty = Bytes::none_like(bytes);
+        let empty = Bytes::empty_like(bytes);
         let bytes = mem::replace(bytes, empty);
         let start = bytes.as_slice().len();
         Draft {

@@ -1,7 +1,7 @@
 ghost use Rattle.std.specs.Prelude.{◌≡◌, codes, decimal};
 ghost use Rattle.mg_reply.specs.aids.Draft.{drafted};
 ghost use Rattle.mg_reply.specs.Listed.{listed, grouped};
-ghost use Rattle.mg_reply.specs.Media.{control_text, local_text, remote_text, optional, media_text, statistics_text, told_parts, told_stream};
+ghost use Rattle.mg_reply.specs.Media.{control_text, local_text, remote_text, optional, media_text, statistics_text, reported_parts, reported_stream};
 
 use crate::control::Control;
 use crate::draft::Draft;
@@ -80,7 +80,7 @@ fn put_next_remote(draft: &mut Draft, remote: Option<Chosen>)
 /// The parts of a stream as an audit asks for it, in braces.
 #[tactic(auto, using(crate::proofs::StreamLemmas::whole))]
 fn put_whole(draft: &mut Draft, control: Control, local: Option<Chosen>, remote: Option<Chosen>)
-    ensures value { draft.new ≡ drafted draft.old (grouped (told_stream (Media.Whole control local remote))) }
+    ensures value { draft.new ≡ drafted draft.old (grouped (reported_stream (Media.Whole control local remote))) }
 {
     draft.put(b"{");
     put_control(draft, control);
@@ -92,7 +92,7 @@ fn put_whole(draft: &mut Draft, control: Control, local: Option<Chosen>, remote:
 /// The parts of a stream, in braces.
 #[tactic(auto, using(crate::proofs::DraftLemmas::joins), unfolding(crate::specs::Listed::listed))]
 fn put_stream(draft: &mut Draft, media: Media)
-    ensures value { draft.new ≡ drafted draft.old (grouped (told_stream media)) }
+    ensures value { draft.new ≡ drafted draft.old (grouped (reported_stream media)) }
 {
     match media {
         Media::Local(chosen) => {
@@ -135,7 +135,7 @@ fn put_statistics(draft: &mut Draft, statistics: Stats)
 /// The parts that a command tells, in braces, if there is one.
 #[tactic(auto, using(crate::proofs::DraftLemmas::joins), unfolding(crate::specs::Listed::listed))]
 pub(crate) fn put_parts(draft: &mut Draft, parts: Parts)
-    ensures value { draft.new ≡ drafted draft.old (grouped (told_parts parts)) }
+    ensures value { draft.new ≡ drafted draft.old (grouped (reported_parts parts)) }
 {
     match (parts.media, parts.statistics) {
         (None, None) => draft.put(b""),

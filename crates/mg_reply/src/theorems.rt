@@ -2,7 +2,7 @@
 //!
 //! The calls change nothing: their contracts are the theorems. A caller whose proof needs one makes the call.
 
-ghost use Rattle.mg_reply.specs.Theorems.{NoProperPrefix, TextAlone, AllThere};
+ghost use Rattle.mg_reply.specs.Theorems.{NoProperPrefix, TooLongByText, AllItemsAreKept};
 
 /// No reply's text is a proper prefix of another reply's text.
 pub fn no_proper_prefix()
@@ -11,7 +11,7 @@ pub fn no_proper_prefix()
 
 /// Whether a reply is too long depends on the text of its items alone, whether or not they found room, where each of
 /// them has at least 10 bytes with its comma.
-pub fn too_long_by_text_alone()
-    ensures theorem { TextAlone }
-    ensures kept { AllThere }
+pub fn too_long_by_text()
+    ensures theorem { TooLongByText }
+    ensures kept { AllItemsAreKept }
 {}

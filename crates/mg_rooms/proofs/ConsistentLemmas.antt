@@ -342,9 +342,9 @@ member_found w target n r h =
     ok_or_ok (record_at w n) ErrorNumber.UnknownTermination r (found ∙ ap Ok same)
 
 -- a termination is in a context that is there
-pub context_there : (w : Registry) (n : ℕ) (r : Record) → IsConsistent w → record_at w n ≡ Some r →
+pub existing_context : (w : Registry) (n : ℕ) (r : Record) → IsConsistent w → record_at w n ≡ Some r →
     r.context < w.next_context
-context_there w n r h found =
+existing_context w n r h found =
     let many = h.agree.as_many r.context in
     let one_at_least = count-found (λ x. x.context == r.context) (λ x. x.number == n) w.terminations r found
     (eq-eqb r.context r.context refl) in

@@ -18,7 +18,7 @@ use Rattle.mg_rooms.specs.Consistent.{IsTermination, AreContexts, IsConsistent}
 use Rattle.mg_rooms.specs.Lasting.{Lasts, LeavesOthers}
 use Rattle.mg_rooms.proofs.OrderLemmas.{KeepsKey}
 use Rattle.mg_rooms.proofs.CountLemmas.{all-found, find-push_some, find-push_none, find-push_other, find-change_other, find-change_same}
-use Rattle.mg_rooms.proofs.ConsistentLemmas.{context_there, other_context, ok_done, bind_ok, passes_ok, ok_or_ok, ok_registry, found_number, member_found, HasSettings, with_settings_ok, IsOpen, new_place_ok, entered_ok}
+use Rattle.mg_rooms.proofs.ConsistentLemmas.{existing_context, other_context, ok_done, bind_ok, passes_ok, ok_or_ok, ok_registry, found_number, member_found, HasSettings, with_settings_ok, IsOpen, new_place_ok, entered_ok}
 
 -- ## Terminations
 
@@ -332,7 +332,7 @@ move_lasts w after target n settings d from h at outcome =
     let elsewhere : is_number target old.context ≡ false =
     not-true (is_number target old.context) (passes_ok (not (is_number target old.context))
     ErrorNumber.AlreadyInContext v other) in
-    let differ = other_context w target place old.context free (context_there w n old h there) elsewhere in
+    let differ = other_context w target place old.context free (existing_context w n old h there) elsewhere in
     let both : Some old ≡ Some from = sym there ∙ at in
     let is : old ≡ from = cc in
     subst (λ (x : Record). Lasts w after × LeavesOthers w after n x.context d.context) is

@@ -9,7 +9,7 @@ use Rattle.mg_rooms.specs.Registry.{Registry, record_at, context_at}
 use Rattle.mg_rooms.specs.Consistent.{IsTermination, IsConsistent}
 use Rattle.mg_rooms.specs.Sound.{IsSound}
 use Rattle.mg_rooms.specs.declared.member.Member.{Member}
-use Rattle.mg_rooms.specs.Member.{IsThereAs}
+use Rattle.mg_rooms.specs.Member.{ExistsAs}
 use Rattle.mg_words.specs.declared.error_number.ErrorNumber.{ErrorNumber}
 use Rattle.mg_words.specs.declared.error_number.ErrorNumber.TheVariants as refusals
 use Rattle.mg_rooms.specs.Lasting.{Lasts, LeavesOthers}
@@ -117,11 +117,11 @@ subtract_ends w after target n r h found is =
 -- ## What a call gives back
 
 pub there_as : (w : Registry) (n : ℕ) (r : Record) (m : Member) → record_at w n ≡ Some r → m.record ≡ r →
-    option_map (λ x. x.room) (context_at w r.context) ≡ Some m.room → IsThereAs w n m
+    option_map (λ x. x.room) (context_at w r.context) ≡ Some m.room → ExistsAs w n m
 there_as w n r m found is room = record { found = rw is found; room = rw is room }
 
 pub made_as : (w : Registry) (r : Record) (m : Member) → record_at w r.number ≡ Some r → m.record ≡ r →
-    option_map (λ x. x.room) (context_at w r.context) ≡ Some m.room → IsThereAs w m.record.number m
+    option_map (λ x. x.room) (context_at w r.context) ≡ Some m.room → ExistsAs w m.record.number m
 made_as w r m found is room = record { found = rw is found; room = rw is room }
 
 -- ## Moves

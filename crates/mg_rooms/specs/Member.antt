@@ -5,6 +5,6 @@ use Rattle.mg_rooms.specs.declared.member.Member.{Member}
 use Rattle.mg_rooms.specs.Registry.{Registry, record_at, context_at}
 
 -- the termination n is there as this member: with its record, in the room of its context
-pub record IsThereAs (w : Registry) (n : ℕ) (m : Member) : Type 0 where
+pub record ExistsAs (w : Registry) (n : ℕ) (m : Member) : Type 0 where
   pub found : record_at w n ≡ Some m.record
   pub room : option_map (λ x. x.room) (context_at w m.record.context) ≡ Some m.room

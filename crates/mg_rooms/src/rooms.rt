@@ -2,7 +2,7 @@ ghost use Rattle.std.specs.Prelude.{◌≡◌, ◌<◌, ◌≤◌, None, IfOk, I
 ghost use Rattle.mg_rooms.specs.Limits.{AreValidLimits};
 ghost use Rattle.mg_rooms.specs.Registry.{start_of, record_at, context_at, members_at, holder_of};
 ghost use Rattle.mg_rooms.specs.Lasting.{Lasts, LeavesOthers};
-ghost use Rattle.mg_rooms.specs.Member.{IsThereAs};
+ghost use Rattle.mg_rooms.specs.Member.{ExistsAs};
 ghost use Rattle.mg_rooms.specs.Sound.{IsSound};
 ghost use Rattle.mg_rooms.specs.Outcome.{Gives, member, add, modify, move_to, subtract};
 
@@ -62,7 +62,7 @@ impl Rooms {
 
     /// The termination with this number, with the room of its context.
     pub fn member(&self, number: u32) -> Option<Member>
-        ensures some { IfSome result (IsThereAs self.now number) }
+        ensures some { IfSome result (ExistsAs self.now number) }
         ensures none { IfNone result (record_at self.now number ≡ None) }
     {
         let record = self.tables.record(number)?;
@@ -116,7 +116,7 @@ impl Rooms {
         ensures outcome { Gives (λ m. m.record) self.old self.new result (add self.old target settings.now) }
         ensures refused { OnErr result (self.new ≡ self.old) }
         ensures sound { IsSound self.new }
-        ensures member { IfOk result (λ m. IsThereAs self.new m.record.number m) }
+        ensures member { IfOk result (λ m. ExistsAs self.new m.record.number m) }
         ensures lasts { Lasts self.old self.new }
         ensures others { IfOk result (λ m. LeavesOthers self.old self.new m.record.number m.record.context
             m.record.context) }
@@ -137,7 +137,7 @@ impl Rooms {
         ensures outcome { Gives (λ m. m.record) self.old self.new result (modify self.old target number settings.now) }
         ensures refused { OnErr result (self.new ≡ self.old) }
         ensures sound { IsSound self.new }
-        ensures member { IfOk result (IsThereAs self.new number) }
+        ensures member { IfOk result (ExistsAs self.new number) }
         ensures lasts { Lasts self.old self.new }
         ensures others { IfOk result (λ m. LeavesOthers self.old self.new number m.record.context m.record.context) }
     {
@@ -159,8 +159,8 @@ impl Rooms {
             (move_to self.old target number settings.now) }
         ensures refused { OnErr result (self.new ≡ self.old) }
         ensures sound { IsSound self.new }
-        ensures from { IfOk result (λ m. IsThereAs self.old number m.from) }
-        ensures to { IfOk result (λ m. IsThereAs self.new number m.to) }
+        ensures from { IfOk result (λ m. ExistsAs self.old number m.from) }
+        ensures to { IfOk result (λ m. ExistsAs self.new number m.to) }
         ensures lasts { Lasts self.old self.new }
         ensures others { IfOk result (λ m. LeavesOthers self.old self.new number m.from.record.context
             m.to.record.context) }
@@ -179,7 +179,7 @@ impl Rooms {
         ensures outcome { Gives (λ m. m.record) self.old self.new result (subtract self.old target number) }
         ensures refused { OnErr result (self.new ≡ self.old) }
         ensures sound { IsSound self.new }
-        ensures member { IfOk result (IsThereAs self.old number) }
+        ensures member { IfOk result (ExistsAs self.old number) }
         ensures lasts { Lasts self.old self.new }
         ensures others { IfOk result (λ m. LeavesOthers self.old self.new number m.record.context m.record.context) }
     {

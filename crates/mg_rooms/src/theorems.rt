@@ -18,7 +18,7 @@ ghost use Rattle.mg_rooms.specs.Sound.{IsSound};
 /// A seat is free in each context that isn't full, and a room where there are not as many contexts as
 /// there can be. So a command is told that a context is full, or that none can be made, only where that
 /// is so.
-pub fn what_is_not_full_has_a_free_place()
+pub fn tables_that_are_not_full_have_a_free_place()
     ensures seat { (w : Registry) (c : ℕ) → IsConsistent w → length (members_at w c) < MEMBERS →
         IsSome (free_seat w c) }
     ensures room { (w : Registry) → IsConsistent w → length w.contexts < CONTEXTS → IsSome (free_room w) }
@@ -27,7 +27,7 @@ pub fn what_is_not_full_has_a_free_place()
 /// What is told to be used up is: no slot is free or the numbers are used up, a context has as many
 /// members as it can have, or there are as many contexts as there can be or their numbers are used up. And
 /// where that is so it is told.
-pub fn what_is_used_up_is_refused()
+pub fn exhausted_resources_are_refused()
     ensures slot { (w : Registry) → (new_slot w ≡ Err NoTerminationLeft) ↔
         ((free_slot w ≡ None) ⊎ (LAST_TERMINATION < w.next_termination)) }
     ensures seat { (w : Registry) (c : ℕ) → IsConsistent w → (new_seat w c ≡ Err ContextFull) ↔
@@ -53,6 +53,6 @@ pub fn outcomes_are_consistent()
 {}
 
 /// What is consistent is sound: what is looked up of terminations and contexts agrees, with no table at hand.
-pub fn what_is_consistent_is_sound()
+pub fn consistent_registries_are_sound()
     ensures { (w : Registry) → IsConsistent w → IsSound w }
 {}

@@ -33,18 +33,18 @@ joined : (lines current : List (List ℕ)) → flat_map (λ ls. ls) (alternative
 joined [] current = joined_closing current ∙ sym (append-nil current)
 joined (line ∷ lines) current = joined_step current line lines (is_version line) refl (joined lines)
 
-abbrev goes_on : List ℕ → Bool
-goes_on line = not (is_version line)
+abbrev continues : List ℕ → Bool
+continues line = not (is_version line)
 
 -- lines that an alternative may begin with
 abbrev IsBegun : List (List ℕ) → Type 0
 IsBegun [] = Unit {0}
-IsBegun (line ∷ lines) = IsTrue (list_all goes_on lines)
+IsBegun (line ∷ lines) = IsTrue (list_all continues lines)
 
 each_push : (current : List (List ℕ)) (line : List ℕ) → is_version line ≡ false → IsBegun current →
     IsBegun (current ++ line ∷ [])
 each_push [] line e h = refl
-each_push (first ∷ lines) line e h = rw (list_all-append goes_on lines (line ∷ []), h, e) refl
+each_push (first ∷ lines) line e h = rw (list_all-append continues lines (line ∷ []), h, e) refl
 
 each_closing : (current : List (List ℕ)) (others : List (List (List ℕ))) → IsBegun current →
     AllByRecursion IsAlternative others → AllByRecursion IsAlternative (one_alternative current ++ others)
@@ -108,19 +108,19 @@ abbrev join : List (List (List ℕ)) → List (List ℕ)
 join alternatives = flat_map (λ ls. ls) alternatives
 
 plain_step : (current : List (List ℕ)) (line : List ℕ) (lines : List (List ℕ)) (plain : Bool) →
-    is_version line ≡ plain → goes_on line ≡ true →
+    is_version line ≡ plain → continues line ≡ true →
     alternatives_after current (line ∷ lines) ≡ alternatives_after (current ++ line ∷ []) lines
 plain_step current line lines true e h = let bad : not true ≡ true = rw e at h in cc
 plain_step current line lines false e h = rw e refl
 
 -- lines that begin no alternative belong to the one that has begun
-plain_lines : (plain current rest : List (List ℕ)) → list_all goes_on plain ≡ true →
+plain_lines : (plain current rest : List (List ℕ)) → list_all continues plain ≡ true →
     alternatives_after current (plain ++ rest) ≡ alternatives_after (current ++ plain) rest
 plain_lines [] current rest h = rw (append-nil current) refl
 plain_lines (line ∷ plain) current rest h =
     plain_step current line (plain ++ rest) (is_version line) refl
-    (and_parts (goes_on line) (list_all goes_on plain) h).0
-    ∙ plain_lines plain (current ++ line ∷ []) rest (and_parts (goes_on line) (list_all goes_on plain) h).1
+    (and_parts (continues line) (list_all continues plain) h).0
+    ∙ plain_lines plain (current ++ line ∷ []) rest (and_parts (continues line) (list_all continues plain) h).1
     ∙ ap (λ (front : List (List ℕ)). alternatives_after front rest) (append_assoc current (line ∷ []) plain)
 
 others_same : (others : List (List (List ℕ))) (line : List ℕ) (lines : List (List ℕ)) →

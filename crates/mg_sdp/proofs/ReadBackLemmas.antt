@@ -37,10 +37,10 @@ split_whole p (x ∷ xs) h =
     rw (not-true (p x) two.0, split_whole p xs two.1) refl
 
 -- a line and its end, before others
-abbrev goes_on : ℕ → Bool
-goes_on b = not (is_line_end b)
+abbrev continues : ℕ → Bool
+continues b = not (is_line_end b)
 
-line_then : (line rest : List ℕ) → list_all goes_on line ≡ true → trimmed line ≡ line → is_filled line ≡ true →
+line_then : (line rest : List ℕ) → list_all continues line ≡ true → trimmed line ≡ line → is_filled line ≡ true →
     content_lines (line ++ 13 ∷ 10 ∷ rest) ≡ line ∷ content_lines rest
 unfolding content_lines
 line_then line rest h t f = rw (split_seam is_line_end line 13 (10 ∷ rest) h refl, t, f) refl
@@ -100,7 +100,7 @@ no_dot c low high = not_from_false (is_dot c) (ne_eqb c 46 (λ e. absurd (omega 
 digit_inks : (c : ℕ) → 48 ≤ c → c ≤ 57 → is_ink c ≡ true
 digit_inks c low high = rw (ne_eqb c 32 (λ e. absurd (omega arith)), ne_eqb c 9 (λ e. absurd (omega arith))) refl
 
-digit_goes_on : (c : ℕ) → 48 ≤ c → c ≤ 57 → goes_on c ≡ true
+digit_goes_on : (c : ℕ) → 48 ≤ c → c ≤ 57 → continues c ≡ true
 digit_goes_on c low high = rw (ne_eqb c 13 (λ e. absurd (omega arith)), ne_eqb c 10 (λ e. absurd (omega arith))) refl
 
 -- an address by its parts
@@ -265,7 +265,7 @@ media_trimmed : (port : ℕ) (law : Law) → trimmed (media_line port law) ≡ m
 media_trimmed port Mu = media_trimmed_at (decimal port) 48 refl
 media_trimmed port A = media_trimmed_at (decimal port) 56 refl
 
-protocol_goes_on : (law : Law) → list_all goes_on (codes " RTP/AVP " ++ law_text law) ≡ true
+protocol_goes_on : (law : Law) → list_all continues (codes " RTP/AVP " ++ law_text law) ≡ true
 protocol_goes_on Mu = refl
 protocol_goes_on A = refl
 
@@ -283,14 +283,14 @@ text_lines a b c d port law ha hb hc hd hp =
     let ends : List ℕ = time_line ++ 13 ∷ 10 ∷ [] in
     let fourth : content_lines ends ≡ time_line ∷ [] = line_then time_line [] refl refl refl ∙
     ap (λ (others : List (List ℕ)). time_line ∷ others) lines_none in
-    let media_plain = all_append goes_on (decimal port) (codes " RTP/AVP " ++ law_text law)
-    (decimal_passes goes_on digit_goes_on port (omega arith)) (protocol_goes_on law) in
+    let media_plain = all_append continues (decimal port) (codes " RTP/AVP " ++ law_text law)
+    (decimal_passes continues digit_goes_on port (omega arith)) (protocol_goes_on law) in
     let third : content_lines (media ++ 13 ∷ 10 ∷ ends) ≡ media ∷ time_line ∷ [] =
     line_then media ends media_plain (media_trimmed port law) refl ∙
     ap (λ (others : List (List ℕ)). media ∷ others) fourth in
     let second : content_lines (connection ++ 13 ∷ 10 ∷ (media ++ 13 ∷ 10 ∷ ends)) ≡ connection ∷ media ∷ time_line ∷
     [] =
-    line_then connection (media ++ 13 ∷ 10 ∷ ends) (dotted_passes goes_on digit_goes_on refl a b c d ha hb hc hd)
+    line_then connection (media ++ 13 ∷ 10 ∷ ends) (dotted_passes continues digit_goes_on refl a b c d ha hb hc hd)
     (connection_trimmed a b c d hd) refl ∙ ap (λ (others : List (List ℕ)). connection ∷ others) third in
     line_then version_line (connection ++ 13 ∷ 10 ∷ (media ++ 13 ∷ 10 ∷ ends)) refl refl refl ∙
     ap (λ (others : List (List ℕ)). version_line ∷ others) second

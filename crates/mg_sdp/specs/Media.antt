@@ -12,8 +12,8 @@ use Rattle.mg_g711.specs.declared.law.Law.TheVariants.{Mu, A}
 use Rattle.mg_sdp.specs.declared.media.MediaLine.{MediaLine}
 
 -- the value of a field, or None for $
-abbrev pub asked_in_field : {X : Type 0} → (List ℕ → Option X) → List ℕ → Option (Option X)
-asked_in_field read field =
+abbrev pub requested_in_field : {X : Type 0} → (List ℕ → Option X) → List ℕ → Option (Option X)
+requested_in_field read field =
     if bytes_eq field (codes "$") then Some None else option_map Some (read field)
 
 -- what a format asks for: 0 is mu-law, 8 is A-law
@@ -28,8 +28,8 @@ law_of format =
 abbrev pub first_law : List (List ℕ) → Option (Option Law)
 first_law formats = slice_get (filter_map law_of formats) 0
 
-abbrev pub media_asked : Option (Option ℕ) → Option (Option Law) → Option MediaLine
-media_asked port law = do
+abbrev pub requested_media : Option (Option ℕ) → Option (Option Law) → Option MediaLine
+requested_media port law = do
   port ← port
   law ← law
   Some (record { port = port; law = law })
@@ -39,5 +39,5 @@ unfoldable pub media_in : List (List ℕ) → Option MediaLine
 media_in (kind ∷ port ∷ protocol ∷ formats) =
     if str_eq_ignore_ascii_case kind (codes "audio")
     && str_eq_ignore_ascii_case protocol (codes "RTP/AVP")
-    then media_asked (asked_in_field port_of port) (first_law formats) else None
+    then requested_media (requested_in_field port_of port) (first_law formats) else None
 media_in _ = None

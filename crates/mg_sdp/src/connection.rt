@@ -1,6 +1,6 @@
 ghost use Rattle.std.specs.Prelude.{◌≡◌};
 ghost use Rattle.mg_sdp.specs.Fields.{fields_of};
-ghost use Rattle.mg_sdp.specs.Media.{asked_in_field};
+ghost use Rattle.mg_sdp.specs.Media.{requested_in_field};
 ghost use Rattle.mg_sdp.specs.Connection.{connection_in};
 ghost use Rattle.mg_words.specs.Address.{address_of};
 
@@ -8,8 +8,8 @@ use crate::fields::Fields;
 use mg_words::address_of;
 
 /// The address that a field asks for.
-fn address_asked(field: &[u8]) -> Option<Option<[u8; 4]>>
-    ensures value { result ≡ asked_in_field address_of field.now }
+fn requested_address(field: &[u8]) -> Option<Option<[u8; 4]>>
+    ensures value { result ≡ requested_in_field address_of field.now }
 {
     match field {
         b"$" => Some(None),
@@ -33,5 +33,5 @@ pub fn connection_of(value: &[u8]) -> Option<Option<[u8; 4]>>
     if !network.eq_ignore_ascii_case(b"IN") || !kind.eq_ignore_ascii_case(b"IP4") {
         return None;
     }
-    address_asked(address)
+    requested_address(address)
 }

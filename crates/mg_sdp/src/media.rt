@@ -1,7 +1,7 @@
 ghost use Rattle.std.specs.Prelude.{◌≡◌};
 ghost use Rattle.mg_sdp.specs.Fields.{fields_of};
 ghost use Rattle.mg_sdp.specs.aids.FieldsLeft.{fields_left};
-ghost use Rattle.mg_sdp.specs.Media.{law_of, first_law, asked_in_field, media_in};
+ghost use Rattle.mg_sdp.specs.Media.{law_of, first_law, requested_in_field, media_in};
 ghost use Rattle.mg_words.specs.Numbers.{port_of};
 
 use crate::fields::Fields;
@@ -42,8 +42,8 @@ fn first_law(formats: Fields<'_>) -> Option<Option<Law>>
 }
 
 /// The port that a field asks for.
-fn port_asked(field: &[u8]) -> Option<Option<u16>>
-    ensures value { result ≡ asked_in_field port_of field.now }
+fn requested_port(field: &[u8]) -> Option<Option<u16>>
+    ensures value { result ≡ requested_in_field port_of field.now }
 {
     match field {
         b"$" => Some(None),
@@ -63,7 +63,7 @@ pub fn media_of(value: &[u8]) -> Option<MediaLine>
     if !kind.eq_ignore_ascii_case(b"audio") || !protocol.eq_ignore_ascii_case(b"RTP/AVP") {
         return None;
     }
-    let port = port_asked(port)?;
+    let port = requested_port(port)?;
     let law = first_law(fields)?;
     Some(MediaLine { port, law })
 }

@@ -12,14 +12,14 @@ ghost use Rattle.mg_sdp.specs.Written.{offer_written, session_text};
 use crate::chosen::Chosen;
 
 /// The lines of a content are those of its alternatives in one way alone.
-pub fn alternatives_are_told_apart()
+pub fn alternatives_are_distinguished()
     ensures one { (lines : List (List ℕ)) (one other : List (List (List ℕ))) → AreAlternatives lines one
         → AreAlternatives lines other → one ≡ other }
 {}
 
 /// What is written is read again as one alternative. It is chosen for a Local at that address and port,
 /// and for a Remote unless the port is 0.
-pub fn what_is_written_is_read(chosen: &Chosen)
+pub fn written_text_reads_back(chosen: &Chosen)
     ensures read { sessions_of (session_text chosen.now) ≡ Ok (Some (offer_written chosen.now) ∷ []) }
     ensures local { local_choice chosen.now.address chosen.now.port (Some (offer_written chosen.now) ∷ [])
         ≡ Some chosen.now }

@@ -6,15 +6,15 @@ use Rattle.std.specs.Io.KnownBytes.{Keeps, Appends}
 use Rattle.mg_lines.specs.Streams.{WritesFront}
 use Rattle.mg_ports.specs.declared.call.Call.{Call}
 use Rattle.mg_serve.specs.declared.form.Form.{Form}
-use Rattle.mg_serve.specs.Trace.{Did, Called, Happened, Printed, Noted, calls_of, output_of, printed_text}
+use Rattle.mg_serve.specs.Trace.{TraceEntry, Called, Happened, Printed, Noted, calls_of, output_of, printed_text}
 use Rattle.mg_serve.specs.aids.Printing.{PrinterView, Prints, Puts}
 
 -- ## What is done, in two parts
 
-pub output_both : (form : Form) (p q : List Did) → output_of form (p ++ q) ≡ output_of form p ++ output_of form q
+pub output_both : (form : Form) (p q : List TraceEntry) → output_of form (p ++ q) ≡ output_of form p ++ output_of form q
 output_both form p q = flat_map-append (printed_text form) p q
 
-pub calls_both : (p q : List Did) → calls_of (p ++ q) ≡ calls_of p ++ calls_of q
+pub calls_both : (p q : List TraceEntry) → calls_of (p ++ q) ≡ calls_of p ++ calls_of q
 calls_both [] q = refl
 calls_both (Called call ∷ p) q = ap (λ (l : List Call). call ∷ l) (calls_both p q)
 calls_both (Happened event ∷ p) q = calls_both p q
@@ -63,7 +63,7 @@ puts_nothing true x = Keeps-refl x
 
 -- ## Prints
 
-pub prints_both : (a b c : PrinterView) (x y z : Option (List ℕ)) (p q : List Did) → Prints a b x y p →
+pub prints_both : (a b c : PrinterView) (x y z : Option (List ℕ)) (p q : List TraceEntry) → Prints a b x y p →
     Prints b c y z q → Prints a c x z (p ++ q)
 prints_both a b c x y z p q h k = record {
   form = k.form ∙ h.form;
@@ -73,7 +73,7 @@ prints_both a b c x y z p q h k = record {
 }
 
 -- what prints nothing
-pub prints_nothing : (a : PrinterView) (x : Option (List ℕ)) (p : List Did) → output_of a.form p ≡ [] →
+pub prints_nothing : (a : PrinterView) (x : Option (List ℕ)) (p : List TraceEntry) → output_of a.form p ≡ [] →
     Prints a a x x p
 prints_nothing a x p none = record {
   form = refl;

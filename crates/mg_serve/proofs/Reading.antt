@@ -14,8 +14,8 @@ use Rattle.mg_serve.specs.declared.command.LineCommand.TheVariants.{Poll, Tick, 
 use Rattle.mg_lines.specs.Lines.{without_return, lines_after}
 use Rattle.mg_serve.specs.Lines.{line_command, is_quit, prints, before_quit}
 use Rattle.mg_serve.specs.declared.form.Form.{Form}
-use Rattle.mg_serve.specs.Session.{Does, Session}
-use Rattle.mg_serve.specs.Trace.{Did}
+use Rattle.mg_serve.specs.Session.{Performs, Session}
+use Rattle.mg_serve.specs.Trace.{TraceEntry}
 use Rattle.mg_serve.specs.aids.Driving.{BytesTaken}
 use Rattle.mg_serve.proofs.Taking.{each_both, each_one}
 
@@ -74,23 +74,23 @@ cut_push line b = cut_push_by (ltb 8 (length line)) line b refl
 
 -- ## One byte
 
-one_byte : (ended : Bool) (x : ℕ) (begun bytes : List ℕ) → x ≢ 10 →
-    lines_after ended begun (x ∷ bytes) ≡ lines_after ended (begun ++ x ∷ []) bytes
+one_byte : (ended : Bool) (x : ℕ) (partial bytes : List ℕ) → x ≢ 10 →
+    lines_after ended partial (x ∷ bytes) ≡ lines_after ended (partial ++ x ∷ []) bytes
 unfolding lines_after
-one_byte ended x begun bytes ne = rw (ne_eqb x 10 ne) refl
+one_byte ended x partial bytes ne = rw (ne_eqb x 10 ne) refl
 
-line_feed : (ended : Bool) (begun bytes : List ℕ) →
-    lines_after ended begun (10 ∷ bytes) ≡ without_return begun ∷ lines_after ended [] bytes
+line_feed : (ended : Bool) (partial bytes : List ℕ) →
+    lines_after ended partial (10 ∷ bytes) ≡ without_return partial ∷ lines_after ended [] bytes
 unfolding lines_after
-line_feed ended begun bytes = refl
+line_feed ended partial bytes = refl
 
 pub first_line : (q : Bool) (line : List ℕ) (lines : List (List ℕ)) → is_quit (line_command line) ≡ q →
     before_quit (line ∷ lines) ≡ cond q [] (line ∷ before_quit lines)
 unfolding before_quit
 first_line q line lines is = rw is refl
 
-pub quit_idle : (config : Config) (command : LineCommand) (w next : World) (p : List Did) → is_quit command ≡ true →
-    Does config command w p next → (p ≡ []) × (next ≡ w)
+pub quit_idle : (config : Config) (command : LineCommand) (w next : World) (p : List TraceEntry) → is_quit command ≡ true →
+    Performs config command w p next → (p ≡ []) × (next ≡ w)
 quit_idle config Poll w next p is h = absurd cc
 quit_idle config Tick w next p is h = absurd cc
 quit_idle config Stats w next p is h = absurd cc
@@ -115,12 +115,12 @@ feed_split : (q ended : Bool) (left more : List ℕ) → is_quit (line_command (
 feed_split q ended left more is = ap before_quit (line_feed ended left more) ∙
     first_line q (without_return left) (lines_after ended [] more) is
 
-pub line_done : (config : Config) (line : List ℕ) (w next : World) (p : List Did) →
-    Does config (line_command line) w p next → Session config (line ∷ []) w p next
-line_done config line w next p h = each_one (λ (l : List ℕ). Does config (line_command l)) line w next p h
+pub line_done : (config : Config) (line : List ℕ) (w next : World) (p : List TraceEntry) →
+    Performs config (line_command line) w p next → Session config (line ∷ []) w p next
+line_done config line w next p h = each_one (λ (l : List ℕ). Performs config (line_command l)) line w next p h
 
-pub feed_byte : (form : Form) (config : Config) (q : Bool) (left : List ℕ) (w next : World) (p : List Did) →
-    is_quit (line_command (without_return left)) ≡ q → Does config (line_command (without_return left)) w p next →
+pub feed_byte : (form : Form) (config : Config) (q : Bool) (left : List ℕ) (w next : World) (p : List TraceEntry) →
+    is_quit (line_command (without_return left)) ≡ q → Performs config (line_command (without_return left)) w p next →
     BytesTaken form config left (10 ∷ []) [] (Ok q) w p next
 feed_byte form config false left w next p is h = (
   without_return left ∷ [],
@@ -153,8 +153,8 @@ quit_prints_nothing form Unknown quit printed = absurd (true≢false (sym quit))
 
 pub feed_fault_by : (form : Form) (config : Config) (q : Bool) (left kept : List ℕ) (failed : WriteFailed) (w next :
     World)
-    (p : List Did) → is_quit (line_command (without_return left)) ≡ q →
-    prints form (line_command (without_return left)) ≡ true → Does config (line_command (without_return left)) w p next
+    (p : List TraceEntry) → is_quit (line_command (without_return left)) ≡ q →
+    prints form (line_command (without_return left)) ≡ true → Performs config (line_command (without_return left)) w p next
     →
     BytesTaken form config left (10 ∷ []) kept (Err failed) w p next
 feed_fault_by form config false left kept failed w next p is printed h = (
@@ -185,36 +185,36 @@ last_stands form kept (x ∷ xs) is some printed =
 
 -- ## Bytes, and then more
 
-pub session_both : (config : Config) (xs ys : List (List ℕ)) (w mid next : World) (p q : List Did) →
+pub session_both : (config : Config) (xs ys : List (List ℕ)) (w mid next : World) (p q : List TraceEntry) →
     Session config xs w p mid → Session config ys mid q next → Session config (xs ++ ys) w (p ++ q) next
 session_both config xs ys w mid next p q h k =
-    each_both (λ (l : List ℕ). Does config (line_command l)) xs ys w mid next p q h k
+    each_both (λ (l : List ℕ). Performs config (line_command l)) xs ys w mid next p q h k
 
-pub bytes_then : (form : Form) (config : Config) (begun a left b kept : List ℕ) (lines : List (List ℕ))
-    (r : Result Bool WriteFailed) (w mid next : World) (p q : List Did) →
-    ((ended : Bool) (more : List ℕ) → before_quit (lines_after ended begun (a ++ more)) ≡ lines ++
+pub bytes_then : (form : Form) (config : Config) (partial a left b kept : List ℕ) (lines : List (List ℕ))
+    (r : Result Bool WriteFailed) (w mid next : World) (p q : List TraceEntry) →
+    ((ended : Bool) (more : List ℕ) → before_quit (lines_after ended partial (a ++ more)) ≡ lines ++
     before_quit (lines_after ended left more)) → Session config lines w p mid →
-    BytesTaken form config left b kept r mid q next → BytesTaken form config begun (a ++ b) kept r w (p ++ q) next
-bytes_then form config begun a left b kept lines (Ok false) w mid next p q split ran h = (
+    BytesTaken form config left b kept r mid q next → BytesTaken form config partial (a ++ b) kept r w (p ++ q) next
+bytes_then form config partial a left b kept lines (Ok false) w mid next p q split ran h = (
   lines ++ h.0,
   h.1,
   h.2,
-  λ ended more. ap (λ (l : List ℕ). before_quit (lines_after ended begun l)) (append_assoc a b more) ∙
+  λ ended more. ap (λ (l : List ℕ). before_quit (lines_after ended partial l)) (append_assoc a b more) ∙
       split ended (b ++ more) ∙ ap (λ (l : List (List ℕ)). lines ++ l) (h.3 ended more) ∙
       sym (append_assoc lines h.0 (before_quit (lines_after ended h.1 more))),
   session_both config lines h.0 w mid next p q ran h.4,
 )
-bytes_then form config begun a left b kept lines (Ok true) w mid next p q split ran h = (
+bytes_then form config partial a left b kept lines (Ok true) w mid next p q split ran h = (
   lines ++ h.0,
-  λ ended more. ap (λ (l : List ℕ). before_quit (lines_after ended begun l)) (append_assoc a b more) ∙
+  λ ended more. ap (λ (l : List ℕ). before_quit (lines_after ended partial l)) (append_assoc a b more) ∙
       split ended (b ++ more) ∙ ap (λ (l : List (List ℕ)). lines ++ l) (h.1 ended more),
   session_both config lines h.0 w mid next p q ran h.2,
 )
-bytes_then form config begun a left b kept lines (Err failed) w mid next p q split ran h = (
+bytes_then form config partial a left b kept lines (Err failed) w mid next p q split ran h = (
   lines ++ h.0,
   λ ended more. (
     (h.1 ended more).0,
-    ap (λ (l : List ℕ). before_quit (lines_after ended begun l)) (append_assoc a b more) ∙ split ended (b ++ more) ∙
+    ap (λ (l : List ℕ). before_quit (lines_after ended partial l)) (append_assoc a b more) ∙ split ended (b ++ more) ∙
         ap (λ (l : List (List ℕ)). lines ++ l) (h.1 ended more).1 ∙ sym (append_assoc lines h.0 (h.1 ended more).0),
   ),
   record {
@@ -227,29 +227,29 @@ bytes_then form config begun a left b kept lines (Err failed) w mid next p q spl
   session_both config lines h.0 w mid next p q ran h.3,
 )
 
-pub no_bytes : (form : Form) (config : Config) (begun kept : List ℕ) (w : World) → kept ≡ take 8 begun →
-    BytesTaken form config begun [] kept (Ok false) w [] w
-no_bytes form config begun kept w is = ([], begun, is, λ ended more. refl, (refl, refl))
+pub no_bytes : (form : Form) (config : Config) (partial kept : List ℕ) (w : World) → kept ≡ take 8 partial →
+    BytesTaken form config partial [] kept (Ok false) w [] w
+no_bytes form config partial kept w is = ([], partial, is, λ ended more. refl, (refl, refl))
 
 -- where no line is to follow, or a print failed, more bytes change nothing
-pub whatever_follows : (form : Form) (config : Config) (begun a b kept : List ℕ) (w next : World) (p : List Did) →
-    BytesTaken form config begun a kept (Ok true) w p next → BytesTaken form config begun (a ++ b) kept (Ok true) w p
+pub whatever_follows : (form : Form) (config : Config) (partial a b kept : List ℕ) (w next : World) (p : List TraceEntry) →
+    BytesTaken form config partial a kept (Ok true) w p next → BytesTaken form config partial (a ++ b) kept (Ok true) w p
     next
-whatever_follows form config begun a b kept w next p h = (
+whatever_follows form config partial a b kept w next p h = (
   h.0,
-  λ ended more. ap (λ (l : List ℕ). before_quit (lines_after ended begun l)) (append_assoc a b more) ∙
+  λ ended more. ap (λ (l : List ℕ). before_quit (lines_after ended partial l)) (append_assoc a b more) ∙
       h.1 ended (b ++ more),
   h.2,
 )
 
-pub faulty_follows : (form : Form) (config : Config) (begun a b kept : List ℕ) (failed : WriteFailed) (w next : World)
-    (p : List Did) → BytesTaken form config begun a kept (Err failed) w p next →
-    BytesTaken form config begun (a ++ b) kept (Err failed) w p next
-faulty_follows form config begun a b kept failed w next p h = (
+pub faulty_follows : (form : Form) (config : Config) (partial a b kept : List ℕ) (failed : WriteFailed) (w next : World)
+    (p : List TraceEntry) → BytesTaken form config partial a kept (Err failed) w p next →
+    BytesTaken form config partial (a ++ b) kept (Err failed) w p next
+faulty_follows form config partial a b kept failed w next p h = (
   h.0,
   λ ended more. (
     (h.1 ended (b ++ more)).0,
-    ap (λ (l : List ℕ). before_quit (lines_after ended begun l)) (append_assoc a b more) ∙ (h.1 ended (b ++ more)).1,
+    ap (λ (l : List ℕ). before_quit (lines_after ended partial l)) (append_assoc a b more) ∙ (h.1 ended (b ++ more)).1,
   ),
   h.2,
   h.3,

@@ -20,12 +20,12 @@ use Rattle.mg_ports.specs.declared.call.Call.{Call}
 use Rattle.mg_serve.specs.declared.command.LineCommand.{LineCommand}
 use Rattle.mg_serve.specs.declared.form.Form.{Form}
 use Rattle.mg_serve.specs.Lines.{LastPrints, line_command, is_quit, prints, before_quit}
-use Rattle.mg_serve.specs.Session.{Does, Session}
+use Rattle.mg_serve.specs.Session.{Performs, Session}
 use Rattle.mg_serve.specs.Serve.{Exits, IsOutput, Opens, RanLines, ServedSession, form_of, opening}
-use Rattle.mg_serve.specs.Trace.{Did, output_of}
+use Rattle.mg_serve.specs.Trace.{TraceEntry, output_of}
 use Rattle.mg_serve.specs.aids.Driving.{BytesTaken, EndsBy, Finished}
 use Rattle.mg_serve.specs.aids.Printing.{PrinterView, Prints, Puts}
-use Rattle.mg_serve.specs.aids.Outside.{Outside, LeadsByTrace, TellsTrace}
+use Rattle.mg_serve.specs.aids.Outside.{Outside, LeadsByTrace, LogsTrace}
 use Rattle.mg_serve.proofs.Printing.{prints_both}
 use Rattle.mg_serve.proofs.Steps.{finished_prints, prints_some, some_printed}
 use Rattle.mg_serve.proofs.Taking.{tells_both, told_none, takes_none, takes_as, takes_joined, takes_seen, takes_then}
@@ -33,25 +33,25 @@ use Rattle.mg_serve.proofs.Reading.{cut_command, cut_return, plain_byte, feed_by
 
 -- ## Bytes by their index
 
-more_bytes : (config : Config) (begun a b kept new : List ℕ) (r : Result Bool WriteFailed) (old mid core : CoreState)
-    (x y z : Outside) → LeadsByTrace old mid x y (BytesTaken x.printer.form config begun a kept (Ok false)) →
+more_bytes : (config : Config) (partial a b kept new : List ℕ) (r : Result Bool WriteFailed) (old mid core : CoreState)
+    (x y z : Outside) → LeadsByTrace old mid x y (BytesTaken x.printer.form config partial a kept (Ok false)) →
     ((left : List ℕ) → kept ≡ take 8 left → LeadsByTrace mid core y z (BytesTaken y.printer.form config left b new r)) →
-    LeadsByTrace old core x z (BytesTaken x.printer.form config begun (a ++ b) new r)
-more_bytes config begun a b kept new r old mid core x y z first second w stands =
-    let (p, m, told, h, held) = first w stands in
+    LeadsByTrace old core x z (BytesTaken x.printer.form config partial (a ++ b) new r)
+more_bytes config partial a b kept new r old mid core x y z first second w stands =
+    let (p, m, logged, h, held) = first w stands in
     let (q, next, more, k, last) = second h.1 h.2 m held in (
       p ++ q,
       next,
-      tells_both x y z p q told more,
-      bytes_then x.printer.form config begun a h.1 b new h.0 r w m next p q h.3 h.4
-          (subst (λ (f : Form). BytesTaken f config h.1 b new r m q next) told.prints.form k),
+      tells_both x y z p q logged more,
+      bytes_then x.printer.form config partial a h.1 b new h.0 r w m next p q h.3 h.4
+          (subst (λ (f : Form). BytesTaken f config h.1 b new r m q next) logged.prints.form k),
       last,
     )
 
-pub bytes_start : (config : Config) (begun kept : List ℕ) (core : CoreState) (x : Outside) →
-    kept ≡ take 8 begun → LeadsByTrace core core x x (BytesTaken x.printer.form config begun [] kept (Ok false))
-bytes_start config begun kept core x is = takes_none core x (BytesTaken x.printer.form config begun [] kept (Ok false))
-    (λ w. no_bytes x.printer.form config begun kept w is)
+pub bytes_start : (config : Config) (partial kept : List ℕ) (core : CoreState) (x : Outside) →
+    kept ≡ take 8 partial → LeadsByTrace core core x x (BytesTaken x.printer.form config partial [] kept (Ok false))
+bytes_start config partial kept core x is = takes_none core x (BytesTaken x.printer.form config partial [] kept (Ok false))
+    (λ w. no_bytes x.printer.form config partial kept w is)
 
 takes_plain : (config : Config) (kept : List ℕ) (b : ℕ) (core : CoreState) (y : Outside) → b ≢ 10 →
     (left : List ℕ) → kept ≡ take 8 left → LeadsByTrace core core y y
@@ -68,93 +68,93 @@ same_command kept left is = ap (λ (k : List ℕ). line_command (without_return 
 
 takes_feed : (config : Config) (kept : List ℕ) (q : Bool) (mid core : CoreState) (y z : Outside) →
     q ≡ is_quit (line_command (without_return kept)) →
-    LeadsByTrace mid core y z (Does config (line_command (without_return kept))) → (left : List ℕ) →
+    LeadsByTrace mid core y z (Performs config (line_command (without_return kept))) → (left : List ℕ) →
     kept ≡ take 8 left →
     LeadsByTrace mid core y z (BytesTaken y.printer.form config left (10 ∷ []) [] (Ok q))
 takes_feed config kept q mid core y z quit h left is =
     let same = same_command kept left is in
-    takes_as mid core y z (Does config (line_command (without_return kept)))
+    takes_as mid core y z (Performs config (line_command (without_return kept)))
     (BytesTaken y.printer.form config left (10 ∷ []) [] (Ok q)) h
     (λ w next p k. feed_byte y.printer.form config q left w next p (sym (quit ∙ ap is_quit same))
-    (subst (λ (d : LineCommand). Does config d w p next) same k))
+    (subst (λ (d : LineCommand). Performs config d w p next) same k))
 
 takes_fault : (config : Config) (kept new : List ℕ) (failed : WriteFailed) (mid core : CoreState)
     (y z : Outside) → y.printer.has_failed ≡ false → z.printer.has_failed ≡ true →
-    LeadsByTrace mid core y z (Does config (line_command (without_return kept))) → (left : List ℕ) →
+    LeadsByTrace mid core y z (Performs config (line_command (without_return kept))) → (left : List ℕ) →
     kept ≡ take 8 left →
     LeadsByTrace mid core y z (BytesTaken y.printer.form config left (10 ∷ []) new (Err failed))
 takes_fault config kept new failed mid core y z before after h left is =
     let same = same_command kept left is in
     let form = y.printer.form in
-    takes_seen mid core y z (Does config (line_command (without_return kept)))
+    takes_seen mid core y z (Performs config (line_command (without_return kept)))
     (BytesTaken form config left (10 ∷ []) new (Err failed)) h
-    (λ w next p told k.
-    let done = subst (λ (d : LineCommand). Does config d w p next) same k in
+    (λ w next p logged k.
+    let done = subst (λ (d : LineCommand). Performs config d w p next) same k in
     feed_fault_by form config (is_quit (line_command (without_return left))) left new failed w next p refl
     (prints_some form config (line_command (without_return left)) w next p done
-    (some_printed y z p before after told)) done)
+    (some_printed y z p before after logged)) done)
 
-pub index_plain : (config : Config) (begun bytes kept new : List ℕ) (i : ℕ) (old mid : CoreState)
+pub index_plain : (config : Config) (partial bytes kept new : List ℕ) (i : ℕ) (old mid : CoreState)
     (x y : Outside) → i < length bytes → get_or bytes i 0 ≢ 10 →
     new ≡ take 8 (kept ++ get_or bytes i 0 ∷ []) →
-    LeadsByTrace old mid x y (BytesTaken x.printer.form config begun (take i bytes) kept (Ok false)) →
-    LeadsByTrace old mid x y (BytesTaken x.printer.form config begun (take (i + 1) bytes) new (Ok false))
-index_plain config begun bytes kept new i old mid x y lt ne is h =
+    LeadsByTrace old mid x y (BytesTaken x.printer.form config partial (take i bytes) kept (Ok false)) →
+    LeadsByTrace old mid x y (BytesTaken x.printer.form config partial (take (i + 1) bytes) new (Ok false))
+index_plain config partial bytes kept new i old mid x y lt ne is h =
     let b = get_or bytes i 0 in
-    subst (λ (l : List ℕ). LeadsByTrace old mid x y (BytesTaken x.printer.form config begun l new (Ok false)))
+    subst (λ (l : List ℕ). LeadsByTrace old mid x y (BytesTaken x.printer.form config partial l new (Ok false)))
     (sym (take_more
     bytes i 0 lt))
     (subst (λ (k : List ℕ). LeadsByTrace old mid x y
-    (BytesTaken x.printer.form config begun (take i bytes ++ b ∷ []) k (Ok
+    (BytesTaken x.printer.form config partial (take i bytes ++ b ∷ []) k (Ok
     false))) (sym is)
-    (more_bytes config begun (take i bytes) (b ∷ []) kept (take 8 (kept ++ b ∷ [])) (Ok false) old mid mid x y y h
+    (more_bytes config partial (take i bytes) (b ∷ []) kept (take 8 (kept ++ b ∷ [])) (Ok false) old mid mid x y y h
     (takes_plain config kept b mid y ne)))
 
-pub index_feed : (config : Config) (begun bytes kept new : List ℕ) (i : ℕ) (q : Bool) (old mid core : CoreState)
+pub index_feed : (config : Config) (partial bytes kept new : List ℕ) (i : ℕ) (q : Bool) (old mid core : CoreState)
     (x y z : Outside) → i < length bytes → get_or bytes i 0 ≡ 10 →
-    LeadsByTrace old mid x y (BytesTaken x.printer.form config begun (take i bytes) kept (Ok false)) →
+    LeadsByTrace old mid x y (BytesTaken x.printer.form config partial (take i bytes) kept (Ok false)) →
     q ≡ is_quit (line_command (without_return kept)) → new ≡ [] →
-    LeadsByTrace mid core y z (Does config (line_command (without_return kept))) →
-    LeadsByTrace old core x z (BytesTaken x.printer.form config begun (take (i + 1) bytes) new (Ok q))
-index_feed config begun bytes kept new i q old mid core x y z lt feed h quit is k =
-    subst (λ (l : List ℕ). LeadsByTrace old core x z (BytesTaken x.printer.form config begun l new (Ok q)))
+    LeadsByTrace mid core y z (Performs config (line_command (without_return kept))) →
+    LeadsByTrace old core x z (BytesTaken x.printer.form config partial (take (i + 1) bytes) new (Ok q))
+index_feed config partial bytes kept new i q old mid core x y z lt feed h quit is k =
+    subst (λ (l : List ℕ). LeadsByTrace old core x z (BytesTaken x.printer.form config partial l new (Ok q)))
     (sym (take_more bytes i 0 lt ∙ ap (λ (b : ℕ). take i bytes ++ b ∷ []) feed))
     (subst (λ (l : List ℕ). LeadsByTrace old core x z
-    (BytesTaken x.printer.form config begun (take i bytes ++ 10 ∷ []) l (Ok
+    (BytesTaken x.printer.form config partial (take i bytes ++ 10 ∷ []) l (Ok
     q))) (sym is)
-    (more_bytes config begun (take i bytes) (10 ∷ []) kept [] (Ok q) old mid core x y z h
+    (more_bytes config partial (take i bytes) (10 ∷ []) kept [] (Ok q) old mid core x y z h
     (takes_feed config kept q mid core y z quit k)))
 
-pub index_quit : (config : Config) (begun bytes kept new : List ℕ) (i : ℕ) (old mid core : CoreState)
+pub index_quit : (config : Config) (partial bytes kept new : List ℕ) (i : ℕ) (old mid core : CoreState)
     (x y z : Outside) → i < length bytes → get_or bytes i 0 ≡ 10 →
-    LeadsByTrace old mid x y (BytesTaken x.printer.form config begun (take i bytes) kept (Ok false)) →
+    LeadsByTrace old mid x y (BytesTaken x.printer.form config partial (take i bytes) kept (Ok false)) →
     true ≡ is_quit (line_command (without_return kept)) → new ≡ [] →
-    LeadsByTrace mid core y z (Does config (line_command (without_return kept))) →
-    LeadsByTrace old core x z (BytesTaken x.printer.form config begun bytes new (Ok true))
-index_quit config begun bytes kept new i old mid core x y z lt feed h quit is k =
-    subst (λ (l : List ℕ). LeadsByTrace old core x z (BytesTaken x.printer.form config begun l new (Ok true)))
+    LeadsByTrace mid core y z (Performs config (line_command (without_return kept))) →
+    LeadsByTrace old core x z (BytesTaken x.printer.form config partial bytes new (Ok true))
+index_quit config partial bytes kept new i old mid core x y z lt feed h quit is k =
+    subst (λ (l : List ℕ). LeadsByTrace old core x z (BytesTaken x.printer.form config partial l new (Ok true)))
     (take-append-drop (i + 1) bytes)
-    (takes_as old core x z (BytesTaken x.printer.form config begun (take (i + 1) bytes) new (Ok true))
-    (BytesTaken x.printer.form config begun (take (i + 1) bytes ++ drop (i + 1) bytes) new (Ok true))
-    (index_feed config begun bytes kept new i true old mid core x y z lt feed h quit is k)
-    (λ w next p. whatever_follows x.printer.form config begun (take (i + 1) bytes) (drop (i + 1) bytes) new w next p))
+    (takes_as old core x z (BytesTaken x.printer.form config partial (take (i + 1) bytes) new (Ok true))
+    (BytesTaken x.printer.form config partial (take (i + 1) bytes ++ drop (i + 1) bytes) new (Ok true))
+    (index_feed config partial bytes kept new i true old mid core x y z lt feed h quit is k)
+    (λ w next p. whatever_follows x.printer.form config partial (take (i + 1) bytes) (drop (i + 1) bytes) new w next p))
 
-pub index_fault : (config : Config) (begun bytes kept new : List ℕ) (i : ℕ) (failed : WriteFailed)
+pub index_fault : (config : Config) (partial bytes kept new : List ℕ) (i : ℕ) (failed : WriteFailed)
     (old mid core : CoreState) (x y z : Outside) → i < length bytes → get_or bytes i 0 ≡ 10 →
-    LeadsByTrace old mid x y (BytesTaken x.printer.form config begun (take i bytes) kept (Ok false)) →
+    LeadsByTrace old mid x y (BytesTaken x.printer.form config partial (take i bytes) kept (Ok false)) →
     y.printer.has_failed ≡ false → z.printer.has_failed ≡ true →
-    LeadsByTrace mid core y z (Does config (line_command (without_return kept))) →
-    LeadsByTrace old core x z (BytesTaken x.printer.form config begun bytes new (Err failed))
-index_fault config begun bytes kept new i failed old mid core x y z lt feed h before after k =
-    subst (λ (l : List ℕ). LeadsByTrace old core x z (BytesTaken x.printer.form config begun l new (Err failed)))
+    LeadsByTrace mid core y z (Performs config (line_command (without_return kept))) →
+    LeadsByTrace old core x z (BytesTaken x.printer.form config partial bytes new (Err failed))
+index_fault config partial bytes kept new i failed old mid core x y z lt feed h before after k =
+    subst (λ (l : List ℕ). LeadsByTrace old core x z (BytesTaken x.printer.form config partial l new (Err failed)))
     (take-append-drop (i + 1) bytes)
-    (takes_as old core x z (BytesTaken x.printer.form config begun (take (i + 1) bytes) new (Err failed))
-    (BytesTaken x.printer.form config begun (take (i + 1) bytes ++ drop (i + 1) bytes) new (Err failed))
-    (subst (λ (l : List ℕ). LeadsByTrace old core x z (BytesTaken x.printer.form config begun l new (Err failed)))
+    (takes_as old core x z (BytesTaken x.printer.form config partial (take (i + 1) bytes) new (Err failed))
+    (BytesTaken x.printer.form config partial (take (i + 1) bytes ++ drop (i + 1) bytes) new (Err failed))
+    (subst (λ (l : List ℕ). LeadsByTrace old core x z (BytesTaken x.printer.form config partial l new (Err failed)))
     (sym (take_more bytes i 0 lt ∙ ap (λ (b : ℕ). take i bytes ++ b ∷ []) feed))
-    (more_bytes config begun (take i bytes) (10 ∷ []) kept new (Err failed) old mid core x y z h
+    (more_bytes config partial (take i bytes) (10 ∷ []) kept new (Err failed) old mid core x y z h
     (takes_fault config kept new failed mid core y z before after k)))
-    (λ w next p. faulty_follows x.printer.form config begun (take (i + 1) bytes) (drop (i + 1) bytes) new failed w next
+    (λ w next p. faulty_follows x.printer.form config partial (take (i + 1) bytes) (drop (i + 1) bytes) new failed w next
     p))
 
 -- ## What was read
@@ -177,7 +177,7 @@ consumes_none (Some i) = refl
 
 -- a text was read, and its bytes were taken
 abbrev pub Read : Form → Config → Option (List ℕ) → Option (List ℕ) → List ℕ → Result Bool WriteFailed → World → List
-    Did →
+    TraceEntry →
     World → Type 0
 Read form config i k kept r w trace next = (text : List ℕ) × Consumes i k text ×
     BytesTaken form config [] text kept r w trace next
@@ -195,17 +195,17 @@ pub read_more : (config : Config) (i j k : Option (List ℕ)) (b kept new : List
     b new r)) →
     LeadsByTrace old core x z (Read x.printer.form config i k new r)
 read_more config i j k b kept new r old mid core x y z first eaten second w stands =
-    let (p, m, told, h, held) = first w stands in
+    let (p, m, logged, h, held) = first w stands in
     let t = h.2 in
     let (q, next, more, l, last) = second t.1 t.2 m held in (
       p ++ q,
       next,
-      tells_both x y z p q told more,
+      tells_both x y z p q logged more,
       (
         h.0 ++ b,
         consumes_then i j k h.0 b h.1 eaten,
         bytes_then x.printer.form config [] h.0 t.1 b new t.0 r w m next p q t.3 t.4
-            (subst (λ (f : Form). BytesTaken f config t.1 b new r m q next) told.prints.form l),
+            (subst (λ (f : Form). BytesTaken f config t.1 b new r m q next) logged.prints.form l),
       ),
       last,
     )
@@ -227,7 +227,7 @@ nothing_left left = ap before_quit (unfinished left) ∙ no_more
 abbrev done : Result (Unit {0}) RunFault
 done = Ok tt
 
-ends_by_quit : (form : Form) (config : Config) (i k : Option (List ℕ)) (kept : List ℕ) (w next : World) (p : List Did) →
+ends_by_quit : (form : Form) (config : Config) (i k : Option (List ℕ)) (kept : List ℕ) (w next : World) (p : List TraceEntry) →
     Read form config i k kept (Ok true) w p next → RanLines form config i k done w p next
 ends_by_quit form config i k kept w next p h =
     let t = h.2 in
@@ -248,7 +248,7 @@ failed_by fault = Err fault
 
 ends_by_write : (form : Form) (config : Config) (i k : Option (List ℕ)) (kept : List ℕ) (failed : WriteFailed) (w next
     : World)
-    (p : List Did) → Read form config i k kept (Err failed) w p next → RanLines form config i k (failed_by
+    (p : List TraceEntry) → Read form config i k kept (Err failed) w p next → RanLines form config i k (failed_by
     faults.Write) w p next
 ends_by_write form config i k kept failed w next p h =
     let t = h.2 in
@@ -264,7 +264,7 @@ ends_by_write form config i k kept failed w next p h =
     }
 
 ends_by_read : (form : Form) (config : Config) (i j k : Option (List ℕ)) (kept : List ℕ) (w next : World) (p : List
-    Did) →
+    TraceEntry) →
     Keeps j k → Read form config i j kept (Ok false) w p next → RanLines form config i k (failed_by faults.Read) w p
     next
 ends_by_read form config i j k kept w next p same h =
@@ -285,13 +285,13 @@ no_line : before_quit (lines_after true [] []) ≡ []
 unfolding lines_after before_quit
 no_line = refl
 
-last_by : (config : Config) (q : Bool) (line : List ℕ) (w next : World) (p : List Did) →
-    is_quit (line_command line) ≡ q → Does config (line_command line) w p next →
+last_by : (config : Config) (q : Bool) (line : List ℕ) (w next : World) (p : List TraceEntry) →
+    is_quit (line_command line) ≡ q → Performs config (line_command line) w p next →
     Session config (cond q [] (line ∷ [])) w p next
 last_by config false line w next p is h = line_done config line w next p h
 last_by config true line w next p is h = quit_idle config (line_command line) w next p is h
 
-last_done : (config : Config) (kept left : List ℕ) (w next : World) (p : List Did) → kept ≡ take 8 left →
+last_done : (config : Config) (kept left : List ℕ) (w next : World) (p : List TraceEntry) → kept ≡ take 8 left →
     Finished config kept w p next → Session config (before_quit (lines_after true left [])) w p next
 last_done config [] [] w next p is h = subst (λ (l : List (List ℕ)). Session config l w p next) (sym no_line) h
 last_done config [] (x ∷ xs) w next p is h = absurd (omega (arith, ap length is, length-take 8 (x ∷ xs)))
@@ -304,7 +304,7 @@ last_done config (b ∷ bs) (x ∷ xs) w next p is h =
     ap before_quit (last_line x xs) ∙ first_line quit line [] refl ∙
     ap (λ (l : List (List ℕ)). cond quit [] (line ∷ l)) no_more in
     subst (λ (l : List (List ℕ)). Session config l w p next) (sym lines)
-    (last_by config quit line w next p refl (subst (λ (d : LineCommand). Does config d w p next) same h))
+    (last_by config quit line w next p refl (subst (λ (d : LineCommand). Performs config d w p next) same h))
 
 last_prints : (form : Form) (kept left : List ℕ) (lines : List (List ℕ)) → kept ≡ take 8 left →
     (0 < length kept) × (prints form (line_command kept) ≡ true) →
@@ -315,7 +315,7 @@ last_prints form kept left lines is some =
 
 -- the input has ended
 ends_at_end : (form : Form) (config : Config) (i j k : Option (List ℕ)) (kept : List ℕ)
-    (r : Result (Unit {0}) RunFault) (w mid next : World) (p q : List Did) → Keeps j k →
+    (r : Result (Unit {0}) RunFault) (w mid next : World) (p q : List TraceEntry) → Keeps j k →
     ((text : List ℕ) (lines : List (List ℕ)) (left : List ℕ) → kept ≡ take 8 left →
     Exits form r true text (lines ++ before_quit (lines_after true left [])) [] k) →
     Read form config i j kept (Ok false) w p mid → Finished config kept mid q next →
@@ -358,8 +358,8 @@ takes_end_fault config i j k kept old mid core x y z first end before after last
     let form = x.printer.form in
     takes_joined old mid core x y z (Read form config i j kept (Ok false)) (Finished config kept)
     (RanLines form config i k (failed_by faults.Write)) first last
-    (λ w m next p q told more h l.
-    let some = subst (λ (f : Form). output_of f q ≢ []) told.prints.form (some_printed y z q before after more) in
+    (λ w m next p q logged more h l.
+    let some = subst (λ (f : Form). output_of f q ≢ []) logged.prints.form (some_printed y z q before after more) in
     ends_at_end form config i j k kept (failed_by faults.Write) w m next p q end.0
     (λ text lines left is. inr (last_prints form kept left lines is (finished_prints form config kept m next q l some)))
     h l)
@@ -428,7 +428,7 @@ serves_nothing config title i x held fault opens printed exits = record {
   trace = [];
   last = start_of config;
   opens = opens;
-  tells = told_none x;
+  logs = told_none x;
   printed = printed;
   ran = idle_lines (form_of title) config i fault exits;
   counts = tt;
@@ -482,21 +482,21 @@ not_opened config title i x a b held now opened failed =
       trace = [];
       last = start_of config;
       opens = refl;
-      tells = told_none x;
+      logs = told_none x;
       printed = front_put a.has_failed b.has_failed (output_of (form_of title) (opening title ++ [])) held now
           (ap (λ (v : PrinterView). v.has_failed) view) failed
-          (subst (λ (l : List Did). Puts a.has_failed b.has_failed (output_of (form_of title) l) held now)
+          (subst (λ (l : List TraceEntry). Puts a.has_failed b.has_failed (output_of (form_of title) l) held now)
           (sym (append-nil (opening title))) put);
       ran = idle_lines (form_of title) config i faults.Write (inl refl);
       counts = tt;
     }
 
 -- what was printed in all
-all_printed : (title : Option (List ℕ)) (a : PrinterView) (held : Option (List ℕ)) (x z : Outside) (p : List Did) →
-    Opened title a x.printer held x.written → TellsTrace x z p →
+all_printed : (title : Option (List ℕ)) (a : PrinterView) (held : Option (List ℕ)) (x z : Outside) (p : List TraceEntry) →
+    Opened title a x.printer held x.written → LogsTrace x z p →
     Puts false z.printer.has_failed (output_of (form_of title) (opening title ++ p)) held z.written
-all_printed title a held x z p opened told =
-    let both = prints_both a x.printer z.printer held x.written z.written (opening title) p opened.1 told.prints in
+all_printed title a held x z p opened logged =
+    let both = prints_both a x.printer z.printer held x.written z.written (opening title) p opened.1 logged.prints in
     subst (λ (v : PrinterView). Puts v.has_failed z.printer.has_failed (output_of v.form (opening title ++ p)) held
     z.written) opened.0 both.puts
 
@@ -504,7 +504,7 @@ opened_form : (title : Option (List ℕ)) (a b : PrinterView) (held now : Option
     b.form ≡ form_of title
 opened_form title a b held now opened = opened.1.form ∙ ap (λ (v : PrinterView). v.form) opened.0
 
-ran_ok : (counts : Counts) (form : Form) (config : Config) (i k : Option (List ℕ)) (w next : World) (p : List Did) →
+ran_ok : (counts : Counts) (form : Form) (config : Config) (i k : Option (List ℕ)) (w next : World) (p : List TraceEntry) →
     RanLines form config i k done w p next → RanLines {T = Counts} form config i k (Ok counts) w p next
 ran_ok counts form config i k w next p h = record {
   text = h.text;
@@ -517,7 +517,7 @@ ran_ok counts form config i k w next p h = record {
   exits = h.exits;
 }
 
-ran_err : (form : Form) (fault : RunFault) (config : Config) (i k : Option (List ℕ)) (w next : World) (p : List Did) →
+ran_err : (form : Form) (fault : RunFault) (config : Config) (i k : Option (List ℕ)) (w next : World) (p : List TraceEntry) →
     ((text : List ℕ) (ended : Bool) (lines others : List (List ℕ)) →
     Exits form (failed_by fault) ended text lines others k → Exits form (ended_by fault) ended text lines others k) →
     RanLines form config i k (failed_by fault) w p next → RanLines form config i k (ended_by fault) w p next
@@ -539,16 +539,16 @@ pub served_ok : (counts : Counts) (config : Config) (title i k : Option (List �
     ((w : World) → StandsFor core w → record counts { lines = 0; sent = 0; failed = 0 } ≡ counts_of w.tally) →
     ServedSession config title i k x.calls z.calls held z.written (Ok counts)
 served_ok counts config title i k old core a held x z stands opened ends h counted =
-    let (p, next, told, ran, after) = h (start_of config) stands in
+    let (p, next, logged, ran, after) = h (start_of config) stands in
     let form = opened_form title a x.printer held x.written opened in
     record {
       first = opening title;
       trace = p;
       last = next;
       opens = refl;
-      tells = told.told;
+      logs = logged.logged;
       printed = all_put false z.printer.has_failed (output_of (form_of title) (opening title ++ p)) held z.written refl
-          ends (all_printed title a held x z p opened told);
+          ends (all_printed title a held x z p opened logged);
       ran = ran_ok counts (form_of title) config i k (start_of config) next p
           (subst (λ (f : Form). RanLines f config i k done (start_of config) p next) form ran);
       counts = counted next after;
@@ -566,15 +566,15 @@ served_fault : (fault : RunFault) (config : Config) (title i k : Option (List �
     LeadsByTrace old core x z (RanLines x.printer.form config i k (failed_by fault)) →
     ServedSession config title i k x.calls z.calls held z.written (ended_by fault)
 served_fault fault config title i k old core a held x z stands opened opens output exits h =
-    let (p, next, told, ran, after) = h (start_of config) stands in
+    let (p, next, logged, ran, after) = h (start_of config) stands in
     let form = opened_form title a x.printer held x.written opened in
     record {
       first = opening title;
       trace = p;
       last = next;
       opens = opens;
-      tells = told.told;
-      printed = output (output_of (form_of title) (opening title ++ p)) (all_printed title a held x z p opened told);
+      logs = logged.logged;
+      printed = output (output_of (form_of title) (opening title ++ p)) (all_printed title a held x z p opened logged);
       ran = ran_err (form_of title) fault config i k (start_of config) next p exits
           (subst (λ (f : Form). RanLines f config i k (failed_by fault) (start_of config) p next) form ran);
       counts = tt;

@@ -11,13 +11,13 @@ use Rattle.mg_core.specs.World.{World}
 use Rattle.mg_core.specs.Step.{Sent, Reply, Packet, Run}
 use Rattle.mg_ports.specs.declared.call.Call.{Call}
 use Rattle.mg_ports.specs.declared.call.Call.TheVariants.{Receive}
-use Rattle.mg_ports.specs.declared.receipt.Receipt.TheVariants.{Came, Nothing, Failed}
+use Rattle.mg_ports.specs.declared.receipt.Receipt.TheVariants.{Delivered, Nothing, Failed}
 use Rattle.mg_serve.specs.declared.command.LineCommand.{LineCommand}
 use Rattle.mg_serve.specs.declared.command.LineCommand.TheVariants.{Poll, Tick, Stats, Quit, Unknown}
 use Rattle.mg_serve.specs.Theorems.{SendsAreARun, is_send}
 use Rattle.mg_serve.specs.Lines.{line_command}
-use Rattle.mg_serve.specs.Session.{Each, Comes, Does, EndsTurn, Happens, Session, SlotTurn, event_at, send_of, sends_of}
-use Rattle.mg_serve.specs.Trace.{Did, Called, Happened, Printed, Noted, calls_of, events_of_trace}
+use Rattle.mg_serve.specs.Session.{Each, ReceivesDatagram, Performs, EndsTurn, HandlesEvent, Session, SlotTurn, event_at, send_of, sends_of}
+use Rattle.mg_serve.specs.Trace.{TraceEntry, Called, Happened, Printed, Noted, calls_of, events_of_trace}
 use Rattle.mg_serve.proofs.Printing.{calls_both}
 
 run_both : (w mid next : World) (es fs : List Event) (s t : List Sent) → Run w es s mid → Run mid fs t next →
@@ -33,7 +33,7 @@ run_both w mid next (e ∷ es) fs s t h k = (
   ap (λ (l : List Sent). l ++ t) h.5 ∙ append_assoc h.0 h.1 t,
 )
 
-pub events_both : (p q : List Did) → events_of_trace (p ++ q) ≡ events_of_trace p ++ events_of_trace q
+pub events_both : (p q : List TraceEntry) → events_of_trace (p ++ q) ≡ events_of_trace p ++ events_of_trace q
 events_both [] q = refl
 events_both (Called call ∷ p) q = events_both p q
 events_both (Happened event ∷ p) q = ap (λ (l : List Event). event ∷ l) (events_both p q)
@@ -42,7 +42,7 @@ events_both (Noted text ∷ p) q = events_both p q
 
 -- ## Parts of a session
 
-ran_both : (config : Config) (w mid next : World) (p q : List Did) → SendsAreARun config w p mid →
+ran_both : (config : Config) (w mid next : World) (p q : List TraceEntry) → SendsAreARun config w p mid →
     SendsAreARun config mid q next → SendsAreARun config w (p ++ q) next
 ran_both config w mid next p q h k = record {
   sent = h.sent ++ k.sent;
@@ -54,7 +54,7 @@ ran_both config w mid next p q h k = record {
       sym (map-append (send_of config) h.sent k.sent);
 }
 
-no_run : (config : Config) (w next : World) (p : List Did) → events_of_trace p ≡ [] → filter is_send (calls_of p) ≡ [] →
+no_run : (config : Config) (w next : World) (p : List TraceEntry) → events_of_trace p ≡ [] → filter is_send (calls_of p) ≡ [] →
     next ≡ w → SendsAreARun config w p next
 no_run config w next p none sends same = record {
   sent = [];
@@ -62,13 +62,13 @@ no_run config w next p none sends same = record {
   sends = sends;
 }
 
-ran_as : (config : Config) (w next : World) (p q : List Did) → p ≡ q → SendsAreARun config w q next →
+ran_as : (config : Config) (w next : World) (p q : List TraceEntry) → p ≡ q → SendsAreARun config w q next →
     SendsAreARun config w p next
-ran_as config w next p q is h = subst (λ (l : List Did). SendsAreARun config w l next) (sym is) h
+ran_as config w next p q is h = subst (λ (l : List TraceEntry). SendsAreARun config w l next) (sym is) h
 
-each_ran : {A : Type 0} (config : Config) (R : A → World → List Did → World → Type 0) →
-    ((x : A) (w next : World) (p : List Did) → R x w p next → SendsAreARun config w p next) →
-    (xs : List A) (w next : World) (p : List Did) → Each R xs w p next → SendsAreARun config w p next
+each_ran : {A : Type 0} (config : Config) (R : A → World → List TraceEntry → World → Type 0) →
+    ((x : A) (w next : World) (p : List TraceEntry) → R x w p next → SendsAreARun config w p next) →
+    (xs : List A) (w next : World) (p : List TraceEntry) → Each R xs w p next → SendsAreARun config w p next
 each_ran config R step [] w next p h = ran_as config w next p [] h.0 (no_run config w next [] refl refl h.1)
 each_ran config R step (x ∷ xs) w next p h = ran_as config w next p (h.0 ++ h.1) h.3
     (ran_both config w h.2 next h.0 h.1 (step x w h.2 h.0 h.4) (each_ran config R step xs h.2 next h.1 h.5))
@@ -87,7 +87,7 @@ all_sends config (Reply to text ∷ sent) =
 all_sends config (Packet packet ∷ sent) =
     ap (λ (l : List Call). send_of config (Packet packet) ∷ l) (all_sends config sent)
 
-event_ran : (config : Config) (event : Event) (w next : World) (p : List Did) → Happens config event w p next →
+event_ran : (config : Config) (event : Event) (w next : World) (p : List TraceEntry) → HandlesEvent config event w p next →
     SendsAreARun config w p next
 event_ran config event w next p (sent, step, is) = ran_as config w next p (Happened event ∷ sends_of config sent) is
     (record {
@@ -99,21 +99,21 @@ event_ran config event w next p (sent, step, is) = ran_as config w next p (Happe
 
 -- ## A poll
 
-comes_ran : (config : Config) (slot : ℕ) (datagram : Peer × List ℕ) (w next : World) (p : List Did) →
-    Comes config slot datagram w p next → SendsAreARun config w p next
+comes_ran : (config : Config) (slot : ℕ) (datagram : Peer × List ℕ) (w next : World) (p : List TraceEntry) →
+    ReceivesDatagram config slot datagram w p next → SendsAreARun config w p next
 comes_ran config slot datagram w next p (others, fits, is, inl h) =
-    let receive = Called (Receive slot (Came datagram.0 datagram.1)) in
+    let receive = Called (Receive slot (Delivered datagram.0 datagram.1)) in
     ran_as config w next p (receive ∷ others) is
     (ran_both config w w next (receive ∷ []) others (no_run config w w (receive ∷ []) refl refl refl)
     (event_ran config (event_at config slot datagram.0 datagram.1) w next others h))
 comes_ran config slot datagram w next p (others, fits, is, inr h) =
-    let receive = Called (Receive slot (Came datagram.0 datagram.1)) in
+    let receive = Called (Receive slot (Delivered datagram.0 datagram.1)) in
     let noted = Noted (codes "no memory for a control datagram") in
     ran_as config w next p (receive ∷ noted ∷ [])
-    (is ∙ ap (λ (l : List Did). receive ∷ l) h.1)
+    (is ∙ ap (λ (l : List TraceEntry). receive ∷ l) h.1)
     (no_run config w next (receive ∷ noted ∷ []) refl refl h.2)
 
-ends_ran : (config : Config) (slot n : ℕ) (w : World) (p : List Did) → EndsTurn slot n p → SendsAreARun config w p w
+ends_ran : (config : Config) (slot n : ℕ) (w : World) (p : List TraceEntry) → EndsTurn slot n p → SendsAreARun config w p w
 ends_ran config slot n w p (inl h) = ran_as config w w p [] h.1 (no_run config w w [] refl refl refl)
 ends_ran config slot n w p (inr (few, inl is)) =
     let receive = Called (Receive slot Nothing) in
@@ -122,16 +122,16 @@ ends_ran config slot n w p (inr (few, inr is)) =
     let receive = Called (Receive slot Failed) in
     ran_as config w w p (receive ∷ []) is (no_run config w w (receive ∷ []) refl refl refl)
 
-turn_ran : (config : Config) (slot : ℕ) (w next : World) (p : List Did) → SlotTurn config slot w p next →
+turn_ran : (config : Config) (slot : ℕ) (w next : World) (p : List TraceEntry) → SlotTurn config slot w p next →
     SendsAreARun config w p next
 turn_ran config slot w next p h = ran_as config w next p (h.received ++ h.last) h.parts
     (ran_both config w next next h.received h.last
-    (each_ran config (Comes config slot) (comes_ran config slot) h.datagrams w next h.received h.come)
+    (each_ran config (ReceivesDatagram config slot) (comes_ran config slot) h.datagrams w next h.received h.arrivals)
     (ends_ran config slot (length h.datagrams) next h.last h.ends))
 
 -- ## Lines
 
-does_ran : (config : Config) (command : LineCommand) (w next : World) (p : List Did) → Does config command w p next →
+does_ran : (config : Config) (command : LineCommand) (w next : World) (p : List TraceEntry) → Performs config command w p next →
     SendsAreARun config w p next
 does_ran config Poll w next p h =
     each_ran config (SlotTurn config) (turn_ran config) (range_with_len 0 (config.slots + 1)) w next p h
@@ -143,8 +143,8 @@ does_ran config Unknown w next p h =
     let printed = Printed (codes "unknown command") in
     ran_as config w next p (printed ∷ []) h.0 (no_run config w next (printed ∷ []) refl refl h.1)
 
-pub session_run : (config : Config) (lines : List (List ℕ)) (w next : World) (p : List Did) →
+pub session_run : (config : Config) (lines : List (List ℕ)) (w next : World) (p : List TraceEntry) →
     Session config lines w p next → SendsAreARun config w p next
 session_run config lines w next p h =
-    each_ran config (λ (line : List ℕ). Does config (line_command line))
+    each_ran config (λ (line : List ℕ). Performs config (line_command line))
     (λ line. does_ran config (line_command line)) lines w next p h

@@ -10,12 +10,12 @@ use Rattle.mg_core.specs.World.{World, counts_of, start_of}
 use Rattle.mg_lines.specs.Lines.{lines_of}
 use Rattle.mg_lines.specs.Streams.{WritesFront}
 use Rattle.mg_ports.specs.declared.call.Call.{Call}
-use Rattle.mg_ports.specs.Calls.{Told}
+use Rattle.mg_ports.specs.Calls.{Logged}
 use Rattle.mg_serve.specs.declared.form.Form.{Form}
 use Rattle.mg_serve.specs.declared.form.Form.TheVariants.{Plain, Recording}
 use Rattle.mg_serve.specs.Lines.{LastPrints, before_quit}
 use Rattle.mg_serve.specs.Session.{Session}
-use Rattle.mg_serve.specs.Trace.{Did, Printed, Noted, calls_of, output_of}
+use Rattle.mg_serve.specs.Trace.{TraceEntry, Printed, Noted, calls_of, output_of}
 
 -- Why no line more was done. Of the text that was read these lines count and were done; the others
 -- count and were not.
@@ -38,7 +38,7 @@ Exits form (Err (faults.Script number)) ended text lines others left = ⊥
 -- A text was read. The lines of it that count, those before the first `quit`, or the first of them
 -- where a print failed, were done in the world w: they and the trace are a session.
 pub record RanLines {T : Type 0} (form : Form) (config : Config) (old new : Option (List ℕ))
-    (result : Result T RunFault) (w : World) (trace : List Did) (next : World) : Type 0 where
+    (result : Result T RunFault) (w : World) (trace : List TraceEntry) (next : World) : Type 0 where
   pub text : List ℕ
   pub ended : Bool
   pub lines : List (List ℕ)
@@ -59,12 +59,12 @@ form_of None = Plain
 form_of (Some title) = Recording
 
 -- what is printed at the start
-abbrev pub opening : Option (List ℕ) → List Did
+abbrev pub opening : Option (List ℕ) → List TraceEntry
 opening None = Printed (codes "ready") ∷ []
 opening (Some title) = Noted title ∷ Printed (codes "ready") ∷ []
 
 -- a start that failed prints nothing
-abbrev pub Opens : Option (List ℕ) → Result Counts RunFault → List Did → Type 0
+abbrev pub Opens : Option (List ℕ) → Result Counts RunFault → List TraceEntry → Type 0
 Opens title (Ok counts) first = first ≡ opening title
 Opens title (Err faults.Read) first = first ≡ opening title
 Opens title (Err faults.Write) first = first ≡ opening title
@@ -80,13 +80,13 @@ IsOutput _ text old new = Appends old new text
 -- A run on a new gateway: the ports told the calls of its session, and the lines for it were
 -- printed.
 pub record ServedSession (config : Config) (title : Option (List ℕ)) (old new : Option (List ℕ))
-    (before told : Option (List Call)) (held written : Option (List ℕ))
+    (before logged : Option (List Call)) (held written : Option (List ℕ))
     (result : Result Counts RunFault) : Type 0 where
-  pub first : List Did
-  pub trace : List Did
+  pub first : List TraceEntry
+  pub trace : List TraceEntry
   pub last : World
   pub opens : Opens title result first
-  pub tells : Told before told (calls_of trace)
+  pub logs : Logged before logged (calls_of trace)
   pub printed : IsOutput result (output_of (form_of title) (first ++ trace)) held written
   pub ran : RanLines (form_of title) config old new result (start_of config) trace last
   pub counts : AreCounted result last

@@ -10,18 +10,18 @@ use Rattle.mg_serve.specs.declared.form.Form.TheVariants.{Plain, Recording}
 
 -- It calls its ports, an event happens, it prints a text for whoever drives it, or it notes one
 -- that a recording alone has.
-pub data Did : Type 0 where
-  Called : (call : Call) → Did
-  Happened : (event : Event) → Did
-  Printed : (text : List ℕ) → Did
-  Noted : (text : List ℕ) → Did
+pub data TraceEntry : Type 0 where
+  Called : (call : Call) → TraceEntry
+  Happened : (event : Event) → TraceEntry
+  Printed : (text : List ℕ) → TraceEntry
+  Noted : (text : List ℕ) → TraceEntry
 
-abbrev pub calls_of : List Did → List Call
+abbrev pub calls_of : List TraceEntry → List Call
 calls_of [] = []
 calls_of (Called call ∷ trace) = call ∷ calls_of trace
 calls_of (_ ∷ trace) = calls_of trace
 
-abbrev pub events_of_trace : List Did → List Event
+abbrev pub events_of_trace : List TraceEntry → List Event
 events_of_trace [] = []
 events_of_trace (Happened event ∷ trace) = event ∷ events_of_trace trace
 events_of_trace (_ ∷ trace) = events_of_trace trace
@@ -32,7 +32,7 @@ one_line text = take 1000 (filter (λ b. not (b == 10)) text)
 
 -- What is printed: for whoever drives the gateway, the texts for him; and of a recording, a line of
 -- a script for each event, and comments.
-abbrev pub printed_text : Form → Did → List ℕ
+abbrev pub printed_text : Form → TraceEntry → List ℕ
 printed_text Plain (Printed text) = one_line text ++ codes "\n"
 printed_text Plain _ = []
 printed_text Recording (Called call) = []
@@ -40,5 +40,5 @@ printed_text Recording (Happened event) = event_line event
 printed_text Recording (Printed text) = entry_line (entry.Noted (one_line text))
 printed_text Recording (Noted text) = entry_line (entry.Noted (one_line text))
 
-abbrev pub output_of : Form → List Did → List ℕ
+abbrev pub output_of : Form → List TraceEntry → List ℕ
 output_of form trace = flat_map (printed_text form) trace

@@ -4,7 +4,7 @@ ghost use Rattle.mg_engine.specs.Config.{IsValidConfig};
 ghost use Rattle.mg_core.specs.World.{StandsFor, start_of};
 ghost use Rattle.mg_lines.specs.Lines.{without_return};
 ghost use Rattle.mg_serve.specs.Lines.{line_command, is_quit};
-ghost use Rattle.mg_serve.specs.Session.{Does};
+ghost use Rattle.mg_serve.specs.Session.{Performs};
 ghost use Rattle.mg_serve.specs.Serve.{RanLines, opening};
 ghost use Rattle.mg_serve.specs.aids.Driving.{BytesTaken, EndsBy, Finished};
 ghost use Rattle.mg_serve.specs.aids.Printing.{Prints};
@@ -24,7 +24,7 @@ use std::io::{Read, Write};
 #[derive(Drop)]
 pub struct LineDriver<'a, E: Write> {
     pub server: Server<'a, E>,
-    pub begun: Line,
+    pub partial: Line,
 }
 
 impl<'a, E: Write> LineDriver<'a, E> {
@@ -41,11 +41,11 @@ impl<'a, E: Write> LineDriver<'a, E> {
         ensures start { IfOk result (λ driver. StandsFor driver.server.core.state (start_of config)) }
         ensures printer { IfOk result (λ driver.
             driver.server.printer ≡ record { form = form; has_failed = false }) }
-        ensures begun { IfOk result (λ driver. driver.begun ≡ []) }
+        ensures partial { IfOk result (λ driver. driver.partial ≡ []) }
     {
         Ok(LineDriver {
             server: Server::new(alloc, config, form, seconds, reports)?,
-            begun: Line::new(),
+            partial: Line::new(),
         })
     }
 
@@ -57,7 +57,7 @@ impl<'a, E: Write> LineDriver<'a, E> {
     ) -> Result<(), WriteFailed>
         requires whole { self.old.server.printer.has_failed ≡ false }
         ensures core { self.new.server.core ≡ self.old.server.core }
-        ensures begun { self.new.begun ≡ self.old.begun }
+        ensures partial { self.new.partial ≡ self.old.partial }
         ensures whole { OnOk result (self.new.server.printer.has_failed ≡ false) }
         ensures failed { OnErr result (self.new.server.printer.has_failed ≡ true) }
         ensures printed { Prints self.old.server.printer self.new.server.printer (W.contents writer.old)
@@ -82,20 +82,20 @@ impl<'a, E: Write> LineDriver<'a, E> {
         requires sound { IsValidConfig config }
         requires room { length buffer.old ≤ 65535 }
         requires whole { self.old.server.printer.has_failed ≡ false }
-        ensures begun { OnOk result (self.new.begun ≡ []) }
-        ensures quit { IfOk result (λ quit. quit ≡ is_quit (line_command (without_return self.old.begun))) }
+        ensures partial { OnOk result (self.new.partial ≡ []) }
+        ensures quit { IfOk result (λ quit. quit ≡ is_quit (line_command (without_return self.old.partial))) }
         ensures whole { OnOk result (self.new.server.printer.has_failed ≡ false) }
         ensures failed { IfErr result (λ failed. self.new.server.printer.has_failed ≡ true) }
         ensures value { LeadsByTrace self.old.server.core.state self.new.server.core.state
             (outside (P.calls ports.old) (W.contents writer.old) self.old.server.printer)
             (outside (P.calls ports.new) (W.contents writer.new) self.new.server.printer)
-            (Does config (line_command (without_return self.old.begun))) }
+            (Performs config (line_command (without_return self.old.partial))) }
     {
-        let command = LineCommand::of(without_return(self.begun.as_slice()));
+        let command = LineCommand::of(without_return(self.partial.as_slice()));
         let quit = self
             .server
             .take_command(alloc, config, ports, buffer, command, writer)?;
-        self.begun.clear();
+        self.partial.clear();
         Ok(quit)
     }
 
@@ -114,15 +114,15 @@ impl<'a, E: Write> LineDriver<'a, E> {
         requires whole { self.old.server.printer.has_failed ≡ false }
         ensures whole { OnOk result (self.new.server.printer.has_failed ≡ false) }
         ensures failed { IfErr result (λ failed. self.new.server.printer.has_failed ≡ true) }
-        ensures value { (begun : List ℕ) → self.old.begun ≡ take 8 begun
+        ensures value { (partial : List ℕ) → self.old.partial ≡ take 8 partial
             → LeadsByTrace self.old.server.core.state self.new.server.core.state
             (outside (P.calls ports.old) (W.contents writer.old) self.old.server.printer)
             (outside (P.calls ports.new) (W.contents writer.new) self.new.server.printer)
-            (BytesTaken self.old.server.printer.form config begun bytes.now self.new.begun result) }
+            (BytesTaken self.old.server.printer.form config partial bytes.now self.new.partial result) }
     {
         for b in bytes {
             if *b != b'\n' {
-                self.begun.push(*b);
+                self.partial.push(*b);
                 continue;
             }
             if self.end_line(alloc, config, ports, buffer, writer)? {
@@ -147,11 +147,11 @@ impl<'a, E: Write> LineDriver<'a, E> {
         ensures value { LeadsByTrace self.old.server.core.state self.new.server.core.state
             (outside (P.calls ports.old) (W.contents writer.old) self.old.server.printer)
             (outside (P.calls ports.new) (W.contents writer.new) self.new.server.printer)
-            (Finished config self.old.begun) }
+            (Finished config self.old.partial) }
         ensures whole { OnOk result (self.new.server.printer.has_failed ≡ false) }
         ensures failed { IfErr result (λ failed. self.new.server.printer.has_failed ≡ true) }
     {
-        let line = self.begun.as_slice();
+        let line = self.partial.as_slice();
         if line.is_empty() {
             return Ok(());
         }
@@ -174,7 +174,7 @@ impl<'a, E: Write> LineDriver<'a, E> {
         requires sound { IsValidConfig config }
         requires room { length buffer.old ≤ 65535 }
         requires whole { self.old.server.printer.has_failed ≡ false }
-        requires begun { self.old.begun ≡ [] }
+        requires partial { self.old.partial ≡ [] }
         ensures ends { EndsBy result self.new.server.printer.has_failed }
         ensures started { result ≢ Err RunFault.BadConfig }
         ensures value { LeadsByTrace self.old.server.core.state self.new.server.core.state

@@ -41,7 +41,7 @@ impl PortCounts {
     }
 
     /// Whether what came would be heard badly: packets were dropped, came late, early or twice, or began anew.
-    pub fn have_trouble(&self) -> bool {
+    pub fn has_trouble(&self) -> bool {
         let [started, _, pushed, again, late] = self.counts.placed;
         started > 1 || pushed > 0 || again > 0 || late > 0 || self.counts.dropped != [0; 6]
     }

@@ -57,7 +57,7 @@ impl<'a, E: Write> Reports<'a, E> {
         };
         let held = core.rooms().held(slot);
         let silent = port.silent_ticks(expected(held), ticks);
-        if port.have_trouble() || silent >= self.every {
+        if port.has_trouble() || silent >= self.every {
             print_port(
                 config.base_port.wrapping_add(2 * u16::from(slot)),
                 held.map_or(0, |record| record.number),

@@ -5,11 +5,11 @@ ghost use Rattle.mg_core.specs.Step.{Packet, Step};
 ghost use Rattle.mg_core.specs.World.{World, StandsFor, counts_of, start_of};
 ghost use Rattle.mg_words.specs.Leads.{Leads};
 ghost use Rattle.mg_ports.specs.declared.call.Call.TheVariants.{Send};
-ghost use Rattle.mg_ports.specs.Calls.{Told};
+ghost use Rattle.mg_ports.specs.Calls.{Logged};
 ghost use Rattle.mg_serve.specs.Lines.{is_quit};
 ghost use Rattle.mg_core.specs.Peer.{peer};
 ghost use Rattle.mg_core.specs.Recording.{IsDatagram};
-ghost use Rattle.mg_serve.specs.Session.{Does, Happens, IsNoEvent, SlotTurn, event_at, send_of};
+ghost use Rattle.mg_serve.specs.Session.{Performs, HandlesEvent, LacksMemory, SlotTurn, event_at, send_of};
 ghost use Rattle.mg_serve.specs.Trace.{Called, Happened};
 ghost use Rattle.mg_serve.specs.aids.Driving.{Received};
 ghost use Rattle.mg_serve.specs.aids.Printing.{Prints};
@@ -45,7 +45,7 @@ pub struct Server<'a, E: Write> {
 
 /// Sends a datagram, and counts it if that succeeds.
 fn send<P: Ports>(ports: &mut P, slot: usize, to: Peer, bytes: &[u8], sent: &mut u64)
-    ensures told { Told (P.calls ports.old) (P.calls ports.new) (Send slot to bytes.now ∷ []) }
+    ensures logged { Logged (P.calls ports.old) (P.calls ports.new) (Send slot to bytes.now ∷ []) }
 {
     if ports.send(slot, to, bytes).is_ok() {
         *sent = sent.saturating_add(1);
@@ -61,7 +61,7 @@ fn slot_of(config: Config, packet: &Datagram) -> usize
 
 /// Sends packets in order. One whose send fails is lost alone.
 fn send_packets<P: Ports>(ports: &mut P, config: Config, packets: &[Datagram], sent: &mut u64)
-    ensures told { Told (P.calls ports.old) (P.calls ports.new)
+    ensures logged { Logged (P.calls ports.old) (P.calls ports.new)
         (map (λ packet. send_of config (Packet packet)) packets.now) }
 {
     for packet in packets {
@@ -146,7 +146,7 @@ impl<'a, E: Write> Server<'a, E> {
             (outside (P.calls ports.old) (W.contents writer.old) self.old.printer)
             (outside (P.calls ports.new) (W.contents writer.new) self.new.printer)
             (λ w trace next.
-            Happens config (events.Control source bytes.now) w trace next ⊎ IsNoEvent 0 w trace next) }
+            HandlesEvent config (events.Control source bytes.now) w trace next ⊎ LacksMemory 0 w trace next) }
     {
         let Ok(answer) = self.core.control(alloc, source, bytes) else {
             self.printer
@@ -258,7 +258,7 @@ impl<'a, E: Write> Server<'a, E> {
         ensures value { LeadsByTrace self.old.core.state self.new.core.state
             (outside (P.calls ports.old) (W.contents writer.old) self.old.printer)
             (outside (P.calls ports.new) (W.contents writer.new) self.new.printer)
-            (Does config LineCommand.Poll) }
+            (Performs config LineCommand.Poll) }
     {
         for slot in 0..=config.slots {
             self.turn(alloc, config, ports, slot, buffer, writer);
@@ -270,7 +270,7 @@ impl<'a, E: Write> Server<'a, E> {
         ensures value { LeadsByTrace self.old.core.state self.new.core.state
             (outside (P.calls ports.old) (W.contents writer.old) self.old.printer)
             (outside (P.calls ports.new) (W.contents writer.new) self.new.printer)
-            (Does config LineCommand.Tick) }
+            (Performs config LineCommand.Tick) }
     {
         self.core.tick();
         self.printer.tick(writer);
@@ -304,7 +304,7 @@ impl<'a, E: Write> Server<'a, E> {
     }
 
     /// Does what a line asks for.
-    fn obey<P: Ports, W: Write>(
+    fn execute<P: Ports, W: Write>(
         &mut self,
         alloc: Global,
         config: Config,
@@ -318,7 +318,7 @@ impl<'a, E: Write> Server<'a, E> {
         ensures value { LeadsByTrace self.old.core.state self.new.core.state
             (outside (P.calls ports.old) (W.contents writer.old) self.old.printer)
             (outside (P.calls ports.new) (W.contents writer.new) self.new.printer)
-            (Does config command) }
+            (Performs config command) }
     {
         match command {
             LineCommand::Poll => self.poll(alloc, config, ports, buffer, writer),
@@ -350,10 +350,10 @@ impl<'a, E: Write> Server<'a, E> {
         ensures value { LeadsByTrace self.old.core.state self.new.core.state
             (outside (P.calls ports.old) (W.contents writer.old) self.old.printer)
             (outside (P.calls ports.new) (W.contents writer.new) self.new.printer)
-            (Does config command) }
+            (Performs config command) }
     {
         self.lines = self.lines.saturating_add(1);
-        self.obey(alloc, config, ports, buffer, command, writer);
+        self.execute(alloc, config, ports, buffer, command, writer);
         if self.printer.has_failed() {
             return Err(WriteFailed);
         }

@@ -66,7 +66,7 @@ fn drive<P: Ports, R: Read, W: Write, E: Write>(
     requires start { StandsFor driver.old.server.core.state (start_of config) }
     requires printer { driver.old.server.printer ≡
         record { form = form_of (option_map (λ text. text.now) title); has_failed = false } }
-    requires begun { driver.old.begun ≡ [] }
+    requires partial { driver.old.partial ≡ [] }
     ensures session { ServedSession config (option_map (λ text. text.now) title.entry) (R.remaining reader.old)
         (R.remaining reader.new) (P.calls ports.old) (P.calls ports.new) (W.contents writer.old)
         (W.contents writer.new) result }

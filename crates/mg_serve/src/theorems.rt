@@ -16,5 +16,5 @@ pub fn recordings_are_the_session()
     ensures replay { ReplaysAreTheSession }
 {
     mg_core::theorems::recordings_are_read();
-    mg_core::theorems::outcomes_are_one();
+    mg_core::theorems::outcomes_are_unique();
 }

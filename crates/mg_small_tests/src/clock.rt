@@ -78,7 +78,7 @@ fn gives_a_line_in_parts(rt: HostRuntime) {
 }
 
 #[test]
-fn tells_what_is_due(rt: HostRuntime) {
+fn reports_what_is_due(rt: HostRuntime) {
     assert_eq!(rt; steps_due(3, 6_666_666), 0);
     assert_eq!(rt; steps_due(3, 6_666_667), 1);
     assert_eq!(rt; steps_due(1000, u64::MAX), 922_337_203_685_477);
@@ -98,7 +98,7 @@ fn is_late_after_the_ticks_that_are_allowed(rt: HostRuntime) {
 fn waits_by_the_system_clock(rt: HostRuntime) -> Result<(), Fail> {
     let ticks = Cell::new(0);
     let begun = Instant::now(&rt)?;
-    let watch = SystemWatch::begun(&rt)?;
+    let watch = SystemWatch::start_now(&rt)?;
     let mut other = watch.again();
     let mut lines = ClockLines::new(watch, &ticks, 1);
     let mut buffer = [0; 16];

@@ -32,7 +32,7 @@ fn keep_all(rt: &impl Abort, kept: &mut Kept, first: u8, last: u8) {
 }
 
 #[test]
-fn oldest_alone_makes_room(rt: HostRuntime) -> Result<(), Fail> {
+fn only_oldest_is_dropped(rt: HostRuntime) -> Result<(), Fail> {
     let mut kept = Kept::new(rt.alloc())?;
     keep_all(&rt, &mut kept, 1, 32);
     assert!(rt; is_kept(&kept, LOWER, 1, &[1]));
@@ -44,7 +44,7 @@ fn oldest_alone_makes_room(rt: HostRuntime) -> Result<(), Fail> {
 }
 
 #[test]
-fn names_of_any_case_are_one(rt: HostRuntime) -> Result<(), Fail> {
+fn names_ignore_case(rt: HostRuntime) -> Result<(), Fail> {
     let mut kept = Kept::new(rt.alloc())?;
     keep(&rt, &mut kept, LOWER, 7, b"lower");
     assert!(rt; is_kept(&kept, UPPER, 7, b"lower"));

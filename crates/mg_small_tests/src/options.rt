@@ -4,7 +4,7 @@ use clap::Command;
 use clap::error::ErrorKind;
 use mg_options::{
     Status, VERSION, long_number, long_value, program_arguments, program_command, short_number,
-    short_value, tell,
+    short_value, report_error,
 };
 use std::alloc::Global;
 use std::test::Fail;
@@ -58,7 +58,7 @@ fn end_on(alloc: Global, word: &str, unprinted: Status) -> (Status, Vec<u8>, Vec
     let matches = program_command(alloc, "gateway", "Joins calls").try_get_matches_from(&words);
     let status = match matches {
         Ok(_) => Status::Done,
-        Err(error) => tell(&error, unprinted, &mut output, &mut errors),
+        Err(error) => report_error(&error, unprinted, &mut output, &mut errors),
     };
     (status, output, errors)
 }
@@ -73,7 +73,7 @@ fn prints_the_version(rt: HostRuntime) {
 }
 
 #[test]
-fn tells_a_usage_fault(rt: HostRuntime) {
+fn reports_a_usage_fault(rt: HostRuntime) {
     let (status, output, errors) = end_on(rt.alloc(), "--colour", Status::Done);
     assert_eq!(rt; status.code(), 2);
     assert!(rt; output.is_empty());
@@ -89,12 +89,12 @@ fn told_of_help(alloc: Global, unprinted: Status) -> (Status, Vec<u8>) {
     let matches = program_command(alloc, "gateway", "Joins calls").try_get_matches_from(&words);
     match matches {
         Ok(_) => (Status::BadLine, errors),
-        Err(error) => (tell(&error, unprinted, &mut output, &mut errors), errors),
+        Err(error) => (report_error(&error, unprinted, &mut output, &mut errors), errors),
     }
 }
 
 #[test]
-fn tells_that_help_cannot_be_printed(rt: HostRuntime) {
+fn reports_that_help_cannot_be_printed(rt: HostRuntime) {
     let (status, errors) = told_of_help(rt.alloc(), Status::Failed);
     assert_eq!(rt; status, Status::Failed);
     assert_eq!(rt; errors.as_slice(), b"write failed\n".as_slice());

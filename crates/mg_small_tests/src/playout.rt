@@ -153,7 +153,7 @@ fn lowered_depth_drops_frames(rt: HostRuntime) -> Result<(), Fail> {
 }
 
 #[test]
-fn another_source_starts_anew(rt: HostRuntime) -> Result<(), Fail> {
+fn another_source_restarts(rt: HostRuntime) -> Result<(), Fail> {
     let mut playout = Playout::new(rt.alloc())?;
     assert_eq!(rt; playout.place(1, 7, frame(1)), Placed::Started);
     assert_eq!(rt; playout.place(2, 8, frame(2)), Placed::Started);

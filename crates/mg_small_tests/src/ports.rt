@@ -48,7 +48,7 @@ fn cuts_to_the_buffer(rt: HostRuntime) -> Result<(), Fail> {
 }
 
 #[test]
-fn fails_where_asked(rt: HostRuntime) -> Result<(), Fail> {
+fn fails_on_request(rt: HostRuntime) -> Result<(), Fail> {
     let mut ports = ports(rt.alloc(), &[0, 2])?;
     let mut buffer = [0; 8];
     assert_eq!(rt; ports.receive(0, &mut buffer), Err(PortFault));
@@ -62,7 +62,7 @@ fn fails_where_asked(rt: HostRuntime) -> Result<(), Fail> {
 /// Whether a call is a receive that gave these bytes at a slot.
 fn is_datagram(call: &Call, at: usize, text: &[u8]) -> bool {
     match call {
-        Call::Receive(slot, Receipt::Came(source, payload)) => {
+        Call::Receive(slot, Receipt::Delivered(source, payload)) => {
             *slot == at && *source == CALLER && payload.as_slice() == text
         }
         _ => false,
@@ -89,7 +89,7 @@ fn is_send(call: &Call, from: usize, text: &[u8]) -> bool {
 }
 
 #[test]
-fn tells_its_calls(rt: HostRuntime) -> Result<(), Fail> {
+fn logs_its_calls(rt: HostRuntime) -> Result<(), Fail> {
     let mut ports = ports(rt.alloc(), &[2])?;
     let mut buffer = [0; 8];
     let _ = ports.receive(2, &mut buffer);
@@ -111,7 +111,7 @@ fn tells_its_calls(rt: HostRuntime) -> Result<(), Fail> {
 }
 
 #[test]
-fn lets_messages_of_strangers_fall(rt: HostRuntime) -> Result<(), Fail> {
+fn drops_messages_from_strangers(rt: HostRuntime) -> Result<(), Fail> {
     let mut buffer = [0; 8];
     let controllers = [[127, 0, 0, 2]];
     let mut guarded = GuardedPorts::new(ports(rt.alloc(), &[])?, &controllers);

@@ -66,7 +66,7 @@ fn a_fault_is_printed(rt: HostRuntime) -> Result<(), Fail> {
 }
 
 #[test]
-fn what_is_written_is_read(rt: HostRuntime) {
+fn written_text_reads_back(rt: HostRuntime) {
     let header = Header {
         marker: true,
         payload_type: 0,

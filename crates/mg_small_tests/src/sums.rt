@@ -5,7 +5,7 @@ ghost use Rattle.mg_sums.specs.Samples.{sample};
 ghost use Rattle.mg_sums.specs.Sums.{AreOfRoom, is_joined, left_out_by};
 
 use mg_g711::{Frame, Law, decode_frame};
-use mg_sums::ranges::know_samples;
+use mg_sums::ranges::assert_sample_range;
 use mg_sums::{Room, Row, Sums, TERMINATIONS, kernels};
 use std::test::Fail;
 
@@ -54,7 +54,7 @@ fn parts(i: usize, len: usize) -> (i64, i64) {
 fn add(total: &mut [i32], row: &[i16]) -> bool
     requires { length total.old ≡ length row.now }
 {
-    know_samples(row);
+    assert_sample_range(row);
     if are_near(total) {
         kernels::add_row(total, row);
         return true;
@@ -65,7 +65,7 @@ fn add(total: &mut [i32], row: &[i16]) -> bool
 fn take(total: &mut [i32], row: &[i16]) -> bool
     requires { length total.old ≡ length row.now }
 {
-    know_samples(row);
+    assert_sample_range(row);
     if are_near(total) {
         kernels::take_row(total, row);
         return true;
@@ -76,7 +76,7 @@ fn take(total: &mut [i32], row: &[i16]) -> bool
 fn write_difference(out: &mut [i32], total: &[i32], row: &[i16]) -> bool
     requires { (length out.old ≡ length row.now) × (length total.now ≡ length row.now) }
 {
-    know_samples(row);
+    assert_sample_range(row);
     if are_near(total) {
         kernels::difference(out, total, row);
         return true;

@@ -8,7 +8,7 @@ ghost use Rattle.std.specs.Int.{w16, w32};
 ghost use Rattle.mg_sums.specs.Samples.{sample, nearest_sample};
 ghost use Rattle.mg_g711.specs.aids.Chunks.{WritesChunk};
 
-use crate::ranges::{know_samples, know_sums};
+use crate::ranges::{assert_sample_range, assert_sum_range};
 use std::simd::prelude::*;
 
 // How many places of a row a vector has.
@@ -22,8 +22,8 @@ pub fn add_row(total: &mut [i32], row: &[i16])
     ensures sums { EachIndex total.new (λ i.
         sample total.new i ≡ sample total.old i +ℤ sample row.now i) }
 {
-    know_samples(row);
-    know_sums(total);
+    assert_sample_range(row);
+    assert_sum_range(total);
     let (chunks, _) = row.as_chunks::<LANES>();
     for (i, chunk) in chunks.iter().enumerate() {
         add_chunk(total, LANES * i, chunk);
@@ -56,8 +56,8 @@ pub fn take_row(total: &mut [i32], row: &[i16])
     ensures differences { EachIndex total.new (λ i.
         sample total.new i ≡ sample total.old i -ℤ sample row.now i) }
 {
-    know_samples(row);
-    know_sums(total);
+    assert_sample_range(row);
+    assert_sum_range(total);
     let (chunks, _) = row.as_chunks::<LANES>();
     for (i, chunk) in chunks.iter().enumerate() {
         take_chunk(total, LANES * i, chunk);
@@ -91,8 +91,8 @@ pub fn difference(out: &mut [i32], total: &[i32], row: &[i16])
     ensures differences { EachIndex out.new (λ i.
         sample out.new i ≡ sample total.now i -ℤ sample row.now i) }
 {
-    know_samples(row);
-    know_sums(total);
+    assert_sample_range(row);
+    assert_sum_range(total);
     let (totals, _) = total.as_chunks::<LANES>();
     let (chunks, _) = row.as_chunks::<LANES>();
     for (i, chunk) in chunks.iter().enumerate() {
@@ -122,7 +122,7 @@ pub fn limit(samples: &mut [i16], sums: &[i32])
     ensures limits { EachIndex samples.new (λ i.
         sample samples.new i ≡ nearest_sample (sample sums.now i)) }
 {
-    know_sums(sums);
+    assert_sum_range(sums);
     let (chunks, _) = sums.as_chunks::<LANES>();
     for (i, chunk) in chunks.iter().enumerate() {
         limit_chunk(samples, LANES * i, chunk);

@@ -8,7 +8,7 @@ ghost use Rattle.std.specs.Int.{w16, w32};
 ghost use Rattle.mg_sums.specs.Samples.{sample};
 
 /// Each sample of a frame fits 16 bits.
-pub fn know_samples(row: &[i16])
+pub fn assert_sample_range(row: &[i16])
     ensures { EachIndex row.now (λ i. FitsSigned w16 (sample row.now i)) }
 {
     for i in 0..row.len() {
@@ -17,7 +17,7 @@ pub fn know_samples(row: &[i16])
 }
 
 /// Each sum fits 32 bits.
-pub fn know_sums(row: &[i32])
+pub fn assert_sum_range(row: &[i32])
     ensures { EachIndex row.now (λ i. FitsSigned w32 (sample row.now i)) }
 {
     for i in 0..row.len() {

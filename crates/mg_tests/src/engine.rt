@@ -156,7 +156,7 @@ fn first_wrong(
 }
 
 /// What is no packet of the right type and length is dropped.
-fn drop_what_is_no_frame(rt: &impl Abort, engine: &mut Engine) -> Result<(), Fail> {
+fn drop_malformed_packets(rt: &impl Abort, engine: &mut Engine) -> Result<(), Fail> {
     let bytes = packet(0x80);
     let mut padded = bytes;
     set_byte(&mut padded, 0, 0xa0);
@@ -182,13 +182,13 @@ fn drop_what_is_no_frame(rt: &impl Abort, engine: &mut Engine) -> Result<(), Fai
 }
 
 #[test]
-fn drops_what_is_no_frame(rt: HostRuntime) -> Result<(), Fail> {
+fn drops_malformed_packets(rt: HostRuntime) -> Result<(), Fail> {
     let mut engine = conference(rt.alloc(), 1)?;
-    drop_what_is_no_frame(&rt, &mut engine)
+    drop_malformed_packets(&rt, &mut engine)
 }
 
 /// So is what comes from a stranger, or to a port that nobody listens at.
-fn drop_what_comes_to_nobody(rt: &impl Abort, engine: &mut Engine) -> Result<(), Fail> {
+fn drop_datagrams_without_termination(rt: &impl Abort, engine: &mut Engine) -> Result<(), Fail> {
     let bytes = packet(0x80);
     let stranger = Peer {
         address: [127, 0, 0, 2],
@@ -208,9 +208,9 @@ fn drop_what_comes_to_nobody(rt: &impl Abort, engine: &mut Engine) -> Result<(),
 }
 
 #[test]
-fn drops_what_comes_to_nobody(rt: HostRuntime) -> Result<(), Fail> {
+fn drops_datagrams_without_termination(rt: HostRuntime) -> Result<(), Fail> {
     let mut engine = conference(rt.alloc(), 1)?;
-    drop_what_comes_to_nobody(&rt, &mut engine)
+    drop_datagrams_without_termination(&rt, &mut engine)
 }
 
 /// A triple of two terms.

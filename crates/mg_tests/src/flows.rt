@@ -50,14 +50,14 @@ fn played(alloc: Global, shown: Shown) -> (Vec<u8>, Option<RunFault>) {
 }
 
 #[test]
-fn tells_what_changed(rt: HostRuntime) {
+fn reports_what_changed(rt: HostRuntime) {
     let (written, fault) = played(rt.alloc(), Shown::SentAndFlows);
     assert_eq!(rt; fault, None);
     assert!(rt; written.as_slice() == WRITTEN);
 }
 
 #[test]
-fn tells_no_change_where_none_is_asked(rt: HostRuntime) {
+fn reports_no_change_unless_requested(rt: HostRuntime) {
     let (written, fault) = played(rt.alloc(), Shown::Sent);
     assert_eq!(rt; fault, None);
     assert!(rt; !written.contains(&b'#'));

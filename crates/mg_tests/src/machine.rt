@@ -357,7 +357,7 @@ fn write_in_pieces(alloc: Global, script: &[u8], calls: usize) -> (Vec<u8>, Opti
 }
 
 #[test]
-fn tells_each_failed_read(rt: HostRuntime) -> Result<(), Fail> {
+fn reports_each_failed_read(rt: HostRuntime) -> Result<(), Fail> {
     let script = times(rt.alloc(), LINE, 3)?;
     for calls in 0..100usize {
         let (written, outcome) = read_in_pieces(rt.alloc(), script.as_slice(), 50, calls);
@@ -374,7 +374,7 @@ fn tells_each_failed_read(rt: HostRuntime) -> Result<(), Fail> {
 }
 
 #[test]
-fn tells_each_failed_write(rt: HostRuntime) -> Result<(), Fail> {
+fn reports_each_failed_write(rt: HostRuntime) -> Result<(), Fail> {
     let script = times(rt.alloc(), LINE, 3)?;
     let wanted = times(rt.alloc(), REPLY_LINE, 3)?;
     for calls in 0..100usize {

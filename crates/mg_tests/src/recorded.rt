@@ -85,7 +85,7 @@ fn runs_what_was_recorded(rt: HostRuntime) -> Result<(), Fail> {
 }
 
 #[test]
-fn does_a_line_whole_whose_print_fails(rt: HostRuntime) -> Result<(), Fail> {
+fn finishes_a_line_whose_print_fails(rt: HostRuntime) -> Result<(), Fail> {
     let alloc = rt.alloc();
     let mut writer = FailingWriter::new(alloc, 1000, 2);
     let outcome = record(alloc, b"", b"poll\ntick\n", &mut writer)?;

@@ -237,7 +237,7 @@ fn numbers_end(rt: HostRuntime) -> Result<(), Fail> {
 }
 
 #[test]
-fn limits_are_told(rt: HostRuntime) -> Result<(), Fail> {
+fn limits_are_reported(rt: HostRuntime) -> Result<(), Fail> {
     assert!(rt; LIMITS.is_valid());
     for slots in [0, TERMINATIONS as u16 + 1] {
         assert!(rt; !Limits { slots, ..LIMITS }.is_valid());

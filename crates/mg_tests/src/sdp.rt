@@ -85,7 +85,7 @@ fn chooses_for_remote(rt: HostRuntime) {
 }
 
 #[test]
-fn tells_faults(rt: HostRuntime) {
+fn reports_faults(rt: HostRuntime) {
     let nine = b"v=0\nv=0\nv=0\nv=0\nv=0\nv=0\nv=0\nv=0\nv=0\n";
     assert_eq!(rt; read_sessions(nine).err(), Some(SdpFault::TooMany));
     assert_eq!(rt;

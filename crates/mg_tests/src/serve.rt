@@ -50,7 +50,7 @@ pub fn ports(
 /// A letter for a call: a datagram `c`ame, `n`one did, or the receive `f`ailed; an `a`nswer or a `p`acket was sent.
 fn letter(call: &Call) -> char {
     match call {
-        Call::Receive(_, Receipt::Came(_, _)) => 'c',
+        Call::Receive(_, Receipt::Delivered(_, _)) => 'c',
         Call::Receive(_, Receipt::Nothing) => 'n',
         Call::Receive(_, Receipt::Failed) => 'f',
         Call::Send(0, _, _) => 'a',
@@ -264,7 +264,7 @@ fn counts_each_call_that_fails(rt: HostRuntime) -> Result<(), Fail> {
 }
 
 #[test]
-fn answers_a_request_again_whose_answer_was_lost(rt: HostRuntime) -> Result<(), Fail> {
+fn resends_a_lost_answer(rt: HostRuntime) -> Result<(), Fail> {
     let waiting: [(usize, &[u8]); 2] = [(0, ADD), (0, ADD)];
     let outcome = session(rt.alloc(), &waiting, &[1], b"poll\ntick\nstats\n")?;
     assert_eq!(rt; outcome.told.as_str(), "c0a0c0a0n0n1n2p1");

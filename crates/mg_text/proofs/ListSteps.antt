@@ -19,11 +19,11 @@ regroup front x (Err e) = refl
 module _ {X : Type 0} (source : List ℕ) (read : List Token → Result (X × List Token) ℕ) (front : List X) (count i : ℕ)
     (ts : List Token) (total : Result (List X × List Token) ℕ)
     (so_far : with_front front (list_at source read (count - i) ts) ≡ total) where
-  pub goes_on : (x : X) (after next : List Token) → i < count → read ts ≡ Ok (x, after) →
+  pub continues : (x : X) (after next : List Token) → i < count → read ts ≡ Ok (x, after) →
       after_mark Comma after ≡ Some next → with_front (front ++ x ∷ []) (list_at source read (count - (i + 1)) next) ≡
       total
   unfolding list_at
-  goes_on x after next lt h comma =
+  continues x after next lt h comma =
       let k : count - i ≡ suc (count - (i + 1)) = omega arith in
       let one : with_front front (list_at source read (count - i) ts) ≡
       with_front (front ++ x ∷ []) (list_at source read (count - (i + 1)) next) =

@@ -7,7 +7,7 @@ use Rattle.mg_scan.specs.declared.token.Token.{Token}
 use Rattle.mg_text.specs.declared.message.Message.{Message}
 use Rattle.mg_text.specs.Head.{version_in_head}
 use Rattle.mg_text.specs.aids.Text.{version_at, text_at, is_within}
-use Rattle.mg_text.specs.Message.{AreTokens, IsTree, IsMessage, AsksTooMuch, IsTooMany, HasOtherVersion, requests_in, commands_in, items_of}
+use Rattle.mg_text.specs.Message.{AreTokens, IsTree, IsMessage, ExceedsLimits, IsTooMany, HasOtherVersion, requests_in, commands_in, items_of}
 use Rattle.mg_text.specs.MessageReading.{MessageReading, Read, TooMany, OtherVersion, NoMessage, IsNoMessage}
 use Rattle.mg_text.specs.MessageReading.{IsMessageReading}
 use Rattle.mg_text.proofs.ScanLemmas.{one_scan}
@@ -37,14 +37,14 @@ one_version source n k h g =
     head_read source k g.tokens g.rest g.head)
 
 within_or_too_much : (m : Message) → requests_in (items_of m.body) ≤ 4 → commands_in (items_of m.body) ≤ 64 →
-    AsksTooMuch m → ⊥
+    ExceedsLimits m → ⊥
 within_or_too_much m few little (inl many) = omega (arith, few, many)
 within_or_too_much m few little (inr much) = omega (arith, little, much)
 
 message_or_many : (source : List ℕ) (m : Message) → IsMessage source m → IsTooMany source → ⊥
 message_or_many source m h (inl long) = let short = h.tree.short in omega (arith, short, long)
 message_or_many source m h (inr (n, tree, asks)) =
-    within_or_too_much m h.requests h.commands (subst AsksTooMuch (at_most_one source n m tree h.tree) asks)
+    within_or_too_much m h.requests h.commands (subst ExceedsLimits (at_most_one source n m tree h.tree) asks)
 
 many_or_version : (source : List ℕ) (n : ℕ) → IsTooMany source → HasOtherVersion source n → ⊥
 many_or_version source n (inl long) k = let short = k.short in omega (arith, short, long)

@@ -29,11 +29,11 @@ regroup front x (Err e) = refl
 module _ (source : List ℕ) (front : List ContextProperty) (count i : ℕ) (ts : List Token)
     (total : Result (ActionParts × List Token) ℕ) (so_far : with_front front (parts_at source (count - i) ts) ≡ total)
   where
-    pub goes_on : (x : ContextProperty) (after next : List Token) → i < count → begins_property source ts ≡ true →
+    pub continues : (x : ContextProperty) (after next : List Token) → i < count → begins_property source ts ≡ true →
         property_at source ts ≡ Ok (x, after) → after_mark Comma after ≡ Some next →
         with_front (front ++ x ∷ []) (parts_at source (count - (i + 1)) next) ≡ total
     unfolding parts_at
-    goes_on x after next lt b h comma =
+    continues x after next lt b h comma =
         let k : count - i ≡ suc (count - (i + 1)) = omega arith in
         let one : with_front front (parts_at source (count - i) ts) ≡
         with_front (front ++ x ∷ []) (parts_at source (count - (i + 1)) next) =

@@ -15,7 +15,7 @@ use Rattle.mg_text.specs.Head.{version_in_head}
 use Rattle.mg_text.specs.aids.Reading.{Agrees}
 use Rattle.mg_text.specs.aids.Text.{version_at, text_at, is_within, answer_of, fault_within, UnlessNoMemory, AgreesText, AgreesAfter, AgreesVersioned}
 use Rattle.mg_text.specs.Grammar.{IsText, IsWorded}
-use Rattle.mg_text.specs.Message.{AreTokens, IsTree, IsMessage, AsksTooMuch, IsTooMany, HasOtherVersion, requests_in, commands_in, items_of}
+use Rattle.mg_text.specs.Message.{AreTokens, IsTree, IsMessage, ExceedsLimits, IsTooMany, HasOtherVersion, requests_in, commands_in, items_of}
 use Rattle.mg_text.specs.aids.Parts.{IsShort}
 use Rattle.mg_text.specs.Proper.{are_proper}
 use Rattle.mg_text.proofs.ProperLemmas.{message_proper}
@@ -274,7 +274,7 @@ module _ (source : List ℕ) (ts : List Token) (f : Option ScanFault) (len : ℕ
   pub answer_only : (m : Message) → IsMessage source m → IsAnswered (answer_of len r) (Ok m)
   answer_only m h = tree_answered m true h.tree (counts_served (items_of m.body) h.requests h.commands)
 
-  pub answer_many : (m : Message) → IsTree source m → AsksTooMuch m → IsAnswered (answer_of len r) (Err TooMany)
+  pub answer_many : (m : Message) → IsTree source m → ExceedsLimits m → IsAnswered (answer_of len r) (Err TooMany)
   answer_many m h above = tree_answered m false h (counts_refused (items_of m.body) above)
 
   pub answer_version : (n : ℕ) → HasOtherVersion source n → IsAnswered (answer_of len r) (Err (Version n))

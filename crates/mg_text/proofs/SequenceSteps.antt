@@ -30,11 +30,11 @@ regroup front x (Err e) = refl
 
 module _ (source : List ℕ) (front : List MessageItem) (count i : ℕ) (ts : List Token)
     (total : Result (List MessageItem) ℕ) (so_far : with_front front (sequence_at source (count - i) ts) ≡ total) where
-  pub goes_on : (x : Option MessageItem) (after : List Token) → i < count → item_at source ts ≡ Ok (x, after) →
+  pub continues : (x : Option MessageItem) (after : List Token) → i < count → item_at source ts ≡ Ok (x, after) →
       eqb (length after) 0 ≡ false → with_front (kept_after front x) (sequence_at source (count - (i + 1)) after) ≡
       total
   unfolding sequence_at
-  goes_on x after lt h more =
+  continues x after lt h more =
       let k : count - i ≡ suc (count - (i + 1)) = omega arith in
       let one : with_front front (sequence_at source (count - i) ts) ≡
       with_front (kept_after front x) (sequence_at source (count - (i + 1)) after) =

@@ -65,15 +65,15 @@ pub record IsMessage (source : List ℕ) (m : Message) : Type 0 where
   pub commands : commands_in (items_of m.body) ≤ command_limit
 
 -- a message asks for more
-abbrev pub AsksTooMuch : Message → Type 0
-AsksTooMuch m =
+abbrev pub ExceedsLimits : Message → Type 0
+ExceedsLimits m =
     (request_limit < requests_in (items_of m.body))
     ⊎ (command_limit < commands_in (items_of m.body))
 
 -- the bytes are too long, or they have a tree that asks for too much
 abbrev pub IsTooMany : List ℕ → Type 0
 IsTooMany source =
-    (message_limit < length source) ⊎ ((m : Message) × IsTree source m × AsksTooMuch m)
+    (message_limit < length source) ⊎ ((m : Message) × IsTree source m × ExceedsLimits m)
 
 -- the bytes begin with the head of another version, whatever stands after it
 pub record HasOtherVersion (source : List ℕ) (version : ℕ) : Type 0 where

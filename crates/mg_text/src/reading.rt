@@ -5,7 +5,7 @@ ghost use Rattle.mg_text.specs.declared.message.Message.{Message};
 ghost use Rattle.mg_text.specs.aids.Reading.{Agrees};
 ghost use Rattle.mg_text.specs.aids.Text.{version_at, sender_at, text_at, left_after, is_within, fault_within, answer_of, AgreesVersioned};
 ghost use Rattle.mg_text.specs.Proper.{are_proper};
-ghost use Rattle.mg_text.specs.Message.{IsTree, IsMessage, AsksTooMuch, IsTooMany, HasOtherVersion, items_of};
+ghost use Rattle.mg_text.specs.Message.{IsTree, IsMessage, ExceedsLimits, IsTooMany, HasOtherVersion, items_of};
 ghost use Rattle.mg_text.specs.Message.{action_commands};
 
 use crate::body::{Body, MessageItem};
@@ -155,7 +155,7 @@ pub fn read(alloc: Global, source: &[u8]) -> Result<Message, ReadFault>
 
     // The faults, with their order.
     ensures long { message_limit < length source.now → result ≡ Err ReadFault.TooMany }
-    ensures many { (m : Message) → IsTree source.now m → AsksTooMuch m →
+    ensures many { (m : Message) → IsTree source.now m → ExceedsLimits m →
         (result ≡ Err ReadFault.NoMemory) ⊎ (result ≡ Err ReadFault.TooMany) }
     ensures long_only { result ≡ Err ReadFault.TooMany → IsTooMany source.now }
     ensures version { (n : ℕ) → HasOtherVersion source.now n →

@@ -4,7 +4,7 @@ use Rattle.std.specs.List.{list_any}
 use Rattle.std.proofs.lemmas.Bool.{false≢true, and_parts, cases_Bool}
 use Rattle.mg_topology.specs.declared.triple.Triple.{Triple}
 use Rattle.mg_words.specs.declared.association.Association.TheVariants.{Oneway}
-use Rattle.mg_topology.specs.Triple.{is_forward, speaks_of, overlaps}
+use Rattle.mg_topology.specs.Triple.{is_forward, mentions, overlaps}
 use Rattle.mg_topology.specs.Edits.{TopologyEdit, Enter, Leave, Apply, last_word, touches}
 use Rattle.mg_topology.proofs.TripleLemmas.{overlaps-is}
 
@@ -23,7 +23,7 @@ last_word-entered newer older n a b p q = last_word-append newer (Enter n ∷ ol
     ap (λ x. if x then None else last_word older a b) p
 
 -- a triple that speaks of a pair has its last word until a newer edit touches them
-pub last_word-applied : (newer older : List TopologyEdit) (triple : Triple) (a b : ℕ) → speaks_of triple a b ≡ true →
+pub last_word-applied : (newer older : List TopologyEdit) (triple : Triple) (a b : ℕ) → mentions triple a b ≡ true →
     list_any (λ edit. touches edit a b) newer ≡ false → last_word (newer ++ Apply triple ∷ older) a b ≡ Some triple
 last_word-applied newer older triple a b p q = last_word-append newer (Apply triple ∷ older) a b q ∙
     ap (λ x. if x then Some triple else last_word older a b) p

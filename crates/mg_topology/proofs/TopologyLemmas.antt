@@ -5,9 +5,9 @@ use Rattle.std.proofs.lemmas.Bool.Decides.{nat_tests}
 use Rattle.mg_topology.specs.declared.mask.TheConstants.{SEATS}
 use Rattle.mg_topology.specs.declared.triple.Triple.{Triple}
 use Rattle.mg_topology.specs.Mask.{has_seat}
-use Rattle.mg_topology.specs.Triple.{speaks_of, word_of}
+use Rattle.mg_topology.specs.Triple.{mentions, word_of}
 use Rattle.mg_topology.specs.aids.Word.{after_triple}
-use Rattle.mg_topology.specs.Edits.{TopologyEdit, Enter, Leave, Apply, is_held, last_word, allows, lets_hear, apply_all}
+use Rattle.mg_topology.specs.Edits.{TopologyEdit, Enter, Leave, Apply, is_held, last_word, allows, may_hear, apply_all}
 use Rattle.mg_topology.specs.Topology.{TopologyState, holds, hears, StandsFor}
 use Rattle.mg_topology.proofs.MaskLemmas.{has_seat-inside}
 
@@ -28,7 +28,7 @@ row_of_pair x y d b b' p q r e = grind arith
 -- to stand for a list of edits is to hold its seats, and to have its words in the rows of held seats
 pub stands_from : (k : TopologyState) (es : List TopologyEdit) → ((s : ℕ) → holds k s ≡ is_held es s)
     → ((t l : ℕ) → is_held es t ≡ true → is_held es l ≡ true → (t == l) ≡ false →
-    has_seat (slice_index k.rows l) t ≡ lets_hear es t l)
+    has_seat (slice_index k.rows l) t ≡ may_hear es t l)
     → StandsFor k es
 stands_from k es held row = record {
   seats = held;
@@ -36,7 +36,7 @@ stands_from k es held row = record {
 }
 
 pub row_from : (k : TopologyState) (es : List TopologyEdit) (t l : ℕ) → StandsFor k es → is_held es t ≡ true →
-    is_held es l ≡ true → (t == l) ≡ false → has_seat (slice_index k.rows l) t ≡ lets_hear es t l
+    is_held es l ≡ true → (t == l) ≡ false → has_seat (slice_index k.rows l) t ≡ may_hear es t l
 row_from k es t l h p q d =
     row_of_pair (is_held es t) (is_held es l) (t == l) _ _ p q d
     (sym (same_pair (holds k t) (holds k l) _ _ (t == l) _ (has_seat (slice_index k.rows l) t) (h.seats t) (h.seats l)
@@ -54,9 +54,9 @@ entered_seat k k' n s b p e h = grind (arith, nat_tests)
 entered_pair : (k k' : TopologyState) (n : ℕ) (es : List TopologyEdit) (t l : ℕ) →
     (l ≡ n → has_seat (slice_index k'.rows l) t ≡ true)
     → (l ≢ n → has_seat (slice_index k'.rows l) t ≡ cond (t == n) true (has_seat (slice_index k.rows l) t))
-    → (is_held es t ≡ true → is_held es l ≡ true → has_seat (slice_index k.rows l) t ≡ lets_hear es t l)
+    → (is_held es t ≡ true → is_held es l ≡ true → has_seat (slice_index k.rows l) t ≡ may_hear es t l)
     → is_held (Enter n ∷ es) t ≡ true → is_held (Enter n ∷ es) l ≡ true →
-    has_seat (slice_index k'.rows l) t ≡ lets_hear (Enter n ∷ es) t l
+    has_seat (slice_index k'.rows l) t ≡ may_hear (Enter n ∷ es) t l
 entered_pair k k' n es t l own row h p q = grind (arith, nat_tests)
 
 entered_below : (k : TopologyState) (n : ℕ) (es : List TopologyEdit) (s : ℕ) → n < SEATS → StandsFor k es →
@@ -106,7 +106,7 @@ apply_stands k k' triple es held row h =
     stands_from k' (Apply triple ∷ es)
     (λ s. ap (λ m. nat_lt s SEATS && has_seat m s) held ∙ h.seats s)
     (λ t l p q d. row t l (held_below k es l h q) ∙ ap (after_triple triple t l) (row_from k es t l h p q d)
-    ∙ applied_word triple (last_word es t l) t l (speaks_of triple t l))
+    ∙ applied_word triple (last_word es t l) t l (mentions triple t l))
 
 -- ---- triples in order
 

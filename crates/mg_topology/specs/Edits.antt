@@ -2,7 +2,7 @@
 -- 7.1.18). That a newcomer and each member hear each other is this project's own rule.
 use Rattle.std.specs.Prelude.{ℕ, Bool, true, false, not, ◌&&◌, ◌||◌, ◌==◌, Option, Some, None}
 use Rattle.std.specs.Prelude.{if◌then◌else◌, List, [], ◌∷◌}
-use Rattle.mg_topology.specs.Triple.{speaks_of, word_of}
+use Rattle.mg_topology.specs.Triple.{mentions, word_of}
 use Rattle.mg_topology.specs.declared.triple.Triple.{Triple}
 
 -- a seat is taken or left, or a triple is applied
@@ -23,7 +23,7 @@ abbrev pub last_word : List TopologyEdit → ℕ → ℕ → Option Triple
 last_word [] a b = None
 last_word (Enter n ∷ es) a b = if (a == n) || (b == n) then None else last_word es a b
 last_word (Leave n ∷ es) a b = last_word es a b
-last_word (Apply triple ∷ es) a b = if speaks_of triple a b then Some triple else last_word es a b
+last_word (Apply triple ∷ es) a b = if mentions triple a b then Some triple else last_word es a b
 
 -- whether a last word lets the listener hear the talker: it does where there is none
 abbrev pub allows : Option Triple → ℕ → ℕ → Bool
@@ -31,14 +31,14 @@ allows None talker listener = true
 allows (Some triple) talker listener = word_of triple talker listener
 
 -- whether the last word on the two lets the listener hear the talker
-abbrev pub lets_hear : List TopologyEdit → ℕ → ℕ → Bool
-lets_hear es talker listener = allows (last_word es talker listener) talker listener
+abbrev pub may_hear : List TopologyEdit → ℕ → ℕ → Bool
+may_hear es talker listener = allows (last_word es talker listener) talker listener
 
 -- whether the listener hears the talker: both are held, they differ, and the last word lets it
 abbrev pub hears_in : List TopologyEdit → ℕ → ℕ → Bool
 hears_in es talker listener =
     is_held es talker
-    && (is_held es listener && (not (talker == listener) && lets_hear es talker listener))
+    && (is_held es listener && (not (talker == listener) && may_hear es talker listener))
 
 -- the edits, and then the triples in order
 abbrev pub apply_all : List Triple → List TopologyEdit → List TopologyEdit
@@ -49,4 +49,4 @@ apply_all (triple ∷ triples) es = apply_all triples (Apply triple ∷ es)
 abbrev pub touches : TopologyEdit → ℕ → ℕ → Bool
 touches (Enter n) a b = (a == n) || (b == n)
 touches (Leave n) a b = false
-touches (Apply triple) a b = speaks_of triple a b
+touches (Apply triple) a b = mentions triple a b

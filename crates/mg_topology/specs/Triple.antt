@@ -6,26 +6,26 @@ use Rattle.mg_words.specs.declared.association.Association.{Association}
 use Rattle.mg_words.specs.declared.association.Association.TheVariants.{Isolate, Oneway, Bothway}
 
 -- a triple that speaks of no pair
-abbrev pub unsaid : Triple
-unsaid = record { first = 0; second = 0; association = Bothway }
+abbrev pub empty_triple : Triple
+empty_triple = record { first = 0; second = 0; association = Bothway }
 
 -- a talker and a listener stand in the triple's own direction, from its first set to its second
 abbrev pub is_forward : Triple → ℕ → ℕ → Bool
 is_forward triple talker listener = has_seat triple.first talker && has_seat triple.second listener
 
 -- it speaks of a pair where one of the two is in its first set and the other in its second
-abbrev pub speaks_of : Triple → ℕ → ℕ → Bool
-speaks_of triple a b = is_forward triple a b || is_forward triple b a
+abbrev pub mentions : Triple → ℕ → ℕ → Bool
+mentions triple a b = is_forward triple a b || is_forward triple b a
 
 -- whether an association lets the listener hear the talker, by whether they stand in its direction
-abbrev pub lets : Association → Bool → Bool
-lets Isolate forward = false
-lets Oneway forward = forward
-lets Bothway forward = true
+abbrev pub permits : Association → Bool → Bool
+permits Isolate forward = false
+permits Oneway forward = forward
+permits Bothway forward = true
 
 -- what a triple says of a pair that it speaks of: whether the listener hears the talker
 abbrev pub word_of : Triple → ℕ → ℕ → Bool
-word_of triple talker listener = lets triple.association (is_forward triple talker listener)
+word_of triple talker listener = permits triple.association (is_forward triple talker listener)
 
 -- a Oneway triple has a seat in both of its sets
 abbrev pub Overlaps : Triple → Type 0

@@ -11,8 +11,8 @@ ghost use Rattle.mg_topology.specs.declared.triple.Triple.{Triple};
 ghost use Rattle.mg_words.specs.declared.association.Association.TheVariants.{Isolate, Oneway, Bothway};
 ghost use Rattle.mg_topology.specs.declared.mask.TheConstants.{EMPTY, FULL, SEATS};
 ghost use Rattle.mg_topology.specs.Mask.{seat_limit, has_seat, seats_of, seat_count, IsEmpty};
-ghost use Rattle.mg_topology.specs.Triple.{is_forward, speaks_of, overlaps, Overlaps};
-ghost use Rattle.mg_topology.specs.Edits.{TopologyEdit, Enter, Leave, Apply, is_held, last_word, lets_hear, hears_in, touches};
+ghost use Rattle.mg_topology.specs.Triple.{is_forward, mentions, overlaps, Overlaps};
+ghost use Rattle.mg_topology.specs.Edits.{TopologyEdit, Enter, Leave, Apply, is_held, last_word, may_hear, hears_in, touches};
 
 /// A newcomer and each member hear each other, whatever was said of its seat before.
 pub fn newcomer_hears_and_is_heard()
@@ -25,17 +25,17 @@ pub fn newcomer_hears_and_is_heard()
 {}
 
 /// Two hear each other where no triple has spoken of them since both entered.
-pub fn unspoken_pair_hears()
+pub fn unmentioned_pair_hears()
     ensures { (newer older : List TopologyEdit) (newcomer a b : ℕ) →
         IsTrue ((a == newcomer) || (b == newcomer)) →
         IsFalse (list_any (λ edit. touches edit a b) newer) →
-        IsTrue (lets_hear (newer ++ Enter newcomer ∷ older) a b) }
+        IsTrue (may_hear (newer ++ Enter newcomer ∷ older) a b) }
 {}
 
 /// Of the triples that speak of a pair, the last one has the last word.
 pub fn last_triple_wins()
     ensures { (newer older : List TopologyEdit) (triple : Triple) (a b : ℕ) →
-        IsTrue (speaks_of triple a b) →
+        IsTrue (mentions triple a b) →
         IsFalse (list_any (λ edit. touches edit a b) newer) →
         last_word (newer ++ Apply triple ∷ older) a b ≡ Some triple }
 {}
@@ -44,27 +44,27 @@ pub fn last_triple_wins()
 pub fn associations()
     ensures isolate { (es : List TopologyEdit) (triple : Triple) (first second : ℕ) →
         IsTrue (is_forward triple first second) → triple.association ≡ Isolate →
-        IsFalse (lets_hear (Apply triple ∷ es) first second)
-        × IsFalse (lets_hear (Apply triple ∷ es) second first) }
+        IsFalse (may_hear (Apply triple ∷ es) first second)
+        × IsFalse (may_hear (Apply triple ∷ es) second first) }
 
     // A Oneway triple that overlaps is refused.
     ensures oneway { (es : List TopologyEdit) (triple : Triple) (first second : ℕ) →
         IsTrue (is_forward triple first second) → triple.association ≡ Oneway → IsFalse (overlaps triple) →
-        IsTrue (lets_hear (Apply triple ∷ es) first second)
-        × IsFalse (lets_hear (Apply triple ∷ es) second first) }
+        IsTrue (may_hear (Apply triple ∷ es) first second)
+        × IsFalse (may_hear (Apply triple ∷ es) second first) }
     ensures bothway { (es : List TopologyEdit) (triple : Triple) (first second : ℕ) →
         IsTrue (is_forward triple first second) → triple.association ≡ Bothway →
-        IsTrue (lets_hear (Apply triple ∷ es) first second)
-        × IsTrue (lets_hear (Apply triple ∷ es) second first) }
+        IsTrue (may_hear (Apply triple ∷ es) first second)
+        × IsTrue (may_hear (Apply triple ∷ es) second first) }
 {}
 
 /// No edit changes what is heard between two others.
-pub fn others_are_left_alone()
+pub fn others_are_unaffected()
     ensures enter { (es : List TopologyEdit) (newcomer a b : ℕ) → newcomer ≢ a → newcomer ≢ b →
         hears_in (Enter newcomer ∷ es) a b ≡ hears_in es a b }
     ensures leave { (es : List TopologyEdit) (leaver a b : ℕ) → leaver ≢ a → leaver ≢ b →
         hears_in (Leave leaver ∷ es) a b ≡ hears_in es a b }
-    ensures apply { (es : List TopologyEdit) (triple : Triple) (a b : ℕ) → IsFalse (speaks_of triple a b) →
+    ensures apply { (es : List TopologyEdit) (triple : Triple) (a b : ℕ) → IsFalse (mentions triple a b) →
         hears_in (Apply triple ∷ es) a b ≡ hears_in es a b }
 {}
 

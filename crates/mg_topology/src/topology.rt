@@ -68,7 +68,7 @@ impl Topology {
             holds self.new s ≡ (if s == seat then true else holds self.old s) }
     {
         self.held = mask::with_seat(self.held, seat);
-        let_all_hear(&mut self.rows, seat);
+        unmute_seat(&mut self.rows, seat);
         self.rows[seat] = mask::FULL;
     }
 
@@ -152,7 +152,7 @@ fn any_overlaps(triples: &[Triple]) -> bool
 }
 
 /// Lets each listener hear the seat.
-fn let_all_hear(rows: &mut [Mask; SEATS], seat: usize)
+fn unmute_seat(rows: &mut [Mask; SEATS], seat: usize)
     requires { seat < SEATS }
     ensures { (talker listener : ℕ) → listener < SEATS →
         has_seat (slice_index rows.new listener) talker ≡

@@ -22,9 +22,9 @@ pub struct Triple {
 /// One that speaks of no pair.
 impl Default for Triple {
     ghost use Rattle.std.specs.Prelude.{◌≡◌};
-    ghost use Rattle.mg_topology.specs.Triple.{unsaid};
+    ghost use Rattle.mg_topology.specs.Triple.{empty_triple};
 
-    ghost is_default = { λ triple. triple ≡ unsaid };
+    ghost is_default = { λ triple. triple ≡ empty_triple };
 
     fn default() -> Self {
         Triple {

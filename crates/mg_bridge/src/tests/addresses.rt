@@ -40,7 +40,7 @@ fn refuses_texts_that_are_no_address(rt: HostRuntime) {
 }
 
 #[test]
-fn refuses_the_address_that_callers_cannot_send_to(rt: HostRuntime) {
+fn rejects_the_unspecified_address(rt: HostRuntime) {
     let wanted =
         b"error: invalid value for '--address <ADDRESS>': callers are told this address, and can't send to \
         0.0.0.0\n";
@@ -58,7 +58,7 @@ fn refuses_the_address_that_callers_cannot_send_to(rt: HostRuntime) {
 }
 
 #[test]
-fn refuses_addresses_of_many(rt: HostRuntime) {
+fn rejects_multicast_addresses(rt: HostRuntime) {
     let wanted =
         b"error: invalid value for '--address <ADDRESS>': callers are told this address, and it is none of one machine\n";
     for text in [

@@ -160,7 +160,7 @@ fn lose_packets(
 }
 
 #[test]
-fn loses_the_packets_that_cannot_be_sent_alone(rt: HostRuntime) -> Result<(), Fail> {
+fn loses_only_the_packets_that_cannot_be_sent(rt: HostRuntime) -> Result<(), Fail> {
     let config = config(29600, 2);
     let caller = caller(&rt, 29612)?;
     let mut ports = bind(&rt, &config)?;
@@ -174,7 +174,7 @@ const HELD: &[u8] = b"MEGACO/1 [127.0.0.1]:28712 Transaction=1{Context=${\
     Add=${Media{LocalControl{Mode=SendOnly},Remote{v=0\nc=IN IP4 127.0.0.1\nm=audio 28712 RTP/AVP 0\n}}}}}";
 
 /// Nothing is sent to 0.0.0.0 or to a group.
-fn send_to_one_machine(
+fn send_to_unicast_addresses(
     rt: &impl Abort,
     alloc: Global,
     config: Config,
@@ -191,11 +191,11 @@ fn send_to_one_machine(
 }
 
 #[test]
-fn sends_to_one_machine_alone(rt: HostRuntime) -> Result<(), Fail> {
+fn sends_to_unicast_addresses_only(rt: HostRuntime) -> Result<(), Fail> {
     let config = config(28700, 3);
     let caller = caller(&rt, 28712)?;
     let mut ports = bind(&rt, &config)?;
-    send_to_one_machine(&rt, rt.alloc(), config, &mut ports, &caller)
+    send_to_unicast_addresses(&rt, rt.alloc(), config, &mut ports, &caller)
 }
 
 /// Control messages come to one address and media to another, at ports that others have at a third.
@@ -225,7 +225,7 @@ fn take_at_two_addresses(
 }
 
 #[test]
-fn binds_its_addresses_alone(rt: HostRuntime) -> Result<(), Fail> {
+fn binds_only_its_addresses(rt: HostRuntime) -> Result<(), Fail> {
     let config = Config {
         address: [127, 0, 0, 3],
         control_address: [127, 0, 0, 2],
@@ -334,7 +334,7 @@ fn take_from_the_controller<P: Ports>(
 }
 
 #[test]
-fn lets_messages_of_strangers_fall(rt: HostRuntime) -> Result<(), Fail> {
+fn drops_messages_from_strangers(rt: HostRuntime) -> Result<(), Fail> {
     let config = config(28800, 1);
     let stranger = caller(&rt, 28810)?;
     let address = SocketAddr::new(IpAddr::V4(Ipv4Addr::new(127, 0, 0, 2)), 28810);

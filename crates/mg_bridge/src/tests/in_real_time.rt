@@ -74,7 +74,7 @@ fn next_packet(socket: &UdpSocket) -> io::Result<(u16, u32)> {
 
 /// Of the ticks that are due at 2,100 ms, those from the hundredth on are late by five or less.
 #[test]
-fn lets_a_stall_be_heard_as_a_gap(rt: HostRuntime) -> Result<(), Fail> {
+fn turns_a_stall_into_a_gap(rt: HostRuntime) -> Result<(), Fail> {
     let caller = UdpSocket::bind(&rt, local(28912))?;
     caller.set_nonblocking(true)?;
     let clock = StallingClock {
@@ -136,7 +136,7 @@ fn lets_a_stall_be_heard_as_a_gap(rt: HostRuntime) -> Result<(), Fail> {
 }
 
 #[test]
-fn tells_how_many_packets_were_too_late(rt: HostRuntime) {
+fn reports_how_many_packets_were_too_late(rt: HostRuntime) {
     let mut errors = Vec::new(rt.alloc());
     let ticks = Cell::new(10);
     let now = Cell::new(15);

@@ -25,7 +25,7 @@ fn takes_the_control_port(rt: HostRuntime) {
 }
 
 #[test]
-fn tells_a_bad_configuration(rt: HostRuntime) {
+fn reports_a_bad_configuration(rt: HostRuntime) {
     let done = run_program(&rt, &["replay", "--slots", "0"], HEARTBEAT);
     assert_eq!(rt; done.status, 2);
     assert!(rt; done.output.is_empty());
@@ -34,7 +34,7 @@ fn tells_a_bad_configuration(rt: HostRuntime) {
 }
 
 #[test]
-fn tells_a_bad_line(rt: HostRuntime) {
+fn reports_a_bad_line(rt: HostRuntime) {
     let done = run_program(&rt, &["replay"], b"tick\ntock\n");
     assert_eq!(rt; done.status, 1);
     assert!(rt; done.output.is_empty());

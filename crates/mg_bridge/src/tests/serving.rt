@@ -22,7 +22,7 @@ fn serves_lines(rt: HostRuntime) {
 }
 
 #[test]
-fn tells_a_taken_control_port(rt: HostRuntime) -> Result<(), Fail> {
+fn reports_a_taken_control_port(rt: HostRuntime) -> Result<(), Fail> {
     let _control = UdpSocket::bind(&rt, local(29100))?;
     let _media = UdpSocket::bind(&rt, local(29102))?;
     let words = [
@@ -45,7 +45,7 @@ fn tells_a_taken_control_port(rt: HostRuntime) -> Result<(), Fail> {
 }
 
 #[test]
-fn tells_the_first_taken_media_port(rt: HostRuntime) -> Result<(), Fail> {
+fn reports_the_first_taken_media_port(rt: HostRuntime) -> Result<(), Fail> {
     let _third = UdpSocket::bind(&rt, local(29206))?;
     let _second = UdpSocket::bind(&rt, local(29204))?;
     let words = [
@@ -112,7 +112,7 @@ fn names_the_option_at_fault_and_binds_nothing(rt: HostRuntime) -> Result<(), Fa
 }
 
 #[test]
-fn tells_an_address_of_another_machine(rt: HostRuntime) {
+fn reports_an_address_of_another_machine(rt: HostRuntime) {
     let words = [
         "serve",
         "--address",

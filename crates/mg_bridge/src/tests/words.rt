@@ -1,6 +1,6 @@
 use super::run_program;
 use mg_core::Config;
-use mg_program::{Invocation, asked_run, title_of};
+use mg_program::{Invocation, requested_run, title_of};
 use std::alloc::{AllocError, Global};
 use std::test::Fail;
 
@@ -67,8 +67,8 @@ fn title_words(alloc: Global, config: &Config) -> Result<Vec<String>, AllocError
 /// Whether the title of a recording asks for a replay with this configuration.
 fn is_titled(alloc: Global, config: Config) -> Result<bool, Fail> {
     let words = title_words(alloc, &config)?;
-    match asked_run(alloc, words.as_slice()) {
-        Ok(Invocation::Replay(asked, _)) => Ok(asked == config),
+    match requested_run(alloc, words.as_slice()) {
+        Ok(Invocation::Replay(requested, _)) => Ok(requested == config),
         Ok(_) | Err(_) => Ok(false),
     }
 }

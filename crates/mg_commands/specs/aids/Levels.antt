@@ -32,19 +32,19 @@ abbrev pub is_same_word : List ℕ → Part → ℕ → StreamPart → Bool
 is_same_word source x n y = is_same_part source x (stream_word n y)
 
 -- whether a part of the stream n stands in a part of a Media descriptor
-abbrev pub stands_in : List ℕ → Part → ℕ → MediaPart → Bool
-stands_in source x n (media.Part y) = n == 1 && is_same_word source x 1 y
-stands_in source x n (media.Stream k ys) = n == k && list_any (is_same_word source x k) ys
-stands_in source x n (media.TerminationState has_content) = false
+abbrev pub appears_in : List ℕ → Part → ℕ → MediaPart → Bool
+appears_in source x n (media.Part y) = n == 1 && is_same_word source x 1 y
+appears_in source x n (media.Stream k ys) = n == k && list_any (is_same_word source x k) ys
+appears_in source x n (media.TerminationState has_content) = false
 
-abbrev pub stood_in_media : List ℕ → List MediaPart → ℕ → List StreamPart → Part → Bool
-stood_in_media source parts n before x =
-    list_any (is_same_word source x n) before || list_any (stands_in source x n) parts
+abbrev pub appeared_in_media : List ℕ → List MediaPart → ℕ → List StreamPart → Part → Bool
+appeared_in_media source parts n before x =
+    list_any (is_same_word source x n) before || list_any (appears_in source x n) parts
 
 abbrev pub stream_level : List ℕ → List MediaPart → ℕ → List StreamPart → StreamPart
     → Option ErrorNumber
 stream_level source parts n before x =
-    option_or (fault_of (stood_in_media source parts n before (stream_word n x)) (stream_word n x))
+    option_or (fault_of (appeared_in_media source parts n before (stream_word n x)) (stream_word n x))
     (first_after (control_level source n) [] (controls_within x))
 
 abbrev pub is_state : MediaPart → Bool

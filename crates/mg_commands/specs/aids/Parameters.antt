@@ -6,8 +6,8 @@ use Rattle.mg_commands.specs.CommandParameters.{mode_in, depth_in, local_in, rem
 use Rattle.mg_commands.specs.CommandParameters.{is_audit, is_media_audit, is_statistics_audit}
 use Rattle.std.specs.Option.{option_or}
 
-abbrev pub nothing_asked : CommandParameters
-nothing_asked =
+abbrev pub no_parameters : CommandParameters
+no_parameters =
     record {
       settings = record { mode = None; depth = None; local = None; remote = None };
       has_audit = false;

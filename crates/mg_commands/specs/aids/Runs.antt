@@ -14,7 +14,7 @@ use Rattle.mg_commands.specs.declared.command_parameters.CommandParameters.{Comm
 use Rattle.mg_commands.specs.declared.progress.Progress.{Progress}
 use Rattle.mg_commands.specs.aids.Steps.{all_names}
 use Rattle.mg_commands.specs.Transaction.{ActionState, TransactionState, with_trial}
-use Rattle.mg_commands.specs.Work.{edits_told}
+use Rattle.mg_commands.specs.Work.{edits_reported}
 
 -- what there was before a request: the reply that was begun, and the engine's work
 pub record Base : Type 0 where
@@ -23,7 +23,7 @@ pub record Base : Type 0 where
 
 -- the work rose by at most four for each edit that the items tell of
 abbrev pub IsPaid : Base → List Item → EngineState → Type 0
-IsPaid base items engine = RisesAtMost (4 * edits_told items) base.work engine.sums.work
+IsPaid base items engine = RisesAtMost (4 * edits_reported items) base.work engine.sums.work
 
 pub record ActionKept : Type 0 where
   pub engine : EngineState
@@ -63,9 +63,9 @@ pub record IsTransaction (base : Base) (kept : TransactionKept) (s : Transaction
 
 -- what was told of the properties of an action, and the engine stands for the world after it, by
 -- what came of them in a world
-abbrev pub TellsProperties : EngineState → Answered → Answered → Bool → Gateway
+abbrev pub ReportsProperties : EngineState → Answered → Answered → Bool → Gateway
     → Result (Gateway × List Item) ErrorNumber → Type 0
-TellsProperties kept before told is_done w (Ok p) =
-    (is_done ≡ true) × (told ≡ after_all before p.1) × StandsFor kept p.0
-TellsProperties kept before told is_done w (Err e) =
-    (is_done ≡ false) × (told ≡ after_put before (Fault e)) × StandsFor kept w
+ReportsProperties kept before reported is_done w (Ok p) =
+    (is_done ≡ true) × (reported ≡ after_all before p.1) × StandsFor kept p.0
+ReportsProperties kept before reported is_done w (Err e) =
+    (is_done ≡ false) × (reported ≡ after_put before (Fault e)) × StandsFor kept w

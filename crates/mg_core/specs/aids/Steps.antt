@@ -22,7 +22,7 @@ use Rattle.mg_core.specs.declared.shown.Shown.{Shown}
 use Rattle.mg_core.specs.declared.shown.Shown.TheVariants as shows
 use Rattle.mg_core.specs.declared.state.CoreState.{CoreState}
 use Rattle.mg_words.specs.Leads.{Leads}
-use Rattle.mg_reply.specs.declared.item.Item.TheVariants as told
+use Rattle.mg_reply.specs.declared.item.Item.TheVariants as reported
 use Rattle.mg_reply.specs.Reply.{Answered}
 use Rattle.mg_reply.specs.Theorems.{is_too_long}
 use Rattle.mg_reply.specs.Written.{reply_text}
@@ -44,7 +44,7 @@ TextGrows old new before text f =
 -- what is written of a reply as it was put together: its text, or the error in its place
 abbrev pub put_text : Answered → List ℕ
 put_text r =
-    if is_too_long r then reply_text r.number (told.Fault numbers.ReplyTooLong ∷ [])
+    if is_too_long r then reply_text r.number (reported.Fault numbers.ReplyTooLong ∷ [])
     else reply_text r.number r.items
 
 -- the error that a message is refused with, unless memory ran out
@@ -133,23 +133,23 @@ LineRan shown number line w next n m old new (Err stops.NoMemory) = Keeps old ne
 -- after the bytes; or why they were not.
 abbrev pub BytesRan : Shown → ℕ → ℕ → List ℕ → List ℕ → List ℕ → World → World → ℕ → ℕ
     → Option (List ℕ) → Option (List ℕ) → Result (Unit {0}) LineFault → Type 0
-BytesRan shown count counted begun bytes left w next n m old new (Ok done) =
+BytesRan shown count counted partial bytes left w next n m old new (Ok done) =
     (lines : List (List ℕ))
-    × ((ended : Bool) (more : List ℕ) → lines_after ended begun (bytes ++ more) ≡ lines
+    × ((ended : Bool) (more : List ℕ) → lines_after ended partial (bytes ++ more) ≡ lines
     ++ lines_after ended left more)
     × (counted ≡ count + length lines) × RanCounted shown w lines next n m old new
-BytesRan shown count counted begun bytes left w next n m old new (Err (stops.Bad number)) =
+BytesRan shown count counted partial bytes left w next n m old new (Err (stops.Bad number)) =
     (lines : List (List ℕ))
-    × ((more : List ℕ) → HasBadAfter lines (lines_after true begun (bytes ++ more)))
+    × ((more : List ℕ) → HasBadAfter lines (lines_after true partial (bytes ++ more)))
     × (number ≡ count + length lines + 1) × Ran shown w lines next old new
-BytesRan shown count counted begun bytes left w next n m old new (Err stops.Write) =
+BytesRan shown count counted partial bytes left w next n m old new (Err stops.Write) =
     (lines : List (List ℕ)) × (line : List ℕ) × (others : List (List ℕ))
-    × (lines_after false begun bytes ≡ lines ++ line ∷ others)
+    × (lines_after false partial bytes ≡ lines ++ line ∷ others)
     × (mid : World) × (held : Option (List ℕ)) × Ran shown w lines mid old held
     × RanInPart shown mid (line ∷ []) next held new
-BytesRan shown count counted begun bytes left w next n m old new (Err stops.NoMemory) =
+BytesRan shown count counted partial bytes left w next n m old new (Err stops.NoMemory) =
     (lines : List (List ℕ)) × (line : List ℕ) × (others : List (List ℕ))
-    × (lines_after false begun bytes ≡ lines ++ line ∷ others) × Ran shown w lines next old new
+    × (lines_after false partial bytes ≡ lines ++ line ∷ others) × Ran shown w lines next old new
 
 -- the line that was begun is the last, if there is one, and is counted
 abbrev pub Finishes : Shown → ℕ → ℕ → List ℕ → World → World → ℕ → ℕ → Option (List ℕ)

@@ -17,8 +17,8 @@ next_timestamp n = (n + 160) % 2 ^ 32
 
 -- those of a termination as it is made, with the timestamp of its first tick and the number of its
 -- first packet
-abbrev pub begun_at : ℕ → ℕ → SlotMedia
-begun_at timestamp sequence =
+abbrev pub initial_media_at : ℕ → ℕ → SlotMedia
+initial_media_at timestamp sequence =
     record {
       play = first_list;
       stats = no_packets;
@@ -27,8 +27,8 @@ begun_at timestamp sequence =
       is_sending = false;
     }
 
-abbrev pub begun : Config → SlotMedia
-begun config = begun_at config.timestamp config.sequence
+abbrev pub initial_media : Config → SlotMedia
+initial_media config = initial_media_at config.timestamp config.sequence
 
 -- with the depth of the play list that a command names
 abbrev pub slot_tuned : Option ℕ → SlotMedia → SlotMedia

@@ -6,8 +6,8 @@ use Rattle.mg_engine.specs.aids.MediaSteps as media_steps
 use Rattle.mg_engine.specs.Stands.{media_at}
 
 -- each termination has lived a tick at least
-abbrev pub AreOld : Gateway → Type 0
-AreOld w = (n : ℕ) (s : TerminationMedia) → media_of w n ≡ Some s → 1 ≤ s.ticks
+abbrev pub HaveTicked : Gateway → Type 0
+HaveTicked w = (n : ℕ) (s : TerminationMedia) → media_of w n ≡ Some s → 1 ≤ s.ticks
 
 -- no slot stands twice among these
 abbrev pub AreApart : List ℕ → Type 0

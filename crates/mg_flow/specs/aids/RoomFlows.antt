@@ -28,8 +28,8 @@ flows_to topology talks listens talker listener =
     has_seat talks talker && (has_seat listens listener && hears topology talker listener)
 
 -- the talker is another member, whom the last word keeps from the listener
-abbrev pub is_kept_from : TopologyState → (talks : ℕ) → (talker listener : ℕ) → Bool
-is_kept_from topology talks talker listener =
+abbrev pub is_blocked_for : TopologyState → (talks : ℕ) → (talker listener : ℕ) → Bool
+is_blocked_for topology talks talker listener =
     has_seat talks talker
     && (holds topology talker
     && (holds topology listener
@@ -42,4 +42,4 @@ pub record AreMasks (room : RoomFlows) (open_masks silenced_masks : List ℕ) : 
       ≡ flows_to room.topology room.talks room.listens talker listener
   pub kept : (talker listener : ℕ) → listener < seat_limit →
       has_seat (slice_index silenced_masks listener) talker
-      ≡ is_kept_from room.topology room.talks talker listener
+      ≡ is_blocked_for room.topology room.talks talker listener

@@ -3,8 +3,8 @@ use Rattle.std.specs.Prelude.{◌≡◌, [], ◌∷◌, ◌++◌, List, Option, 
 use Rattle.mg_ports.specs.declared.call.Call.{Call}
 
 -- a log grows by a call, or tells nothing any more
-abbrev pub TellsNext : Option (List Call) → Option (List Call) → Option Call → Type 0
-TellsNext old None call = Unit {0}
-TellsNext old (Some all) None = ⊥
-TellsNext None (Some all) (Some call) = ⊥
-TellsNext (Some before) (Some all) (Some call) = all ≡ before ++ call ∷ []
+abbrev pub LogsNext : Option (List Call) → Option (List Call) → Option Call → Type 0
+LogsNext old None call = Unit {0}
+LogsNext old (Some all) None = ⊥
+LogsNext None (Some all) (Some call) = ⊥
+LogsNext (Some before) (Some all) (Some call) = all ≡ before ++ call ∷ []

@@ -3,8 +3,8 @@ use Rattle.std.specs.Prelude.{ℕ, List, Option}
 use Rattle.mg_core.specs.declared.state.CoreState.{CoreState}
 use Rattle.mg_core.specs.World.{World, StandsFor}
 use Rattle.mg_ports.specs.declared.call.Call.{Call}
-use Rattle.mg_ports.specs.Calls.{Told}
-use Rattle.mg_serve.specs.Trace.{Did, calls_of}
+use Rattle.mg_ports.specs.Calls.{Logged}
+use Rattle.mg_serve.specs.Trace.{TraceEntry, calls_of}
 use Rattle.mg_serve.specs.aids.Printing.{PrinterView, Prints}
 
 -- what is seen of a server from outside: the calls that its ports told, what its writer holds, and
@@ -19,15 +19,15 @@ outside calls written printer =
     record { calls = calls; written = written; printer = printer }
 
 -- from outside, these things were done
-pub record TellsTrace (old new : Outside) (trace : List Did) : Type 0 where
-  pub told : Told old.calls new.calls (calls_of trace)
+pub record LogsTrace (old new : Outside) (trace : List TraceEntry) : Type 0 where
+  pub logged : Logged old.calls new.calls (calls_of trace)
   pub prints : Prints old.printer new.printer old.written new.written trace
 
 -- From each world that the core stood for a step leads, by what was done, to a world that the core
 -- stands for afterwards.
 abbrev pub LeadsByTrace : CoreState → CoreState → Outside → Outside
-    → (World → List Did → World → Type 0) → Type 0
+    → (World → List TraceEntry → World → Type 0) → Type 0
 LeadsByTrace old new before after R =
     (w : World) → StandsFor old w →
-    (trace : List Did) × (next : World) × TellsTrace before after trace
+    (trace : List TraceEntry) × (next : World) × LogsTrace before after trace
     × R w trace next × StandsFor new next

@@ -3,7 +3,7 @@ use Rattle.std.specs.Prelude.{◌≡◌, ◌≢◌, ℕ, Bool, true, false, List
 use Rattle.std.specs.Io.KnownBytes.{Keeps, Appends}
 use Rattle.mg_lines.specs.Streams.{WritesFront}
 use Rattle.mg_serve.specs.declared.form.Form.{Form}
-use Rattle.mg_serve.specs.Trace.{Did, output_of}
+use Rattle.mg_serve.specs.Trace.{TraceEntry, output_of}
 
 -- what it prints, and whether a print has failed
 pub record PrinterView : Type 0 where
@@ -19,7 +19,7 @@ Puts true false text old new = ⊥
 Puts true true text old new = Keeps old new
 
 -- what was done was printed
-pub record Prints (old new : PrinterView) (before after : Option (List ℕ)) (trace : List Did)
+pub record Prints (old new : PrinterView) (before after : Option (List ℕ)) (trace : List TraceEntry)
     : Type 0 where
   pub form : new.form ≡ old.form
   pub puts : Puts old.has_failed new.has_failed (output_of old.form trace) before after

@@ -23,7 +23,7 @@ returns-clause-ran c =
     elim c.if-were_done.branch [
       | then-were_done w ↦
           let tells = rw (c.as_slice-properties.ensures.value, sym w.engine-is, sym w.reply-is, sym w.is_done-is) at
-          w.try_properties-is_done.ensures.came in
+          w.try_properties-is_done.ensures.represents in
           let still = rw (sym w.engine-is) at w.try_properties-is_done.ensures.work in
           action_finished source action c.args.engine.now tried.new.engine c.args.reply.now tried.new.reply
           tried.result.0 tried.result.1 none ran

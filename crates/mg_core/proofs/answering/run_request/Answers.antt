@@ -25,7 +25,7 @@ returns-clause-ran c =
     let kept = c.keep.ensures.value ∙ ap (λ (l : List ℕ). with_reply
     (record { sender = c.args.sender.now; number = c.args.request.now.number; text = l }) c.args.state.now.kept)
     last in
-    request_run c.too_long_by_text_alone.ensures.theorem c.too_long_by_text_alone.ensures.kept c.args.source.now
+    request_run c.too_long_by_text.ensures.theorem c.too_long_by_text.ensures.kept c.args.source.now
     c.args.sender.now c.args.request.now c.args.state.now state c.transaction.new.reply before
     c.put_reply.new.answer.text c.transaction.ensures.wide c.transaction.ensures.ended refl
     c.transaction.ensures.ran kept text

@@ -16,7 +16,7 @@ returns c =
     let reads = c.one_reading.ensures.at_most_one in
     let event = same_event requests reads engine.media engine.one engine.turned engine.tick in
     let one = one_event requests reads engine.media engine.one engine.turned engine.tick in
-    let packets = same_packets c.packets_are_of_what_is_heard.ensures.packets in
+    let packets = same_packets c.packets_depend_on_heard.ensures.packets in
     let lists : UnheardChangesNothing = unheard event one
     (turn requests reads engine.media engine.one engine.turned engine.tick) packets in
     record {
@@ -24,8 +24,8 @@ returns c =
       one = one;
       packets = packets;
       lists = lists;
-      histories = λ some port config xs s t v w here there none came too.
-          (lists some port (start_of config) (start_of config) v w xs s t (itself some (start_of config)) none came.0
+      histories = λ some port config xs s t v w here there none represents too.
+          (lists some port (start_of config) (start_of config) v w xs s t (itself some (start_of config)) none represents.0
           too.0).0;
       scripts = λ some port config xs form other_form one_script other counts more old new was now a b none first
           second.

@@ -1,7 +1,7 @@
 use Rattle.std.proofs.Common.{Option, subst}
 use Rattle.std.specs.Prelude.{IfSome}
 use Rattle.mg_rooms.specs.declared.member.Member.{Member}
-use Rattle.mg_rooms.specs.Member.{IsThereAs}
+use Rattle.mg_rooms.specs.Member.{ExistsAs}
 use Rattle.mg_engine.proofs.PlaceLemmas.{on_its_place}
 use Rattle.mg_engine.proofs.seated_member.seated_member.Goals as goal
 
@@ -9,6 +9,6 @@ pub returns-clause-place : goal.returns-clause-place
 returns-clause-place c =
     let w = c.args.rooms.now in
     let m = c.unwrap-member.result in
-    let found = subst (λ (o : Option Member). IfSome o (IsThereAs w c.args.number)) c.unwrap-member.ensures
+    let found = subst (λ (o : Option Member). IfSome o (ExistsAs w c.args.number)) c.unwrap-member.ensures
     c.member.ensures.some in
     (m.record, on_its_place w c.args.number m found)

@@ -12,26 +12,26 @@ returns-clause-start c = λ config valid few. c.outcomes_are_consistent.ensures.
 
 pub returns-clause-add : goal.returns-clause-add
 returns-clause-add c = λ w next target settings r h done.
-    let (z, is, came) = done_is (added w settings) (commands.add w.rooms target settings) next r done in
-    subst (λ (g : Gateway). IsConsistent g.rooms) (sym came)
+    let (z, is, represents) = done_is (added w settings) (commands.add w.rooms target settings) next r done in
+    subst (λ (g : Gateway). IsConsistent g.rooms) (sym represents)
     (c.outcomes_are_consistent.ensures.add w.rooms z target settings r h is)
 
 pub returns-clause-modify : goal.returns-clause-modify
 returns-clause-modify c = λ w next target n settings r h done.
-    let (z, is, came) = done_is (modified w settings) (commands.modify w.rooms target n settings) next r done in
-    subst (λ (g : Gateway). IsConsistent g.rooms) (sym came)
+    let (z, is, represents) = done_is (modified w settings) (commands.modify w.rooms target n settings) next r done in
+    subst (λ (g : Gateway). IsConsistent g.rooms) (sym represents)
     (c.outcomes_are_consistent.ensures.modify w.rooms z target n settings r h is)
 
 pub returns-clause-move_to : goal.returns-clause-move_to
 returns-clause-move_to c = λ w next target n settings r h done.
-    let (z, is, came) = done_is (moved w settings) (commands.move_to w.rooms target n settings) next r done in
-    subst (λ (g : Gateway). IsConsistent g.rooms) (sym came)
+    let (z, is, represents) = done_is (moved w settings) (commands.move_to w.rooms target n settings) next r done in
+    subst (λ (g : Gateway). IsConsistent g.rooms) (sym represents)
     (c.outcomes_are_consistent.ensures.move_to w.rooms z target n settings r h is)
 
 pub returns-clause-subtract : goal.returns-clause-subtract
 returns-clause-subtract c = λ w next target n r h done.
-    let (z, is, came) = done_is (subtracted w) (commands.subtract w.rooms target n) next r done in
-    subst (λ (g : Gateway). IsConsistent g.rooms) (sym came)
+    let (z, is, represents) = done_is (subtracted w) (commands.subtract w.rooms target n) next r done in
+    subst (λ (g : Gateway). IsConsistent g.rooms) (sym represents)
     (c.outcomes_are_consistent.ensures.subtract w.rooms z target n r h is)
 
 pub returns-clause-triples : goal.returns-clause-triples
@@ -39,5 +39,5 @@ returns-clause-triples c = λ w next target triples n h done. subst IsConsistent
     (sym (triples_rooms w next target triples n done)) h
 
 pub returns-clause-media : goal.returns-clause-media
-returns-clause-media c = λ w next port source bytes result h came. subst IsConsistent
-    (sym (takes_rooms w next port source bytes result came)) h
+returns-clause-media c = λ w next port source bytes result h represents. subst IsConsistent
+    (sym (takes_rooms w next port source bytes result represents)) h

@@ -13,7 +13,7 @@ returns-in_err-turn g c =
     rw (p.1, p.2) (record {
       value = run_cut c.args.options c.loop-turn._turn c.in_ok-now.now _ (g.K.Watch.readings c.loop-turn.watch) _ _
           (g.K.Watch.waits c.loop-turn.watch) _ _ (g.W.Write.contents c.loop-turn.output) _ _ c.loop-turn.errors _
-          c.loop-turn.schedule c.turn.new.schedule c.loop-turn.invariant c.in_ok-now.ensures.tells
+          c.loop-turn.schedule c.turn.new.schedule c.loop-turn.invariant c.in_ok-now.ensures.reports
           c.in_ok-now.ensures.waits c.in_err-turn.ensures.advances c.in_err-turn.ensures.quiet
           (g.K.Watch.Fails c.now.new.self)
           c.in_err-turn.field-0.0 c.in_err-turn.ensures.value;
@@ -24,7 +24,7 @@ returns-then-branch g c =
     record {
       value = run_done c.args.options c.loop-turn._turn c.in_ok-now.now _ (g.K.Watch.readings c.loop-turn.watch) _ _
           (g.K.Watch.waits c.loop-turn.watch) _ _ (g.W.Write.contents c.loop-turn.output) _ _ c.loop-turn.errors _
-          c.loop-turn.schedule c.turn.new.schedule c.loop-turn.invariant c.in_ok-now.ensures.tells
+          c.loop-turn.schedule c.turn.new.schedule c.loop-turn.invariant c.in_ok-now.ensures.reports
           c.in_ok-now.ensures.waits c.in_ok-turn.ensures.advances c.in_ok-turn.ensures.quiet
           (g.K.Watch.Fails c.now.new.self) tt
           (subst (λ (b : Bool). Turns c.args.options.ticks c.loop-turn.schedule c.turn.new.schedule
@@ -37,7 +37,7 @@ loop-turn-preserved g c =
     so_far_more c.args.options c.loop-turn._turn c.in_ok-now.now _ (g.K.Watch.readings c.loop-turn.watch)
     (g.K.Watch.readings c.now.new.self) _ (g.K.Watch.waits c.loop-turn.watch) (g.K.Watch.waits c.now.new.self)
     _ (g.W.Write.contents c.loop-turn.output) _ _ c.loop-turn.errors _ c.loop-turn.schedule c.turn.new.schedule
-    c.loop-turn.invariant c.in_ok-now.ensures.tells c.in_ok-now.ensures.waits c.in_ok-turn.ensures.advances
+    c.loop-turn.invariant c.in_ok-now.ensures.reports c.in_ok-now.ensures.waits c.in_ok-turn.ensures.advances
     c.in_ok-turn.ensures.quiet
     _ _ _
     (subst (λ (b : Bool). Turns c.args.options.ticks c.loop-turn.schedule c.turn.new.schedule

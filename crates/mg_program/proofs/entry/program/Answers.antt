@@ -6,9 +6,9 @@ use Rattle.mg_program.proofs.entry.program.Goals as goal
 pub returns-clause-ends : goal.returns-clause-ends
 returns-clause-ends g c =
     record {
-      status = c.match-asked_run.status;
-      told = c.code.ensures.value;
-      ends = elim c.match-asked_run.branch [
+      status = c.match-requested_run.status;
+      reported = c.code.ensures.value;
+      ends = elim c.match-requested_run.branch [
         | in-Ok-Replay w ↦ rw (
           w.status-is,
           w.input-is,
@@ -31,15 +31,15 @@ returns-clause-ends g c =
           kind = kind_of w.in-Err.error;
           refused = w.in-Err.ensures.refused;
           is_left = w.input-is;
-          told = w.tell-status.ensures.told;
-          quiet = w.tell-status.ensures.quiet;
+          reported = w.report_error-status.ensures.reported;
+          quiet = w.report_error-status.ensures.quiet;
         }))
         | in-Err+in-None-1 w ↦ rw (w.status-is, w.output-is, w.errors-is) (inr (record {
           kind = kind_of w.in-Err.error;
           refused = w.in-Err.ensures.refused;
           is_left = w.input-is;
-          told = w.tell-status.ensures.told;
-          quiet = w.tell-status.ensures.quiet;
+          reported = w.report_error-status.ensures.reported;
+          quiet = w.report_error-status.ensures.quiet;
         }))
       ];
     }

@@ -2,7 +2,7 @@ use Rattle.std.proofs.Common.{◌++◌, ◌∙◌, ◌+◌, [], take, drop, sym,
 use Rattle.mg_reply.specs.aids.Draft.{drafted}
 use Rattle.mg_reply.specs.aids.Room.{action_id}
 use Rattle.mg_reply.specs.Written.{action_text, actions_text}
-use Rattle.mg_reply.proofs.ActionLemmas.{goes_on, action_ends, all_done, none_pending}
+use Rattle.mg_reply.proofs.ActionLemmas.{continues, action_ends, all_done, none_pending}
 use Rattle.mg_reply.proofs.action_writing.put_actions.Goals as goal
 
 pub loop-i-preserved-in_default : goal.loop-i-preserved-in_default
@@ -11,7 +11,7 @@ loop-i-preserved-in_default c =
     let none = sym item ∙ sym c.action_id.ensures.value ∙ c.in_default.is in
     record {
       after = omega arith;
-      same = goes_on c.loop-i.draft c.loop-i.mark.now c.args.items.now c.loop-i.from c.loop-i.i c.index-items-i.result
+      same = continues c.loop-i.draft c.loop-i.mark.now c.args.items.now c.loop-i.from c.loop-i.i c.index-items-i.result
           c.loop-i.invariant.after c.loop-i-test.true none ∙ c.loop-i.invariant.same;
     }
 

@@ -5,5 +5,5 @@ pub returns : goal.returns
 returns c = record {
   read = read_back c.recordings_are_read.ensures.theorem;
   cut = cut_read_back c.recordings_are_read.ensures.cut;
-  replay = replayed c.recordings_are_read.ensures.theorem c.outcomes_are_one.ensures.events;
+  replay = replayed c.recordings_are_read.ensures.theorem c.outcomes_are_unique.ensures.events;
 }

@@ -9,7 +9,7 @@ pub add_chunk-requires-clause-samples : goal.add_chunk-requires-clause-samples
 add_chunk-requires-clause-samples c = λ j l.
     let read = chunk_is 8 c.as_chunks.result.0.now c.args.row.now (pos 0) c.loop-i.i j c.as_chunks.ensures.front
     (omega arith) l in
-    rw read (c.know_samples.ensures (8 * c.loop-i.i + j) (omega arith))
+    rw read (c.assert_sample_range.ensures (8 * c.loop-i.i + j) (omega arith))
 
 pub add_chunk-requires-clause-fits : goal.add_chunk-requires-clause-fits
 add_chunk-requires-clause-fits c = λ j l.

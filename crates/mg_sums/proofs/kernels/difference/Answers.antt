@@ -9,13 +9,13 @@ pub difference_chunk-requires-clause-samples : goal.difference_chunk-requires-cl
 difference_chunk-requires-clause-samples c = λ j l.
     let read = chunk_is 8 c.as_chunks-2.result.0.now c.args.row.now (pos 0) c.loop-i.i j c.as_chunks-2.ensures.front
     (omega arith) l in
-    rw read (c.know_samples.ensures (8 * c.loop-i.i + j) (omega arith))
+    rw read (c.assert_sample_range.ensures (8 * c.loop-i.i + j) (omega arith))
 
 pub difference_chunk-requires-clause-sums : goal.difference_chunk-requires-clause-sums
 difference_chunk-requires-clause-sums c = λ j l.
     let sum = chunk_is 8 c.as_chunks.result.0.now c.args.total.now (pos 0) c.loop-i.i j c.as_chunks.ensures.front
     (omega arith) l in
-    rw sum (c.know_sums.ensures (8 * c.loop-i.i + j) (omega arith))
+    rw sum (c.assert_sum_range.ensures (8 * c.loop-i.i + j) (omega arith))
 
 pub difference_chunk-requires-clause-fits : goal.difference_chunk-requires-clause-fits
 difference_chunk-requires-clause-fits c = λ j l.

@@ -9,7 +9,7 @@ pub limit_chunk-requires-clause-sums : goal.limit_chunk-requires-clause-sums
 limit_chunk-requires-clause-sums c = λ j l.
     let sum = chunk_is 8 c.as_chunks.result.0.now c.args.sums.now (pos 0) c.loop-i.i j c.as_chunks.ensures.front
     (omega arith) l in
-    rw sum (c.know_sums.ensures (8 * c.loop-i.i + j) (omega arith))
+    rw sum (c.assert_sum_range.ensures (8 * c.loop-i.i + j) (omega arith))
 
 pub loop-i-preserved : goal.loop-i-preserved
 loop-i-preserved c = chunk_more 8 _ _ _ _ _ _ _ c.loop-i.invariant c.limit_chunk.ensures (omega arith) (λ j l.

@@ -1,6 +1,6 @@
 use Rattle.std.proofs.Common.{sym, ◌∙◌}
 use Rattle.std.proofs.lemmas.Result.{err_from_is_err_and}
-use Rattle.mg_text.proofs.PartSteps.{goes_on, is_done, is_open, ends, commands_end, commands_follow, runs_out}
+use Rattle.mg_text.proofs.PartSteps.{continues, is_done, is_open, ends, commands_end, commands_follow, runs_out}
 use Rattle.mg_text.proofs.actions.parts_at.Goals as goal
 
 pub returns-in_err-commands : goal.returns-in_err-commands
@@ -41,7 +41,7 @@ returns-in_default c =
 
 pub loop-preserved : goal.loop-preserved
 loop-preserved c = rw c.in_ok-push.ensures.items
-    (goes_on _ _ _ _ _ _ c.loop.invariant _ _ _ c.loop-test.true
+    (continues _ _ _ _ _ _ c.loop.invariant _ _ _ c.loop-test.true
     (sym c.begins_property.ensures.value ∙ c.if-not-begins_property.false) c.in_ok-property.ensures c.in-Some.ensures)
 
 pub returns : goal.returns

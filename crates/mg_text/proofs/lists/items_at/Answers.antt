@@ -1,5 +1,5 @@
 use Rattle.std.proofs.lemmas.Result.{err_from_is_err_and}
-use Rattle.mg_text.proofs.ListSteps.{goes_on, is_done, is_open, ends, runs_out}
+use Rattle.mg_text.proofs.ListSteps.{continues, is_done, is_open, ends, runs_out}
 use Rattle.mg_text.proofs.lists.items_at.Goals as goal
 
 pub returns-in_err-item : goal.returns-in_err-item
@@ -20,7 +20,7 @@ returns-in_default g c = rw (c.new.ensures.value, c.in_ok-push.ensures.items)
 
 pub loop-preserved : goal.loop-preserved
 loop-preserved g c = rw c.in_ok-push.ensures.items
-    (goes_on _ _ _ _ _ _ _ c.loop.invariant _ _ _ c.loop-test.true c.in_ok-item.ensures c.in-Some.ensures)
+    (continues _ _ _ _ _ _ _ c.loop.invariant _ _ _ c.loop-test.true c.in_ok-item.ensures c.in-Some.ensures)
 
 pub returns : goal.returns
 returns g c = rw c.place_of.ensures.value (runs_out _ _ _ _ _ _ _ c.loop.invariant c.loop-test.false)

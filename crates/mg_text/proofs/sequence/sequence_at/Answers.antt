@@ -1,6 +1,6 @@
 use Rattle.std.proofs.Common.{◌≡◌, sym, refl}
 use Rattle.std.proofs.lemmas.Result.{err_from_is_err_and}
-use Rattle.mg_text.proofs.SequenceSteps.{kept_after, goes_on, is_done, ends, runs_out}
+use Rattle.mg_text.proofs.SequenceSteps.{kept_after, continues, is_done, ends, runs_out}
 use Rattle.mg_text.proofs.sequence.sequence_at.Goals as goal
 use Rattle.mg_text.proofs.sequence.sequence_at.Goals.{in-Some+in_ok-push, in_default}
 
@@ -25,7 +25,7 @@ loop-preserved c =
       | in-Some+in_ok-push w ↦ rw (w.items-is, w.in-Some.is) w.in_ok-push.ensures.items
       | in_default w ↦ rw (w.items-is, w.in_default.is) refl
     ] in
-    rw is (goes_on _ _ _ _ _ _ c.loop.invariant _ _ c.loop-test.true c.in_ok-item.ensures (sym c.if-is_empty.ensures))
+    rw is (continues _ _ _ _ _ _ c.loop.invariant _ _ c.loop-test.true c.in_ok-item.ensures (sym c.if-is_empty.ensures))
 
 pub returns : goal.returns
 returns c = rw c.place_of.ensures.value (runs_out _ _ _ _ _ _ c.loop.invariant c.loop-test.false)

@@ -6,19 +6,19 @@ use Rattle.mg_engine.proofs.WorkLemmas.{stays}
 use Rattle.mg_core.specs.CoreView.{CoreView}
 use Rattle.mg_core.specs.declared.answer.Answer.TheVariants.{Send}
 use Rattle.mg_core.specs.declared.state.CoreState.{CoreState}
-use Rattle.mg_core.specs.Step.{told}
+use Rattle.mg_core.specs.Step.{reported}
 use Rattle.mg_core.specs.Work.{edits_by}
 use Rattle.mg_core.specs.World.{StandsFor, with_control}
 use Rattle.mg_core.proofs.AnswerLemmas.{is_refused}
-use Rattle.mg_core.proofs.HeadlineLemmas.{goes_on}
+use Rattle.mg_core.proofs.HeadlineLemmas.{continues}
 use Rattle.mg_core.proofs.machine.Core.control.Goals as goal
 
 pub returns-in-Ok-clause-answered : goal.returns-in-Ok-clause-answered
 returns-in-Ok-clause-answered c w h =
     let held = subst (λ (x : CoreView). StandsFor x.state w) (sym c.self.view_is) h in
     let found = rw c.in-Ok.is at c.read.ensures.found in
-    let (next, came, stands) = c.reply_to.ensures.replied (with_control w) (c.count_control.ensures.counted w held) in
-    (next, (told c.reply_to.result c.reply_to.new.self.answer, (Read c.in-Ok.message, found, came), refl), stands)
+    let (next, represents, stands) = c.reply_to.ensures.replied (with_control w) (c.count_control.ensures.counted w held) in
+    (next, (reported c.reply_to.result c.reply_to.new.self.answer, (Read c.in-Ok.message, found, represents), refl), stands)
 
 pub returns-in-Some-clause-answered : goal.returns-in-Some-clause-answered
 returns-in-Some-clause-answered c w h =
@@ -30,7 +30,7 @@ returns-in-Some-clause-answered c w h =
     read.syntax (with_control w) in (
       with_control w,
       (
-        told Send c.refuse.new.self.answer,
+        reported Send c.refuse.new.self.answer,
         (reading, is, refused ∙ c.refuse.ensures.refused (with_control w) counted),
         refl,
       ),
@@ -38,10 +38,10 @@ returns-in-Some-clause-answered c w h =
     )
 
 pub returns-in-Ok-clause-headline : goal.returns-in-Ok-clause-headline
-returns-in-Ok-clause-headline c = goes_on _ _ _ _ (returns-in-Ok-clause-answered c)
+returns-in-Ok-clause-headline c = continues _ _ _ _ (returns-in-Ok-clause-answered c)
 
 pub returns-in-Some-clause-headline : goal.returns-in-Some-clause-headline
-returns-in-Some-clause-headline c = goes_on _ _ _ _ (returns-in-Some-clause-answered c)
+returns-in-Some-clause-headline c = continues _ _ _ _ (returns-in-Some-clause-answered c)
 
 pub returns-in-Ok-clause-work : goal.returns-in-Ok-clause-work
 returns-in-Ok-clause-work c w h =

@@ -3,7 +3,7 @@ use Rattle.mg_engine.specs.Stands.{EngineState}
 use Rattle.mg_core.specs.CoreView.{CoreView}
 use Rattle.mg_core.specs.declared.event.Event.TheVariants.{Media}
 use Rattle.mg_core.specs.World.{StandsFor, with_taken}
-use Rattle.mg_core.proofs.HeadlineLemmas.{goes_on}
+use Rattle.mg_core.proofs.HeadlineLemmas.{continues}
 use Rattle.mg_core.proofs.machine.Core.media.Goals as goal
 
 pub returns-clause-taken : goal.returns-clause-taken
@@ -17,7 +17,7 @@ returns-clause-taken c w h =
     )
 
 pub returns-clause-headline : goal.returns-clause-headline
-returns-clause-headline c = goes_on c.args.self.now.state c.count_media.new.self
+returns-clause-headline c = continues c.args.self.now.state c.count_media.new.self
     (Media c.args.port c.args.source c.args.bytes.now) [] (λ w h.
     let (next, took, stands) = returns-clause-taken c w h in
     (next, (c.media-taken.result, took, refl), stands))

@@ -6,7 +6,7 @@ use Rattle.mg_core.specs.CoreView.{CoreView}
 use Rattle.mg_core.specs.declared.event.Event.TheVariants.{Tick}
 use Rattle.mg_core.specs.Step.{Packet}
 use Rattle.mg_core.specs.World.{StandsFor, world_after_tick, with_tick}
-use Rattle.mg_core.proofs.HeadlineLemmas.{goes_on}
+use Rattle.mg_core.proofs.HeadlineLemmas.{continues}
 use Rattle.mg_core.proofs.machine.Core.tick.Goals as goal
 
 pub returns-clause-next : goal.returns-clause-next
@@ -23,7 +23,7 @@ returns-clause-next c w h =
     }))
 
 pub returns-clause-headline : goal.returns-clause-headline
-returns-clause-headline c = goes_on c.args.self.now.state c.count_tick.new.self Tick
+returns-clause-headline c = continues c.args.self.now.state c.count_tick.new.self Tick
     (map Packet c.tick-concealed.new.outbox.items) (λ w h.
     let held = subst (λ (x : CoreView). StandsFor x.state w) (sym c.self.view_is) h in (
       world_after_tick w,

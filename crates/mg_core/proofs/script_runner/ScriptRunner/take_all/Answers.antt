@@ -8,9 +8,9 @@ pub loop-init : goal.loop-init
 loop-init g c = record {
   lines = omega (arith, c.requires.lines);
   value = λ shown config starts. comes_start shown config (g.R.Read.remaining c.args.reader.now)
-      c.args.self.now.begun.text
+      c.args.self.now.partial.text
       c.args.self.now.lines c.args.self.now.runner c.args.self.now.runner.sent
-      (g.W.Write.contents c.args.writer.now) c.requires.begun c.requires.lines c.requires.sent starts;
+      (g.W.Write.contents c.args.writer.now) c.requires.partial c.requires.lines c.requires.sent starts;
 }
 
 pub returns-in_err-n : goal.returns-in_err-n
@@ -19,7 +19,7 @@ returns-in_err-n g c =
     rw (p.1, p.2) (record {
       value = λ shown config starts. comes_unread shown config (g.R.Read.remaining c.args.reader.now)
           (g.R.Read.remaining c.loop.reader) (g.R.Read.remaining c.read_some.new.reader)
-          c.loop.self.begun.text c.loop.self.lines c.loop.self.runner c.loop.self.runner.sent
+          c.loop.self.partial.text c.loop.self.lines c.loop.self.runner c.loop.self.runner.sent
           (g.W.Write.contents c.args.writer.now) (g.W.Write.contents c.loop.writer)
           (c.loop.invariant.value shown config starts) c.in_err-n.ensures.value;
     })
@@ -31,7 +31,7 @@ returns-in_err-finish g c =
       value = λ shown config starts.
           comes_end shown config (g.R.Read.remaining c.args.reader.now) (g.R.Read.remaining c.loop.reader)
           (g.R.Read.remaining c.read_some.new.reader)
-          c.loop.self.begun.text c.loop.self.lines c.finish.new.self.lines c.loop.self.runner
+          c.loop.self.partial.text c.loop.self.lines c.finish.new.self.lines c.loop.self.runner
           c.finish.new.self.runner c.loop.self.runner.sent c.finish.new.self.runner.sent
           (g.W.Write.contents c.args.writer.now) (g.W.Write.contents c.loop.writer)
           (g.W.Write.contents c.finish.new.writer) (Err c.in_err-finish.field-0.0)
@@ -44,7 +44,7 @@ returns-in_default g c = record {
   value = λ shown config starts.
       comes_end shown config (g.R.Read.remaining c.args.reader.now) (g.R.Read.remaining c.loop.reader)
       (g.R.Read.remaining c.read_some.new.reader)
-      c.loop.self.begun.text c.loop.self.lines c.finish.new.self.lines c.loop.self.runner
+      c.loop.self.partial.text c.loop.self.lines c.finish.new.self.lines c.loop.self.runner
       c.finish.new.self.runner c.loop.self.runner.sent c.finish.new.self.runner.sent
       (g.W.Write.contents c.args.writer.now) (g.W.Write.contents c.loop.writer)
       (g.W.Write.contents c.finish.new.writer) (Ok tt)
@@ -59,7 +59,7 @@ returns-in_err-take_bytes g c =
     rw (p.1, p.2) (record {
       value = λ shown config starts. comes_fault shown config (g.R.Read.remaining c.args.reader.now)
           (g.R.Read.remaining c.loop.reader) (g.R.Read.remaining c.read_some.new.reader)
-          c.loop.self.begun.text (take c.in-Some.n c.read_some.new.buffer) c.take_bytes.new.self.begun.text
+          c.loop.self.partial.text (take c.in-Some.n c.read_some.new.buffer) c.take_bytes.new.self.partial.text
           c.loop.self.lines c.take_bytes.new.self.lines
           c.loop.self.runner c.take_bytes.new.self.runner c.loop.self.runner.sent
           c.take_bytes.new.self.runner.sent
@@ -84,7 +84,7 @@ loop-preserved g c =
       );
       value = λ shown config starts. comes_bytes shown config (g.R.Read.remaining c.args.reader.now)
           (g.R.Read.remaining c.loop.reader) (g.R.Read.remaining c.read_some.new.reader)
-          c.loop.self.begun.text (take c.in-Some.n c.read_some.new.buffer) c.take_bytes.new.self.begun.text
+          c.loop.self.partial.text (take c.in-Some.n c.read_some.new.buffer) c.take_bytes.new.self.partial.text
           c.loop.self.lines c.take_bytes.new.self.lines
           c.loop.self.runner c.take_bytes.new.self.runner c.loop.self.runner.sent
           c.take_bytes.new.self.runner.sent
@@ -97,7 +97,7 @@ pub returns : goal.returns
 returns g c = record {
   value = λ shown config starts. comes_unread shown config (g.R.Read.remaining c.args.reader.now)
       (g.R.Read.remaining c.loop.reader) (g.R.Read.remaining c.loop.reader)
-      c.loop.self.begun.text c.loop.self.lines c.loop.self.runner c.loop.self.runner.sent
+      c.loop.self.partial.text c.loop.self.lines c.loop.self.runner c.loop.self.runner.sent
       (g.W.Write.contents c.args.writer.now) (g.W.Write.contents c.loop.writer)
       (c.loop.invariant.value shown config starts) (Keeps-refl (g.R.Read.remaining c.loop.reader));
 }

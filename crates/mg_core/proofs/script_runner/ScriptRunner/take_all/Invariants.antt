@@ -9,7 +9,7 @@ abbrev pub invariant-loop : goal.invariant-loop
 invariant-loop g l = record {
   lines : l.self.lines ≤ 4096 * l.counter;
   value : (shown : Shown) (config : Config) → Followed shown l.initial.self.runner (start_of config) →
-      Comes shown config (g.R.Read.remaining l.initial.reader) (g.R.Read.remaining l.reader) l.self.begun.text
+      Comes shown config (g.R.Read.remaining l.initial.reader) (g.R.Read.remaining l.reader) l.self.partial.text
       l.self.lines
       l.self.runner l.self.runner.sent (g.W.Write.contents l.initial.writer) (g.W.Write.contents l.writer);
 }

@@ -6,7 +6,7 @@ use Rattle.mg_core.proofs.script_runner.ScriptRunner.take_bytes.Goals as goal
 pub loop-b-init : goal.loop-b-init
 loop-b-init g c = record {
   lines = omega arith;
-  value = λ shown. index_start shown c.args.self.now.lines c.args.self.now.begun.text c.args.self.now.runner
+  value = λ shown. index_start shown c.args.self.now.lines c.args.self.now.partial.text c.args.self.now.runner
       c.args.self.now.runner.sent (g.W.Write.contents c.args.writer.now);
 }
 
@@ -14,7 +14,7 @@ pub returns-in_err-end_line-clause-value : goal.returns-in_err-end_line-clause-v
 returns-in_err-end_line-clause-value g c =
     let p = err_from_is_err_and c.from_residual.result c.from_residual.ensures.1 in
     λ shown. rw (p.1, p.2) (index_stop shown c.args.self.now.lines c.loop-b.self.lines c.end_line.new.self.lines
-    c.args.self.now.begun.text c.args.bytes.now c.loop-b.self.begun.text c.end_line.new.self.begun.text
+    c.args.self.now.partial.text c.args.bytes.now c.loop-b.self.partial.text c.end_line.new.self.partial.text
     c.args.self.now.runner c.loop-b.self.runner c.end_line.new.self.runner
     c.args.self.now.runner.sent c.loop-b.self.runner.sent c.end_line.new.self.runner.sent
     (g.W.Write.contents c.args.writer.now) (g.W.Write.contents c.loop-b.writer)
@@ -24,9 +24,9 @@ returns-in_err-end_line-clause-value g c =
 pub loop-b-preserved-then-b-eq10 : goal.loop-b-preserved-then-b-eq10
 loop-b-preserved-then-b-eq10 g c = record {
   lines = omega (arith, c.in_ok-end_line.ensures.lines, c.loop-b.invariant.lines);
-  value = λ shown. rw (c.in_ok-end_line.ensures.begun, c.in_ok-end_line.ensures.lines)
+  value = λ shown. rw (c.in_ok-end_line.ensures.partial, c.in_ok-end_line.ensures.lines)
       (index_line shown c.args.self.now.lines c.loop-b.self.lines
-      c.args.self.now.begun.text c.args.bytes.now c.loop-b.self.begun.text
+      c.args.self.now.partial.text c.args.bytes.now c.loop-b.self.partial.text
       c.args.self.now.runner c.loop-b.self.runner c.end_line.new.self.runner
       c.args.self.now.runner.sent c.loop-b.self.runner.sent c.end_line.new.self.runner.sent
       (g.W.Write.contents c.args.writer.now) (g.W.Write.contents c.loop-b.writer)
@@ -37,18 +37,18 @@ loop-b-preserved-then-b-eq10 g c = record {
 pub returns-then-room-eq0-clause-value : goal.returns-then-room-eq0-clause-value
 returns-then-room-eq0-clause-value g c =
     λ shown. index_long shown c.args.self.now.lines c.loop-b.self.lines c.loop-b.self.lines
-    c.args.self.now.begun.text c.args.bytes.now c.loop-b.self.begun.text c.loop-b.self.begun.text
+    c.args.self.now.partial.text c.args.bytes.now c.loop-b.self.partial.text c.loop-b.self.partial.text
     c.args.self.now.runner c.loop-b.self.runner c.args.self.now.runner.sent
     c.loop-b.self.runner.sent c.loop-b.self.runner.sent
     (g.W.Write.contents c.args.writer.now) (g.W.Write.contents c.loop-b.writer) c.loop-b.b-index
     c.loop-b-test.true c.if-b-eq10.false (omega
-    (arith, c.loop-b.self.begun_size, c.room.ensures.value, c.if-room-eq0.true)) (c.loop-b.invariant.value shown)
+    (arith, c.loop-b.self.partial_size, c.room.ensures.value, c.if-room-eq0.true)) (c.loop-b.invariant.value shown)
 
 pub loop-b-preserved : goal.loop-b-preserved
 loop-b-preserved g c = record {
   lines = omega (arith, c.loop-b.invariant.lines);
   value = λ shown. rw c.push.ensures.value (index_plain shown c.args.self.now.lines c.loop-b.self.lines
-      c.args.self.now.begun.text c.args.bytes.now c.loop-b.self.begun.text c.args.self.now.runner
+      c.args.self.now.partial.text c.args.bytes.now c.loop-b.self.partial.text c.args.self.now.runner
       c.loop-b.self.runner c.args.self.now.runner.sent c.loop-b.self.runner.sent
       (g.W.Write.contents c.args.writer.now) (g.W.Write.contents c.loop-b.writer) c.loop-b.b-index
       c.loop-b-test.true c.if-b-eq10.false (c.loop-b.invariant.value shown));

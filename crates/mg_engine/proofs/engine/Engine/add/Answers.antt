@@ -15,7 +15,7 @@ use Rattle.mg_engine.proofs.JoinedLemmas.{joined_changed}
 use Rattle.mg_engine.proofs.WorkLemmas.{rises_twice}
 use Rattle.mg_engine.proofs.PlaceLemmas.{on_its_place, member_within, within}
 use Rattle.mg_engine.proofs.SeatingLemmas.{carry_seats, seated_put}
-use Rattle.mg_engine.proofs.LeftAloneLemmas.{add_alone, sound_as}
+use Rattle.mg_engine.proofs.UnaffectedLemmas.{add_alone, sound_as}
 use Rattle.mg_engine.proofs.engine.Engine.add.Goals as goal
 
 pub begin-requires : goal.begin-requires
@@ -40,7 +40,7 @@ tune-requires c =
     c.self.inside.media.items c.self.inside.held.items c.self.inside.flows c.self.inside.seating
     c.self.inside.sums.rooms c.self.invariant a.limits in
     let is = (sound.termination c.in_ok-made.made.record.number c.in_ok-made.made.record at.found).1 in
-    let long = ap length c.begin.ensures.begun ∙ length-set c.self.inside.media.items _ _ in
+    let long = ap length c.begin.ensures.initial_media ∙ length-set c.self.inside.media.items _ _ in
     record { slot = omega (arith, is.slot, slots, long) }
 
 pub push-requires : goal.push-requires
@@ -103,7 +103,7 @@ invariant_of-self-2 c =
     let joined = joined_changed old new n d p c.self.inside.sums.rooms c.enter.new.sums.rooms sound.one_slot same on
     (λ was there. absurd (no_record was (sym there ∙ none))) rows c.self.invariant.joined in
     let tuned = ap length c.tune.ensures.tuned ∙ length-set c.begin.new.media.items _ _ in
-    let long = tuned ∙ ap length c.begin.ensures.begun ∙ length-set c.self.inside.media.items _ _ in
+    let long = tuned ∙ ap length c.begin.ensures.initial_media ∙ length-set c.self.inside.media.items _ _ in
     whole_added c.self.inside.config old new d c.self.inside.ports c.self.inside.media.items c.tune.new.media.items
     c.self.inside.held.items c.push.new.self.items c.self.inside.flows c.enter.new.flows c.self.inside.seating
     c.enter.new.seating c.self.inside.sums.rooms c.enter.new.sums.rooms c.self.invariant a sound long
@@ -141,8 +141,8 @@ returns-clause-outcome c w h =
     omega (arith, is.slot, sound.consistent.limits.0.few_slots, c.begin.ensures.rows) in
     let silent = c.enter.ensures.frames ∙ c.begin.ensures.silent in
     let others = c.in_ok-made.ensures.others.termination in
-    let set_to = begun_tuned k.media c.begin.new.media.items c.tune.new.media.items d.slot (media_steps.begun k.config)
-    settings.depth lt c.begin.ensures.begun c.tune.ensures.tuned in
+    let set_to = begun_tuned k.media c.begin.new.media.items c.tune.new.media.items d.slot (media_steps.initial_media k.config)
+    settings.depth lt c.begin.ensures.initial_media c.tune.ensures.tuned in
     let stands = subst (λ (x : EngineState). StandsFor x w) (sym c.self.view_is) h in
     let same = same_others old new n before.there sound.there c.add.ensures.lasts.room others in
     let has = carry old new n k.flows same (unknown old n k.flows (unknown_before old new d a sound)

@@ -9,7 +9,7 @@ use Rattle.mg_engine.specs.aids.Triples.{AreMatched}
 use Rattle.mg_engine.specs.Stands.{EngineState, StandsFor}
 use Rattle.mg_engine.proofs.TripleLemmas.{refused_there, refused_triples, done_triples, err_is, ok_is, has_still, hears_triples, words_stand}
 use Rattle.mg_engine.proofs.engine.Engine.apply_triples.Goals.{in-Ok, in-Err}
-use Rattle.mg_engine.proofs.LeftAloneLemmas.{triples_alone, sound_as}
+use Rattle.mg_engine.proofs.UnaffectedLemmas.{triples_alone, sound_as}
 use Rattle.mg_engine.proofs.engine.Engine.apply_triples.Goals as goal
 
 pub returns-in_err-at-clause-outcome : goal.returns-in_err-at-clause-outcome

@@ -3,8 +3,8 @@ use Rattle.mg_engine.specs.Stands.{EngineState, StandsFor}
 use Rattle.mg_engine.proofs.FlowLemmas.{tells}
 use Rattle.mg_engine.proofs.engine.Engine.flows.Goals as goal
 
-pub returns-clause-told : goal.returns-clause-told
-returns-clause-told c w h =
+pub returns-clause-represented : goal.returns-clause-represented
+returns-clause-represented c w h =
     let k : EngineState = record {
       config = c.self.inside.config;
       rooms = c.self.inside.rooms;

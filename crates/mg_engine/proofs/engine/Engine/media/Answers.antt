@@ -8,14 +8,14 @@ use Rattle.mg_engine.specs.Arrival.{arrived, at_port}
 use Rattle.mg_engine.specs.aids.Found.{taken_by}
 use Rattle.mg_engine.specs.Stands.{EngineState, StandsFor}
 use Rattle.mg_engine.proofs.ArrivalLemmas.{media_alone, took_stands}
-use Rattle.mg_engine.proofs.LeftAloneLemmas.{datagram_alone}
+use Rattle.mg_engine.proofs.UnaffectedLemmas.{datagram_alone}
 use Rattle.mg_engine.proofs.engine.Engine.media.Goals as goal
 
 pub returns-in-None : goal.returns-in-None
 returns-in-None c = record {
   work = refl;
-  others = λ w next context h came apart. datagram_alone w next c.args.port c.args.source.address c.args.bytes.now _
-      context came apart;
+  others = λ w next context h represents apart. datagram_alone w next c.args.port c.args.source.address c.args.bytes.now _
+      context represents apart;
   taken = λ w h.
       let reading = reading_of c.read-packet.result in
       let none = ap (λ (x : rooms.Registry). at_port x c.args.port) h.rooms ∙ sym c.at_port.ensures.value ∙
@@ -34,14 +34,14 @@ returns-in-None c = record {
 pub returns-in-Some : goal.returns-in-Some
 returns-in-Some c = record {
   work = ap (λ (s : SumsState). s.work) c.place.ensures.sums;
-  others = λ w next context h came apart. datagram_alone w next c.args.port c.args.source.address c.args.bytes.now _
-      context came apart;
+  others = λ w next context h represents apart. datagram_alone w next c.args.port c.args.source.address c.args.bytes.now _
+      context represents apart;
   taken = λ w h.
       let k = c.args.self.now in
       let r = c.in-Some.termination in
       let reading = reading_of c.read-packet.result in
       let brought = arrived r c.args.source.address reading in
-      let (now, came, stands) = took_stands k w r c.place.new.self.media brought c.place.result
+      let (now, represents, stands) = took_stands k w r c.place.new.self.media brought c.place.result
       c.at_port.ensures.sound.one_slot c.in-Some.ensures.found c.in-Some.ensures.slot c.place.ensures.taken h in
       let here = ap (λ (x : rooms.Registry). at_port x c.args.port) h.rooms ∙ sym c.at_port.ensures.value ∙
       c.in-Some.is in (
@@ -51,7 +51,7 @@ returns-in-Some c = record {
           is_reading c.args.bytes.now c.read-packet.result c.read-packet.ensures.found
               c.read-packet.ensures.fault,
           ap (λ (o : Option Record). taken_by w o c.args.source.address reading) here ∙
-              came,
+              represents,
         ),
         subst (λ (x : EngineState). StandsFor x now)
             (media_alone k c.place.new.self c.place.ensures.config c.place.ensures.rooms c.place.ensures.flows

@@ -3,7 +3,7 @@ use Rattle.std.specs.List.{range_with_len}
 use Rattle.mg_g711.specs.Law.{byte_of}
 use Rattle.mg_words.specs.Mode.{talks}
 use Rattle.mg_rooms.specs.Registry.{context_at}
-use Rattle.mg_flow.specs.Place.{beside}
+use Rattle.mg_flow.specs.Place.{sibling_place}
 use Rattle.mg_sums.specs.Sums.{SumsState, AreOfRoom, left_out_by, mix_of}
 use Rattle.mg_sums.specs.Samples.{nearest_sample}
 use Rattle.mg_engine.specs.Place.{IsOnPlace}
@@ -35,9 +35,9 @@ rows_on-silenced-requires-clause-slots c seat h =
     let w = c.self.inside.rooms in
     let p = c.args.place in
     let sound = c.self.invariant.sound in
-    let (n, r, on) = c.self.invariant.members.nobody (beside p seat) (c.silenced.ensures.held seat h) in
+    let (n, r, on) = c.self.invariant.members.nobody (sibling_place p seat) (c.silenced.ensures.held seat h) in
     let (number, limited) = sound.termination n r on.found in
-    omega (arith, c.self.invariant.seats n r (beside p seat) on, limited.slot, sound.consistent.limits.0.few_slots)
+    omega (arith, c.self.invariant.seats n r (sibling_place p seat) on, limited.slot, sound.consistent.limits.0.few_slots)
 
 pub mix-requires : goal.mix-requires
 mix-requires c =

@@ -15,7 +15,7 @@ use Rattle.mg_engine.proofs.JoinedLemmas.{joined_changed}
 use Rattle.mg_engine.proofs.WorkLemmas.{rises_less}
 use Rattle.mg_engine.proofs.PlaceLemmas.{on_its_place, member_within}
 use Rattle.mg_engine.proofs.SeatingLemmas.{seated_mode}
-use Rattle.mg_engine.proofs.LeftAloneLemmas.{modify_alone}
+use Rattle.mg_engine.proofs.UnaffectedLemmas.{modify_alone}
 use Rattle.mg_engine.proofs.engine.Engine.modify.Goals as goal
 
 pub tune-requires : goal.tune-requires

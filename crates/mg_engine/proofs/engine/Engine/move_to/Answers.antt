@@ -16,7 +16,7 @@ use Rattle.mg_engine.proofs.JoinedLemmas.{joined_changed}
 use Rattle.mg_engine.proofs.WorkLemmas.{rises_less}
 use Rattle.mg_engine.proofs.PlaceLemmas.{on_its_place, member_within, within}
 use Rattle.mg_engine.proofs.SeatingLemmas.{carry_seats, seated_put}
-use Rattle.mg_engine.proofs.LeftAloneLemmas.{move_alone, sound_as}
+use Rattle.mg_engine.proofs.UnaffectedLemmas.{move_alone, sound_as}
 use Rattle.mg_engine.proofs.engine.Engine.move_to.Goals as goal
 
 pub tune-requires : goal.tune-requires

@@ -13,7 +13,7 @@ use Rattle.mg_engine.proofs.JoinedLemmas.{joined_left}
 use Rattle.mg_engine.proofs.WorkLemmas.{rises_less}
 use Rattle.mg_engine.proofs.PlaceLemmas.{on_its_place}
 use Rattle.mg_engine.proofs.SeatingLemmas.{carry_seats, seated_all}
-use Rattle.mg_engine.proofs.LeftAloneLemmas.{subtract_alone, sound_as}
+use Rattle.mg_engine.proofs.UnaffectedLemmas.{subtract_alone, sound_as}
 use Rattle.mg_engine.proofs.engine.Engine.subtract.Goals as goal
 
 pub vacate-requires : goal.vacate-requires

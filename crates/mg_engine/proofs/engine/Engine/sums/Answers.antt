@@ -8,8 +8,8 @@ use Rattle.mg_engine.proofs.GatewayLemmas.{has_media}
 use Rattle.mg_engine.proofs.TotalLemmas.{total_is}
 use Rattle.mg_engine.proofs.engine.Engine.sums.Goals as goal
 
-pub returns-clause-told : goal.returns-clause-told
-returns-clause-told c w h =
+pub returns-clause-represented : goal.returns-clause-represented
+returns-clause-represented c w h =
     let k : EngineState = record {
       config = c.self.inside.config;
       rooms = c.self.inside.rooms;

@@ -1,12 +1,12 @@
 use Rattle.std.proofs.Common.{◌≡◌, ℕ, true, ap, ◌∙◌}
 use Rattle.mg_topology.specs.Mask.{has_seat}
-use Rattle.mg_flow.specs.Place.{beside}
+use Rattle.mg_flow.specs.Place.{sibling_place}
 use Rattle.mg_flow.specs.Table.{holds, flows}
 use Rattle.mg_flow.proofs.TableLemmas.{IsRead, held_within, flows-read, flows-stands}
 use Rattle.mg_flow.proofs.flow_table.FlowTable.open.Goals as goal
 
 told : (c : goal.After-open) → (seat : ℕ) →
-    has_seat c.open.result.now seat ≡ flows c.args.self.now (beside c.args.place seat) c.args.place
+    has_seat c.open.result.now seat ≡ flows c.args.self.now (sibling_place c.args.place seat) c.args.place
 told c seat =
     let held : holds c.self.inside.rooms.items c.args.place ≡ true = ap (λ x. holds x c.args.place) c.self.view_is ∙
     c.requires in
@@ -24,4 +24,4 @@ returns-clause-kept c = told c
 
 pub returns-clause-edits : goal.returns-clause-edits
 returns-clause-edits c = λ es h seat. told c seat ∙
-    flows-stands c.args.self.now es (beside c.args.place seat) c.args.place h
+    flows-stands c.args.self.now es (sibling_place c.args.place seat) c.args.place h

@@ -1,6 +1,6 @@
 use Rattle.std.proofs.Common.{◌≡◌, ℕ, ◌<◌, length, slice_index}
 use Rattle.mg_topology.specs.Mask.{seat_limit, has_seat}
-use Rattle.mg_flow.specs.aids.RoomFlows.{flows_to, is_kept_from}
+use Rattle.mg_flow.specs.aids.RoomFlows.{flows_to, is_blocked_for}
 use Rattle.mg_flow.proofs.masks.Masks.of.Given as goal
 
 -- the masks of the listeners so far are written
@@ -11,5 +11,5 @@ invariant-loop-listener l = record {
   flows : (talker k : ℕ) → k < l.listener → has_seat (slice_index l.open k) talker ≡
       flows_to l.topology l.talks l.listens talker k;
   kept : (talker k : ℕ) → k < l.listener → has_seat (slice_index l.silenced k) talker ≡
-      is_kept_from l.topology l.talks talker k;
+      is_blocked_for l.topology l.talks talker k;
 }

@@ -8,6 +8,6 @@ returns c =
     let room = length c.recv_from.new.buf in
     record {
       within = c.datagram_of.ensures.within room
-          (IfOk-weaker c.recv_from.result (λ came. IsPrefixLen came.0 c.recv_from.new.buf) (λ came. came.0 ≤ room)
-          (λ came fits. fits.0) c.recv_from.ensures);
+          (IfOk-weaker c.recv_from.result (λ received. IsPrefixLen received.0 c.recv_from.new.buf) (λ received. received.0 ≤ room)
+          (λ received fits. fits.0) c.recv_from.ensures);
     }

@@ -1,6 +1,6 @@
 use Rattle.std.proofs.Common.{◌≡◌, ◌≢◌, length, ap, arith}
 use Rattle.mg_serve.specs.Lines.{line_command}
-use Rattle.mg_serve.specs.Session.{Does}
+use Rattle.mg_serve.specs.Session.{Performs}
 use Rattle.mg_serve.specs.aids.Driving.{Finished}
 use Rattle.mg_serve.specs.aids.Outside.{outside}
 use Rattle.mg_serve.proofs.Taking.{takes_none, takes_as}
@@ -10,21 +10,21 @@ use Rattle.mg_serve.proofs.line_driver.LineDriver.finish.Goals as goal
 pub returns-then-is_empty-clause-value : goal.returns-then-is_empty-clause-value
 returns-then-is_empty-clause-value g c =
     let seen = c.as_slice-line.ensures.value in
-    let none : length c.args.self.now.begun ≡ 0 = grind (arith, ap length seen) in
+    let none : length c.args.self.now.partial ≡ 0 = grind (arith, ap length seen) in
     takes_none c.args.self.now.server.core.state (outside (g.P.Ports.calls c.args.ports.now) (g.W.Write.contents
     c.args.writer.now) c.args.self.now.server.printer)
-    (Finished c.args.config c.args.self.now.begun)
-    (λ w. finished_none c.args.config c.args.self.now.begun w none)
+    (Finished c.args.config c.args.self.now.partial)
+    (λ w. finished_none c.args.config c.args.self.now.partial w none)
 
 pub returns-clause-value : goal.returns-clause-value
 returns-clause-value g c =
     let seen = c.as_slice-line.ensures.value in
     let config = c.args.config in
-    let some : length c.args.self.now.begun ≢ 0 = grind (arith, ap length seen) in
+    let some : length c.args.self.now.partial ≢ 0 = grind (arith, ap length seen) in
     takes_as c.args.self.now.server.core.state c.take_command.new.self.core.state (outside (g.P.Ports.calls
     c.args.ports.now) (g.W.Write.contents c.args.writer.now) c.args.self.now.server.printer)
     (outside (g.P.Ports.calls c.take_command.new.ports) (g.W.Write.contents c.take_command.new.writer)
     c.take_command.new.self.printer)
-    (Does config (line_command c.args.self.now.begun)) (Finished config c.args.self.now.begun)
+    (Performs config (line_command c.args.self.now.partial)) (Finished config c.args.self.now.partial)
     (rw seen at (rw c.of-command.ensures.value at c.take_command.ensures.value))
-    (λ w next p h. finished_some config c.args.self.now.begun w next p some h)
+    (λ w next p h. finished_some config c.args.self.now.partial w next p some h)

@@ -9,4 +9,4 @@ invariant-loop g l = (l.self.server.printer.has_failed ≡ false) ×
     (outside (g.P.Ports.calls l.initial.ports) (g.W.Write.contents l.initial.writer) l.initial.self.server.printer)
     (outside (g.P.Ports.calls l.ports) (g.W.Write.contents l.writer) l.self.server.printer)
     (Read l.initial.self.server.printer.form l.config (g.R.Read.remaining l.initial.reader)
-    (g.R.Read.remaining l.reader) l.self.begun (Ok false))
+    (g.R.Read.remaining l.reader) l.self.partial (Ok false))

@@ -8,7 +8,7 @@ use Rattle.mg_serve.proofs.line_driver.LineDriver.take_bytes.Goals as goal
 pub loop-b-init : goal.loop-b-init
 loop-b-init g c = (
   c.requires.whole,
-  λ begun is. bytes_start c.args.config begun c.args.self.now.begun c.args.self.now.server.core.state
+  λ partial is. bytes_start c.args.config partial c.args.self.now.partial c.args.self.now.server.core.state
       (outside (g.P.Ports.calls c.args.ports.now) (g.W.Write.contents c.args.writer.now)
       c.args.self.now.server.printer) is,
 )
@@ -16,26 +16,26 @@ loop-b-init g c = (
 pub loop-b-preserved-then-b-ne10 : goal.loop-b-preserved-then-b-ne10
 loop-b-preserved-then-b-ne10 g c = (
   c.loop-b.invariant.0,
-  λ begun is.
-      index_plain c.args.config begun c.args.bytes.now c.loop-b.self.begun c.push.new.self c.loop-b.b-index
+  λ partial is.
+      index_plain c.args.config partial c.args.bytes.now c.loop-b.self.partial c.push.new.self c.loop-b.b-index
       c.args.self.now.server.core.state c.loop-b.self.server.core.state (outside (g.P.Ports.calls c.args.ports.now)
       (g.W.Write.contents c.args.writer.now) c.args.self.now.server.printer)
       (outside (g.P.Ports.calls c.loop-b.ports) (g.W.Write.contents c.loop-b.writer) c.loop-b.self.server.printer)
-      c.loop-b-test.true c.if-b-ne10.true c.push.ensures.value (c.loop-b.invariant.1 begun is),
+      c.loop-b-test.true c.if-b-ne10.true c.push.ensures.value (c.loop-b.invariant.1 partial is),
 )
 
 pub loop-b-preserved : goal.loop-b-preserved
 loop-b-preserved g c = (
   c.in_ok-end_line.ensures.whole,
-  λ begun is.
-      index_feed c.args.config begun c.args.bytes.now c.loop-b.self.begun c.end_line.new.self.begun c.loop-b.b-index
+  λ partial is.
+      index_feed c.args.config partial c.args.bytes.now c.loop-b.self.partial c.end_line.new.self.partial c.loop-b.b-index
       false c.args.self.now.server.core.state c.loop-b.self.server.core.state c.end_line.new.self.server.core.state
       (outside (g.P.Ports.calls c.args.ports.now) (g.W.Write.contents c.args.writer.now)
       c.args.self.now.server.printer) (outside (g.P.Ports.calls c.loop-b.ports) (g.W.Write.contents c.loop-b.writer)
       c.loop-b.self.server.printer) (outside (g.P.Ports.calls c.end_line.new.ports) (g.W.Write.contents
       c.end_line.new.writer) c.end_line.new.self.server.printer)
-      c.loop-b-test.true c.if-b-ne10.false (c.loop-b.invariant.1 begun is)
-      (sym c.if-branch.false ∙ c.in_ok-end_line.ensures.quit) c.in_ok-end_line.ensures.begun c.end_line.ensures.value,
+      c.loop-b-test.true c.if-b-ne10.false (c.loop-b.invariant.1 partial is)
+      (sym c.if-branch.false ∙ c.in_ok-end_line.ensures.quit) c.in_ok-end_line.ensures.partial c.end_line.ensures.value,
 )
 
 pub returns-then-branch : goal.returns-then-branch
@@ -43,15 +43,15 @@ returns-then-branch g c = record {
   whole = c.in_ok-end_line.ensures.whole;
   failed = tt;
   value =
-      λ begun is.
-      index_quit c.args.config begun c.args.bytes.now c.loop-b.self.begun c.end_line.new.self.begun c.loop-b.b-index
+      λ partial is.
+      index_quit c.args.config partial c.args.bytes.now c.loop-b.self.partial c.end_line.new.self.partial c.loop-b.b-index
       c.args.self.now.server.core.state c.loop-b.self.server.core.state c.end_line.new.self.server.core.state
       (outside (g.P.Ports.calls c.args.ports.now) (g.W.Write.contents c.args.writer.now)
       c.args.self.now.server.printer) (outside (g.P.Ports.calls c.loop-b.ports) (g.W.Write.contents c.loop-b.writer)
       c.loop-b.self.server.printer) (outside (g.P.Ports.calls c.end_line.new.ports) (g.W.Write.contents
       c.end_line.new.writer) c.end_line.new.self.server.printer)
-      c.loop-b-test.true c.if-b-ne10.false (c.loop-b.invariant.1 begun is)
-      (sym c.if-branch.true ∙ c.in_ok-end_line.ensures.quit) c.in_ok-end_line.ensures.begun
+      c.loop-b-test.true c.if-b-ne10.false (c.loop-b.invariant.1 partial is)
+      (sym c.if-branch.true ∙ c.in_ok-end_line.ensures.quit) c.in_ok-end_line.ensures.partial
       c.end_line.ensures.value;
 }
 
@@ -62,16 +62,16 @@ returns-in_err-end_line g c = record {
   failed =
       rw (err_from_is_err_and c.from_residual.result c.from_residual.ensures.1).1 c.in_err-end_line.ensures.failed;
   value =
-      λ begun is.
+      λ partial is.
       let p = err_from_is_err_and c.from_residual.result c.from_residual.ensures.1 in
-      rw p.1 (index_fault c.args.config begun c.args.bytes.now c.loop-b.self.begun c.end_line.new.self.begun
+      rw p.1 (index_fault c.args.config partial c.args.bytes.now c.loop-b.self.partial c.end_line.new.self.partial
       c.loop-b.b-index _ c.args.self.now.server.core.state c.loop-b.self.server.core.state
       c.end_line.new.self.server.core.state (outside (g.P.Ports.calls c.args.ports.now) (g.W.Write.contents
       c.args.writer.now) c.args.self.now.server.printer) (outside (g.P.Ports.calls c.loop-b.ports) (g.W.Write.contents
       c.loop-b.writer) c.loop-b.self.server.printer)
       (outside (g.P.Ports.calls c.end_line.new.ports) (g.W.Write.contents c.end_line.new.writer)
       c.end_line.new.self.server.printer)
-      c.loop-b-test.true c.if-b-ne10.false (c.loop-b.invariant.1 begun is) c.loop-b.invariant.0
+      c.loop-b-test.true c.if-b-ne10.false (c.loop-b.invariant.1 partial is) c.loop-b.invariant.0
       c.in_err-end_line.ensures.failed
       c.end_line.ensures.value);
 }
@@ -81,6 +81,6 @@ returns g c = record {
   whole = c.loop-b.invariant.0;
   failed = tt;
   value =
-      λ begun is. rw (take_all c.loop-b.b-index c.args.bytes.now c.loop-b-test.false) at (c.loop-b.invariant.1 begun
+      λ partial is. rw (take_all c.loop-b.b-index c.args.bytes.now c.loop-b-test.false) at (c.loop-b.invariant.1 partial
       is);
 }

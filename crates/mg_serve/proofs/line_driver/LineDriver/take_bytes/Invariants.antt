@@ -4,9 +4,9 @@ use Rattle.mg_serve.specs.aids.Outside.{LeadsByTrace, outside}
 use Rattle.mg_serve.proofs.line_driver.LineDriver.take_bytes.Given as goal
 
 abbrev pub invariant-loop-b : goal.invariant-loop-b
-invariant-loop-b g l = (l.self.server.printer.has_failed ≡ false) × ((begun : List ℕ) →
-    l.initial.self.begun ≡ take 8 begun →
+invariant-loop-b g l = (l.self.server.printer.has_failed ≡ false) × ((partial : List ℕ) →
+    l.initial.self.partial ≡ take 8 partial →
     LeadsByTrace l.initial.self.server.core.state l.self.server.core.state
     (outside (g.P.Ports.calls l.initial.ports) (g.W.Write.contents l.initial.writer) l.initial.self.server.printer)
     (outside (g.P.Ports.calls l.ports) (g.W.Write.contents l.writer) l.self.server.printer)
-    (BytesTaken l.initial.self.server.printer.form l.config begun (take l.b-index l.bytes) l.self.begun (Ok false)))
+    (BytesTaken l.initial.self.server.printer.form l.config partial (take l.b-index l.bytes) l.self.partial (Ok false)))

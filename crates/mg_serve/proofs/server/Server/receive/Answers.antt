@@ -1,11 +1,11 @@
 use Rattle.std.proofs.Common.{take, refl, [], ◌∷◌, false, inl, inr}
 use Rattle.mg_ports.specs.declared.call.Call.TheVariants.{Receive}
-use Rattle.mg_ports.specs.declared.receipt.Receipt.TheVariants.{Came, Nothing, Failed}
+use Rattle.mg_ports.specs.declared.receipt.Receipt.TheVariants.{Delivered, Nothing, Failed}
 use Rattle.mg_serve.specs.Session.{event_at}
 use Rattle.mg_serve.specs.Trace.{Called, Happened}
 use Rattle.mg_serve.specs.aids.Driving.{Received}
 use Rattle.mg_serve.specs.aids.Outside.{outside}
-use Rattle.mg_serve.proofs.Steps.{came, at_control, media_taken}
+use Rattle.mg_serve.proofs.Steps.{arrived, at_control, media_taken}
 use Rattle.mg_serve.proofs.Taking.{takes_told, tells_called, tells_print}
 use Rattle.mg_serve.proofs.server.Server.receive.Goals as goal
 
@@ -20,12 +20,12 @@ returns-then-slot-eq0 g c =
     let z = outside (g.P.Ports.calls c.take_control.new.ports) (g.W.Write.contents c.take_control.new.writer)
     c.take_control.new.self.printer in
     record {
-      value = came c.args.config c.args.slot source bytes c.args.self.now.core.state
+      value = arrived c.args.config c.args.slot source bytes c.args.self.now.core.state
           c.take_control.new.self.core.state x y z
           (rw c.as_slice.ensures at c.parts_fit.ensures.fit)
           (tells_called written before (g.P.Ports.calls c.args.ports.now) (g.P.Ports.calls c.receive.new.self)
-          (Receive c.args.slot (Came source bytes) ∷ [])
-          (rw c.from.ensures at (rw c.in-Ok-Some.field-0-is at c.in-Ok-Some.ensures.told)))
+          (Receive c.args.slot (Delivered source bytes) ∷ [])
+          (rw c.from.ensures at (rw c.in-Ok-Some.field-0-is at c.in-Ok-Some.ensures.logged)))
           (at_control c.args.config c.args.slot source bytes c.args.self.now.core.state
           c.take_control.new.self.core.state y z c.if-slot-eq0.true c.take_control.ensures.value);
     }
@@ -42,12 +42,12 @@ returns-else-slot-eq0 g c =
     let y = outside calls written before in
     let z = outside calls (g.W.Write.contents c.take_media.new.writer) after in
     record {
-      value = came c.args.config c.args.slot source bytes c.args.self.now.core.state
+      value = arrived c.args.config c.args.slot source bytes c.args.self.now.core.state
           c.take_media.new.self.core.state x y z
           (rw c.as_slice.ensures at c.parts_fit.ensures.fit)
           (tells_called written before (g.P.Ports.calls c.args.ports.now) calls
-          (Receive c.args.slot (Came source bytes) ∷ [])
-          (rw c.from.ensures at (rw c.in-Ok-Some.field-0-is at c.in-Ok-Some.ensures.told)))
+          (Receive c.args.slot (Delivered source bytes) ∷ [])
+          (rw c.from.ensures at (rw c.in-Ok-Some.field-0-is at c.in-Ok-Some.ensures.logged)))
           (media_taken c.args.config c.args.slot source bytes c.args.self.now.core.state
           c.take_media.new.self.core.state y z c.take_media.ensures.value
           (tells_print calls written (g.W.Write.contents c.take_media.new.writer) before after
@@ -65,7 +65,7 @@ returns-in-Ok-None g c =
           (Called (Receive c.args.slot Nothing) ∷ []) (Received c.args.config c.args.slot false)
           (tells_called written before (g.P.Ports.calls c.args.ports.now) (g.P.Ports.calls c.receive.new.self)
           (Receive c.args.slot Nothing ∷ []) (rw c.from.ensures at
-          (rw c.in-Ok-None.field-0-is at c.in-Ok-None.ensures.told))) (λ w. (inl refl, refl));
+          (rw c.in-Ok-None.field-0-is at c.in-Ok-None.ensures.logged))) (λ w. (inl refl, refl));
     }
 
 pub returns-in-Err : goal.returns-in-Err
@@ -78,5 +78,5 @@ returns-in-Err g c =
           (outside (g.P.Ports.calls c.receive.new.self) written before)
           (Called (Receive c.args.slot Failed) ∷ []) (Received c.args.config c.args.slot false)
           (tells_called written before (g.P.Ports.calls c.args.ports.now) (g.P.Ports.calls c.receive.new.self)
-          (Receive c.args.slot Failed ∷ []) (rw c.from.ensures at c.in-Err.ensures.told)) (λ w. (inr refl, refl));
+          (Receive c.args.slot Failed ∷ []) (rw c.from.ensures at c.in-Err.ensures.logged)) (λ w. (inr refl, refl));
     }

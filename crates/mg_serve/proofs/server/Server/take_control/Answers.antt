@@ -23,7 +23,7 @@ returns-in-Send g c =
           c.control-2.ensures.value)
           (tells_called written after calls (g.P.Ports.calls c.send.new.ports)
           (Send 0 c.args.source c.control.new.self.answer ∷ [])
-          (rw c.answer.ensures.value at c.send.ensures.told));
+          (rw c.answer.ensures.value at c.send.ensures.logged));
     }
 
 pub returns-in-Silent : goal.returns-in-Silent

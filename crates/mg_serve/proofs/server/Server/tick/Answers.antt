@@ -21,5 +21,5 @@ returns g c =
           (tells_print calls (g.W.Write.contents c.args.writer.now) written before after (Happened events.Tick) refl
           c.tick-2.ensures.value)
           (tells_called written after calls (g.P.Ports.calls c.send_packets.new.ports) _
-          (rw c.outbox.ensures.value at c.send_packets.ensures.told)));
+          (rw c.outbox.ensures.value at c.send_packets.ensures.logged)));
     }

@@ -1,0 +1,347 @@
+-- What an edit and an RTP datagram leave alone.
+use Rattle.std.proofs.Common.{◌≡◌, ℕ, ℤ, pos, eqb, not, ◌&&◌, ◌||◌, Bool, true, false, cond, List, [], ◌∷◌, Option, Some, None, Result, Ok, Err, refl, sym, ap, subst, ◌∙◌}
+use Rattle.std.specs.Prelude.{IsSome, is_some, slice_index_or}
+use Rattle.std.proofs.lemmas.Bool.{eqb-true, eq-eqb, or_right}
+use Rattle.std.proofs.lemmas.Option.{same_Some}
+use Rattle.mg_words.specs.Mode.{talks, listens}
+use Rattle.mg_words.specs.declared.error_number.ErrorNumber.{ErrorNumber}
+use Rattle.mg_words.specs.declared.error_number.ErrorNumber.TheVariants.{IdentifierNotAllowed, NotInContext}
+use Rattle.mg_rtp.specs.declared.header.Header.{Header}
+use Rattle.mg_rtp.specs.Reading.{Reading}
+use Rattle.mg_rooms.specs.declared.context.Context.{Context}
+use Rattle.mg_rooms.specs.declared.record.Record.{Record}
+use Rattle.mg_rooms.specs.declared.settings.Settings.{Settings}
+use Rattle.mg_rooms.specs.declared.target.Target.{Target}
+use Rattle.mg_rooms.specs.declared.target.Target.TheVariants.{Null, New, Number}
+use Rattle.mg_rooms.specs.Outcome.{is_number}
+use Rattle.mg_rooms.specs.Outcome as commands
+use Rattle.mg_rooms.specs.Registry as rooms
+use Rattle.mg_rooms.specs.Registry.{record_at, context_at, members_at}
+use Rattle.mg_rooms.specs.aids.Found.{members_of}
+use Rattle.mg_rooms.specs.Results.{passes}
+use Rattle.mg_rooms.specs.Sound.{IsSound}
+use Rattle.mg_sums.specs.Samples.{sum_of}
+use Rattle.mg_engine.specs.declared.done.Done.{Done}
+use Rattle.mg_engine.specs.declared.done.Done.TheVariants.{Termination, Topology}
+use Rattle.mg_engine.specs.declared.edit.Edit.{Edit}
+use Rattle.mg_engine.specs.declared.edit.Edit.TheVariants as edits
+use Rattle.mg_engine.specs.declared.taken.Taken.{Taken}
+use Rattle.mg_engine.specs.declared.topology_triple.TopologyTriple.{TopologyTriple}
+use Rattle.mg_engine.specs.declared.triple_term.TripleTerm.{TripleTerm}
+use Rattle.mg_engine.specs.declared.triple_term.TripleTerm.TheVariants as terms
+use Rattle.mg_engine.specs.Arrival.{Arrived, Takes, arrived, at_port, frame_placed_at, taken_at}
+use Rattle.mg_engine.specs.aids.Found.{taken_by}
+use Rattle.mg_engine.specs.Flow.{has, flow, hears, may_hear}
+use Rattle.mg_engine.specs.Gateway.{Gateway, TerminationMedia, ContextEdit, Apply, Enter, media_of, new_media}
+use Rattle.mg_engine.specs.aids.Found.{frame_in}
+use Rattle.mg_engine.specs.aids.Found.{context_in}
+use Rattle.mg_engine.specs.aids.Found.{mode_or_inactive}
+use Rattle.mg_engine.specs.Unaffected.{IsUnaffected, IsElsewhere, IsEditElsewhere, IsPortElsewhere, is_member}
+use Rattle.mg_engine.specs.Mix.{total, part_of_total}
+use Rattle.mg_engine.specs.Outcome.{added, modified, moved, subtracted, add, modify, move_to, subtract, apply_triples, existing_context, done_as, outcome, tuned}
+use Rattle.mg_engine.specs.Stands.{EngineState, StandsFor}
+use Rattle.mg_engine.specs.Triples.{check_triple, check_triples, is_barred, matched, names_others, with_triples}
+use Rattle.mg_engine.proofs.ElsewhereLemmas.{Spares, keys_apart, add_spares, modify_spares, move_spares, subtract_spares}
+use Rattle.mg_engine.proofs.KeyLemmas.{found_push_other, found_other}
+use Rattle.mg_engine.proofs.MemberLemmas.{neither}
+use Rattle.mg_engine.proofs.OrderLemmas.{done_is, other_media}
+use Rattle.mg_engine.proofs.OutcomeLemmas.{after_ok, after_ok_is}
+use Rattle.mg_sums.proofs.SumLemmas.{sum_of-cons}
+
+-- ## A context of which each record and each stream is as it was
+
+-- who hears whom, and whose speech goes to whom, by the records of both and the last word on them
+abbrev share : Option Record → Option Record → ℕ → ℕ → Bool
+share r q a b = is_some r && (is_some q && (eqb (context_in r) (context_in q) && not (eqb a b)))
+
+abbrev flow_by : Option Record → Option Record → Bool → ℕ → ℕ → Bool
+flow_by r q word a b =
+    eqb (context_in r) (context_in q) && (not (eqb a b) &&
+    (talks (mode_or_inactive r) && (listens (mode_or_inactive q) && word)))
+
+abbrev part : Option Record → Option TerminationMedia → ℕ → ℤ
+part r s i = cond (talks (mode_or_inactive r)) (slice_index_or (frame_in s) i (pos 0)) (pos 0)
+
+first_in : (b : Bool) (k : ℕ) (ns : List ℕ) → eqb k k ≡ b → has (k ∷ ns) k ≡ true
+first_in b k ns e = rw (eq-eqb k k refl) refl
+
+sums_agree : (f g : ℕ → ℤ) (ns : List ℕ) → ((n : ℕ) → has ns n ≡ true → f n ≡ g n) → sum_of f ns ≡ sum_of g ns
+unfolding sum_of
+sums_agree f g [] same = refl
+sums_agree f g (k ∷ ns) same =
+    let rest = sums_agree f g ns (λ n there. same n (or_right (eqb k n) (has ns n) there)) in
+    sum_of-cons f k ns
+    ∙ rw (same k (first_in true k ns (eq-eqb k k refl)), rest) refl
+    ∙ sym (sum_of-cons g k ns)
+
+module _ (w next : Gateway) (c : ℕ) (context : context_at next.rooms c ≡ context_at w.rooms c)
+    (records : (n : ℕ) → is_member w c n ≡ true → record_at next.rooms n ≡ record_at w.rooms n)
+    (media : (n : ℕ) → is_member w c n ≡ true → media_of next n ≡ media_of w n)
+    (words : (a b : ℕ) → is_member w c a ≡ true → is_member w c b ≡ true →
+    may_hear next.edits a b ≡ may_hear w.edits a b) where
+  hears_same : (a b : ℕ) → is_member w c a ≡ true → is_member w c b ≡ true → hears next a b ≡ hears w a b
+  hears_same a b one two =
+      ap (λ (o : Option Record). share o (record_at next.rooms b) a b && may_hear next.edits a b) (records a one)
+      ∙ ap (λ (o : Option Record). share (record_at w.rooms a) o a b && may_hear next.edits a b) (records b two)
+      ∙ ap (λ (x : Bool). share (record_at w.rooms a) (record_at w.rooms b) a b && x) (words a b one two)
+
+  flows_same : (a b : ℕ) → is_member w c a ≡ true → is_member w c b ≡ true → flow next a b ≡ flow w a b
+  flows_same a b one two =
+      ap (λ (o : Option Record). flow_by o (record_at next.rooms b) (may_hear next.edits a b) a b) (records a one)
+      ∙ ap (λ (o : Option Record). flow_by (record_at w.rooms a) o (may_hear next.edits a b) a b) (records b two)
+      ∙ ap (λ (x : Bool). flow_by (record_at w.rooms a) (record_at w.rooms b) x a b) (words a b one two)
+
+  part_same : (i n : ℕ) → is_member w c n ≡ true → part_of_total next i n ≡ part_of_total w i n
+  part_same i n there =
+      ap (λ (o : Option Record). part o (media_of next n) i) (records n there)
+      ∙ ap (λ (o : Option TerminationMedia). part (record_at w.rooms n) o i) (media n there)
+
+  total_same : (i : ℕ) → total next c i ≡ total w c i
+  total_same i =
+      ap (λ (o : Option Context). sum_of (part_of_total next i) (members_of o)) context
+      ∙ sums_agree (part_of_total next i) (part_of_total w i) (members_at w.rooms c) (part_same i)
+
+  alone : IsUnaffected w next c
+  alone = record {
+    context = context;
+    records = records;
+    media = media;
+    hears = hears_same;
+    flows = flows_same;
+    totals = total_same;
+  }
+
+-- a gateway that hasn't changed
+same_alone : (w : Gateway) (c : ℕ) → IsUnaffected w w c
+same_alone w c = alone w w c refl (λ n there. refl) (λ n there. refl) (λ a b one two. refl)
+
+-- ## Commands
+
+apart_at : (w : Gateway) (c n m : ℕ) (b : Bool) → eqb n m ≡ b → is_member w c n ≡ false → is_member w c m ≡ true →
+    eqb n m ≡ false
+apart_at w c n m true e out within = absurd (neither (sym within ∙ ap (is_member w c) (sym (eqb-true n m e)) ∙ out))
+apart_at w c n m false e out within = e
+
+-- a member is another than one that is no member
+apart_from : (w : Gateway) (c n m : ℕ) → is_member w c n ≡ false → is_member w c m ≡ true → eqb n m ≡ false
+apart_from w c n m out within = apart_at w c n m (eqb n m) refl out within
+
+turned_at : (w : Gateway) (c n m : ℕ) (b : Bool) → eqb m n ≡ b → is_member w c n ≡ false → is_member w c m ≡ true →
+    eqb m n ≡ false
+turned_at w c n m true e out within = absurd (neither (sym within ∙ ap (is_member w c) (eqb-true m n e) ∙ out))
+turned_at w c n m false e out within = e
+
+-- the last word on two looks at no entry of a third one
+entry_elsewhere : (w : Gateway) (c n : ℕ) (es : List ContextEdit) → is_member w c n ≡ false → (a b : ℕ) →
+    is_member w c a ≡ true → is_member w c b ≡ true → may_hear (Enter n ∷ es) a b ≡ may_hear es a b
+entry_elsewhere w c n es out a b one two =
+    rw (turned_at w c n a (eqb a n) refl out one, turned_at w c n b (eqb b n) refl out two) refl
+
+module _ (w : Gateway) (z : rooms.Registry) (d : Record) (c : ℕ) (s : Spares w.rooms z c d.number) where
+  kept : (n : ℕ) → is_member w c n ≡ true → record_at z n ≡ record_at w.rooms n
+  kept n there = s.records n (apart_from w c d.number n s.apart there)
+
+  tuned_elsewhere : (settings : Settings) (n : ℕ) → is_member w c n ≡ true →
+      media_of (modified w settings z d) n ≡ media_of w n
+  tuned_elsewhere settings n there =
+      found_other (λ s. s.number) (λ s. Some (tuned settings s)) d.number n w.media
+      (λ x ys at. let out = keys_apart x.number d.number n at (apart_from w c d.number n s.apart there) in
+      rw out refl)
+
+  added_alone : (settings : Settings) → IsUnaffected w (added w settings z d) c
+  added_alone settings =
+      alone w (added w settings z d) c s.context kept
+      (λ n there. found_push_other (λ s. s.number) n w.media (tuned settings (new_media d.number))
+      (apart_from w c d.number n s.apart there))
+      (entry_elsewhere w c d.number w.edits s.apart)
+
+  modified_alone : (settings : Settings) → IsUnaffected w (modified w settings z d) c
+  modified_alone settings = alone w (modified w settings z d) c s.context kept (tuned_elsewhere settings)
+      (λ a b one two. refl)
+
+  moved_alone : (settings : Settings) → IsUnaffected w (moved w settings z d) c
+  moved_alone settings = alone w (moved w settings z d) c s.context kept (tuned_elsewhere settings)
+      (entry_elsewhere w c d.number w.edits s.apart)
+
+  subtracted_alone : IsUnaffected w (subtracted w z d) c
+  subtracted_alone =
+      alone w (subtracted w z d) c s.context kept
+      (λ n there. found_other (λ s. s.number) (λ _. None) d.number n w.media
+      (λ x ys at. let out = keys_apart x.number d.number n at (apart_from w c d.number n s.apart there) in
+      rw out refl))
+      (λ a b one two. refl)
+
+pub add_alone : (w next : Gateway) (target : Target) (settings : Settings) (r : Record) (c : ℕ) → IsSound w.rooms →
+    add w target settings ≡ Ok (next, r) → IsSome (context_at w.rooms c) → is_number target c ≡ false →
+    IsUnaffected w next c
+add_alone w next target settings r c h done there apart =
+    let (z, is, represents) = done_is (added w settings) (commands.add w.rooms target settings) next r done in
+    subst (λ (g : Gateway). IsUnaffected w g c) (sym represents)
+    (added_alone w z r c (add_spares w.rooms target settings z r c h there apart is) settings)
+
+pub modify_alone : (w next : Gateway) (target : Target) (n : ℕ) (settings : Settings) (r : Record) (c : ℕ) →
+    modify w target n settings ≡ Ok (next, r) → IsElsewhere w c target n → IsUnaffected w next c
+modify_alone w next target n settings r c done (_, out) =
+    let (z, is, represents) = done_is (modified w settings) (commands.modify w.rooms target n settings) next r done in
+    subst (λ (g : Gateway). IsUnaffected w g c) (sym represents)
+    (modified_alone w z r c (modify_spares w.rooms target n settings z r c out is) settings)
+
+pub move_alone : (w next : Gateway) (target : Target) (n : ℕ) (settings : Settings) (r : Record) (c : ℕ) →
+    IsSound w.rooms → move_to w target n settings ≡ Ok (next, r) → IsSome (context_at w.rooms c) →
+    IsElsewhere w c target n → IsUnaffected w next c
+move_alone w next target n settings r c h done there (apart, out) =
+    let (z, is, represents) = done_is (moved w settings) (commands.move_to w.rooms target n settings) next r done in
+    subst (λ (g : Gateway). IsUnaffected w g c) (sym represents)
+    (moved_alone w z r c (move_spares w.rooms target n settings z r c h there apart out is) settings)
+
+pub subtract_alone : (w next : Gateway) (target : Target) (n : ℕ) (r : Record) (c : ℕ) → IsSound w.rooms →
+    subtract w target n ≡ Ok (next, r) → IsElsewhere w c target n → IsUnaffected w next c
+subtract_alone w next target n r c h done (_, out) =
+    let (z, is, represents) = done_is (subtracted w) (commands.subtract w.rooms target n) next r done in
+    subst (λ (g : Gateway). IsUnaffected w g c) (sym represents)
+    (subtracted_alone w z r c (subtract_spares w.rooms target n z r c h out is))
+
+-- ## Triples
+
+number_at : (members : List ℕ) (k a : ℕ) (b : Bool) → eqb k a ≡ b → has members k ≡ true → has members a ≡ false →
+    has (k ∷ []) a ≡ false
+number_at members k a true e within out = absurd (neither (sym within ∙ ap (has members) (eqb-true k a e) ∙ out))
+number_at members k a false e within out = rw e refl
+
+is_there : (b : Bool) → not b ≡ false → b ≡ true
+is_there true e = refl
+is_there false e = absurd (cc e)
+
+-- a term that names nobody but members matches nobody but members
+unmatched : (members : List ℕ) (term : TripleTerm) (a : ℕ) → names_others members term ≡ false →
+    has members a ≡ false → has (matched members term) a ≡ false
+unmatched members terms.Every a names out = out
+unmatched members (terms.Number k) a names out =
+    number_at members k a (eqb k a) refl (is_there (has members k) names) out
+unmatched members terms.Barred a names out = refl
+unmatched members terms.Stranger a names out = refl
+
+first_names : (a b : Bool) (e : ErrorNumber) (u : Unit {0}) → passes (not (a || b)) e ≡ Ok u → a ≡ false
+first_names true b e u h = absurd (cc h)
+first_names false b e u h = refl
+
+named_members : (members : List ℕ) (x : TopologyTriple) (u : Unit {0}) → check_triple members x ≡ Ok u →
+    names_others members x.first ≡ false
+named_members members x u e =
+    after_ok (names_others members x.first ≡ false)
+    (passes (not (is_barred x.first || is_barred x.second)) IdentifierNotAllowed) _ u e (λ _ one.
+    after_ok_is (names_others members x.first ≡ false)
+    (passes (not (names_others members x.first || names_others members x.second)) NotInContext) _ u one
+    (λ v passed _.
+    first_names (names_others members x.first) (names_others members x.second) NotInContext v passed))
+
+unsaid : (first second : List ℕ) (association : _) (es : List ContextEdit) (a b : ℕ) → has first a ≡ false →
+    has first b ≡ false → may_hear (Apply first second association ∷ es) a b ≡ may_hear es a b
+unsaid first second association es a b one two = rw (one, two) refl
+
+-- the last word on two looks at no triple of others
+words_elsewhere : (members : List ℕ) (xs : List TopologyTriple) (es : List ContextEdit) (a b : ℕ) (u : Unit {0}) →
+    check_triples members xs ≡ Ok u → has members a ≡ false → has members b ≡ false →
+    may_hear (with_triples members xs es) a b ≡ may_hear es a b
+words_elsewhere members [] es a b u e one two = refl
+words_elsewhere members (x ∷ xs) es a b u e one two =
+    after_ok_is (may_hear (with_triples members (x ∷ xs) es) a b ≡ may_hear es a b) (check_triple members x) _ u e
+    (λ v here rest.
+    let names = named_members members x v here in
+    words_elsewhere members xs (Apply (matched members x.first) (matched members x.second) x.association ∷ es) a b u
+    rest one two
+    ∙ unsaid (matched members x.first) (matched members x.second) x.association es a b
+    (unmatched members x.first a names one) (unmatched members x.first b names two))
+
+-- a member of one context is none of another
+one_context_at : (w : Gateway) (c t n : ℕ) (b : Bool) → IsSound w.rooms → eqb t c ≡ false → is_member w c n ≡ true →
+    is_member w t n ≡ b → is_member w t n ≡ false
+one_context_at w c t n true h apart within e =
+    let (r, found, here) = (h.members c n).0 within in
+    let (q, also, too) = (h.members t n).0 e in
+    let is = same_Some r q (sym found ∙ also) in
+    let same : t ≡ c = sym too ∙ ap (λ (x : Record). x.context) (sym is) ∙ here in
+    absurd (neither (sym (eq-eqb t c same) ∙ apart))
+one_context_at w c t n false h apart within e = e
+
+another_target : (w : rooms.Registry) (target : Target) (t c : ℕ) → existing_context w target ≡ Ok t →
+    is_number target c ≡ false → eqb t c ≡ false
+another_target w Null t c e apart = absurd (cc e)
+another_target w New t c e apart = absurd (cc e)
+another_target w (Number k) t c e apart =
+    after_ok (eqb t c ≡ false) (commands.there w k) _ t e
+    (λ _ one. let is : k ≡ t = cc one in ap (λ (i : ℕ). eqb i c) (sym is) ∙ apart)
+
+pub triples_alone : (w next : Gateway) (target : Target) (xs : List TopologyTriple) (t c : ℕ) → IsSound w.rooms →
+    apply_triples w target xs ≡ Ok (next, t) → is_number target c ≡ false → IsUnaffected w next c
+unfolding apply_triples
+triples_alone w next target xs t c h done apart =
+    after_ok_is (IsUnaffected w next c) (existing_context w.rooms target) _ (next, t) done (λ k at one.
+    after_ok_is (IsUnaffected w next c) (check_triples (members_at w.rooms k) xs) _ (next, t) one (λ u checked two.
+    let after : Gateway = record w { edits = with_triples (members_at w.rooms k) xs w.edits } in
+    let both : (after, k) ≡ (next, t) = cc two in
+    let other = another_target w.rooms target k c at apart in
+    let strangers = λ (n : ℕ) (there : is_member w c n ≡ true). one_context_at w c k n (is_member w k n) h other there
+    refl in
+    subst (λ (g : Gateway). IsUnaffected w g c) (ap (λ (p : Gateway × ℕ). p.0) both)
+    (alone w after c refl (λ n there. refl) (λ n there. refl)
+    (λ a b first second. words_elsewhere (members_at w.rooms k) xs w.edits a b u checked (strangers a first)
+    (strangers b second)))))
+
+-- ## Edits
+
+-- what an edit was done on is what its outcome is
+pub as_done : {A : Type 0} (f : A → Done) (o : Result (Gateway × A) ErrorNumber) (next : Gateway) (done : Done) →
+    done_as f o ≡ Ok (next, done) → (x : A) × (o ≡ Ok (next, x))
+as_done f (Ok p) next done e =
+    let both : (p.0, f p.1) ≡ (next, done) = cc e in
+    (p.1, ap (λ (g : Gateway). Ok (g, p.1)) (ap (λ (q : Gateway × Done). q.0) both))
+as_done f (Err x) next done e = absurd (cc e)
+
+pub edit_alone : (w next : Gateway) (edit : Edit) (done : Done) (c : ℕ) → IsSound w.rooms →
+    outcome w edit ≡ Ok (next, done) → IsSome (context_at w.rooms c) → IsEditElsewhere w c edit → IsUnaffected w next c
+edit_alone w next (edits.Add target settings) done c h e there apart =
+    let (r, is) = as_done Termination (add w target settings) next done e in
+    add_alone w next target settings r c h is there apart
+edit_alone w next (edits.Modify target n settings) done c h e there apart =
+    let (r, is) = as_done Termination (modify w target n settings) next done e in
+    modify_alone w next target n settings r c is apart
+edit_alone w next (edits.Move target n settings) done c h e there apart =
+    let (r, is) = as_done Termination (move_to w target n settings) next done e in
+    move_alone w next target n settings r c h is there apart
+edit_alone w next (edits.Subtract target n) done c h e there apart =
+    let (r, is) = as_done Termination (subtract w target n) next done e in
+    subtract_alone w next target n r c h is apart
+edit_alone w next (edits.Triples target xs) done c h e there apart =
+    let (t, is) = as_done Topology (apply_triples w target xs.items) next done e in
+    triples_alone w next target xs.items t c h is apart
+
+-- ## RTP datagrams
+
+placed_alone : (w : Gateway) (c n : ℕ) (p : Header × List ℤ) (o : Option TerminationMedia) → is_member w c n ≡ false →
+    IsUnaffected w (frame_placed_at w n p o).0 c
+placed_alone w c n p None out = same_alone w c
+placed_alone w c n p (Some s) out =
+    alone w (frame_placed_at w n p (Some s)).0 c refl (λ m there. refl)
+    (λ m there. other_media w n m p (apart_from w c n m out there)) (λ a b one two. refl)
+
+arrived_alone : (w : Gateway) (c n : ℕ) (x : Arrived) → is_member w c n ≡ false → IsUnaffected w (taken_at w n x).0 c
+arrived_alone w c n (Ok p) out = placed_alone w c n p (media_of w n) out
+arrived_alone w c n (Err cause) out = same_alone w c
+
+taken_alone : (w : Gateway) (c : ℕ) (o : Option Record) (source : List ℕ) (reading : Reading) →
+    ((r : Record) → o ≡ Some r → is_member w c r.number ≡ false) → IsUnaffected w (taken_by w o source reading).0 c
+taken_alone w c None source reading out = same_alone w c
+taken_alone w c (Some r) source reading out = arrived_alone w c r.number (arrived r source reading) (out r refl)
+
+pub datagram_alone : (w next : Gateway) (port : ℕ) (source bytes : List ℕ) (result : Taken) (c : ℕ) →
+    Takes w port source bytes next result → IsPortElsewhere w c port → IsUnaffected w next c
+datagram_alone w next port source bytes result c (reading, is, represents) out =
+    subst (λ (g : Gateway). IsUnaffected w g c) (ap (λ (p : Gateway × Taken). p.0) represents)
+    (taken_alone w c (at_port w.rooms port) source reading out)
+
+-- ## What an engine stands for
+
+-- the terminations and contexts of each world that an engine stands for are sound, as its own are
+pub sound_as : (k now : EngineState) (w : Gateway) → k ≡ now → IsSound k.rooms → StandsFor now w → IsSound w.rooms
+sound_as k now w same sound h = subst IsSound (ap (λ (x : EngineState). x.rooms) same ∙ sym h.rooms) sound

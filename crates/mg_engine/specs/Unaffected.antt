@@ -1,0 +1,69 @@
+-- Which contexts an edit or an RTP datagram leaves alone, and what of them (this project's own).
+use Rattle.std.specs.Prelude.{◌≡◌, ℕ, Bool, true, false, List, Some, IsSome, Ok}
+use Rattle.mg_rooms.specs.declared.record.Record.{Record}
+use Rattle.mg_rooms.specs.declared.target.Target.{Target}
+use Rattle.mg_rooms.specs.Consistent.{IsConsistent}
+use Rattle.mg_rooms.specs.Outcome.{is_number}
+use Rattle.mg_rooms.specs.Registry.{record_at, context_at, members_at}
+use Rattle.mg_engine.specs.declared.done.Done.{Done}
+use Rattle.mg_engine.specs.declared.edit.Edit.{Edit}
+use Rattle.mg_engine.specs.declared.edit.Edit.TheVariants.{Add, Modify, Move, Subtract, Triples}
+use Rattle.mg_engine.specs.declared.taken.Taken.{Taken}
+use Rattle.mg_engine.specs.Arrival.{Takes, at_port}
+use Rattle.mg_engine.specs.Flow.{has, flow, hears}
+use Rattle.mg_engine.specs.Gateway.{Gateway, media_of}
+use Rattle.mg_engine.specs.Mix.{total}
+use Rattle.mg_engine.specs.Outcome.{outcome}
+
+-- whether n is a member of the context c
+abbrev pub is_member : Gateway → ℕ → ℕ → Bool
+is_member w c n = has (members_at w.rooms c) n
+
+-- The context c is as it was, its members in their order. Each of them has its record and its
+-- media as they were, each hears the same others of them, whatever their modes, the same speech
+-- goes between them, and each sample of their total is the same.
+pub record IsUnaffected (w next : Gateway) (c : ℕ) : Type 0 where
+  pub context : context_at next.rooms c ≡ context_at w.rooms c
+  pub records : (n : ℕ) → is_member w c n ≡ true → record_at next.rooms n ≡ record_at w.rooms n
+  pub media : (n : ℕ) → is_member w c n ≡ true → media_of next n ≡ media_of w n
+  pub hears : (a b : ℕ) → is_member w c a ≡ true → is_member w c b ≡ true
+      → hears next a b ≡ hears w a b
+  pub flows : (a b : ℕ) → is_member w c a ≡ true → is_member w c b ≡ true
+      → flow next a b ≡ flow w a b
+  pub totals : (i : ℕ) → total next c i ≡ total w c i
+
+-- ## What is elsewhere
+
+-- a command isn't about the context c: c isn't the action's context, and the termination that is
+-- named is no member of c
+abbrev pub IsElsewhere : Gateway → ℕ → Target → ℕ → Type 0
+IsElsewhere w c target n = (is_number target c ≡ false) × (is_member w c n ≡ false)
+
+-- an edit isn't about the context c. An Add names no termination, and triples name members of the
+-- action's context, so of these the action's context alone counts
+abbrev pub IsEditElsewhere : Gateway → ℕ → Edit → Type 0
+IsEditElsewhere w c (Add target settings) = is_number target c ≡ false
+IsEditElsewhere w c (Modify target n settings) = IsElsewhere w c target n
+IsEditElsewhere w c (Move target n settings) = IsElsewhere w c target n
+IsEditElsewhere w c (Subtract target n) = IsElsewhere w c target n
+IsEditElsewhere w c (Triples target xs) = is_number target c ≡ false
+
+-- no member of the context c has the port
+abbrev pub IsPortElsewhere : Gateway → ℕ → ℕ → Type 0
+IsPortElsewhere w c port =
+    (r : Record) → at_port w.rooms port ≡ Some r → is_member w c r.number ≡ false
+
+-- ## The theorems
+
+-- an edit leaves each context alone that is there and that it isn't about
+abbrev pub EditsDoNotAffectOthers : Type 0
+EditsDoNotAffectOthers =
+    (w next : Gateway) (edit : Edit) (done : Done) (c : ℕ) → IsConsistent w.rooms
+    → outcome w edit ≡ Ok (next, done) → IsSome (context_at w.rooms c) → IsEditElsewhere w c edit
+    → IsUnaffected w next c
+
+-- an RTP datagram leaves each context alone of which no member has the port that it came to
+abbrev pub DatagramsDoNotAffectOthers : Type 0
+DatagramsDoNotAffectOthers =
+    (w next : Gateway) (port : ℕ) (source bytes : List ℕ) (result : Taken) (c : ℕ)
+    → Takes w port source bytes next result → IsPortElsewhere w c port → IsUnaffected w next c

@@ -1,0 +1,205 @@
+-- What some lines of arguments ask for.
+use Rattle.std.proofs.Common.{◌≡◌, ℕ, true, false, List, [], ◌∷◌, Ok, Err, refl, codes}
+use Rattle.clap.proofs.OnLiterals.{clap_on_literals}
+use Rattle.clap.specs.Walk.{Text}
+use Rattle.clap.specs.declared.error.kind.ErrorKind.TheVariants as kind
+use Rattle.mg_words.specs.Address.{address_of}
+use Rattle.mg_core.specs.declared.shown.Shown.TheVariants.{Sent, SentAndFlows}
+use Rattle.mg_engine.specs.Config.{standard}
+use Rattle.mg_program.specs.declared.invocation.Invocation.TheVariants.{Replay, Serve, Live}
+use Rattle.mg_program.specs.declared.service.Service.{Service}
+use Rattle.mg_program.specs.Options.{requested, command_line, config_at, options}
+
+abbrev slots : Text → List Text
+slots number = codes "replay" ∷ codes "--slots" ∷ number ∷ []
+
+abbrev at_address : Text → List Text
+at_address text = codes "serve" ∷ codes "--address" ∷ text ∷ []
+
+-- under anybody's control, with a report every so many seconds, and without a recording
+abbrev anybody : ℕ → Service
+anybody report = record { controllers = []; report = report; records = false }
+
+replay_by_itself : requested (codes "replay" ∷ []) ≡ Ok (Replay standard Sent)
+unfolding requested command_line options config_at clap_on_literals
+replay_by_itself = refl
+
+serve_by_itself : requested (codes "serve" ∷ []) ≡ Ok (Serve standard (anybody 0))
+unfolding requested command_line options config_at clap_on_literals
+serve_by_itself = refl
+
+live_by_itself : requested (codes "live" ∷ []) ≡ Ok (Live standard (anybody 0) 5)
+unfolding requested command_line options config_at clap_on_literals
+live_by_itself = refl
+
+live_with_both : requested (codes "live" ∷ codes "--slots=4" ∷ codes "--late" ∷ codes "0" ∷ []) ≡
+    Ok (Live (record standard { slots = 4 }) (anybody 0) 0)
+unfolding requested command_line options config_at clap_on_literals
+live_with_both = refl
+
+with_reports : requested (codes "serve" ∷ codes "--report=10" ∷ []) ≡ Ok (Serve standard (anybody 10))
+unfolding requested command_line options config_at clap_on_literals
+with_reports = refl
+
+live_with_reports : requested (codes "live" ∷ codes "--report=60" ∷ codes "--late=1" ∷ []) ≡ Ok (Live standard (anybody 60)
+    1)
+unfolding requested command_line options config_at clap_on_literals
+live_with_reports = refl
+
+serve_is_never_late : requested (codes "serve" ∷ codes "--late=5" ∷ []) ≡ Err (kind.UnknownArgument ∷ [])
+unfolding requested command_line options config_at clap_on_literals
+serve_is_never_late = refl
+
+serve_records : requested (codes "serve" ∷ codes "--record" ∷ []) ≡ Ok (Serve standard (record (anybody 0) {
+  records = true;
+}))
+unfolding requested command_line options config_at clap_on_literals
+serve_records = refl
+
+live_records : requested (codes "live" ∷ codes "--record" ∷ codes "--late=1" ∷ []) ≡
+    Ok (Live standard (record (anybody 0) { records = true }) 1)
+unfolding requested command_line options config_at clap_on_literals
+live_records = refl
+
+records_no_value : requested (codes "live" ∷ codes "--record=yes" ∷ []) ≡ Err (kind.TooManyValues ∷ [])
+unfolding requested command_line options config_at clap_on_literals
+records_no_value = refl
+
+replay_with_flows : requested (codes "replay" ∷ codes "--flows" ∷ codes "--slots=4" ∷ []) ≡
+    Ok (Replay (record standard { slots = 4 }) SentAndFlows)
+unfolding requested command_line options config_at clap_on_literals
+replay_with_flows = refl
+
+live_has_no_flows : requested (codes "live" ∷ codes "--flows" ∷ []) ≡ Err (kind.UnknownArgument ∷ [])
+unfolding requested command_line options config_at clap_on_literals
+live_has_no_flows = refl
+
+replay_records_nothing : requested (codes "replay" ∷ codes "--record" ∷ []) ≡ Err (kind.UnknownArgument ∷ [])
+unfolding requested command_line options config_at clap_on_literals
+replay_records_nothing = refl
+
+first_numbers : requested (codes "live" ∷ codes "--first-context=7" ∷ codes "--first-termination" ∷ codes "9" ∷ []) ≡
+    Ok (Live (record standard { first_termination = 9; first_context = 7 }) (anybody 0) 5)
+unfolding requested command_line options config_at clap_on_literals
+first_numbers = refl
+
+two_controllers : requested (codes "live" ∷ codes "--controller=10.0.0.1" ∷ codes "--controller" ∷ codes "10.0.0.2" ∷ [])
+    ≡ Ok (Live standard (record (anybody 0) { controllers = (10 ∷ 0 ∷ 0 ∷ 1 ∷ []) ∷ (10 ∷ 0 ∷ 0 ∷ 2 ∷ []) ∷ [] }) 5)
+unfolding requested command_line options config_at address_of clap_on_literals
+two_controllers = refl
+
+no_controller : requested (codes "serve" ∷ codes "--controller=localhost" ∷ []) ≡ Err (kind.ValueValidation ∷ [])
+unfolding requested command_line options config_at address_of clap_on_literals
+no_controller = refl
+
+replay_has_no_controller : requested (codes "replay" ∷ codes "--controller=10.0.0.1" ∷ []) ≡ Err (kind.UnknownArgument ∷ [])
+unfolding requested command_line options config_at clap_on_literals
+replay_has_no_controller = refl
+
+with_slots : requested (slots (codes "4")) ≡ Ok (Replay (record standard { slots = 4 }) Sent)
+unfolding requested command_line options config_at clap_on_literals
+with_slots = refl
+
+serve_with_slots : requested (codes "serve" ∷ codes "--slots=4" ∷ []) ≡ Ok (Serve (record standard { slots = 4 }) (anybody
+    0))
+unfolding requested command_line options config_at clap_on_literals
+serve_with_slots = refl
+
+-- no run is begun with it, but it is for the run to say so
+with_no_slots : requested (slots (codes "0")) ≡ Ok (Replay (record standard { slots = 0 }) Sent)
+unfolding requested command_line options config_at clap_on_literals
+with_no_slots = refl
+
+with_two : requested (codes "replay" ∷ codes "--ssrc=4294967295" ∷ codes "--control-port" ∷ codes "4000" ∷ []) ≡
+    Ok (Replay (record standard { ssrc = 4294967295; control_port = 4000 }) Sent)
+unfolding requested command_line options config_at clap_on_literals
+with_two = refl
+
+with_plus : requested (slots (codes "+7")) ≡ Ok (Replay (record standard { slots = 7 }) Sent)
+unfolding requested command_line options config_at clap_on_literals
+with_plus = refl
+
+with_address : requested (at_address (codes "10.0.0.1")) ≡
+    Ok (Serve (record standard { address = 10 ∷ 0 ∷ 0 ∷ 1 ∷ []; control_address = 10 ∷ 0 ∷ 0 ∷ 1 ∷ [] }) (anybody 0))
+unfolding requested command_line options config_at address_of clap_on_literals
+with_address = refl
+
+with_leading_zeros : requested (at_address (codes "010.00.0.001")) ≡
+    Ok (Serve (record standard { address = 10 ∷ 0 ∷ 0 ∷ 1 ∷ []; control_address = 10 ∷ 0 ∷ 0 ∷ 1 ∷ [] }) (anybody 0))
+unfolding requested command_line options config_at address_of clap_on_literals
+with_leading_zeros = refl
+
+unspecified_address : requested (at_address (codes "0.0.0.0")) ≡ Err (kind.ValueValidation ∷ [])
+unfolding requested command_line options config_at address_of clap_on_literals
+unspecified_address = refl
+
+multicast_address : requested (at_address (codes "224.0.0.1")) ≡ Err (kind.ValueValidation ∷ [])
+unfolding requested command_line options config_at address_of clap_on_literals
+multicast_address = refl
+
+greatest_address : requested (at_address (codes "223.255.255.255")) ≡
+    Ok (Serve (record standard { address = 223 ∷ 255 ∷ 255 ∷ 255 ∷ []; control_address = 223 ∷ 255 ∷ 255 ∷ 255 ∷ [] })
+    (anybody 0))
+unfolding requested command_line options config_at address_of clap_on_literals
+greatest_address = refl
+
+-- control messages on a network of their own
+two_addresses : requested (codes "live" ∷ codes "--control-address=10.0.0.1" ∷ codes "--address" ∷ codes "192.0.2.1" ∷ [])
+    ≡ Ok (Live (record standard { address = 192 ∷ 0 ∷ 2 ∷ 1 ∷ []; control_address = 10 ∷ 0 ∷ 0 ∷ 1 ∷ [] }) (anybody 0)
+    5)
+unfolding requested command_line options config_at address_of clap_on_literals
+two_addresses = refl
+
+unspecified_control_address : requested (codes "live" ∷ codes "--control-address=0.0.0.0" ∷ []) ≡
+    Err (kind.ValueValidation ∷ [])
+unfolding requested command_line options config_at address_of clap_on_literals
+unspecified_control_address = refl
+
+three_parts : requested (at_address (codes "1.2.3")) ≡ Err (kind.ValueValidation ∷ [])
+unfolding requested command_line options config_at address_of clap_on_literals
+three_parts = refl
+
+five_parts : requested (at_address (codes "1.2.3.4.5")) ≡ Err (kind.ValueValidation ∷ [])
+unfolding requested command_line options config_at address_of clap_on_literals
+five_parts = refl
+
+address_twice : requested (codes "serve" ∷ codes "--address=10.0.0.1" ∷ codes "--address=10.0.0.1" ∷ []) ≡
+    Err (kind.ArgumentConflict ∷ [])
+unfolding requested command_line options config_at clap_on_literals
+address_twice = refl
+
+no_word : requested [] ≡ Err (kind.MissingSubcommand ∷ [])
+unfolding requested command_line options config_at clap_on_literals
+no_word = refl
+
+number_too_large : requested (slots (codes "65536")) ≡ Err (kind.ValueValidation ∷ [])
+unfolding requested command_line options config_at clap_on_literals
+number_too_large = refl
+
+no_number : requested (codes "replay" ∷ codes "--slots" ∷ []) ≡ Err (kind.InvalidValue ∷ [])
+unfolding requested command_line options config_at clap_on_literals
+no_number = refl
+
+unknown_option : requested (codes "replay" ∷ codes "--colour" ∷ []) ≡ Err (kind.UnknownArgument ∷ [])
+unfolding requested command_line options config_at clap_on_literals
+unknown_option = refl
+
+option_twice : requested (codes "replay" ∷ codes "--slots=1" ∷ codes "--slots=1" ∷ []) ≡ Err (kind.ArgumentConflict ∷ [])
+unfolding requested command_line options config_at clap_on_literals
+option_twice = refl
+
+help : requested (codes "serve" ∷ codes "--help" ∷ []) ≡ Err (kind.DisplayHelp ∷ [])
+unfolding requested command_line options config_at clap_on_literals
+help = refl
+
+help_of_all : requested (codes "--help" ∷ []) ≡ Err (kind.DisplayHelp ∷ [])
+unfolding requested command_line options config_at clap_on_literals
+help_of_all = refl
+
+version : requested (codes "--version" ∷ []) ≡ Err (kind.DisplayVersion ∷ [])
+unfolding requested command_line options config_at clap_on_literals
+version = refl
+
+unknown_word : requested (codes "record" ∷ []) ≡ Err (kind.UnknownArgument ∷ kind.InvalidSubcommand ∷ [])
+unfolding requested command_line options config_at clap_on_literals
+unknown_word = refl

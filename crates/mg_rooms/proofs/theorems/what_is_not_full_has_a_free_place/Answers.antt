@@ -1,8 +1,0 @@
-use Rattle.mg_rooms.proofs.StateLemmas.{seat_is_free, room_is_free}
-use Rattle.mg_rooms.proofs.theorems.what_is_not_full_has_a_free_place.Goals as goal
-
-pub returns-clause-seat : goal.returns-clause-seat
-returns-clause-seat c = seat_is_free
-
-pub returns-clause-room : goal.returns-clause-room
-returns-clause-room c = room_is_free

@@ -17,14 +17,14 @@
 
 mod arguments;
 mod command;
+mod reporting;
 mod rule;
 mod status;
-mod reporting;
 mod value;
 
 pub use arguments::program_arguments;
 pub use command::{VERSION, program_command};
+pub use reporting::report_error;
 pub use rule::{long_number, short_number};
 pub use status::Status;
-pub use reporting::report_error;
 pub use value::{long_value, short_value};

@@ -3,8 +3,8 @@
 use clap::Command;
 use clap::error::ErrorKind;
 use mg_options::{
-    Status, VERSION, long_number, long_value, program_arguments, program_command, short_number,
-    short_value, report_error,
+    Status, VERSION, long_number, long_value, program_arguments, program_command, report_error,
+    short_number, short_value,
 };
 use std::alloc::Global;
 use std::test::Fail;
@@ -89,7 +89,10 @@ fn told_of_help(alloc: Global, unprinted: Status) -> (Status, Vec<u8>) {
     let matches = program_command(alloc, "gateway", "Joins calls").try_get_matches_from(&words);
     match matches {
         Ok(_) => (Status::BadLine, errors),
-        Err(error) => (report_error(&error, unprinted, &mut output, &mut errors), errors),
+        Err(error) => (
+            report_error(&error, unprinted, &mut output, &mut errors),
+            errors,
+        ),
     }
 }
 

@@ -82,7 +82,8 @@ abbrev pub unless_optional : Command → ActionState × Bool → ActionState × 
 unless_optional c (run, is_done) = (run, c.is_optional || is_done)
 
 -- what comes of the rest, unless a command failed
-abbrev pub continue_with : (ActionState → ActionState × Bool) → ActionState × Bool → ActionState × Bool
+abbrev pub continue_with : (ActionState → ActionState × Bool) → ActionState × Bool
+    → ActionState × Bool
 continue_with rest (run, true) = rest run
 continue_with rest (run, false) = (run, false)
 

@@ -10,7 +10,8 @@ without_return line =
 -- The lines of a text after a line that was begun: those that end in a line feed and, where the
 -- text has ended, a last one without, unless it is empty.
 unfoldable pub lines_after : Bool → List ℕ → List ℕ → List (List ℕ)
-lines_after ended partial [] = if length partial == 0 then [] else (if ended then partial ∷ [] else [])
+lines_after ended partial [] =
+    if length partial == 0 then [] else (if ended then partial ∷ [] else [])
 lines_after ended partial (b ∷ bs) =
     if b == 10 then without_return partial ∷ lines_after ended [] bs
     else lines_after ended (partial ++ b ∷ []) bs

@@ -22,7 +22,8 @@ abbrev pub Each : {A : Type 0} → (A → World → List TraceEntry → World �
     → List TraceEntry → World → Type 0
 Each R [] w trace next = (trace ≡ []) × (next ≡ w)
 Each R (x ∷ xs) w trace next =
-    (first : List TraceEntry) × (others : List TraceEntry) × (mid : World) × (trace ≡ first ++ others)
+    (first : List TraceEntry) × (others : List TraceEntry) × (mid : World)
+    × (trace ≡ first ++ others)
     × R x w first mid × Each R xs mid others next
 
 -- ## One event
@@ -69,11 +70,12 @@ ReceivesNothing slot trace =
 
 -- What ends a slot's turn: 64 datagrams came, or a receive gave none or failed.
 abbrev pub EndsTurn : ℕ → ℕ → List TraceEntry → Type 0
-EndsTurn slot arrived last = ((arrived ≡ 64) × (last ≡ [])) ⊎ ((arrived < 64) × ReceivesNothing slot last)
+EndsTurn slot arrived last =
+    ((arrived ≡ 64) × (last ≡ [])) ⊎ ((arrived < 64) × ReceivesNothing slot last)
 
 -- a slot's turn: datagrams one after another, and what ends it
-pub record SlotTurn (config : Config) (slot : ℕ) (w : World) (trace : List TraceEntry) (next : World)
-    : Type 0 where
+pub record SlotTurn (config : Config) (slot : ℕ) (w : World) (trace : List TraceEntry)
+    (next : World) : Type 0 where
   pub datagrams : List (Peer × List ℕ)
   pub received : List TraceEntry
   pub last : List TraceEntry

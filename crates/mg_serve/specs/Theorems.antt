@@ -44,13 +44,15 @@ recorded title trace = output_of Recording (opening (Some title) ++ trace)
 -- lines that are whole are a script of its first events.
 abbrev pub SessionsAreReadBack : Type 0
 SessionsAreReadBack =
-    (config : Config) (title : List ℕ) (lines : List (List ℕ)) (next : World) (trace : List TraceEntry)
+    (config : Config) (title : List ℕ) (lines : List (List ℕ)) (next : World)
+    (trace : List TraceEntry)
     → IsValidConfig config → Session config lines (start_of config) trace next
     → script.events_of (lines_of true (recorded title trace)) ≡ Some (events_of_trace trace)
 
 abbrev pub CutSessionsAreReadBack : Type 0
 CutSessionsAreReadBack =
-    (config : Config) (title : List ℕ) (lines : List (List ℕ)) (next : World) (trace : List TraceEntry)
+    (config : Config) (title : List ℕ) (lines : List (List ℕ)) (next : World)
+    (trace : List TraceEntry)
     (front rest : List ℕ) → IsValidConfig config → Session config lines (start_of config) trace next
     → recorded title trace ≡ front ++ rest
     → (first : List Event) × (others : List Event) × (events_of_trace trace ≡ first ++ others)
@@ -68,7 +70,8 @@ pub record WroteWhatWasSent (config : Config) (trace : List TraceEntry) (next la
 -- A run over what was recorded of a session is the session again.
 abbrev pub ReplaysAreTheSession : Type 0
 ReplaysAreTheSession =
-    (config : Config) (title : List ℕ) (lines : List (List ℕ)) (next : World) (trace : List TraceEntry)
+    (config : Config) (title : List ℕ) (lines : List (List ℕ)) (next : World)
+    (trace : List TraceEntry)
     (counts : Counts) (old new : Option (List ℕ)) → IsValidConfig config
     → Session config lines (start_of config) trace next
     → (ran : RanToEnd config shows.Sent (recorded title trace) counts old new)

@@ -81,7 +81,7 @@ fn reports_a_usage_fault(rt: HostRuntime) {
 }
 
 /// How a program ends that can't print its help, and what it tells of that.
-fn told_of_help(alloc: Global, unprinted: Status) -> (Status, Vec<u8>) {
+fn report_of_help(alloc: Global, unprinted: Status) -> (Status, Vec<u8>) {
     let mut full: [u8; 0] = [];
     let mut output: &mut [u8] = &mut full;
     let mut errors = Vec::new(alloc);
@@ -98,10 +98,10 @@ fn told_of_help(alloc: Global, unprinted: Status) -> (Status, Vec<u8>) {
 
 #[test]
 fn reports_that_help_cannot_be_printed(rt: HostRuntime) {
-    let (status, errors) = told_of_help(rt.alloc(), Status::Failed);
+    let (status, errors) = report_of_help(rt.alloc(), Status::Failed);
     assert_eq!(rt; status, Status::Failed);
     assert_eq!(rt; errors.as_slice(), b"write failed\n".as_slice());
-    let (status, errors) = told_of_help(rt.alloc(), Status::Done);
+    let (status, errors) = report_of_help(rt.alloc(), Status::Done);
     assert_eq!(rt; status, Status::Done);
     assert!(rt; errors.is_empty());
 }

@@ -1,7 +1,7 @@
 //! Sessions over ports in memory that are recorded, and runs over what was recorded.
 
 use crate::failing_writer::FailingWriter;
-use crate::serve::{HEARTBEAT, config, ports, told};
+use crate::serve::{HEARTBEAT, call_log, config, ports};
 use mg_core::{Shown, run};
 use mg_serve::{RunFault, serve};
 use std::alloc::{AllocError, Global};
@@ -15,7 +15,7 @@ const STRAY: &[u8] = b"\x80x";
 #[derive(Drop)]
 struct Outcome {
     result: Result<u64, RunFault>,
-    told: String,
+    call_log: String,
 }
 
 /// Records a session on a new gateway, at whose ports a control datagram and an RTP datagram wait.
@@ -38,12 +38,12 @@ fn record<W: Write>(
         0,
         &mut reports,
     );
-    let told = told(alloc, &ports)?;
+    let call_log = call_log(alloc, &ports)?;
     let result = match result {
         Ok(counts) => Ok(counts.sent),
         Err(fault) => Err(fault),
     };
-    Ok(Outcome { result, told })
+    Ok(Outcome { result, call_log })
 }
 
 /// The text of a recording of the heartbeat, the stray datagram and a tick.
@@ -64,7 +64,7 @@ fn records_what_happens(rt: HostRuntime) -> Result<(), Fail> {
         &mut printed,
     )?;
     assert_eq!(rt; outcome.result, Ok(1));
-    assert_eq!(rt; outcome.told.as_str(), "c0a0n0n1c2n2");
+    assert_eq!(rt; outcome.call_log.as_str(), "c0a0n0n1c2n2");
     assert_eq!(rt; printed.as_slice(), RECORDING);
     Ok(())
 }
@@ -90,10 +90,10 @@ fn finishes_a_line_whose_print_fails(rt: HostRuntime) -> Result<(), Fail> {
     let mut writer = FailingWriter::new(alloc, 1000, 2);
     let outcome = record(alloc, b"", b"poll\ntick\n", &mut writer)?;
     assert_eq!(rt; outcome.result, Err(RunFault::Write));
-    assert_eq!(rt; outcome.told.as_str(), "c0a0n0n1c2n2");
+    assert_eq!(rt; outcome.call_log.as_str(), "c0a0n0n1c2n2");
     let mut writer = FailingWriter::new(alloc, 1000, 1);
     let outcome = record(alloc, b"", b"poll\n", &mut writer)?;
     assert_eq!(rt; outcome.result, Err(RunFault::Write));
-    assert_eq!(rt; outcome.told.as_str(), "");
+    assert_eq!(rt; outcome.call_log.as_str(), "");
     Ok(())
 }

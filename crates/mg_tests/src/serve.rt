@@ -59,7 +59,7 @@ fn letter(call: &Call) -> char {
 }
 
 /// Each call with its slot.
-pub fn told(alloc: Global, ports: &FakePorts) -> Result<String, AllocError> {
+pub fn call_log(alloc: Global, ports: &FakePorts) -> Result<String, AllocError> {
     let mut text = String::new(alloc);
     for call in ports.calls().unwrap_or(&[]) {
         let (Call::Receive(slot, _) | Call::Send(slot, _, _)) = call;
@@ -75,7 +75,7 @@ pub fn told(alloc: Global, ports: &FakePorts) -> Result<String, AllocError> {
 struct Outcome {
     result: Result<Counts, RunFault>,
     printed: Vec<u8>,
-    told: String,
+    call_log: String,
 }
 
 /// Runs lines on a new gateway over ports in memory.
@@ -99,11 +99,11 @@ fn session(
         0,
         &mut reports,
     );
-    let told = told(alloc, &ports)?;
+    let call_log = call_log(alloc, &ports)?;
     Ok(Outcome {
         result,
         printed,
-        told,
+        call_log,
     })
 }
 
@@ -142,7 +142,7 @@ fn loses_the_packet_whose_send_fails(rt: HostRuntime) -> Result<(), Fail> {
     let wanted: &[u8] =
         b"ready\ncontrol=1 media=0 ticks=2 sent=2 failed=1 dropped=0,0,0,0,0,0 concealed=0\n";
     assert_eq!(rt; printed.as_slice(), wanted);
-    assert_eq!(rt; told(alloc, &ports)?.as_str(), "c0a0n0n1n2p1p1");
+    assert_eq!(rt; call_log(alloc, &ports)?.as_str(), "c0a0n0n1n2p1p1");
     let head: &[u8] = b"\x80\0\0\x01\0\0\0\xa0\0\0\0\x01";
     assert_eq!(rt; last_head(&ports), Some(head));
     Ok(())
@@ -152,7 +152,7 @@ fn loses_the_packet_whose_send_fails(rt: HostRuntime) -> Result<(), Fail> {
 fn polls_the_pool_where_the_control_port_fails(rt: HostRuntime) -> Result<(), Fail> {
     let waiting: [(usize, &[u8]); 3] = [(0, HEARTBEAT), (1, b"x"), (2, b"")];
     let outcome = session(rt.alloc(), &waiting, &[0], b"poll\nstats\n")?;
-    assert_eq!(rt; outcome.told.as_str(), "f0c1n1c2n2");
+    assert_eq!(rt; outcome.call_log.as_str(), "f0c1n1c2n2");
     let wanted: &[u8] =
         b"ready\ncontrol=0 media=2 ticks=0 sent=0 failed=1 dropped=2,0,0,0,0,0 concealed=0\n";
     assert_eq!(rt; outcome.printed.as_slice(), wanted);
@@ -231,7 +231,7 @@ fn is_counted(outcome: &Outcome) -> bool {
     let Ok(counts) = &outcome.result else {
         return false;
     };
-    let text = outcome.told.as_str();
+    let text = outcome.call_log.as_str();
     let came = counts.control.saturating_add(counts.media);
     let sends = count(text, b'a').saturating_add(count(text, b'p')) as u64;
     let lost = u64::from(count(text, b'f') == 0);
@@ -258,7 +258,7 @@ fn counts_each_call_that_fails(rt: HostRuntime) -> Result<(), Fail> {
     let alloc = rt.alloc();
     let waiting: [(usize, &[u8]); 4] = [(0, ADD), (0, HEARTBEAT), (1, b"x"), (2, b"x")];
     let outcome = session(alloc, &waiting, &[], b"poll\ntick\npoll\ntick\ntick\n")?;
-    assert_eq!(rt; outcome.told.as_str(), "c0a0c0a0n0c1n1c2n2p1n0n1n2p1p1");
+    assert_eq!(rt; outcome.call_log.as_str(), "c0a0c0a0n0c1n1c2n2p1n0n1n2p1p1");
     assert_eq!(rt; first_uncounted(alloc, 15)?, None);
     Ok(())
 }
@@ -267,7 +267,7 @@ fn counts_each_call_that_fails(rt: HostRuntime) -> Result<(), Fail> {
 fn resends_a_lost_answer(rt: HostRuntime) -> Result<(), Fail> {
     let waiting: [(usize, &[u8]); 2] = [(0, ADD), (0, ADD)];
     let outcome = session(rt.alloc(), &waiting, &[1], b"poll\ntick\nstats\n")?;
-    assert_eq!(rt; outcome.told.as_str(), "c0a0c0a0n0n1n2p1");
+    assert_eq!(rt; outcome.call_log.as_str(), "c0a0c0a0n0n1n2p1");
     let wanted: &[u8] =
         b"ready\ncontrol=2 media=0 ticks=1 sent=2 failed=1 dropped=0,0,0,0,0,0 concealed=0\n";
     assert_eq!(rt; outcome.printed.as_slice(), wanted);
@@ -349,7 +349,7 @@ fn refuses_a_bad_configuration(rt: HostRuntime) -> Result<(), Fail> {
     );
     assert!(rt; matches!(result, Err(RunFault::BadConfig)));
     assert!(rt; printed.is_empty());
-    assert_eq!(rt; told(alloc, &ports)?.as_str(), "");
+    assert_eq!(rt; call_log(alloc, &ports)?.as_str(), "");
     Ok(())
 }
 
@@ -375,12 +375,12 @@ fn ends_where_a_read_fails(rt: HostRuntime) -> Result<(), Fail> {
         &mut reports,
     );
     assert!(rt; matches!(result, Err(RunFault::Read)));
-    assert_eq!(rt; told(alloc, &ports)?.as_str(), "n0c1n1n2");
+    assert_eq!(rt; call_log(alloc, &ports)?.as_str(), "n0c1n1n2");
     Ok(())
 }
 
 /// The calls of a session whose writer fails after so many calls.
-fn told_with_writer(alloc: Global, calls: usize, lines: &[u8]) -> Result<String, AllocError> {
+fn call_log_with_writer(alloc: Global, calls: usize, lines: &[u8]) -> Result<String, AllocError> {
     let mut ports = ports(alloc, &[(1, b"x")], &[])?;
     let mut input = lines;
     let mut output = FailingWriter::new(alloc, 1000, calls);
@@ -398,14 +398,14 @@ fn told_with_writer(alloc: Global, calls: usize, lines: &[u8]) -> Result<String,
     if !matches!(result, Err(RunFault::Write)) {
         return Ok(String::new(alloc));
     }
-    told(alloc, &ports)
+    call_log(alloc, &ports)
 }
 
 #[test]
 fn ends_where_a_print_fails(rt: HostRuntime) -> Result<(), Fail> {
     let alloc = rt.alloc();
     let lines: &[u8] = b"poll\npol\npoll\n";
-    assert_eq!(rt; told_with_writer(alloc, 1, lines)?.as_str(), "n0c1n1n2");
-    assert_eq!(rt; told_with_writer(alloc, 0, lines)?.as_str(), "");
+    assert_eq!(rt; call_log_with_writer(alloc, 1, lines)?.as_str(), "n0c1n1n2");
+    assert_eq!(rt; call_log_with_writer(alloc, 0, lines)?.as_str(), "");
     Ok(())
 }

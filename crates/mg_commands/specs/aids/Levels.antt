@@ -44,7 +44,8 @@ appeared_in_media source parts n before x =
 abbrev pub stream_level : List ℕ → List MediaPart → ℕ → List StreamPart → StreamPart
     → Option ErrorNumber
 stream_level source parts n before x =
-    option_or (fault_of (appeared_in_media source parts n before (stream_word n x)) (stream_word n x))
+    option_or
+    (fault_of (appeared_in_media source parts n before (stream_word n x)) (stream_word n x))
     (first_after (control_level source n) [] (controls_within x))
 
 abbrev pub is_state : MediaPart → Bool

@@ -99,7 +99,7 @@ fn waits_by_the_system_clock(rt: HostRuntime) -> Result<(), Fail> {
     let ticks = Cell::new(0);
     let begun = Instant::now(&rt)?;
     let watch = SystemWatch::start_now(&rt)?;
-    let mut other = watch.again();
+    let mut other = watch.duplicate();
     let mut lines = ClockLines::new(watch, &ticks, 1);
     let mut buffer = [0; 16];
     for _ in 0..3 {

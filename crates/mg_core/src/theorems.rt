@@ -118,8 +118,8 @@ pub fn unheard_changes_nothing()
 
 /// Where nothing is told of changes nothing changed, and where nothing changed nothing is told.
 pub fn changes_are_reported()
-    ensures untold { EachChangeIsReported }
-    ensures vain { OnlyChangesAreReported }
+    ensures complete { EachChangeIsReported }
+    ensures exact { OnlyChangesAreReported }
 {}
 
 /// The counts are the numbers of the events that came: control datagrams, RTP datagrams, those of them that were placed

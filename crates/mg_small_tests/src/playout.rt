@@ -175,12 +175,12 @@ fn another_source_restarts(rt: HostRuntime) -> Result<(), Fail> {
 
 #[test]
 fn missing_frame_is_halved(rt: HostRuntime) -> Result<(), Fail> {
-    let mut came = frame(0);
-    came[..4].copy_from_slice(&[-3, -1, 1, 3]);
+    let mut received = frame(0);
+    received[..4].copy_from_slice(&[-3, -1, 1, 3]);
     let mut halves = frame(0);
     halves[..4].copy_from_slice(&[-1, 0, 0, 1]);
     let mut playout = Playout::new(rt.alloc())?;
-    assert_eq!(rt; playout.place(1, 1, came), Placed::Started);
+    assert_eq!(rt; playout.place(1, 1, received), Placed::Started);
     assert_eq!(rt; playout.place(1, 3, frame(3)), Placed::Placed);
     tick_all(
         &rt,
@@ -188,7 +188,7 @@ fn missing_frame_is_halved(rt: HostRuntime) -> Result<(), Fail> {
         &[
             Played::Silence,
             Played::Silence,
-            Played::Frame(came),
+            Played::Frame(received),
             Played::Concealed(halves),
             given(3),
             Played::Silence,

@@ -232,11 +232,11 @@ fn is_counted(outcome: &Outcome) -> bool {
         return false;
     };
     let text = outcome.call_log.as_str();
-    let came = counts.control.saturating_add(counts.media);
+    let received = counts.control.saturating_add(counts.media);
     let sends = count(text, b'a').saturating_add(count(text, b'p')) as u64;
     let lost = u64::from(count(text, b'f') == 0);
     counts.failed == 1
-        && came == count(text, b'c') as u64
+        && received == count(text, b'c') as u64
         && sends == counts.sent.saturating_add(lost)
 }
 

@@ -3,4 +3,4 @@ use Rattle.mg_core.proofs.ReportLemmas.{each_change_is_reported}
 use Rattle.mg_core.proofs.theorems.changes_are_reported.Goals as goal
 
 pub returns : goal.returns
-returns c = record { untold = each_change_is_reported; vain = only_changes_are_reported }
+returns c = record { complete = each_change_is_reported; exact = only_changes_are_reported }

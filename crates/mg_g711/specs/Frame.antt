@@ -1,14 +1,13 @@
--- A frame of samples, which contracts see as a list.
+-- A frame of samples, as contracts see it: a list.
 use Rattle.std.specs.Prelude.{◌≡◌, ◌/◌, ℤ, pos, int_lt, unsigned_abs, List, length, All, FitsSigned}
 use Rattle.std.specs.Int.{w16}
 use Rattle.mg_g711.specs.Law.{signed}
 
--- 160 samples, each from -32768 to 32767: 20 ms at 8,000 samples a second (RFC 3551,
--- sections 4.2 and 6)
+-- 160 samples from -32768 to 32767: 20 ms at 8000 Hz (RFC 3551, sections 4.2 and 6)
 pub record IsFrame (samples : List ℤ) : Type 0 where
   pub whole : length samples ≡ 160
   pub in_range : All (FitsSigned w16) samples
 
--- a sample with half of its magnitude, rounded down, and its own sign: halved toward zero
+-- a sample halved toward zero
 abbrev pub halved : ℤ → ℤ
 halved sample = signed (int_lt sample (pos 0)) (unsigned_abs sample / 2)

@@ -1,28 +1,28 @@
--- The two laws of ITU-T G.711 on 16-bit samples. A level k is 16 times an exponent from 0 to 7 and
--- a mantissa from 0 to 15, `k / 16` and `k % 16`.
+-- The two laws of ITU-T G.711 on 16-bit samples. A level k has an exponent from 0 to 7, `k / 16`,
+-- and a mantissa from 0 to 15, `k % 16`.
 use Rattle.std.specs.Prelude.{ℕ, ℤ, Bool, pos, neg_ℤ, ◌+◌, ◌-◌, ◌*◌, ◌/◌, ◌%◌, ◌^◌, ◌==◌, nat_lt}
 use Rattle.std.specs.Prelude.{nat_le, int_lt, unsigned_abs, bit_xor, if◌then◌else◌, count_by}
 use Rattle.std.specs.List.{range_with_len}
 use Rattle.mg_g711.specs.declared.law.Law.{Law}
 use Rattle.mg_g711.specs.declared.law.Law.TheVariants.{Mu, A}
 
--- the least magnitude in a level: the decision values of G.711's tables 2 and 1, times 4 by mu-law
--- and times 8 by A-law
+-- the least magnitude in a level: the decision values of tables 2 and 1 of G.711, times 4 in
+-- mu-law and times 8 in A-law
 abbrev pub least_of : Law → ℕ → ℕ
 least_of Mu k = if k == 0 then 0 else (16 + k % 16) * 2 ^ (k / 16 + 3) - 132
 least_of A k = if nat_lt k 16 then 16 * k else (16 + k % 16) * 2 ^ (k / 16 + 3)
 
--- the magnitude that a level stands for: the quantized values of the same tables, scaled likewise
+-- the decoded magnitude of a level: the quantized values of the same tables, scaled likewise
 abbrev pub magnitude_of : Law → ℕ → ℕ
 magnitude_of Mu k = (8 * (k % 16) + 132) * 2 ^ (k / 16) - 132
 magnitude_of A k = if nat_lt k 16 then 16 * k + 8 else (16 * (k % 16) + 264) * 2 ^ (k / 16 - 1)
 
--- the level of a magnitude: of the levels 1 to 127, how many begin at or below it
+-- the level of a magnitude: how many of the levels 1 to 127 start at or below it
 unfoldable pub level_of : Law → ℕ → ℕ
 level_of law v = count_by (λ k. nat_le (least_of law k) v) (range_with_len 1 127)
 
--- the byte of a level and a sign: the character signals of the same tables, A-law's with every
--- other bit inverted
+-- the byte of a level and a sign: the character signals of the same tables; A-law inverts every
+-- other bit
 abbrev pub byte_at : Law → Bool → ℕ → ℕ
 byte_at Mu is_negative k = if is_negative then 127 - k else 255 - k
 byte_at A is_negative k = if is_negative then bit_xor k 0x55 else bit_xor (128 + k) 0x55
@@ -40,6 +40,6 @@ unfoldable pub sample_of : Law → ℕ → ℤ
 sample_of Mu b = signed (nat_le 128 (255 - b)) (magnitude_of Mu ((255 - b) % 128))
 sample_of A b = signed (nat_lt (bit_xor b 0x55) 128) (magnitude_of A (bit_xor b 0x55 % 128))
 
--- what comes back of a sample that is encoded and decoded
+-- a sample after encoding and decoding
 abbrev pub quantized_of : Law → ℤ → ℤ
 quantized_of law v = sample_of law (byte_of law v)

@@ -1,7 +1,7 @@
 //! Decoding, sixteen bytes at a time.
 //!
-//! A level is `16 * exponent + mantissa`, and a magnitude is a small number times a power of two. The
-//! power is looked up among the lanes of a vector, which is one instruction of the processor.
+//! A level is `16 * exponent + mantissa`, and a magnitude is a small number times a power of two. A vector lookup, one
+//! instruction of the processor, finds the power.
 
 ghost use Rattle.std.specs.Prelude.{◌≡◌, ℕ, ◌+◌, ◌<◌, ◌≤◌, length, slice_index, pos};
 ghost use Rattle.mg_g711.specs.Law.{sample_of};
@@ -13,15 +13,15 @@ use std::simd::prelude::*;
 /// How many bytes are decoded at a time.
 pub const LANES: usize = 16;
 
-// By exponent, what mu-law multiplies by. The last eight are not looked up.
+// By exponent, the factor of mu-law. The last eight are not used.
 const MU_FACTORS: [u8; LANES] = [1, 2, 4, 8, 16, 32, 64, 128, 0, 0, 0, 0, 0, 0, 0, 0];
 
-// By exponent, what A-law adds to eight times the mantissa, and then multiplies by.
+// By exponent, what A-law adds to eight times the mantissa before it multiplies.
 const A_STARTS: [u8; LANES] = [4, 132, 132, 132, 132, 132, 132, 132, 0, 0, 0, 0, 0, 0, 0, 0];
 
 const A_FACTORS: [u8; LANES] = [2, 2, 4, 8, 16, 32, 64, 128, 0, 0, 0, 0, 0, 0, 0, 0];
 
-/// Decodes a chunk into the places from `at` on.
+/// Decodes 16 bytes into `samples`, from index `at` on.
 pub fn decode_chunk(law: Law, chunk: &[u8; LANES], samples: &mut [i16], at: usize)
     requires within { at + 16 ≤ length samples.old }
     requires bytes { (j : ℕ) → j < 16 → slice_index chunk.now j < 256 }
@@ -34,7 +34,7 @@ pub fn decode_chunk(law: Law, chunk: &[u8; LANES], samples: &mut [i16], at: usiz
     }
 }
 
-/// Decodes a chunk by mu-law into the places from `at` on.
+/// Decodes 16 bytes of mu-law into `samples`, from index `at` on.
 fn decode_mu(chunk: &[u8; LANES], samples: &mut [i16], at: usize)
     requires within { at + 16 ≤ length samples.old }
     requires bytes { (j : ℕ) → j < 16 → slice_index chunk.now j < 256 }
@@ -53,8 +53,7 @@ fn decode_mu(chunk: &[u8; LANES], samples: &mut [i16], at: usize)
         .copy_to_slice(&mut samples[at..]);
 }
 
-/// Decodes a chunk by A-law into the places from `at` on. The sign is turned round with the bits that
-/// A-law inverts.
+/// Decodes 16 bytes of A-law into `samples`, from index `at` on. The bits that A-law inverts include the sign.
 fn decode_a(chunk: &[u8; LANES], samples: &mut [i16], at: usize)
     requires within { at + 16 ≤ length samples.old }
     requires bytes { (j : ℕ) → j < 16 → slice_index chunk.now j < 256 }

@@ -6,13 +6,12 @@ use crate::decoding::{LANES, decode_chunk};
 use crate::law::Law;
 use crate::sample::encode;
 
-/// 20 ms of one channel: 160 samples at 8,000 a second, the earliest first (RFC 3551, sections 4.2
-/// and 6).
+/// 20 ms of one channel: 160 samples at 8000 Hz, the earliest first (RFC 3551, sections 4.2 and 6).
 ///
-/// Contracts see a frame as a list, of which `IsFrame` says that it has 160 samples of 16 bits.
+/// Contracts see a frame as a list; `IsFrame` says that it has 160 samples of 16 bits.
 pub type Frame = [i16; 160];
 
-/// The samples of a packet's payload, which has one byte for each.
+/// Decodes the 160 bytes of a packet's payload, one sample a byte.
 pub fn decode_frame(law: Law, bytes: &[u8; 160]) -> Frame
     ensures each { result ≡ map (sample_of law) bytes.now }
     ensures frame { IsFrame result }
@@ -25,7 +24,7 @@ pub fn decode_frame(law: Law, bytes: &[u8; 160]) -> Frame
     samples
 }
 
-/// The payload of a packet, which has one byte for each sample.
+/// Encodes a frame as the 160 bytes of a packet's payload, one byte a sample.
 pub fn encode_frame(law: Law, samples: &Frame) -> [u8; 160]
     ensures { result ≡ map (byte_of law) samples.now }
 {
@@ -36,7 +35,7 @@ pub fn encode_frame(law: Law, samples: &Frame) -> [u8; 160]
     bytes
 }
 
-/// The frame at half of its level: each sample halved toward zero, so that -1 becomes 0.
+/// Halves each sample of a frame toward zero, so that -1 becomes 0.
 pub fn halve_frame(samples: &Frame) -> Frame
     ensures each { result ≡ map halved samples.now }
     ensures frame { IsFrame result }

@@ -1,6 +1,6 @@
-/// Which of the two laws of ITU-T G.711 a byte is read and written by.
+/// One of the two companding laws of ITU-T G.711.
 ///
-/// In RTP each has a static payload type (RFC 3551, section 6), at 8,000 samples a second.
+/// Each has a static payload type in RTP (RFC 3551, section 6) and 8000 samples a second.
 #[derive(Clone, Copy, Debug, PartialEq, Eq, Hash)]
 pub enum Law {
     /// Mu-law: PCMU, payload type 0.

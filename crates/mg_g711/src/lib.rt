@@ -1,25 +1,24 @@
-//! G.711 on 16-bit samples: mu-law (PCMU) and A-law (PCMA), by sample and by frame of 20 ms.
+//! G.711 mu-law (PCMU) and A-law (PCMA) on 16-bit samples.
 //!
-//! A magnitude from 0 to 32768 lies in one of 128 levels, `16 * exponent + mantissa`. [`encode`] writes
-//! the level and the sign of a sample as one byte, and [`decode`] gives the value that a byte's level
-//! stands for. [`encode_frame`] and [`decode_frame`] do it for the 160 samples of a [`Frame`], and
-//! [`halve_frame`] gives a frame at half of its level. No call fails, and none allocates.
+//! A magnitude from 0 to 32768 lies in one of 128 levels, `16 * exponent + mantissa`. [`encode`] writes a sample's
+//! level and sign as one byte; [`decode`] returns the value of a byte's level. [`encode_frame`] and [`decode_frame`]
+//! convert the 160 samples of a [`Frame`] (20 ms), and [`halve_frame`] halves them. No call fails, and none allocates.
 //!
-//! The levels are those of ITU-T G.711 (tables 1 and 2), whose values are scaled to 16 bits: by 4 for
-//! mu-law, by 8 for A-law. A magnitude at the border of two levels belongs to the upper one, which is
-//! this project's choice: other codecs may answer another byte there.
+//! The levels are those of ITU-T G.711 (tables 1 and 2), scaled to 16 bits: by 4 for mu-law, by 8 for A-law. A
+//! magnitude at the border of two levels belongs to the upper one. That is this project's choice: other codecs may
+//! encode it as another byte.
 //!
 //! ```rust
 //! assert_eq!(rt; encode(Law::A, -1), 0x55);
 //! assert_eq!(rt; decode(Law::Mu, 0x80), 32124);
 //! ```
 //!
-//! [`theorems`] has what holds of the levels as a whole: which byte comes back, how the decoded values
-//! grow, and how far a sample moves when it is encoded and decoded.
+//! [`theorems`] states properties of the levels: which bytes survive a round trip, that decoding preserves order, and
+//! how far a sample moves.
 //!
-//! A type that stores frames keeps `IsFrame` of each in its invariant: [`decode_frame`] ensures it, and
-//! [`theorems::frames_are_whole`] shows it of a frame that came from elsewhere. The lemmas on it, as
-//! that 160 zeros are a frame, stand in `proofs/Frames.antt`.
+//! A type that stores frames keeps `IsFrame` of each in its invariant. [`decode_frame`] ensures it, and
+//! [`theorems::frames_are_whole`] shows it of any other frame. Lemmas on it, such as that 160 zeros are a frame, are
+//! in `proofs/Frames.antt`.
 #![tactic(auto)]
 
 mod decoding;

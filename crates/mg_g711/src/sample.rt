@@ -3,18 +3,17 @@ ghost use Rattle.mg_g711.specs.Law.{byte_of, level_of, magnitude_of, sample_of};
 
 use crate::law::Law;
 
-// What mu-law adds to a magnitude, so that each exponent begins at a power of two.
+// What mu-law adds to a magnitude, so that each exponent starts at a power of two.
 const BIAS: u16 = 132;
 
-// The greatest magnitude, with mu-law's bias, that the last level takes without clipping.
+// The greatest magnitude, with mu-law's bias, that is not clipped.
 const GREATEST: u16 = 32767;
 
 // The bits of a byte that A-law inverts.
 const INVERTED: u8 = 0x55;
 
-// A line is `16 * exponent + mantissa` where its own exponent is that of the magnitude, and no less
-// elsewhere. So the level is the least line, found without a branch or a shift by a variable, in a
-// form that the compiler turns into vectors where a frame is encoded.
+// A line is `16 * exponent + mantissa` at the magnitude's own exponent, and no less at the others. So the level is the
+// least line. It needs no branch and no variable shift, so the compiler vectorizes it when it encodes a frame.
 #[tactic(auto, using(crate::proofs::Lines::level_a_is))]
 fn level_a(magnitude: u16) -> u16
     requires { magnitude ≤ 32768 }
@@ -31,7 +30,7 @@ fn level_a(magnitude: u16) -> u16
         .min((limited >> 10) + 96)
 }
 
-// With the bias the levels are those of A-law, but for the first exponent, which has its own line.
+// With the bias the levels are those of A-law, except for the first exponent, which has its own line.
 #[tactic(auto, using(crate::proofs::Lines::level_mu_is))]
 fn level_mu(magnitude: u16) -> u16
     requires { magnitude ≤ 32768 }
@@ -42,9 +41,9 @@ fn level_mu(magnitude: u16) -> u16
     ((biased >> 3) - 16).min(level_a(biased))
 }
 
-/// The byte of a sample, from the level in which its magnitude lies and from its sign.
+/// Encodes a sample as the byte of its level and its sign.
 ///
-/// A magnitude above the last level is clipped to it.
+/// A magnitude above the last level is clipped to that level.
 #[tactic(auto, unfolding(crate::specs::Law::byte_of))]
 pub fn encode(law: Law, sample: i16) -> u8
     ensures { result ≡ byte_of law sample }
@@ -86,9 +85,9 @@ fn magnitude_a(level: u8) -> u16
     }
 }
 
-/// The sample of a byte: the magnitude that its level stands for, with its sign.
+/// Decodes a byte: the magnitude of its level, with its sign.
 ///
-/// The greatest magnitude is 32124 by mu-law, and 32256 by A-law.
+/// The greatest magnitude is 32124 in mu-law and 32256 in A-law.
 #[tactic(auto, unfolding(crate::specs::Law::sample_of))]
 pub fn decode(law: Law, byte: u8) -> i16
     ensures value { result ≡ sample_of law byte }

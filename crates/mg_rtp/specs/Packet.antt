@@ -1,22 +1,22 @@
--- Which bytes are a packet: how the parts of RFC 3550, section 5.1, are joined.
+-- Which bytes are a packet: the parts of RFC 3550, section 5.1, one after another.
 use Rattle.std.specs.Prelude.{◌≡◌, ℕ, ◌+◌, ◌*◌, ◌^◌, ◌<◌, Bool, true, false, List, [], ◌∷◌, ◌++◌}
 use Rattle.std.specs.Prelude.{length}
 use Rattle.byteorder.specs.Endian.{big_bytes}
 use Rattle.mg_rtp.specs.declared.header.Header.{Header}
 use Rattle.mg_rtp.specs.Header.{IsHeader, Layout, header_bytes}
 
--- the bytes are those of a header, and then the rest
+-- the bytes are a header and then the rest
 pub record Begins (bytes : List ℕ) (layout : Layout) (header : Header)
     (rest : List ℕ) : Type 0 where
   pub joined : bytes ≡ header_bytes layout header ++ rest
   pub in_range : IsHeader header
   pub few_sources : layout.source_count < 2 ^ 4
 
--- contributing sources, of four bytes each
+-- contributing sources, four bytes each
 abbrev pub AreSources : ℕ → List ℕ → Type 0
 AreSources count bytes = length bytes ≡ 4 * count
 
--- RFC 3550, section 5.3.1: two bytes that are the profile's own, a count in 16 bits, and that many
+-- a header extension (section 5.3.1): two bytes of the profile, a count in 16 bits, and that many
 -- words of four bytes
 pub record CountsWords (bytes : List ℕ) : Type 0 where
   pub profile : List ℕ
@@ -27,22 +27,22 @@ pub record CountsWords (bytes : List ℕ) : Type 0 where
   pub in_range : count < 2 ^ 16
   pub all_words : length words ≡ 4 * count
 
--- the extension, where there is one
+-- the header extension, if there is one
 abbrev pub IsExtension : Bool → List ℕ → Type 0
 IsExtension false bytes = bytes ≡ []
 IsExtension true bytes = CountsWords bytes
 
--- bytes of any value, and last one that counts them all, itself included
+-- padding: bytes of any value, of which the last one is their count
 pub record CountsItself (bytes : List ℕ) : Type 0 where
   pub filler : List ℕ
   pub joined : bytes ≡ filler ++ (length filler + 1) ∷ []
 
--- the padding, where there is some
+-- the padding, if there is any
 abbrev pub IsPadding : Bool → List ℕ → Type 0
 IsPadding false bytes = bytes ≡ []
 IsPadding true bytes = CountsItself bytes
 
--- the bytes are the packet of this header and this payload
+-- the bytes are the packet with this header and this payload
 pub record IsPacket (bytes : List ℕ) (header : Header) (payload : List ℕ) : Type 0 where
   pub layout : Layout
   pub sources : List ℕ

@@ -1,4 +1,4 @@
--- What bytes are: a packet, or bytes with a fault.
+-- The result of reading a datagram: a packet or a fault.
 use Rattle.std.specs.Prelude.{ℕ, List, Result, Ok, Err}
 use Rattle.mg_rtp.specs.declared.header.Header.{Header}
 use Rattle.mg_rtp.specs.declared.rtp_fault.RtpFault.{RtpFault}

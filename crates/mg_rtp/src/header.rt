@@ -1,20 +1,20 @@
-/// How many bytes every packet begins with.
+/// The size in bytes of the fixed header.
 pub(crate) const HEADER_LEN: usize = 12;
 
-/// The version of RTP that is read and written.
+/// The version of RTP that is read and written: 2.
 pub(crate) const RTP_VERSION: u8 = 2;
 
 /// The fields of a packet's header.
 #[derive(Clone, Copy, Debug, PartialEq, Eq, Hash)]
 pub struct Header {
-    /// What the profile makes of it: in RFC 3551, the first packet of a talkspurt.
+    /// The marker bit. In RFC 3551 it marks the first packet of a talkspurt.
     pub marker: bool,
-    /// The kind of payload, below 128: in RFC 3551, 0 is G.711's mu-law and 8 its A-law.
+    /// The payload type, below 128. In RFC 3551, 0 is PCMU and 8 is PCMA.
     pub payload_type: u8,
-    /// One more for each packet of a source, modulo 65536.
+    /// The sequence number, modulo 65536: one more for each packet of a source.
     pub sequence: u16,
-    /// The moment of the payload's first sample, in samples, modulo 2^32.
+    /// The time of the payload's first sample, in samples, modulo 2^32.
     pub timestamp: u32,
-    /// The synchronization source: who sends.
+    /// The synchronization source, which identifies the sender.
     pub ssrc: u32,
 }

@@ -1,7 +1,7 @@
-//! RTP packets as bytes, after RFC 3550, section 5.1.
+//! Reads and writes RTP packets (RFC 3550, section 5.1).
 //!
-//! [`read`] takes a datagram apart and borrows its payload. [`write`] makes the packet of one frame
-//! of 160 samples. Neither allocates.
+//! [`read`] parses a datagram and borrows its payload. [`write`] makes the packet of one frame of 160 samples. Neither
+//! allocates.
 //!
 //! ```rust
 //! let header = Header { marker: true, payload_type: 0, sequence: 7, timestamp: 1120, ssrc: 99 };

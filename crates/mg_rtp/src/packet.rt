@@ -1,10 +1,10 @@
 use crate::header::Header;
 
-/// A packet that was read.
+/// A packet that was read from a datagram.
 #[derive(Clone, Copy, Debug, PartialEq, Eq)]
 pub struct Packet<'a> {
-    /// The fields of its header.
+    /// The header.
     pub header: Header,
-    /// What it carries, a part of the datagram, without padding. It may be empty.
+    /// The payload without padding, borrowed from the datagram. It may be empty.
     pub payload: &'a [u8],
 }

@@ -10,32 +10,32 @@ use crate::packet::Packet;
 use crate::rtp_fault::RtpFault;
 use byteorder::{BigEndian, ByteOrder};
 
-/// How many bytes a contributing source or a word of an extension takes.
+/// The size in bytes of a contributing source, and of a word of the header extension.
 const WORD_LEN: usize = 4;
 
-/// The bit of the first byte that announces padding.
+/// The padding bit of the first byte.
 const PADDED: u8 = 0x20;
 
-/// The bit of the first byte that announces an extension.
+/// The extension bit of the first byte.
 const EXTENDED: u8 = 0x10;
 
-/// The bits of the first byte that count the contributing sources.
+/// The bits of the first byte with the count of contributing sources.
 const SOURCE_COUNT: u8 = 0x0f;
 
-/// The bit of the second byte that is the marker.
+/// The marker bit of the second byte.
 const MARKER: u8 = 0x80;
 
-/// The packet that a datagram is, whatever its length.
+/// Parses a datagram of any length as a packet.
 ///
-/// The payload is the part of the datagram after the header, the contributing sources and the
-/// extension, which are passed over, and before the padding.
+/// The payload starts after the header, the contributing sources and the extension, which are skipped. It ends before
+/// the padding.
 pub fn read(bytes: &[u8]) -> Result<Packet<'_>, RtpFault>
-    // What is read is the packet.
+    // The result is the packet.
     ensures found { IfOk result (λ packet. IsPacket bytes.now packet.header packet.payload.now) }
-    // Whatever packet the bytes are, it is read.
+    // Every packet is read.
     ensures only { (header : Header) (payload : List ℕ) → IsPacket bytes.now header payload →
         IsOkAnd result (λ packet. (packet.header ≡ header) × (packet.payload.now ≡ payload)) }
-    // A fault comes exactly where the bytes have it.
+    // A fault is returned exactly if the datagram has it.
     ensures fault { (fault : RtpFault) → (result ≡ Err fault) ↔ IsFault bytes.now fault }
 {
     if bytes.len() < HEADER_LEN {
@@ -53,7 +53,7 @@ pub fn read(bytes: &[u8]) -> Result<Packet<'_>, RtpFault>
     Ok(Packet { header, payload })
 }
 
-/// The fields in the twelve bytes of a header.
+/// Parses the fields of the twelve bytes of a header.
 fn header_of(head: &[u8]) -> Header
     requires { length head.now ≡ HEADER_LEN }
     ensures fields { head.now ≡ slice_index head.now 0 ∷ field_bytes result }
@@ -68,7 +68,7 @@ fn header_of(head: &[u8]) -> Header
     }
 }
 
-/// What is after the contributing sources, of which there are to be `count`.
+/// Skips `count` contributing sources.
 fn without_sources(rest: &[u8], count: u8) -> Result<&[u8], RtpFault>
     ensures ok { IfOk result (λ after. (sources : List ℕ) × AreSources count sources
         × (rest.now ≡ sources ++ after.now)) }
@@ -81,7 +81,7 @@ fn without_sources(rest: &[u8], count: u8) -> Result<&[u8], RtpFault>
     Ok(&rest[len..])
 }
 
-/// What is after the extension, if there is to be one.
+/// Skips the header extension, if there is one.
 fn without_extension(rest: &[u8], extended: bool) -> Result<&[u8], RtpFault>
     ensures ok { IfOk result (λ after. (extension : List ℕ) × IsExtension extended extension
         × (rest.now ≡ extension ++ after.now)) }
@@ -102,7 +102,7 @@ fn without_extension(rest: &[u8], extended: bool) -> Result<&[u8], RtpFault>
     Ok(&rest[len..])
 }
 
-/// What is before the padding, if there is to be some.
+/// Removes the padding, if there is any.
 fn without_padding(rest: &[u8], padded: bool) -> Result<&[u8], RtpFault>
     ensures ok { IfOk result (λ payload. (padding : List ℕ) × IsPadding padded padding
         × (rest.now ≡ payload.now ++ padding)) }

@@ -1,17 +1,16 @@
 use std::error::Error;
 use std::fmt;
 
-/// Why a datagram is not a packet: the first fault from its front.
+/// Why a datagram is not a packet: its first fault from the front.
 #[derive(Clone, Copy, Debug, PartialEq, Eq, Hash)]
 pub enum RtpFault {
-    /// It ends within the twelve bytes of the header, or within the contributing sources.
+    /// The datagram ends within the twelve bytes of the header, or within the contributing sources.
     Short,
-    /// Its version is not 2.
+    /// The version is not 2.
     Version,
-    /// It ends within the header extension that it announces.
+    /// The datagram ends within the header extension.
     Extension,
-    /// It announces padding, and the byte that counts it is missing, or is 0, or counts more bytes
-    /// than there are.
+    /// The padding bit is set, but the last byte is no valid count of padding: it is missing, 0, or too great.
     Padding,
 }
 

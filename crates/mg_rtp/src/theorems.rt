@@ -1,4 +1,4 @@
-//! What holds of all datagrams. The functions here do nothing: their contracts are the theorems.
+//! Properties of all datagrams. The functions have empty bodies: their contracts are the theorems.
 
 ghost use Rattle.std.specs.Prelude.{◌≡◌, ℕ, List};
 ghost use Rattle.mg_rtp.specs.declared.header.Header.{Header};
@@ -7,13 +7,13 @@ ghost use Rattle.mg_rtp.specs.Reading.{Reading, IsPacketReading};
 
 use crate::reading::read;
 
-/// Bytes are at most one packet.
+/// A datagram is at most one packet.
 pub fn one_packet()
     ensures at_most_one { (bytes : List ℕ) (h k : Header) (p q : List ℕ) →
         IsPacket bytes h p → IsPacket bytes k q → (h ≡ k) × (p ≡ q) }
 {}
 
-/// All bytes are a packet or have a fault: exactly one packet, or exactly one fault, and not both.
+/// Every datagram is exactly one packet or has exactly one fault, and not both.
 pub fn one_reading(bytes: &[u8])
     ensures some { (reading : Reading) × IsPacketReading bytes.now reading }
     ensures at_most_one { (list : List ℕ) (a b : Reading) → IsPacketReading list a → IsPacketReading list b → a ≡ b }

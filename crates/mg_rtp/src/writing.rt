@@ -5,17 +5,17 @@ ghost use Rattle.mg_rtp.specs.Packet.{IsPacket};
 use crate::header::{HEADER_LEN, Header, RTP_VERSION};
 use byteorder::{BigEndian, ByteOrder};
 
-/// How many bytes of payload a packet that is written has: the 160 samples of 20 ms, a byte each.
+/// The size in bytes of the payload that is written: 20 ms of G.711, one byte for each of 160 samples.
 pub const PAYLOAD_LEN: usize = 160;
 
-/// How many bytes a packet that is written has: a header of 12, and the payload.
+/// The size in bytes of a packet that is written: the header of 12 bytes and the payload.
 pub const PACKET_LEN: usize = 172;
 
-/// The packet of a header and a payload, with no padding, no extension and no contributing sources.
+/// Makes a packet, without padding, extension and contributing sources.
 pub fn write(header: Header, payload: &[u8; PAYLOAD_LEN]) -> [u8; PACKET_LEN]
     requires seven_bits { header.payload_type < 128 }
     ensures bytes { result ≡ header_bytes plain header ++ payload.now }
-    // So it is read as that header and that payload.
+    // Reading returns the same header and payload.
     ensures packet { IsPacket result header payload.now }
 {
     let mut bytes = [0; PACKET_LEN];
@@ -24,7 +24,7 @@ pub fn write(header: Header, payload: &[u8; PAYLOAD_LEN]) -> [u8; PACKET_LEN]
     bytes
 }
 
-/// Writes a header over that of a packet, with no padding, no extension and no contributing sources. The payload stays.
+/// Overwrites a packet's header, without padding, extension and contributing sources. The payload stays.
 pub fn write_header(header: Header, bytes: &mut [u8; PACKET_LEN])
     requires seven_bits { header.payload_type < 128 }
     ensures bytes { bytes.new ≡ header_bytes plain header ++ drop 12 bytes.old }
@@ -33,14 +33,14 @@ pub fn write_header(header: Header, bytes: &mut [u8; PACKET_LEN])
     bytes[..HEADER_LEN].copy_from_slice(&head_of(header));
 }
 
-/// Writes a payload over that of a packet whose header takes twelve bytes.
+/// Overwrites the payload of a packet whose header has twelve bytes.
 pub fn write_payload(payload: &[u8; PAYLOAD_LEN], bytes: &mut [u8; PACKET_LEN])
     ensures payload { drop 12 bytes.new ≡ payload.now }
 {
     bytes[HEADER_LEN..].copy_from_slice(payload);
 }
 
-/// The twelve bytes of a header with nothing between it and the payload.
+/// Writes the twelve bytes of a header without padding, extension and contributing sources.
 fn head_of(header: Header) -> [u8; HEADER_LEN]
     requires seven_bits { header.payload_type < 128 }
     ensures bytes { result ≡ header_bytes plain header }

@@ -1,5 +1,5 @@
--- The alternatives of a content (RFC 3525, section 7.1.8: descriptions one after another, each from
--- its v= line on).
+-- The alternatives of a content (RFC 3525, section 7.1.8): descriptions one after another, each
+-- starting with its v= line.
 use Rattle.std.specs.Prelude.{◌≡◌, ℕ, not, nat_lt, Bool, List, [], ◌∷◌, IsTrue, Option, is_some}
 use Rattle.std.specs.Prelude.{Result, Ok, Err, map, length, drop, if◌then◌else◌}
 use Rattle.std.specs.List.{list_all, flat_map, AllByRecursion}
@@ -15,7 +15,7 @@ use Rattle.mg_sdp.specs.Offer.{offer_of}
 abbrev pub is_version : List ℕ → Bool
 is_version line = is_some (line_value (byte "v") line)
 
--- an alternative is a line, and after it lines that are no v= lines
+-- an alternative is a line and then lines that are not v= lines
 abbrev pub IsAlternative : List (List ℕ) → Type 0
 IsAlternative [] = ⊥
 IsAlternative (line ∷ lines) = IsTrue (list_all (λ l. not (is_version l)) lines)
@@ -24,15 +24,16 @@ abbrev pub BeginsWithVersion : List (List ℕ) → Type 0
 BeginsWithVersion [] = ⊥
 BeginsWithVersion (line ∷ lines) = IsTrue (is_version line)
 
--- The lines are those of the alternatives, one after another, and each alternative but the first
--- begins with its v= line.
+-- The alternatives are the lines, in order. Each alternative except the first starts with its v=
+-- line.
 pub record AreAlternatives (lines : List (List ℕ))
     (alternatives : List (List (List ℕ))) : Type 0 where
   pub joined : flat_map (λ alternative. alternative) alternatives ≡ lines
   pub each : AllByRecursion IsAlternative alternatives
   pub later : AllByRecursion BeginsWithVersion (drop 1 alternatives)
 
--- what reading gives: what each of at most eight alternatives offers, where each line is one
+-- the result of reading: what each of at most eight alternatives offers, if every line is
+-- well-formed
 abbrev pub offers_read : List (List ℕ) → List (List (List ℕ)) →
     Result (List (Option Offer)) SdpFault
 offers_read lines alternatives =
@@ -40,7 +41,7 @@ offers_read lines alternatives =
     else (if nat_lt alternative_limit (length alternatives) then Err TooMany
     else Ok (map offer_of alternatives))
 
--- a result of reading a content
+-- the result of reading this content
 abbrev pub IsContentReading : List ℕ → Result (List (Option Offer)) SdpFault → Type 0
 IsContentReading content result =
     (alternatives : List (List (List ℕ))) × AreAlternatives (content_lines content) alternatives

@@ -9,27 +9,27 @@ use Rattle.mg_g711.specs.declared.law.Law.TheVariants.{Mu}
 use Rattle.mg_sdp.specs.declared.offer.Offer.{Offer}
 use Rattle.mg_sdp.specs.declared.chosen.Chosen.{Chosen}
 
--- left to the gateway, or its own
+-- the address is left to the gateway, or is its own
 abbrev pub is_own_address : List ℕ → Option (List ℕ) → Bool
 is_own_address own asked = option_map_or (λ address. bytes_eq address own) asked true
 
 abbrev pub is_own_port : ℕ → Option ℕ → Bool
 is_own_port own asked = option_map_or (λ port. port == own) asked true
 
--- given, and one that packets can be sent to
+-- the port is given, and packets can be sent to it
 abbrev pub is_open_port : Option ℕ → Bool
 is_open_port asked = option_map_or (λ port. not (port == 0)) asked false
 
--- the gateway itself can serve it at its own address and port
+-- the gateway can receive by the offer, at its own address and port
 abbrev pub is_served_local : List ℕ → ℕ → Offer → Bool
 is_served_local address port offer =
     is_own_address address offer.address && is_own_port port offer.port
 
--- it says where packets go, and by which law
+-- the offer names an address, a port and a law to send to
 abbrev pub is_served_remote : Offer → Bool
 is_served_remote offer = is_open_port offer.port && is_some offer.address && is_some offer.law
 
--- what the alternatives offer that have lines that are served
+-- the offers of the alternatives whose lines can be served
 abbrev pub offers_of : List (Option Offer) → List Offer
 offers_of alternatives = filter_map (λ offer. offer) alternatives
 
@@ -37,7 +37,7 @@ abbrev pub local_of : List ℕ → ℕ → Offer → Chosen
 local_of address port offer =
     record { address = address; port = port; law = unwrap_or offer.law Mu }
 
--- the first that the gateway can serve itself, by mu-law where the law is left to it
+-- the first offer that the gateway can receive by; in mu-law if the law is left to it
 abbrev pub local_choice : List ℕ → ℕ → List (Option Offer) → Option Chosen
 local_choice address port alternatives =
     option_map (local_of address port)
@@ -50,7 +50,7 @@ remote_of offer = do
   law ← offer.law
   Some (record { address = address; port = port; law = law })
 
--- the first that packets can be sent to
+-- the first offer that the gateway can send by
 abbrev pub remote_choice : List (Option Offer) → Option Chosen
 remote_choice alternatives =
     option_and_then remote_of (find is_served_remote (offers_of alternatives))

@@ -1,9 +1,8 @@
--- The parts of a line's value (RFC 4566, sections 5.7 and 5.14, where one space stands between
--- two).
+-- The fields of a line's value (RFC 4566, sections 5.7 and 5.14, where one space separates two).
 use Rattle.std.specs.Prelude.{ℕ, List, filter}
 use Rattle.std.specs.List.{slice_split}
 use Rattle.mg_sdp.specs.Lines.{is_space_or_tab, is_filled}
 
--- what stands between spaces and tabs
+-- the parts between spaces and tabs
 unfoldable pub fields_of : List ℕ → List (List ℕ)
 fields_of value = filter is_filled (slice_split is_space_or_tab value)

@@ -1,5 +1,5 @@
--- The lines of a session description (RFC 4566, section 5). That spaces and tabs at their ends
--- count for nothing, and empty lines neither, is this project's own.
+-- The lines of a session description (RFC 4566, section 5). Ignoring spaces and tabs at both ends
+-- of a line, and empty lines, is this project's own rule.
 use Rattle.std.specs.Prelude.{ℕ, ◌==◌, ◌-◌, ◌||◌, ◌&&◌, Bool, true, false, List, [], ◌∷◌, length}
 use Rattle.std.specs.Prelude.{map, filter, take, drop, Option, Some, None, is_some, if◌then◌else◌}
 use Rattle.std.specs.List.{prefix_len, suffix_len, slice_split, filter_map}
@@ -12,12 +12,12 @@ use Rattle.mg_words.specs.LineEnd.{is_line_end}
 abbrev pub is_space_or_tab : ℕ → Bool
 is_space_or_tab b = b == byte " " || b == byte "\t"
 
--- a text that isn't empty
+-- a text that is not empty
 abbrev pub is_filled : List ℕ → Bool
 is_filled [] = false
 is_filled (b ∷ text) = true
 
--- a text without the blanks at its end, and without those at both ends
+-- a text without spaces and tabs at its end, and without those at both ends
 abbrev pub trimmed_end : List ℕ → List ℕ
 trimmed_end text = take (length text - suffix_len is_space_or_tab text) text
 
@@ -28,7 +28,7 @@ trimmed text = trimmed_end (drop (prefix_len is_space_or_tab text) text)
 unfoldable pub content_lines : List ℕ → List (List ℕ)
 content_lines content = filter is_filled (map trimmed (slice_split is_line_end content))
 
--- a line is a letter, =, and its value
+-- a line is a letter, = and a value
 unfoldable pub letter_and_value : List ℕ → Option (ℕ × List ℕ)
 letter_and_value (letter ∷ equals ∷ value) =
     if is_ascii_alphabetic letter && equals == byte "=" then Some (letter, value) else None
@@ -37,12 +37,12 @@ letter_and_value _ = None
 abbrev pub is_line : List ℕ → Bool
 is_line line = is_some (letter_and_value line)
 
--- the value of a line, if it has this letter
+-- the value of a line with this letter
 abbrev pub line_value : ℕ → List ℕ → Option (List ℕ)
 line_value letter line =
     option_and_then (λ parts. if parts.0 == letter then Some parts.1 else None)
     (letter_and_value line)
 
--- the values of the lines of this letter
+-- the values of the lines with this letter
 abbrev pub values_of : ℕ → List (List ℕ) → List (List ℕ)
 values_of letter lines = filter_map (line_value letter) lines

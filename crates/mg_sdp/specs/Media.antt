@@ -1,5 +1,5 @@
 -- Media lines (RFC 4566, section 5.14) of G.711 over RTP (RFC 3551, section 6: payload types 0 and
--- 8). A $ is a choice that is left to the gateway (RFC 3525, section 7.1.8).
+-- 8). A $ leaves the choice to the gateway (RFC 3525, section 7.1.8).
 use Rattle.std.specs.Prelude.{ℕ, ◌&&◌, List, ◌∷◌, Option, Some, None, codes, slice_get}
 use Rattle.std.specs.Prelude.{if◌then◌else◌}
 use Rattle.std.specs.Str.{bytes_eq, str_eq_ignore_ascii_case}
@@ -16,7 +16,7 @@ abbrev pub requested_in_field : {X : Type 0} → (List ℕ → Option X) → Lis
 requested_in_field read field =
     if bytes_eq field (codes "$") then Some None else option_map Some (read field)
 
--- what a format asks for: 0 is mu-law, 8 is A-law
+-- the law of a format: 0 is mu-law, 8 is A-law
 unfoldable pub law_of : List ℕ → Option (Option Law)
 law_of format =
     if bytes_eq format (codes "0") then Some (Some Mu)
@@ -24,7 +24,7 @@ law_of format =
     else (if bytes_eq format (codes "$") then Some None
     else None))
 
--- what the first format asks for that is 0, 8 or $
+-- the law of the first format that is 0, 8 or $
 abbrev pub first_law : List (List ℕ) → Option (Option Law)
 first_law formats = slice_get (filter_map law_of formats) 0
 
@@ -34,7 +34,7 @@ requested_media port law = do
   law ← law
   Some (record { port = port; law = law })
 
--- media = "audio" port "RTP/AVP" 1*format, letters' case ignored
+-- media = "audio" port "RTP/AVP" 1*format, compared without case
 unfoldable pub media_in : List (List ℕ) → Option MediaLine
 media_in (kind ∷ port ∷ protocol ∷ formats) =
     if str_eq_ignore_ascii_case kind (codes "audio")

@@ -1,5 +1,5 @@
--- What an alternative offers, by its lines. Which lines are served is this project's profile of RFC
--- 4566, sections 5.1 (v=), 5.7 (c=), 5.14 (m=) and 6 (a=ptime); all other lines are passed over.
+-- What an alternative offers. Which lines can be served is this project's profile of RFC 4566,
+-- sections 5.1 (v=), 5.7 (c=), 5.14 (m=) and 6 (a=ptime). All other lines are ignored.
 use Rattle.std.specs.Prelude.{ℕ, ◌&&◌, ◌||◌, not, nat_eq, Bool, List, [], ◌∷◌, Option, Some, None}
 use Rattle.std.specs.Prelude.{codes, if◌then◌else◌}
 use Rattle.std.specs.Str.{byte, bytes_eq}
@@ -13,22 +13,22 @@ use Rattle.mg_sdp.specs.Media.{media_in}
 use Rattle.mg_sdp.specs.Connection.{connection_in}
 use Rattle.mg_sdp.specs.declared.offer.Offer.{Offer}
 
--- the version of the protocol
+-- the version of SDP is 0
 abbrev pub is_served_version : List ℕ → Bool
 is_served_version value = bytes_eq value (codes "0")
 
--- a packet time is 20 ms; all other attributes are passed over
+-- a packet time must be 20 ms; all other attributes are ignored
 abbrev pub is_served_attribute : List ℕ → Bool
 is_served_attribute value =
     not (starts_with nat_eq value (codes "ptime:")) || bytes_eq value (codes "ptime:20")
 
--- what the only media line asks for
+-- what the media line asks for, if there is exactly one
 abbrev pub only_media : List (List ℕ) → Option MediaLine
 only_media (value ∷ []) = media_in (fields_of value)
 only_media _ = None
 
--- What an alternative offers, or None where its lines aren't served. Of connection lines the last
--- counts, and where there is none the address is left to the gateway.
+-- What an alternative offers, or None if its lines cannot be served. The last connection line
+-- counts; if there is none, the address is left to the gateway.
 unfoldable pub offer_of : List (List ℕ) → Option Offer
 offer_of lines = do
   address ← option_map_or (λ value. connection_in (fields_of value))

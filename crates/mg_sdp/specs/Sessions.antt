@@ -1,17 +1,17 @@
--- The result of reading as a function, for the definitions of those who read contents. That it is
--- the one result of reading, as Alternatives defines it, is in the contract of read_sessions.
+-- The result of reading as a function, for definitions that use it. The contract of read_sessions
+-- says that it is the one result that Alternatives allows.
 use Rattle.std.specs.Prelude.{ℕ, List, [], ◌∷◌, ◌++◌, Option, Result, if◌then◌else◌}
 use Rattle.mg_sdp.specs.declared.fault.SdpFault.{SdpFault}
 use Rattle.mg_sdp.specs.declared.offer.Offer.{Offer}
 use Rattle.mg_sdp.specs.Lines.{content_lines}
 use Rattle.mg_sdp.specs.Alternatives.{is_version, offers_read}
 
--- the lines of an alternative, as a list of one, or of none where there is no line
+-- the lines of an alternative as a list of one alternative, or of none if there is no line
 abbrev pub one_alternative : List (List ℕ) → List (List (List ℕ))
 one_alternative [] = []
 one_alternative (line ∷ lines) = (line ∷ lines) ∷ []
 
--- the alternatives of lines that stand after the first lines of one
+-- the alternatives of lines that follow the lines of the current one
 abbrev pub alternatives_after : List (List ℕ) → List (List ℕ) → List (List (List ℕ))
 alternatives_after current [] = one_alternative current
 alternatives_after current (line ∷ lines) =

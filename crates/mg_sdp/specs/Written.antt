@@ -11,7 +11,7 @@ abbrev pub law_text : Law → List ℕ
 law_text Mu = codes "0"
 law_text A = codes "8"
 
--- four lines: the version, the connection, the media, and the packet time
+-- four lines: version, connection, media and packet time
 abbrev pub session_text : Chosen → List ℕ
 session_text chosen =
     codes "v=0\r\n"
@@ -20,7 +20,7 @@ session_text chosen =
     ++ (codes " RTP/AVP " ++ (law_text chosen.law ++ (codes "\r\n"
     ++ codes "a=ptime:20\r\n"))))))))
 
--- what the text offers
+-- the offer that is read from the text
 abbrev pub offer_written : Chosen → Offer
 offer_written chosen =
     record { address = Some chosen.address; port = Some chosen.port; law = Some chosen.law }

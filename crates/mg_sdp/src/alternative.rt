@@ -7,10 +7,10 @@ use crate::media::{MediaLine, media_of};
 use crate::offer::Offer;
 use crate::part::AlternativePart;
 
-/// What the lines of an alternative say, as far as they were read.
+/// What the lines of an alternative ask for, as far as they have been read.
 #[derive(Clone, Copy, Debug, PartialEq, Eq)]
 pub struct Alternative {
-    /// Whether each version and each attribute is one that is served.
+    /// Whether each `v=` line and each attribute so far can be served.
     pub holds: bool,
     /// What the one media line asks for.
     pub media: AlternativePart<MediaLine>,
@@ -18,14 +18,14 @@ pub struct Alternative {
     pub connection: AlternativePart<Option<[u8; 4]>>,
 }
 
-/// Whether an attribute is served: a packet time is 20 ms, and all others are passed over.
+/// Returns whether an attribute can be served: a packet time must be 20 ms; all others are ignored.
 fn is_served_attribute(value: &[u8]) -> bool
     ensures value { result ≡ is_served_attribute value.now }
 {
     !value.starts_with(b"ptime:") || value == b"ptime:20".as_slice()
 }
 
-/// What the media lines ask for with one more of them.
+/// Adds a media line.
 fn media_with_line(media: AlternativePart<MediaLine>, value: &[u8]) -> AlternativePart<MediaLine>
     ensures value { result ≡ media_with_line media value.now }
 {
@@ -38,7 +38,7 @@ fn media_with_line(media: AlternativePart<MediaLine>, value: &[u8]) -> Alternati
     }
 }
 
-/// What a connection line asks for.
+/// Returns what a connection line asks for.
 fn connection_with_line(value: &[u8]) -> AlternativePart<Option<[u8; 4]>>
     ensures value { result ≡ connection_with_line value.now }
 {
@@ -49,7 +49,7 @@ fn connection_with_line(value: &[u8]) -> AlternativePart<Option<[u8; 4]>>
 }
 
 impl Alternative {
-    /// An alternative of which no line was read.
+    /// Returns an alternative without lines.
     pub fn new() -> Self
         ensures value { result ≡ no_lines }
     {
@@ -60,7 +60,7 @@ impl Alternative {
         }
     }
 
-    /// The alternative with one more line.
+    /// Returns the alternative with one more line.
     pub fn with_line(self, letter: u8, value: &[u8]) -> Self
         ensures value { result ≡ with_line self letter value.now }
     {
@@ -75,7 +75,7 @@ impl Alternative {
         new
     }
 
-    /// What the alternative offers, or `None` where its lines are not served.
+    /// Returns what the alternative offers, or `None` if its lines cannot be served.
     pub fn offer(self) -> Option<Offer>
         ensures value { result ≡ offer_by self }
     {

@@ -5,18 +5,18 @@ use crate::offer::Offer;
 use crate::sessions::Sessions;
 use mg_g711::Law;
 
-/// What was chosen of the alternatives: an IPv4 address, a port and the law of the samples.
+/// The address, port and law that were chosen from the alternatives.
 #[derive(Clone, Copy, Debug, PartialEq, Eq)]
 pub struct Chosen {
-    /// The address.
+    /// The IPv4 address.
     pub address: [u8; 4],
-    /// The port of RTP.
+    /// The UDP port for RTP.
     pub port: u16,
-    /// The law of the samples.
+    /// The law of G.711.
     pub law: Law,
 }
 
-/// Whether an address is left to the gateway, or its own.
+/// Returns whether an address is left to the gateway, or is its own.
 fn is_own_address(asked: Option<[u8; 4]>, own: [u8; 4]) -> bool
     ensures value { result ≡ is_own_address own asked }
 {
@@ -26,28 +26,28 @@ fn is_own_address(asked: Option<[u8; 4]>, own: [u8; 4]) -> bool
     }
 }
 
-/// Whether a port is left to the gateway, or a termination's own.
+/// Returns whether a port is left to the gateway, or is the termination's own.
 fn is_own_port(asked: Option<u16>, own: u16) -> bool
     ensures value { result ≡ is_own_port own asked }
 {
     asked.is_none_or(|port| port == own)
 }
 
-/// Whether the gateway can serve an offer itself, at this address and port.
+/// Returns whether the gateway can receive by an offer at this address and port.
 fn is_served_local(offer: &Offer, address: [u8; 4], port: u16) -> bool
     ensures value { result ≡ is_served_local address port offer.now }
 {
     is_own_address(offer.address, address) && is_own_port(offer.port, port)
 }
 
-/// Whether packets can be sent to an offer.
+/// Returns whether the gateway can send packets by an offer.
 fn is_served_remote(offer: &Offer) -> bool
     ensures value { result ≡ is_served_remote offer.now }
 {
     offer.port.is_some_and(|port| port != 0) && offer.address.is_some() && offer.law.is_some()
 }
 
-/// The first offer that the gateway can serve itself.
+/// Returns the first offer by which the gateway can receive.
 fn first_local(offers: &[Option<Offer>], address: [u8; 4], port: u16) -> Option<Offer>
     ensures value { result ≡ find (is_served_local address port) (offers_of offers.now) }
 {
@@ -57,7 +57,7 @@ fn first_local(offers: &[Option<Offer>], address: [u8; 4], port: u16) -> Option<
         .find(|offer| is_served_local(offer, address, port))
 }
 
-/// The first offer that packets can be sent to.
+/// Returns the first offer by which the gateway can send.
 fn first_remote(offers: &[Option<Offer>]) -> Option<Offer>
     ensures value { result ≡ find is_served_remote (offers_of offers.now) }
 {
@@ -67,8 +67,9 @@ fn first_remote(offers: &[Option<Offer>]) -> Option<Offer>
         .find(|offer| is_served_remote(offer))
 }
 
-/// Chooses the first alternative of a Local that the gateway can serve at its own address and a
-/// termination's own port. Where the law is left to the gateway, it is mu-law.
+/// Chooses from the alternatives of a Local: the first that allows the gateway's address and the termination's port.
+///
+/// If the law is left to the gateway, it is mu-law. Returns `None` if no alternative can be served.
 pub fn choose(sessions: &Sessions, address: [u8; 4], port: u16) -> Option<Chosen>
     ensures value { result ≡ local_choice address port sessions.now }
 {
@@ -77,8 +78,9 @@ pub fn choose(sessions: &Sessions, address: [u8; 4], port: u16) -> Option<Chosen
     Some(Chosen { address, port, law })
 }
 
-/// Chooses the first alternative of a Remote that packets can be sent to: one that gives an address, a
-/// port other than 0, and a law.
+/// Chooses from the alternatives of a Remote: the first with an address, a port other than 0, and a law.
+///
+/// Returns `None` if no alternative can be served.
 pub fn choose_remote(sessions: &Sessions) -> Option<Chosen>
     ensures value { result ≡ remote_choice sessions.now }
 {

@@ -7,7 +7,7 @@ ghost use Rattle.mg_words.specs.Address.{address_of};
 use crate::fields::Fields;
 use mg_words::address_of;
 
-/// The address that a field asks for.
+/// Parses the address field: `$` or an IPv4 address.
 fn requested_address(field: &[u8]) -> Option<Option<[u8; 4]>>
     ensures value { result ≡ requested_in_field address_of field.now }
 {
@@ -17,8 +17,7 @@ fn requested_address(field: &[u8]) -> Option<Option<[u8; 4]>>
     }
 }
 
-/// The address that the value of a connection line asks for, `None` within where the gateway is to choose
-/// it.
+/// Parses the value of a connection line. The inner `None` leaves the address to the gateway.
 #[tactic(auto, unfolding(crate::specs::Connection::connection_in))]
 pub fn connection_of(value: &[u8]) -> Option<Option<[u8; 4]>>
     ensures value { result ≡ connection_in (fields_of value.now) }

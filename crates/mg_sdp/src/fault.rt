@@ -1,8 +1,8 @@
-/// Why a content was not read.
+/// Why the content of a Local or Remote was rejected.
 #[derive(Clone, Copy, Debug, PartialEq, Eq)]
 pub enum SdpFault {
-    /// A line is not a letter, `=`, and the rest (RFC 4566, section 5).
+    /// A line is not a letter, `=` and a value (RFC 4566, section 5).
     Line,
-    /// There are more than eight alternatives. No line is at fault.
+    /// There are more than eight alternatives, and each line is well-formed.
     TooMany,
 }

@@ -4,7 +4,7 @@ ghost use Rattle.mg_sdp.specs.Lines.{is_space_or_tab};
 
 use crate::lines::is_space_or_tab;
 
-/// How many blanks there are at the front.
+/// Returns how many spaces and tabs the text starts with.
 fn blanks_len(text: &[u8]) -> usize
     ensures in_range { result ≤ length text.now }
     ensures value { result ≡ prefix_len is_space_or_tab text.now }
@@ -12,7 +12,7 @@ fn blanks_len(text: &[u8]) -> usize
     text.iter().take_while(|b| is_space_or_tab(**b)).count()
 }
 
-/// How many bytes there are before the first blank.
+/// Returns how many bytes precede the first space or tab.
 fn field_len(text: &[u8]) -> usize
     ensures in_range { result ≤ length text.now }
     ensures value { result ≡ position_or_len is_space_or_tab text.now }
@@ -20,7 +20,7 @@ fn field_len(text: &[u8]) -> usize
     text.iter().take_while(|b| !is_space_or_tab(**b)).count()
 }
 
-/// The fields of a line's value: its parts between spaces and tabs.
+/// An iterator over the fields of a line's value, which spaces and tabs separate.
 #[derive(Drop)]
 pub struct Fields<'a> {
     rest: &'a [u8],
@@ -30,7 +30,7 @@ impl<'a> Fields<'a> {
     ghost use Rattle.mg_sdp.specs.Fields.{fields_of};
     ghost use Rattle.mg_sdp.specs.aids.FieldsLeft.{fields_left};
 
-    /// The fields of this value.
+    /// Returns the fields of a value.
     pub fn new(value: &'a [u8]) -> Self
         ensures value { fields_left result ≡ fields_of value.now }
     {

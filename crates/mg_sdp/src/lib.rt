@@ -1,10 +1,10 @@
-//! Session descriptions (SDP, RFC 4566) as a controller sends them in Local and Remote descriptors
-//! (RFC 3525, section 7.1.8): read, chosen from, and written.
+//! Session descriptions (SDP) in Local and Remote descriptors: parsing, choice, writing.
 //!
-//! A content has alternatives, one after another. [`read_sessions`] keeps what each of them offers, at
-//! most eight of them, without memory of its own. [`choose`] and [`choose_remote`] take the first offer
-//! that the gateway can serve: G.711 (RFC 3551, payload types 0 and 8) in packets of 20 ms over RTP.
-//! [`write_local`] and [`write_remote`] give the text of what was chosen:
+//! The formats are those of RFC 4566 and RFC 3525, section 7.1.8.
+//!
+//! A content has one or more alternatives. [`read_sessions`] keeps what each of them offers, at most eight, and does
+//! not allocate. [`choose`] and [`choose_remote`] take the first offer that the gateway can serve: G.711 (RFC 3551,
+//! payload types 0 and 8) in packets of 20 ms over RTP. [`write_local`] and [`write_remote`] write the choice:
 //!
 //! ```rust
 //! let sessions = read_sessions(b"v=0\nc=IN IP4 $\nm=audio $ RTP/AVP 18 8 0\n")?;
@@ -12,9 +12,10 @@
 //! assert_eq!(rt; chosen.map(|chosen| chosen.law), Some(Law::A));
 //! ```
 //!
-//! A `$` in place of an address, a port or a format leaves the choice to the gateway. [`theorems`] has what
-//! holds of contents as a whole: that what is written is read again, and that lines fall into alternatives
-//! in one way alone.
+//! A `$` as address, port or format leaves the choice to the gateway.
+//!
+//! [`theorems`] states that a written description is read back, and that lines divide into alternatives in exactly one
+//! way.
 #![tactic(auto)]
 
 mod alternative;

@@ -3,21 +3,21 @@ ghost use Rattle.std.specs.List.{prefix_len, position_or_len, suffix_len};
 ghost use Rattle.mg_words.specs.LineEnd.{is_line_end};
 ghost use Rattle.mg_sdp.specs.Lines.{is_space_or_tab, letter_and_value};
 
-/// Whether a byte ends a line: CR or LF.
+/// Returns whether a byte is CR or LF.
 fn is_line_end(b: u8) -> bool
     ensures value { result ≡ is_line_end b }
 {
     b == b'\r' || b == b'\n'
 }
 
-/// Whether a byte is a space or a tab.
+/// Returns whether a byte is a space or a tab.
 pub fn is_space_or_tab(b: u8) -> bool
     ensures value { result ≡ is_space_or_tab b }
 {
     b == b' ' || b == b'\t'
 }
 
-/// How many bytes of white space and line ends there are at the front.
+/// Returns how many bytes of white space and line ends the text starts with.
 fn white_len(text: &[u8]) -> usize
     ensures in_range { result ≤ length text.now }
     ensures value { result ≡ prefix_len (λ b. is_space_or_tab b || is_line_end b) text.now }
@@ -27,7 +27,7 @@ fn white_len(text: &[u8]) -> usize
         .count()
 }
 
-/// How many bytes the first line has.
+/// Returns the length in bytes of the first line.
 fn line_len(text: &[u8]) -> usize
     ensures in_range { result ≤ length text.now }
     ensures value { result ≡ position_or_len is_line_end text.now }
@@ -35,7 +35,7 @@ fn line_len(text: &[u8]) -> usize
     text.iter().take_while(|b| !is_line_end(**b)).count()
 }
 
-/// How many blanks there are at the end.
+/// Returns how many spaces and tabs the text ends with.
 fn blanks_at_end(text: &[u8]) -> usize
     ensures in_range { result ≤ length text.now }
     ensures value { result ≡ suffix_len is_space_or_tab text.now }
@@ -46,7 +46,7 @@ fn blanks_at_end(text: &[u8]) -> usize
         .count()
 }
 
-/// The lines of a content, without the blanks at their ends; empty ones are passed over.
+/// An iterator over the lines of a content, without spaces and tabs at their ends and without empty lines.
 #[derive(Drop)]
 pub struct Lines<'a> {
     rest: &'a [u8],
@@ -56,7 +56,7 @@ impl<'a> Lines<'a> {
     ghost use Rattle.mg_sdp.specs.Lines.{content_lines};
     ghost use Rattle.mg_sdp.specs.aids.LinesLeft.{lines_left};
 
-    /// The lines of this content.
+    /// Returns the lines of a content.
     pub fn new(content: &'a [u8]) -> Self
         ensures value { lines_left result ≡ content_lines content.now }
     {
@@ -87,7 +87,7 @@ impl<'a> Iterator for Lines<'a> {
     }
 }
 
-/// The letter of a line and what stands after its `=`, or `None` where it is no such line.
+/// Splits a line into its letter and its value after `=`. Returns `None` if it has another form.
 #[tactic(auto, unfolding(crate::specs::Lines::letter_and_value))]
 pub fn letter_and_value(line: &[u8]) -> Option<(u8, &[u8])>
     ensures value { MatchOption result (letter_and_value line.now ≡ None)

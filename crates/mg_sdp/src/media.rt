@@ -8,15 +8,14 @@ use crate::fields::Fields;
 use mg_g711::Law;
 use mg_words::port_of;
 
-/// What the media line of an alternative asks for: a port and a law, each `None` where the gateway is to
-/// choose it.
+/// The port and law that a media line asks for. `None` leaves the choice to the gateway.
 #[derive(Clone, Copy, Debug, PartialEq, Eq)]
 pub struct MediaLine {
     pub port: Option<u16>,
     pub law: Option<Law>,
 }
 
-/// The law that a format asks for, or `None` where the format is not served.
+/// Returns the law that a format asks for. Returns `None` if the format is not supported.
 #[tactic(auto, unfolding(crate::specs::Media::law_of))]
 fn law_of(format: &[u8]) -> Option<Option<Law>>
     ensures value { result ≡ law_of format.now }
@@ -29,7 +28,7 @@ fn law_of(format: &[u8]) -> Option<Option<Law>>
     }
 }
 
-/// The law that the first of the formats that is served asks for.
+/// Returns the law that the first supported format asks for.
 fn first_law(formats: Fields<'_>) -> Option<Option<Law>>
     ensures value { result ≡ first_law (fields_left formats.entry) }
 {
@@ -41,7 +40,7 @@ fn first_law(formats: Fields<'_>) -> Option<Option<Law>>
     None
 }
 
-/// The port that a field asks for.
+/// Parses the port field: `$` or a port.
 fn requested_port(field: &[u8]) -> Option<Option<u16>>
     ensures value { result ≡ requested_in_field port_of field.now }
 {
@@ -51,7 +50,7 @@ fn requested_port(field: &[u8]) -> Option<Option<u16>>
     }
 }
 
-/// What the value of a media line asks for.
+/// Parses the value of a media line. Returns `None` if it cannot be served.
 #[tactic(auto, unfolding(crate::specs::Media::media_in))]
 pub fn media_of(value: &[u8]) -> Option<MediaLine>
     ensures value { result ≡ media_in (fields_of value.now) }

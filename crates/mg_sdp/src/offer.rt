@@ -3,10 +3,10 @@ use mg_g711::Law;
 /// What an alternative offers.
 #[derive(Clone, Copy, Debug, PartialEq, Eq)]
 pub struct Offer {
-    /// The IPv4 address, or `None` where the gateway is to choose it or none is given.
+    /// The IPv4 address. `None` if it is left to the gateway or missing.
     pub address: Option<[u8; 4]>,
-    /// The port, or `None` where the gateway is to choose it.
+    /// The port. `None` if it is left to the gateway.
     pub port: Option<u16>,
-    /// The law of the samples, or `None` where the gateway is to choose it.
+    /// The law. `None` if it is left to the gateway.
     pub law: Option<Law>,
 }

@@ -1,10 +1,10 @@
-/// A part of an alternative, as far as its lines were read.
+/// A part of an alternative, as far as its lines have been read.
 #[derive(Clone, Copy, Debug, PartialEq, Eq)]
 pub enum AlternativePart<T> {
-    /// No line has it.
+    /// No line so far has it.
     Missing,
     /// A line has it.
     Given(T),
-    /// A line has it in a form that is not served.
+    /// A line has it in a form that cannot be served.
     Faulty,
 }

@@ -14,14 +14,14 @@ use arrayvec::ArrayVec;
 use mg_words::ALTERNATIVE_LIMIT;
 use std::marker::Model;
 
-/// The alternatives of a content, as far as its lines were read.
+/// The alternatives of a content, as far as its lines have been read.
 #[derive(Drop)]
 struct Reader {
-    /// What the alternatives offer that have ended, the first eight.
+    /// The offers of the complete alternatives, up to eight.
     offers: ArrayVec<Option<Offer>, ALTERNATIVE_LIMIT>,
-    /// The alternative that has begun.
+    /// The alternative that is being read.
     current: Option<Alternative>,
-    /// Whether more than eight have ended.
+    /// Whether more than eight alternatives are complete.
     over: bool,
 }
 
@@ -44,7 +44,7 @@ impl Reader {
         }
     }
 
-    /// Ends the alternative that has begun, if there is one.
+    /// Ends the alternative that is being read, if there is one.
     fn end(&mut self)
         ensures value { self.new ≡ ended self.old }
     {
@@ -72,7 +72,7 @@ impl Reader {
         Ok(())
     }
 
-    /// The alternatives, after the last line.
+    /// Returns the alternatives after the last line.
     #[tactic(auto, unfolding(crate::specs::aids::Reader::finished))]
     fn finish(mut self) -> Result<Sessions, SdpFault>
         ensures value { result ≡ finished self }
@@ -87,11 +87,10 @@ impl Reader {
     }
 }
 
-/// Reads the session descriptions of a Local or a Remote descriptor.
+/// Parses the session descriptions of a Local or Remote descriptor.
 ///
-/// The content is split into lines at CR and LF; spaces and tabs at their ends count for nothing, and
-/// empty lines neither. An alternative begins at the first line and at each later `v=` line. A blank
-/// content has none.
+/// Lines end at CR or LF. Spaces and tabs at both ends of a line are ignored, and so are empty lines. An alternative
+/// starts at the first line and at each later `v=` line. A blank content has no alternative.
 pub fn read_sessions(content: &[u8]) -> Result<Sessions, SdpFault>
     ensures alternatives { IsContentReading content.now result }
     ensures line { (result ≡ Err SdpFault.Line)

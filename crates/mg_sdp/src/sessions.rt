@@ -5,8 +5,10 @@ use arrayvec::ArrayVec;
 use mg_words::ALTERNATIVE_LIMIT;
 use std::marker::Model;
 
-/// What the alternatives of a content offer. Contracts see the list of the alternatives in order, each as
-/// what it offers, or `None` where its lines are not served.
+/// What the alternatives of a content offer.
+///
+/// Contracts see a list with an entry for each alternative in order: its offer, or `None` if its lines cannot be
+/// served.
 #[derive(Debug, Drop)]
 pub struct Sessions {
     pub(crate) offers: ArrayVec<Option<Offer>, ALTERNATIVE_LIMIT>,
@@ -22,7 +24,7 @@ impl Model for Sessions {
 }
 
 impl Sessions {
-    /// Whether the content had no line, and so no alternative.
+    /// Returns whether the content had no line, and so no alternative.
     pub fn is_blank(&self) -> bool
         ensures value { IsTrue result ↔ (self.now ≡ []) }
     {

@@ -7,7 +7,7 @@ use itoa::Buffer;
 use mg_g711::Law;
 use mg_words::address_text;
 
-/// The bytes of the longest text.
+/// The greatest length in bytes of a written description.
 pub const TEXT_LIMIT: usize = 68;
 
 fn push(out: &mut ArrayVec<u8, TEXT_LIMIT>, text: &[u8])
@@ -27,7 +27,7 @@ fn push_number(out: &mut ArrayVec<u8, TEXT_LIMIT>, n: u16)
     push(out, buffer.format(n).as_bytes());
 }
 
-/// The payload type of a law (RFC 3551, section 6).
+/// Returns the payload type of a law (RFC 3551, section 6).
 fn payload_type(law: Law) -> &'static str
     ensures value { result.now ≡ law_text law }
     ensures len { length result.now ≡ 1 }
@@ -38,8 +38,7 @@ fn payload_type(law: Law) -> &'static str
     }
 }
 
-/// The description of what the gateway serves itself, for a Local: four lines, each ended by CR LF, of at
-/// most 68 bytes in all.
+/// Writes the description of a Local: four lines, each ended by CR LF, at most 68 bytes.
 #[tactic(auto, using(crate::proofs::WrittenLemmas::lengths))]
 pub fn write_local(chosen: &Chosen) -> ArrayVec<u8, TEXT_LIMIT>
     ensures value { result.items ≡ session_text chosen.now }
@@ -55,7 +54,7 @@ pub fn write_local(chosen: &Chosen) -> ArrayVec<u8, TEXT_LIMIT>
     out
 }
 
-/// The description of where the gateway sends, for a Remote: as for a Local.
+/// Writes the description of a Remote, in the same form as a Local.
 pub fn write_remote(chosen: &Chosen) -> ArrayVec<u8, TEXT_LIMIT>
     ensures value { result.items ≡ session_text chosen.now }
 {

@@ -1,4 +1,4 @@
--- Contexts as they are named (RFC 3525, section 6.1.2 and Annex B.2, ContextID).
+-- Context identifiers (RFC 3525, section 6.1.2 and Annex B.2, ContextID).
 use Rattle.std.specs.Prelude.{ℕ, List, Option, Some, codes, decimal, ◌==◌, if◌then◌else◌}
 use Rattle.std.specs.Str.{bytes_eq}
 use Rattle.std.specs.Option.{option_map}
@@ -6,7 +6,7 @@ use Rattle.mg_words.specs.Numbers.{number_of}
 use Rattle.mg_words.specs.declared.context_id.ContextId.{ContextId}
 use Rattle.mg_words.specs.declared.context_id.ContextId.TheVariants.{Null, Choose, All, Number}
 
--- a context by its number; three numbers are other ways to write - $ *
+-- the context with this number; three numbers are other spellings of - $ *
 abbrev pub context_of_number : ℕ → ContextId
 context_of_number n =
     if n == 0 then Null
@@ -22,7 +22,7 @@ context_id_of text =
     else (if bytes_eq text (codes "*") then Some All
     else option_map context_of_number (number_of text)))
 
--- a context as it is written
+-- the text of a context identifier in a reply
 abbrev pub context_text : ContextId → List ℕ
 context_text Null = codes "-"
 context_text Choose = codes "$"

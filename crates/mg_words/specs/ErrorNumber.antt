@@ -1,4 +1,4 @@
--- The numbers of errors, from the standard's list of error codes, and this gateway's texts.
+-- Error numbers, from the standard's list of error codes, with this gateway's texts.
 use Rattle.std.specs.Prelude.{ℕ, List, ◌++◌, codes, decimal}
 use Rattle.mg_words.specs.declared.error_number.ErrorNumber.{ErrorNumber}
 use Rattle.mg_words.specs.declared.error_number.ErrorNumber.TheVariants as errors

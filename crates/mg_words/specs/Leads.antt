@@ -1,7 +1,7 @@
--- Where a program's state stands for worlds: what a step of the program makes of each of them.
+-- How a step of the program moves the worlds that its state represents.
 
--- For each world that the old state stood for, the new one stands for a world that comes of it, by
--- the relation.
+-- Every world that the old state represents steps, by the relation, to a world that the new state
+-- represents.
 abbrev pub Leads : {S W : Type 0} → (S → W → Type 0) → S → S → (W → W → Type 0) → Type 0
 Leads {S} {W} StandsFor old new Comes =
     (w : W) → StandsFor old w → (next : W) × Comes w next × StandsFor new next

@@ -1,19 +1,19 @@
--- The limits of this gateway. Definitions cite them by these names, and each number stands here
--- alone.
+-- The limits of this gateway. Definitions cite them by these names; no other definition repeats
+-- these numbers.
 use Rattle.std.specs.Prelude.{ℕ}
 
 -- members of a context
 abbrev pub member_limit : ℕ
 member_limit = 64
 
--- contexts, and terminations in all of them
+-- contexts of the gateway, and terminations in all of them
 abbrev pub context_limit : ℕ
 context_limit = 64
 
 abbrev pub termination_limit : ℕ
 termination_limit = 256
 
--- frames that a play list has places for: the fewest, the most, and what it begins with
+-- the least and the greatest depth of a play list, in frames, and the depth of a new one
 abbrev pub least_depth : ℕ
 least_depth = 2
 
@@ -23,7 +23,7 @@ greatest_depth = 16
 abbrev pub first_depth : ℕ
 first_depth = 4
 
--- samples of a frame: 20 ms at 8,000 a second
+-- samples of a frame: 20 ms at 8000 Hz
 abbrev pub frame_samples : ℕ
 frame_samples = 160
 
@@ -31,7 +31,7 @@ frame_samples = 160
 abbrev pub message_limit : ℕ
 message_limit = 8192
 
--- requests of a message, and commands in all of them
+-- requests in a message, and commands in all of them
 abbrev pub request_limit : ℕ
 request_limit = 4
 
@@ -46,7 +46,7 @@ name_limit = 64
 abbrev pub sender_limit : ℕ
 sender_limit = 72
 
--- alternatives of a session description
+-- alternatives in a session description
 abbrev pub alternative_limit : ℕ
 alternative_limit = 8
 
@@ -54,14 +54,14 @@ alternative_limit = 8
 abbrev pub reply_limit : ℕ
 reply_limit = 16000
 
--- replies that are kept for requests that come again
+-- replies that are kept to answer retransmissions
 abbrev pub kept_limit : ℕ
 kept_limit = 32
 
--- the greatest number of a termination
+-- the greatest number that a termination can have
 abbrev pub last_termination : ℕ
 last_termination = 4294967295
 
--- the greatest number of a context: the two above it stand for $ and * (RFC 3525, section 6.1.2)
+-- the greatest number that a context can have; the next two stand for $ and * (section 6.1.2)
 abbrev pub last_context : ℕ
 last_context = 4294967293

@@ -1,4 +1,4 @@
--- The ends of lines (RFC 3525, Annex B.2, EOL; RFC 4566, section 5).
+-- Line ends (RFC 3525, Annex B.2, EOL; RFC 4566, section 5).
 use Rattle.std.specs.Prelude.{ℕ, Bool, ◌||◌, ◌==◌}
 
 -- carriage return or line feed

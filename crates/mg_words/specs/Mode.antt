@@ -1,12 +1,11 @@
--- Modes of a stream (RFC 3525, section 7.1.7). A mode is seen from outside the context: a
--- termination that receives from its peer talks into the context, one that sends to its peer
--- listens to it.
+-- Modes of a stream (RFC 3525, section 7.1.7), seen from outside the context. A termination that
+-- receives from its peer is heard in the context; one that sends to its peer hears the context.
 use Rattle.std.specs.Prelude.{ℕ, List, Bool, true, false, codes}
 use Rattle.mg_words.specs.declared.mode.Mode.{Mode}
 use Rattle.mg_words.specs.declared.mode.Mode.TheVariants.{Inactive, SendOnly, ReceiveOnly}
 use Rattle.mg_words.specs.declared.mode.Mode.TheVariants.{SendReceive, Loopback}
 
--- the other members hear it
+-- the other members hear a termination in this mode
 abbrev pub talks : Mode → Bool
 talks Inactive = false
 talks SendOnly = false
@@ -14,7 +13,7 @@ talks ReceiveOnly = true
 talks SendReceive = true
 talks Loopback = false
 
--- it hears the other members
+-- a termination in this mode hears the other members
 abbrev pub listens : Mode → Bool
 listens Inactive = false
 listens SendOnly = true
@@ -22,7 +21,7 @@ listens ReceiveOnly = false
 listens SendReceive = true
 listens Loopback = false
 
--- its long word
+-- the keyword in its long form
 unfoldable pub mode_text : Mode → List ℕ
 mode_text Inactive = codes "Inactive"
 mode_text SendOnly = codes "SendOnly"

@@ -1,33 +1,33 @@
--- Numbers by their digits: ASCII digits, the first of which may be 0 (RFC 3525, Annex B.2, has them
--- as UINT16 and UINT32).
+-- Decimal numbers of ASCII digits (RFC 3525, Annex B.2, UINT16 and UINT32). Leading zeros are
+-- allowed.
 use Rattle.std.specs.Prelude.{ℕ, ◌-◌, ◌==◌, ◌&&◌, not, nat_le, Bool, List, length, map, Option}
 use Rattle.std.specs.Prelude.{Some, None, if◌then◌else◌}
 use Rattle.std.specs.Str.{all_ascii_digits}
 use Rattle.std.specs.Int.Digits.{number_from_digits}
 
--- the value of digits
+-- the value of a list of digits
 abbrev pub value_of_digits : List ℕ → ℕ
 value_of_digits text = number_from_digits 10 (map (λ c. c - 48) text)
 
--- at least one digit and at most so many, and nothing else
+-- between one and `most` digits, and nothing else
 abbrev pub are_digits : ℕ → List ℕ → Bool
 are_digits most text = not (length text == 0) && nat_le (length text) most && all_ascii_digits text
 
--- the value of so many digits at the most, if it is at most the limit
+-- the value of at most `most` digits, if it is at most the limit
 abbrev pub decimal_of : ℕ → ℕ → List ℕ → Option ℕ
 decimal_of most limit text =
     if are_digits most text && nat_le (value_of_digits text) limit
     then Some (value_of_digits text) else None
 
--- a number of one to ten digits that 32 bits hold
+-- a number of one to ten digits that fits 32 bits
 abbrev pub number_of : List ℕ → Option ℕ
 number_of text = decimal_of 10 4294967295 text
 
--- a number of one to five digits that 16 bits hold
+-- a number of one to five digits that fits 16 bits
 abbrev pub uint16_of : List ℕ → Option ℕ
 uint16_of text = decimal_of 5 65535 text
 
--- a port is such a number
+-- a port is a number of 16 bits
 abbrev pub port_of : List ℕ → Option ℕ
 port_of text = uint16_of text
 

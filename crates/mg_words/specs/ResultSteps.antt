@@ -1,7 +1,7 @@
--- Steps one after another, each of which may be refused.
+-- Sequencing of steps that may fail.
 use Rattle.std.specs.Prelude.{Result, Ok, Err}
 
--- the second step after the value of the first, or else the refusal of the first
+-- the second step on the value of the first; the first step's error if it failed
 infixl 10 ◌>>=◌
 abbrev pub ◌>>=◌ : {A B E : Type 0} → Result A E → (A → Result B E) → Result B E
 (Ok x) >>= f = f x

@@ -9,6 +9,6 @@ abbrev pub is_term : List ℕ → Bool
 is_term text =
     not (length text == 0) && nat_le (length text) name_limit && list_all is_word_byte text
 
--- the name of the termination with a number
+-- the name of the termination with this number
 abbrev pub rtp_name : ℕ → List ℕ
 rtp_name n = codes "RTP/" ++ decimal n

@@ -6,11 +6,10 @@ use crate::parts::cut;
 use arrayvec::ArrayVec;
 use itoa::Buffer;
 
-/// The bytes of the longest IPv4 address.
+/// The length in bytes of the longest IPv4 address in dotted decimal.
 pub const ADDRESS_LIMIT: usize = 15;
 
-/// The IPv4 address that a text stands for: four numbers of one to three digits, each at most 255, parted
-/// by dots.
+/// Parses an IPv4 address in dotted decimal: four numbers of one to three digits, each at most 255.
 #[tactic(auto, unfolding(crate::specs::Address::address_of))]
 pub fn address_of(text: &[u8]) -> Option<[u8; 4]>
     ensures value { result ≡ address_of text.now }
@@ -42,8 +41,7 @@ fn push_number(out: &mut ArrayVec<u8, ADDRESS_LIMIT>, n: u8)
     let _ = out.try_extend_from_slice(buffer.format(n).as_bytes());
 }
 
-/// An IPv4 address as it is written: four numbers in plain decimal with dots between them, of at most 15
-/// bytes in all.
+/// Writes an IPv4 address in dotted decimal, without leading zeros: at most 15 bytes.
 #[tactic(auto, using(crate::proofs::AddressLemmas::lengths))]
 pub fn address_text(address: [u8; 4]) -> ArrayVec<u8, ADDRESS_LIMIT>
     ensures value { result.items ≡ address_text address }

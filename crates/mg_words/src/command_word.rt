@@ -1,29 +1,29 @@
 ghost use Rattle.std.specs.Prelude.{◌≡◌};
 ghost use Rattle.mg_words.specs.CommandWord.{command_text};
 
-/// What a command asks for (RFC 3525, section 7.2).
+/// The commands of a request (RFC 3525, section 7.2).
 #[derive(Clone, Copy, Debug, PartialEq, Eq)]
 pub enum CommandWord {
     /// Puts a termination into a context (section 7.2.1).
     Add,
-    /// Changes what is set of a termination (7.2.2).
+    /// Changes the settings of a termination (7.2.2).
     Modify,
-    /// Takes a termination into another context (7.2.4).
+    /// Moves a termination to another context (7.2.4).
     Move,
-    /// Takes a termination out of its context (7.2.3).
+    /// Removes a termination from its context (7.2.3).
     Subtract,
-    /// Asks what is set of a termination (7.2.5).
+    /// Reads the settings of a termination (7.2.5).
     AuditValue,
-    /// Asks what could be set (7.2.6).
+    /// Reads the settings that a termination could have (7.2.6).
     AuditCapability,
-    /// Tells of events (7.2.7).
+    /// Reports events (7.2.7).
     Notify,
-    /// Tells that service begins or ends (7.2.8).
+    /// Reports that service starts or ends (7.2.8).
     ServiceChange,
 }
 
 impl CommandWord {
-    /// The word in its long form.
+    /// Returns the keyword in its long form.
     #[tactic(auto, unfolding(crate::specs::CommandWord::command_text))]
     pub fn as_str(self) -> &'static str
         ensures value { result.now ≡ command_text self }

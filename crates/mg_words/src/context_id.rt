@@ -6,18 +6,17 @@ use crate::number::number_of;
 /// The context that an action names (RFC 3525, section 6.1.2 and Annex B.2, ContextID).
 #[derive(Clone, Copy, Debug, PartialEq, Eq)]
 pub enum ContextId {
-    /// `-`: the null context, of terminations that are in none.
+    /// `-`: the null context, which holds the terminations that are in no other context.
     Null,
-    /// `$`: a context that the gateway is to make.
+    /// `$`: a new context, which the gateway makes.
     Choose,
     /// `*`: every context.
     All,
-    /// A context by its number.
+    /// A context with this number.
     Number(u32),
 }
 
-/// The context that a word stands for. The numbers 0, 4294967294 and 4294967295 are other ways to write
-/// `-`, `$` and `*`.
+/// Parses a context identifier. The numbers 0, 4294967294 and 4294967295 are other spellings of `-`, `$` and `*`.
 #[tactic(auto, unfolding(crate::specs::ContextId::context_id_of))]
 pub fn context_id_of(text: &[u8]) -> Option<ContextId>
     ensures value { result ≡ context_id_of text.now }

@@ -4,48 +4,48 @@ ghost use Rattle.mg_words.specs.ErrorNumber.{error_row, error_text};
 use arrayvec::ArrayVec;
 use itoa::Buffer;
 
-/// The bytes of the longest descriptor of an error.
+/// The length in bytes of the longest error descriptor.
 pub const ERROR_LIMIT: usize = 64;
 
-/// Why a message, an action or a command was refused. The numbers are from the standard's list of error codes
-/// (RFC 3525, section 14.2; H.248.8), the texts this gateway's own.
+/// Why a message, an action or a command was rejected. The numbers are from the standard's list of error codes (RFC
+/// 3525, section 14.2; H.248.8); the texts are this gateway's own.
 #[derive(Clone, Copy, Debug, PartialEq, Eq)]
 pub enum ErrorNumber {
-    /// A message that is not of the grammar.
+    /// The message does not follow the grammar.
     Syntax,
-    /// A message of another version of the protocol.
+    /// The message has another version of the protocol.
     Version,
-    /// A name that the command can't have.
+    /// The command does not allow this name.
     IdentifierNotAllowed,
-    /// The action's context isn't there, or can't be entered.
+    /// The action's context does not exist, or cannot be entered.
     UnknownContext,
-    /// All contexts are there, or their numbers are used up.
+    /// The limit of contexts is reached, or their numbers are used up.
     NoContextLeft,
-    /// A Oneway triple with a termination on both sides.
+    /// A Oneway triple has a termination on both sides.
     IllegalCombination,
     /// No termination has this name.
     UnknownTermination,
-    /// A command on all terminations of a context that has none.
+    /// A command names all terminations of a context that has none.
     WildcardMatchedNone,
-    /// All slots are held, or the numbers are used up.
+    /// No slot is free, or the numbers of terminations are used up.
     NoTerminationLeft,
-    /// An Add of a termination that is there, or a Move into the context that it is in.
+    /// An Add names an existing termination, or a Move names the context that the termination is in.
     AlreadyInContext,
-    /// The context has as many members as it can have.
+    /// The context has as many members as the limit allows.
     ContextFull,
     /// The termination is in another context.
     NotInContext,
-    /// A descriptor with content that isn't served.
+    /// A descriptor has content that this gateway does not support.
     DescriptorNotServed,
-    /// A property, or a value of it, that isn't served.
+    /// A property, or its value, is not supported.
     PropertyNotServed,
-    /// A word stands a second time where it may stand once.
+    /// A keyword that may occur once occurs twice.
     DescriptorTwice,
-    /// A message above its limits, or a command, context, stream or reservation that isn't served.
+    /// The message exceeds a limit, or asks for a command, context, stream or reservation that is not supported.
     NotServed,
-    /// A Local or Remote without a session description that can be served.
+    /// No session description in Local or Remote can be served.
     NoMedia,
-    /// The reply has more bytes than one may have; its commands stay done.
+    /// The reply would exceed the limit of its size. Its commands keep their effect.
     ReplyTooLong,
 }
 
@@ -86,22 +86,21 @@ impl ErrorNumber {
         }
     }
 
-    /// The number as a controller sees it.
+    /// Returns the number that the controller sees.
     pub fn number(self) -> u16
         ensures value { result ≡ (error_row self).0 }
     {
         self.row().0
     }
 
-    /// The text, without the quotation marks that it is written in.
+    /// Returns the text, without its quotation marks.
     pub fn as_str(self) -> &'static str
         ensures value { result.now ≡ (error_row self).1 }
     {
         self.row().1
     }
 
-    /// The descriptor as it is written: the number, and its text in quotation marks and braces, of at most 64
-    /// bytes in all.
+    /// Writes the error descriptor, `Error=NUMBER{"TEXT"}`: at most 64 bytes.
     #[tactic(auto, using(crate::proofs::ErrorLemmas::parts), unfolding(crate::specs::ErrorNumber::error_text))]
     pub fn descriptor(self) -> ArrayVec<u8, ERROR_LIMIT>
         ensures value { result.items ≡ error_text self }

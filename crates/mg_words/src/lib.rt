@@ -1,9 +1,11 @@
-//! The words of the protocol (Megaco, RFC 3525), each once for all crates: modes, associations, commands,
-//! contexts, names of terminations and errors, with the text of each, and counters; the numbers, ports and IPv4
-//! addresses that stand in control messages, session descriptions and scripts; and the limits of this gateway.
+//! The protocol's keywords, names, numbers and errors, and the gateway's limits.
 //!
-//! Each reader takes a whole text and answers the value that it stands for, or `None` where it stands for
-//! none. Leading zeros are allowed, signs and spaces are not:
+//! Types for modes, associations, commands, contexts, terminations and errors (Megaco, RFC 3525), each with its text,
+//! and for a termination's counters. Parsers for the numbers, ports and IPv4 addresses of control messages, session
+//! descriptions and scripts.
+//!
+//! Each parser takes a whole text and returns its value, or `None` if it has none. Leading zeros are allowed; signs
+//! and spaces are not:
 //!
 //! ```rust
 //! assert_eq!(rt; port_of(b"02945"), Some(2945));

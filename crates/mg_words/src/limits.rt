@@ -1,59 +1,59 @@
 ghost use Rattle.std.specs.Prelude.{◌≡◌, ◌≤◌, ◌^◌};
 ghost use Rattle.mg_words.specs.Limits.{member_limit, context_limit, termination_limit, least_depth, greatest_depth, first_depth, frame_samples, message_limit, request_limit, command_limit, name_limit, sender_limit, alternative_limit, reply_limit, kept_limit, last_termination, last_context};
 
-/// The most members of a context.
+/// The greatest number of members of a context.
 pub const MEMBERS: usize = 64;
 
-/// The most contexts of a gateway.
+/// The greatest number of contexts of a gateway.
 pub const CONTEXTS: usize = 64;
 
-/// The most terminations of a gateway.
+/// The greatest number of terminations of a gateway.
 pub const TERMINATIONS: usize = 256;
 
-/// The fewest frames that a play list has places for.
+/// The least depth of a play list, in frames of 20 ms.
 pub const MIN_DEPTH: usize = 2;
 
-/// The most frames that a play list has places for.
+/// The greatest depth of a play list, in frames of 20 ms.
 pub const MAX_DEPTH: usize = 16;
 
-/// How many frames a play list has places for where nothing else is asked.
+/// The depth of a new play list, in frames of 20 ms.
 pub const FIRST_DEPTH: usize = 4;
 
-/// The samples of a frame: 20 ms at 8,000 a second. They are as many bytes of payload.
+/// The samples of a frame: 20 ms at 8000 Hz. Its payload has as many bytes.
 pub const SAMPLES: usize = 160;
 
-/// The bytes of the longest datagram that is read.
+/// The greatest size in bytes of a datagram that is read.
 pub const MESSAGE_LIMIT: usize = 8192;
 
-/// The most requests of a message.
+/// The greatest number of requests in a message.
 pub const REQUEST_LIMIT: usize = 4;
 
-/// The most commands in all requests of a message.
+/// The greatest number of commands in all requests of a message.
 pub const COMMAND_LIMIT: usize = 64;
 
-/// The bytes of the longest name of a termination.
+/// The greatest length in bytes of a termination's name.
 pub const TERM_LIMIT: usize = 64;
 
-/// The bytes of the longest name of a sender: a domain name of 64 bytes in angle brackets, a colon and a port of five
-/// digits.
+/// The greatest length in bytes of a sender's name: a domain name of 64 bytes in angle brackets, a colon and a port of
+/// five digits.
 pub const SENDER_LIMIT: usize = 72;
 
-/// The most alternatives of a session description.
+/// The greatest number of alternatives in a session description.
 pub const ALTERNATIVE_LIMIT: usize = 8;
 
-/// The bytes of the longest reply.
+/// The greatest size in bytes of a reply.
 pub const REPLY_LIMIT: usize = 16000;
 
-/// The most replies that are kept for requests that come again.
+/// How many replies are kept, so that retransmitted requests are answered alike.
 pub const KEPT_REPLIES: usize = 32;
 
-/// The greatest number of a termination.
+/// The greatest number that a termination can have.
 pub const LAST_TERMINATION: u32 = 4294967295;
 
-/// The greatest number of a context. The two above it stand for `$` and `*` (RFC 3525, section 6.1.2).
+/// The greatest number that a context can have. The next two stand for `$` and `*` (RFC 3525, section 6.1.2).
 pub const LAST_CONTEXT: u32 = 4294967293;
 
-/// The constants are the limits that the definitions speak of.
+/// The constants equal the limits in the definitions.
 pub fn constants_are_limits()
     ensures members { MEMBERS ≡ member_limit }
     ensures contexts { CONTEXTS ≡ context_limit }
@@ -71,8 +71,8 @@ pub fn constants_are_limits()
     ensures numbers { (LAST_TERMINATION ≡ last_termination) × (LAST_CONTEXT ≡ last_context) }
 {}
 
-/// What the crates above take for granted of limits, so that one that is set too high is refused here: rooms and
-/// slots are numbers of 8 bits.
+/// What the crates above assume of the limits: rooms and slots are numbers of 8 bits. A limit that is too high fails
+/// here.
 pub fn limits_fit()
     ensures rooms { context_limit ≤ 2 ^ 8 }
     ensures slots { termination_limit ≤ 2 ^ 8 }

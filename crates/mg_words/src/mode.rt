@@ -1,25 +1,26 @@
 ghost use Rattle.std.specs.Prelude.{◌≡◌};
 ghost use Rattle.mg_words.specs.Mode.{mode_text, talks, listens};
 
-/// What media a stream of a termination lets pass (RFC 3525, section 7.1.7), seen from outside the
-/// context: a termination sends what the context gives it, and receives what its peer says.
+/// The direction of media of a termination's stream, seen from outside the context (RFC 3525, section 7.1.7).
+///
+/// A termination sends what it hears in the context to its peer, and receives from its peer what it says there.
 #[derive(Clone, Copy, Debug, Default, PartialEq, Eq)]
 pub enum Mode {
     /// Neither sends nor receives.
     #[default]
     Inactive,
-    /// Sends and doesn't receive: it listens to the context and doesn't talk into it.
+    /// Sends and does not receive: it hears the context and is not heard.
     SendOnly,
-    /// Receives and doesn't send: it talks into the context and doesn't listen to it.
+    /// Receives and does not send: it is heard in the context and does not hear it.
     ReceiveOnly,
     /// Sends and receives.
     SendReceive,
-    /// Sends back what it receives, and has no part in the context.
+    /// Sends back what it receives, and takes no part in the context.
     Loopback,
 }
 
 impl Mode {
-    /// The word in its long form.
+    /// Returns the keyword in its long form.
     #[tactic(auto, unfolding(crate::specs::Mode::mode_text))]
     pub fn as_str(self) -> &'static str
         ensures value { result.now ≡ mode_text self }
@@ -34,14 +35,14 @@ impl Mode {
     }
 }
 
-/// Whether the other members of the context hear a termination in this mode.
+/// Returns whether the other members of the context hear a termination in this mode.
 pub fn mode_talks(mode: Mode) -> bool
     ensures value { result ≡ talks mode }
 {
     matches!(mode, Mode::SendReceive | Mode::ReceiveOnly)
 }
 
-/// Whether a termination in this mode hears the other members of the context.
+/// Returns whether a termination in this mode hears the other members of the context.
 pub fn mode_listens(mode: Mode) -> bool
     ensures value { result ≡ listens mode }
 {

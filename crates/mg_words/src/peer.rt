@@ -1,4 +1,4 @@
-/// An IPv4 address and a UDP port: where a datagram came from, or where one goes.
+/// An IPv4 address and a UDP port: the source or destination of a datagram.
 #[derive(Clone, Copy, Debug, PartialEq, Eq)]
 pub struct Peer {
     pub address: [u8; 4],

@@ -1,4 +1,5 @@
-/// The counters of a termination (RFC 3525, annexes E.11.4 and E.12.4). Each stays at its greatest value.
+/// The counters of a termination (RFC 3525, annexes E.11.4 and E.12.4). A counter that reaches its greatest value
+/// stays there.
 #[derive(Clone, Copy, Debug, Default, PartialEq, Eq)]
 pub struct Stats {
     /// Packets sent (`rtp/ps`).
@@ -15,7 +16,7 @@ impl Stats {
     ghost use Rattle.std.specs.Prelude.{◌≡◌};
     ghost use Rattle.mg_words.specs.Stats.{no_packets};
 
-    /// The counters of a termination as it is made.
+    /// Returns the counters of a new termination: all 0.
     pub fn new() -> Self
         ensures value { result ≡ no_packets }
     {

@@ -9,7 +9,7 @@ use arrayvec::ArrayVec;
 use itoa::Buffer;
 use std::marker::Model;
 
-/// The name of a termination: a word of 1 to 64 bytes. Contracts see its bytes.
+/// The name of a termination: a word of 1 to 64 bytes. Contracts see it as a list of bytes.
 #[derive(Drop)]
 pub struct Term {
     bytes: ArrayVec<u8, TERM_LIMIT>,
@@ -26,14 +26,14 @@ impl Model for Term {
     ghost invariant = { λ t. is_term t.bytes.items ≡ true };
 }
 
-/// Whether each byte may stand in a word.
+/// Returns whether each byte is allowed in a word.
 fn all_word_bytes(text: &[u8]) -> bool
     ensures value { result ≡ list_all is_word_byte text.now }
 {
     text.iter().all(|b| is_word_byte(*b))
 }
 
-/// Whether a text is the name of a termination: a word of 1 to 64 bytes.
+/// Returns whether a text is the name of a termination: a word of 1 to 64 bytes.
 pub fn is_term(text: &[u8]) -> bool
     ensures value { result ≡ is_term text.now }
 {
@@ -41,7 +41,7 @@ pub fn is_term(text: &[u8]) -> bool
 }
 
 impl Term {
-    /// The name with these bytes, or `None` where they are no word of 1 to 64 bytes.
+    /// Parses a name. Returns `None` if the text is not a word of 1 to 64 bytes.
     pub fn new(text: &[u8]) -> Option<Self>
         ensures value { IfSome result (λ term. term ≡ text.now) }
         ensures found { IsSome result ↔ (is_term text.now ≡ true) }
@@ -56,28 +56,28 @@ impl Term {
         }
     }
 
-    /// The name of the gateway as a whole.
+    /// Returns `ROOT`, the name of the gateway as a whole.
     pub fn root() -> Self
         ensures value { result ≡ codes "ROOT" }
     {
         Term::new(b"ROOT").unwrap()
     }
 
-    /// What an Add names for a termination that is to be made.
+    /// Returns `$`, by which an Add names a termination that the gateway is to make.
     pub fn choose() -> Self
         ensures value { result ≡ codes "$" }
     {
         Term::new(b"$").unwrap()
     }
 
-    /// What a command names for all terminations of a context.
+    /// Returns `*`, by which a command names all terminations of a context.
     pub fn all() -> Self
         ensures value { result ≡ codes "*" }
     {
         Term::new(b"*").unwrap()
     }
 
-    /// The name of the termination with a number: `RTP/` and the number.
+    /// Returns the name of the termination with this number: `RTP/` and the number.
     #[tactic(auto, using(crate::proofs::TermLemmas::names))]
     pub fn rtp(number: u32) -> Self
         ensures value { result ≡ rtp_name number }
@@ -91,7 +91,7 @@ impl Term {
         Term { bytes }
     }
 
-    /// The bytes of the name.
+    /// Returns the bytes of the name.
     pub fn as_slice(&self) -> &[u8]
         ensures value { result.now ≡ self.now }
     {

@@ -1,7 +1,7 @@
 ghost use Rattle.std.specs.Prelude.{◌≡◌};
 ghost use Rattle.mg_words.specs.WordByte.{is_word_byte};
 
-/// For each byte whether it may stand in a word, so that a scanner looks once at each.
+/// Which bytes are allowed in a word, so that a scanner needs one lookup a byte.
 const WORD_BYTES: [bool; 256] = [
     false, false, false, false, false, false, false, false, false, false, false, false, false,
     false, false, false, false, false, false, false, false, false, false, false, false, false,
@@ -24,7 +24,7 @@ const WORD_BYTES: [bool; 256] = [
     false, false, false, false, false, false, false,
 ];
 
-/// Whether a byte may stand in a word.
+/// Returns whether a byte is allowed in a word.
 pub fn is_word_byte(b: u8) -> bool
     ensures value { result ≡ is_word_byte b }
 {

@@ -1,4 +1,4 @@
--- A row that is written some places at a time.
+-- A row that is written in chunks.
 use Rattle.std.specs.Prelude.{◌≡◌, ℕ, ◌+◌, ◌<◌, ◌≤◌, ℤ, pos, List, slice_index_or}
 
 -- the n places from `at` on are written, and no others

@@ -1,4 +1,4 @@
--- What an iterator over fields has left.
+-- The fields that an iterator has left.
 use Rattle.std.specs.Prelude.{ℕ, List}
 use Rattle.mg_sdp.specs.declared.fields.Fields.{Fields}
 use Rattle.mg_sdp.specs.Fields.{fields_of}

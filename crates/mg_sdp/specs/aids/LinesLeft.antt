@@ -1,4 +1,4 @@
--- What an iterator over lines has left.
+-- The lines that an iterator has left.
 use Rattle.std.specs.Prelude.{ℕ, List}
 use Rattle.mg_sdp.specs.declared.lines.Lines.{Lines}
 use Rattle.mg_sdp.specs.Lines.{content_lines}

@@ -1,5 +1,4 @@
--- How the lines of a content are gone over, one after another. The definitions of what they mean
--- are in Offer and Alternatives.
+-- Reading the lines of a content one by one. Offer and Alternatives define their meaning.
 use Rattle.std.specs.Prelude.{ℕ, ◌==◌, ◌&&◌, Bool, true, false, nat_lt, List, [], ◌∷◌, ◌++◌, Option}
 use Rattle.std.specs.Prelude.{Some, None, Result, Ok, Err, length, unwrap_or, if◌then◌else◌}
 use Rattle.std.specs.Str.{byte}

@@ -1,4 +1,4 @@
--- The edits of all rooms, newest first, and what they say of places (RFC 3525, sections 7.1.7 and
+-- The edits of all rooms, newest first, and what they determine (RFC 3525, sections 7.1.7 and
 -- 7.1.18). That a newcomer and each member hear each other is this project's own rule.
 use Rattle.std.specs.Prelude.{ℕ, Bool, false, not, ◌&&◌, ◌==◌, if◌then◌else◌, List, [], ◌∷◌}
 use Rattle.mg_topology.specs.declared.triple.Triple.{Triple}
@@ -6,25 +6,25 @@ use Rattle.mg_topology.specs.Edits as topology
 use Rattle.mg_flow.specs.declared.place.Place.{Place}
 use Rattle.mg_flow.specs.Place.{is_same_place, are_together}
 
--- A member enters, one leaves, or the mode of one changes, which says whether it talks and whether
--- it listens; or a triple is applied in a room.
+-- A member enters, leaves, or changes its mode, which says whether it talks and whether it
+-- listens; or a triple is applied in a room.
 pub data FlowEdit : Type 0 where
   Enter : (place : Place) → (talks listens : Bool) → FlowEdit
   Leave : (place : Place) → FlowEdit
   SetMode : (place : Place) → (talks listens : Bool) → FlowEdit
   Apply : (room : ℕ) → (triple : Triple) → FlowEdit
 
--- the edits, and then the triples in order
+-- the edits followed by the triples in order
 abbrev pub apply_in_room : ℕ → List Triple → List FlowEdit → List FlowEdit
 apply_in_room room [] es = es
 apply_in_room room (triple ∷ triples) es = apply_in_room room triples (Apply room triple ∷ es)
 
--- the edits of a room, and one more, if it is of the room
+-- the edits of a room, with one more if it belongs to the room
 abbrev pub with_edit_if : Bool → topology.TopologyEdit → List topology.TopologyEdit →
     List topology.TopologyEdit
 with_edit_if is_here edit es = if is_here then edit ∷ es else es
 
--- the edits of one room, as its topology has them
+-- the edits of one room, in the form of its topology
 abbrev pub edits_in : ℕ → List FlowEdit → List topology.TopologyEdit
 edits_in room [] = []
 edits_in room (Enter p talks listens ∷ es) =
@@ -39,7 +39,7 @@ edits_in room (Apply r triple ∷ es) =
 abbrev pub is_held : List FlowEdit → Place → Bool
 is_held es place = topology.is_held (edits_in place.room es) place.seat
 
--- what was last said of the member on the place: a side of whether it talks and whether it listens
+-- the last setting of the member on the place: one side of whether it talks and whether it listens
 abbrev pub last_setting : (Bool → Bool → Bool) → List FlowEdit → Place → Bool
 last_setting side [] place = false
 last_setting side (Enter p talks listens ∷ es) place =
@@ -54,7 +54,7 @@ last_setting side (Apply room triple ∷ es) place = last_setting side es place
 abbrev pub talks_in : List FlowEdit → Place → Bool
 talks_in = last_setting (λ talks listens. talks)
 
--- whether it listens
+-- whether the member on the place listens
 abbrev pub listens_in : List FlowEdit → Place → Bool
 listens_in = last_setting (λ talks listens. listens)
 
@@ -64,18 +64,19 @@ may_hear es talker listener =
     topology.may_hear (edits_in talker.room es) talker.seat listener.seat
 
 -- whether the listener hears the talker: they are different members of one room, and the last word
--- lets it
+-- allows it
 abbrev pub hears_in : List FlowEdit → Place → Place → Bool
 hears_in es talker listener =
     are_together (is_held es) talker listener && may_hear es talker listener
 
--- whether the talker's speech goes to the listener: the one talks, the other listens and hears it
+-- whether the talker's speech flows to the listener: the talker talks, and the listener listens
+-- and hears it
 abbrev pub flows_in : List FlowEdit → Place → Place → Bool
 flows_in es talker listener =
     talks_in es talker && (listens_in es listener && hears_in es talker listener)
 
--- whether the talker is silenced for the listener: it is another member of the room, it talks, and
--- the last word keeps it from the listener
+-- whether the talker is silenced for the listener: it talks in the same room, and the last word
+-- keeps its speech from the listener
 abbrev pub is_silenced_in : List FlowEdit → Place → Place → Bool
 is_silenced_in es talker listener =
     talks_in es talker

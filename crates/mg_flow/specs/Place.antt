@@ -1,23 +1,23 @@
--- The places of a gateway's members (this project's own).
+-- Places of a gateway's members (this project's own).
 use Rattle.std.specs.Prelude.{ℕ, ◌<◌, Bool, not, ◌&&◌, ◌==◌}
 use Rattle.mg_words.specs.Limits.{context_limit}
 use Rattle.mg_topology.specs.Mask.{seat_limit}
 use Rattle.mg_flow.specs.declared.place.Place.{Place}
 
--- a room for each of as many contexts as there can be, and a seat in it
+-- the room is below the limit of contexts, and the seat below the limit of seats
 pub record IsWithinLimits (place : Place) : Type 0 where
   pub room : place.room < context_limit
   pub seat : place.seat < seat_limit
 
--- whether they are one place
+-- whether two places are the same
 abbrev pub is_same_place : Place → Place → Bool
 is_same_place a b = (a.room == b.room) && (a.seat == b.seat)
 
--- the place of a seat in the same room
+-- the place of another seat in the same room
 abbrev pub sibling_place : Place → ℕ → Place
 sibling_place place seat = record { room = place.room; seat = seat }
 
--- whether two places are held, by a test that tells it, and are different ones of one room
+-- whether two places are held, by the test, and are different seats of one room
 abbrev pub are_together : (Place → Bool) → Place → Place → Bool
 are_together is_held a b =
     is_held a && (is_held b && ((a.room == b.room) && not (a.seat == b.seat)))

@@ -1,4 +1,4 @@
--- What a flow table is seen as, and which lists of edits it stands for (this project's own).
+-- The state of a flow table, and which lists of edits it represents (this project's own).
 use Rattle.std.specs.Prelude.{◌≡◌, ◌≢◌, ℕ, Bool, not, ◌&&◌, ◌==◌, if◌then◌else◌, List, [], ◌∷◌}
 use Rattle.std.specs.Prelude.{slice_index_or}
 use Rattle.mg_topology.specs.declared.triple.Triple.{Triple}
@@ -9,17 +9,17 @@ use Rattle.mg_flow.specs.declared.place.Place.{Place}
 use Rattle.mg_flow.specs.Place.{is_same_place, are_together}
 use Rattle.mg_flow.specs.Edits.{FlowEdit, edits_in, talks_in, listens_in}
 
--- what is kept of a room: its topology, and the seats of those who talk and of those who listen
+-- the state of a room: its topology, the seats that talk, and the seats that listen
 pub record RoomFlows : Type 0 where
   pub topology : topology.TopologyState
   pub talks : ℕ
   pub listens : ℕ
 
--- a room that nobody has entered
+-- a room without members
 abbrev pub vacant : RoomFlows
 vacant = record { topology = record { held = 0; rows = [] }; talks = 0; listens = 0 }
 
--- a room of a table, which is the list of its rooms; any other is vacant
+-- a room of a table, which is a list of rooms; any other room is vacant
 abbrev pub room_at : List RoomFlows → ℕ → RoomFlows
 room_at table room = slice_index_or table room vacant
 
@@ -31,17 +31,17 @@ holds table place = topology.holds (room_at table place.room).topology place.sea
 abbrev pub talks_at : List RoomFlows → Place → Bool
 talks_at table place = has_seat (room_at table place.room).talks place.seat
 
--- whether it listens
+-- whether the member on the place listens
 abbrev pub listens_at : List RoomFlows → Place → Bool
 listens_at table place = has_seat (room_at table place.room).listens place.seat
 
--- whether the listener hears the talker, which is in the same room
+-- whether the listener hears the talker, which must be in the same room
 abbrev pub hears : List RoomFlows → Place → Place → Bool
 hears table talker listener =
     (talker.room == listener.room)
     && topology.hears (room_at table talker.room).topology talker.seat listener.seat
 
--- whether the talker's speech goes to the listener
+-- whether the talker's speech flows to the listener
 abbrev pub flows : List RoomFlows → Place → Place → Bool
 flows table talker listener =
     talks_at table talker && (listens_at table listener && hears table talker listener)
@@ -52,23 +52,22 @@ is_silenced table talker listener =
     talks_at table talker
     && (are_together (holds table) talker listener && not (hears table talker listener))
 
--- what is kept agrees with the edits, for each room and for each place
+-- the table represents the edits: it agrees with them on each room and each place
 pub record StandsFor (table : List RoomFlows) (es : List FlowEdit) : Type 0 where
   pub topologies : (room : ℕ) →
       topology.StandsFor (room_at table room).topology (edits_in room es)
   pub talkers : (place : Place) → talks_at table place ≡ talks_in es place
   pub listeners : (place : Place) → listens_at table place ≡ listens_in es place
 
--- there is a list of edits that the table stands for
+-- the table represents some list of edits
 abbrev pub StandsForSome : List RoomFlows → Type 0
 StandsForSome table = ∥ ((es : List FlowEdit) × StandsFor table es) ∥₁
 
--- All rooms but the one are as they were, and with them all that is told of their places.
+-- All rooms except the one are unchanged, and with them everything about their places.
 abbrev pub KeepsOthers : List RoomFlows → List RoomFlows → ℕ → Type 0
 KeepsOthers old new room = (other : ℕ) → other ≢ room → room_at new other ≡ room_at old other
 
--- The place is now held, or not, and its member talks, or not, and listens, or not; each other
--- place is as it was.
+-- Whether the place is held, talks and listens is as given; every other place is unchanged.
 pub record SetsPlace (old new : List RoomFlows) (place : Place)
     (is_held does_talk does_listen : Bool) : Type 0 where
   pub held : (p : Place) →
@@ -78,13 +77,13 @@ pub record SetsPlace (old new : List RoomFlows) (place : Place)
   pub listeners : (p : Place) →
       listens_at new p ≡ (if is_same_place p place then does_listen else listens_at old p)
 
--- each place is held, and each member talks and listens, as before
+-- which places are held, talk and listen is unchanged
 pub record KeepsPlaces (old new : List RoomFlows) : Type 0 where
   pub held : (p : Place) → holds new p ≡ holds old p
   pub talkers : (p : Place) → talks_at new p ≡ talks_at old p
   pub listeners : (p : Place) → listens_at new p ≡ listens_at old p
 
--- whether the listener hears the talker after triples, in order, by whether it did before
+-- whether the listener hears the talker after the triples in order, by whether it did before
 abbrev pub hears_after : List Triple → ℕ → ℕ → Bool → Bool
 hears_after [] talker listener did = did
 hears_after (x ∷ xs) talker listener did =

@@ -16,10 +16,9 @@ use std::marker::Model;
 
 /// Who hears whom in all rooms of a gateway, and for each listener the masks of its talkers.
 ///
-/// Contracts see the list of the rooms, each with its topology and with the masks of those who
-/// talk and of those who listen, and read it by the words of `specs/Table.antt`.
-/// [`FlowTable::new`] stands for the empty list of edits, and each call leads from the lists that
-/// the table stood for to those with its edits. So each table stands for one
+/// Contracts see the list of rooms, each with its topology and the masks of who talks and who listens. They read it
+/// through the words of `specs/Table.antt`. [`FlowTable::new`] represents the empty list of edits, and each call adds
+/// its edits to the lists that the table represents. So every table represents some list
 /// ([`each_table_represents_edits`]).
 ///
 /// [`each_table_represents_edits`]: crate::theorems::each_table_represents_edits
@@ -44,10 +43,9 @@ impl FlowTable {
     ghost use Rattle.mg_flow.specs.Edits.{FlowEdit, Enter, Leave, SetMode, apply_in_room, is_held, hears_in, flows_in, is_silenced_in};
     ghost use Rattle.mg_flow.specs.Table.{StandsFor, StandsForSome, KeepsOthers, SetsPlace, KeepsPlaces, holds, hears, hears_after, flows, is_silenced};
 
-    /// The table of a gateway whose rooms nobody has entered.
+    /// Makes the table of a gateway whose rooms are all empty.
     ///
-    /// It takes the memory for all rooms, and no other call takes any. Fails only where that is
-    /// refused.
+    /// It allocates the memory for all rooms; no other call allocates. Fails only if the allocation does.
     pub fn new(alloc: Global) -> Result<Self, AllocError>
         ensures edits { IfOk result (λ table. StandsFor table []) }
     {
@@ -58,7 +56,7 @@ impl FlowTable {
         Ok(FlowTable { rooms })
     }
 
-    /// Whether the place is held. None is that isn't within the limits.
+    /// Returns whether the place is held. A place beyond the limits is not.
     pub fn holds(&self, place: Place) -> bool
         ensures kept { result ≡ holds self.now place }
         ensures edits { (es : List FlowEdit) → StandsFor self.now es → result ≡ is_held es place }
@@ -69,7 +67,7 @@ impl FlowTable {
         }
     }
 
-    /// The seats of the room that are held.
+    /// Returns the seats of the room that are held.
     pub fn held(&self, room: u8) -> Mask
         ensures kept { (seat : ℕ) →
             has_seat result seat ≡ holds self.now (record { room = room; seat = seat }) }
@@ -82,8 +80,10 @@ impl FlowTable {
         }
     }
 
-    /// Whether the listener hears the talker: both places are held, in one room, and differ, and
-    /// the last word on the two lets it. The listener comes first, as in the sentence.
+    /// Returns whether `listener` hears `talker`: different members of one room, and the last word on the two allows
+    /// it.
+    ///
+    /// The listener comes first.
     pub fn hears(&self, listener: Place, talker: Place) -> bool
         ensures kept { result ≡ hears self.now talker listener }
         ensures edits { (es : List FlowEdit) → StandsFor self.now es →
@@ -98,7 +98,7 @@ impl FlowTable {
         }
     }
 
-    /// The seats of those in its room whose speech goes to the listener on the place.
+    /// Returns the seats in the room whose speech flows to the listener on the place.
     pub fn open(&self, place: Place) -> &Mask
         requires { IsTrue (holds self.now place) }
         ensures kept { (seat : ℕ) →
@@ -112,8 +112,9 @@ impl FlowTable {
         room.open(usize::from(place.seat))
     }
 
-    /// The seats of the talking members of its room whom the last word keeps from the listener on
-    /// the place. Whether it listens doesn't count.
+    /// Returns the seats of talking members of the room whom the last word keeps from the listener on the place.
+    ///
+    /// It does not matter whether the member on the place listens.
     pub fn silenced(&self, place: Place) -> &Mask
         requires { IsTrue (holds self.now place) }
         ensures kept { (seat : ℕ) →
@@ -127,7 +128,7 @@ impl FlowTable {
         room.silenced(usize::from(place.seat))
     }
 
-    /// A member takes the free place. It and each other member of the room hear each other.
+    /// Lets a member take a free place. It and each other member of the room hear each other.
     pub fn on_enter(&mut self, place: Place, talks: bool, listens: bool)
         requires within { IsWithinLimits place }
         requires free { IsFalse (holds self.old place) }
@@ -144,7 +145,7 @@ impl FlowTable {
         room.enter(usize::from(place.seat), talks, listens);
     }
 
-    /// The member on the place leaves. Nothing changes between the others.
+    /// Lets the member on the place leave. Nothing changes between the others.
     pub fn on_leave(&mut self, place: Place)
         requires { IsTrue (holds self.old place) }
         ensures edits { (es : List FlowEdit) → StandsFor self.old es →
@@ -158,7 +159,7 @@ impl FlowTable {
         room.leave(usize::from(place.seat));
     }
 
-    /// The mode of the member on the place changes: whether it talks, and whether it listens.
+    /// Changes the mode of the member on the place: whether it talks, and whether it listens.
     pub fn on_mode(&mut self, place: Place, talks: bool, listens: bool)
         requires { IsTrue (holds self.old place) }
         ensures edits { (es : List FlowEdit) → StandsFor self.old es →
@@ -171,8 +172,9 @@ impl FlowTable {
         room.set_mode(usize::from(place.seat), talks, listens);
     }
 
-    /// Applies all triples in the room, in order, so that of those that speak of a pair the last
-    /// one counts, or none of them, where a Oneway triple has a seat in both of its sets.
+    /// Applies triples in the room, in order, so that the last one that mentions a pair counts.
+    ///
+    /// If a Oneway triple has a seat in both of its sets, none is applied.
     pub fn on_triples(&mut self, room: u8, triples: &[Triple]) -> Result<(), Overlap>
         requires { room < context_limit }
         ensures overlap { IsErr result ↔ Any Overlaps triples.now }
@@ -189,7 +191,7 @@ impl FlowTable {
         spoken_of.apply(triples)
     }
 
-    /// Shows that each table stands for some list of edits, and does nothing.
+    /// Shows a proof that every table represents some list of edits. Has no effect.
     pub(crate) fn assert_invariant(&self)
         ensures { StandsForSome self.now }
     {

@@ -1,13 +1,13 @@
-//! For each listener of a gateway, the talkers that it hears and those that are silenced for it.
+//! For each listener, the talkers that it hears and those that are silenced.
 //!
-//! A gateway has [`CONTEXTS`] rooms, one for each of its contexts, and a member of a context has a
-//! [`Place`], which is the context's room and a seat in it. A [`FlowTable`] keeps a topology for
-//! each room, and for each place whether its member talks and whether it listens, which the stream
-//! modes say (RFC 3525, section 7.1.7). From these it keeps, for each listener, two sets of seats:
+//! A gateway has [`CONTEXTS`] rooms, one for each context. A member of a context has a [`Place`]: the room and a seat
+//! in it. A [`FlowTable`] keeps a topology for each room. For each place it keeps whether the member talks and whether
+//! it listens, by its stream mode (RFC 3525, section 7.1.7). From these it derives two sets of seats for each
+//! listener:
 //!
-//! - [`FlowTable::open`]: those whose speech goes to it. They talk, the listener listens, and the
-//!   last word on the two lets it hear them (RFC 3525, section 7.1.18).
-//! - [`FlowTable::silenced`]: the other talkers of the room whom the last word keeps from it.
+//! - [`FlowTable::open`]: those whose speech flows to it. They talk, it listens, and the last word on the two allows
+//!   it (RFC 3525, section 7.1.18).
+//! - [`FlowTable::silenced`]: the talkers of the room whom the last word keeps from it.
 //!
 //! ```rust
 //! let mut table = FlowTable::new(alloc)?;
@@ -19,11 +19,10 @@
 //! assert_eq!(rt; *table.silenced(second), 0b01);
 //! ```
 //!
-//! A table keeps no history. So its contracts speak of each list of edits that it stood for before
-//! a call, and say which list it stands for afterwards (`StandsFor` in `specs/Table.antt`). What a
-//! list of edits means stands in `specs/Edits.antt`, by looking backwards over the list, and
-//! [`theorems`] has what follows from that alone. Where there is no list at hand, the clauses `kept`,
-//! `place`, `places`, `hears` and `others` say what is kept, what changes, and what stays.
+//! A table keeps no history. So its contracts speak of every list of edits that it represents, before and after a call
+//! (`StandsFor` in `specs/Table.antt`). `specs/Edits.antt` defines what a list of edits means, looking backwards from
+//! the newest. [`theorems`] states what follows. For a proof without a list at hand, the clauses `kept`, `place`,
+//! `places`, `hears` and `others` say what is kept, what changes and what stays.
 #![tactic(auto)]
 
 mod flow_table;

@@ -7,12 +7,12 @@ ghost use Rattle.mg_flow.specs.aids.RoomFlows.{flows_to, is_blocked_for};
 use mg_topology::Topology;
 use mg_topology::mask::{self, Mask, SEATS};
 
-/// For each listener of a room, by its seat, two sets of talkers.
+/// Two sets of talkers for each listener of a room, by its seat.
 #[derive(Debug, Drop)]
 pub(crate) struct Masks {
-    /// Those whose speech goes to the listener.
+    /// The talkers whose speech flows to the listener.
     pub(crate) open: [Mask; SEATS],
-    /// Those whom the last word keeps from the listener.
+    /// The talkers whom the last word keeps from the listener.
     pub(crate) silenced: [Mask; SEATS],
 }
 
@@ -20,7 +20,7 @@ impl Masks {
     ghost use Rattle.mg_flow.specs.Table.{RoomFlows};
     ghost use Rattle.mg_flow.specs.aids.RoomFlows.{AreMasks};
 
-    /// The masks of a room by its topology, and by who talks and who listens.
+    /// Derives the masks of a room from its topology, and from who talks and who listens.
     pub(crate) fn of(topology: &Topology, talks: Mask, listens: Mask) -> Masks
         ensures { let room : RoomFlows =
             record { topology = topology.now; talks = talks; listens = listens } in
@@ -36,7 +36,7 @@ impl Masks {
     }
 }
 
-/// The talkers whose speech goes to the listener.
+/// Returns the talkers whose speech flows to the listener.
 fn open_row(topology: &Topology, talks: Mask, listens: Mask, listener: usize) -> Mask
     requires { listener < SEATS }
     ensures { (talker : ℕ) →
@@ -49,7 +49,7 @@ fn open_row(topology: &Topology, talks: Mask, listens: Mask, listener: usize) ->
     }
 }
 
-/// The talking members other than the listener whom the last word keeps from it.
+/// Returns the talkers other than the listener whom the last word keeps from it.
 fn silenced_row(topology: &Topology, talks: Mask, listener: usize) -> Mask
     requires { listener < SEATS }
     ensures { (talker : ℕ) →

@@ -1,7 +1,7 @@
-/// Where a member is: a room of the gateway, and a seat in it.
+/// The place of a member: a room of the gateway, and a seat in it.
 ///
-/// A room is a place for a context, a seat one for a member of it. Both are used again when the
-/// context has ended or the member has left.
+/// A room is for a context, a seat for a member of it. Both are reused after the context has ended or the member has
+/// left.
 #[derive(Clone, Copy, Debug, PartialEq, Eq, Hash)]
 pub struct Place {
     /// The room, below [`CONTEXTS`](crate::CONTEXTS).

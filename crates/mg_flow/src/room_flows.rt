@@ -10,8 +10,10 @@ use mg_topology::mask::{self, Mask};
 use mg_topology::{Overlap, Topology, Triple};
 use std::marker::Model;
 
-/// What is kept of one room. Contracts see its topology, and the masks of those who talk and of
-/// those who listen; the masks of each listener follow from these.
+/// The state of one room.
+///
+/// Contracts see its topology, and the masks of who talks and who listens; the masks of each listener follow from
+/// these.
 #[derive(Debug, Drop)]
 pub(crate) struct RoomFlows {
     topology: Topology,
@@ -36,7 +38,7 @@ impl Model for RoomFlows {
 impl RoomFlows {
     ghost use Rattle.mg_flow.specs.aids.RoomFlows.{IsVacant, SetsSeat};
 
-    /// A room that nobody has entered.
+    /// Returns a room without members.
     #[tactic(auto, using(crate::proofs::SeatLemmas::seat_rules))]
     pub(crate) fn new() -> Self
         ensures { IsVacant result }
@@ -69,7 +71,7 @@ impl RoomFlows {
         self.topology.hears(listener, talker)
     }
 
-    /// The talkers whose speech goes to the listener.
+    /// Returns the talkers whose speech flows to the listener.
     pub(crate) fn open(&self, listener: usize) -> &Mask
         requires { listener < seat_limit }
         ensures { (talker : ℕ) → has_seat result.now talker ≡
@@ -78,7 +80,7 @@ impl RoomFlows {
         &self.masks.open[listener]
     }
 
-    /// The talkers whom the last word keeps from the listener.
+    /// Returns the talkers whom the last word keeps from the listener.
     pub(crate) fn silenced(&self, listener: usize) -> &Mask
         requires { listener < seat_limit }
         ensures { (talker : ℕ) → has_seat result.now talker ≡
@@ -87,7 +89,7 @@ impl RoomFlows {
         &self.masks.silenced[listener]
     }
 
-    /// A member takes the free seat.
+    /// Lets a member take a free seat.
     pub(crate) fn enter(&mut self, seat: usize, talks: bool, listens: bool)
         requires below_limit { seat < seat_limit }
         requires free { IsFalse (holds self.old.topology seat) }
@@ -101,7 +103,7 @@ impl RoomFlows {
         self.masks = Masks::of(&self.topology, self.talks, self.listens);
     }
 
-    /// The member on the seat leaves.
+    /// Lets the member on the seat leave.
     pub(crate) fn leave(&mut self, seat: usize)
         requires { IsTrue (holds self.old.topology seat) }
         ensures edits { (es : List TopologyEdit) → StandsFor self.old.topology es →
@@ -114,7 +116,7 @@ impl RoomFlows {
         self.masks = Masks::of(&self.topology, self.talks, self.listens);
     }
 
-    /// The mode of the member on the seat changes.
+    /// Changes the mode of the member on the seat.
     pub(crate) fn set_mode(&mut self, seat: usize, does_talk: bool, does_listen: bool)
         requires { IsTrue (holds self.old.topology seat) }
         ensures topology { self.new.topology ≡ self.old.topology }

@@ -1,7 +1,7 @@
-//! Theorems on the definitions: what the edits of all rooms say, whatever keeps them.
+//! What the edits of all rooms determine, whatever stores them.
 //!
-//! Each function here does nothing, and its contract is the theorem. A crate above calls one where a
-//! proof needs what it says. The lists of edits stand newest first.
+//! The functions have empty bodies: their contracts are the theorems. A proof that needs one calls the function. Lists
+//! of edits have the newest first.
 
 ghost use Rattle.std.specs.Prelude.{◌≡◌, ℕ, ◌∷◌, ◌==◌, ◌&&◌, ◌||◌, Bool, true, false, if◌then◌else◌, List, IsTrue, IsFalse};
 ghost use Rattle.mg_topology.specs.declared.triple.Triple.{Triple};
@@ -13,14 +13,14 @@ ghost use Rattle.mg_flow.specs.Table.{StandsForSome};
 
 use crate::flow_table::FlowTable;
 
-/// Each table stands for some list of edits.
+/// Every table represents some list of edits.
 pub fn each_table_represents_edits(table: &FlowTable)
     ensures { StandsForSome table.now }
 {
     table.assert_invariant();
 }
 
-/// Which places are held after one more edit.
+/// How one more edit changes which places are held.
 pub fn edits_change_who_is_held()
     ensures enter { (es : List FlowEdit) (place p : Place) (talks listens : Bool) →
         is_held (Enter place talks listens ∷ es) p ≡
@@ -33,8 +33,9 @@ pub fn edits_change_who_is_held()
         is_held (Apply room triple ∷ es) p ≡ is_held es p }
 {}
 
-/// What the last word on two places of one room says after one more edit: an Enter of one of the
-/// two takes it back, and a triple in their room that speaks of them is the last word then.
+/// How one more edit changes the last word on two places of one room.
+///
+/// An Enter of one of the two removes it. A triple in their room that mentions them becomes the last word.
 pub fn edits_change_last_words()
     ensures enter { (es : List FlowEdit) (place a b : Place) (talks listens : Bool) → a.room ≡ b.room →
         may_hear (Enter place talks listens ∷ es) a b ≡
@@ -50,7 +51,7 @@ pub fn edits_change_last_words()
         else may_hear es a b) }
 {}
 
-/// For one who listens, each other talker of its room is either open or silenced.
+/// Each other talker of a listener's room is either open or silenced for it.
 pub fn talkers_are_open_or_silenced()
     ensures one { (es : List FlowEdit) (talker listener : Place) → IsTrue (listens_in es listener) →
         (flows_in es talker listener || is_silenced_in es talker listener) ≡
@@ -59,7 +60,7 @@ pub fn talkers_are_open_or_silenced()
         IsFalse (flows_in es talker listener && is_silenced_in es talker listener) }
 {}
 
-/// Nobody is silenced for a newcomer, nor it for anybody, whatever was said before of its place.
+/// Nobody is silenced for a newcomer, and it for nobody, whatever was said of its place before.
 pub fn newcomer_is_not_silenced()
     ensures { (es : List FlowEdit) (newcomer other : Place) (talks listens : Bool) →
         IsFalse (is_silenced_in (Enter newcomer talks listens ∷ es) other newcomer)

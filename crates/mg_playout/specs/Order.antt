@@ -1,5 +1,5 @@
--- What a play list has and gives, by sequence numbers (this project's own). No call is defined by
--- these words: the theorems say by them what the steps of a play list come to.
+-- Properties of play lists by sequence number, for the theorems (this project's own). No call is
+-- defined by these words.
 use Rattle.std.specs.Prelude.{◌≡◌, ℕ, zero, suc, ◌<◌, ℤ, List, drop, Option, Some, None, IfSome}
 use Rattle.std.specs.Prelude.{if◌then◌else◌}
 use Rattle.mg_g711.specs.Frame.{IsFrame}
@@ -11,7 +11,7 @@ use Rattle.mg_playout.specs.declared.played.Played.{Played}
 use Rattle.mg_playout.specs.declared.played.Played.TheVariants.{Silence}
 use Rattle.mg_playout.specs.declared.source.Source.{Source}
 
--- what holds of every play list
+-- the invariant of every play list
 pub record IsValidList (list : PlayList) : Type 0 where
   pub phase : HasTicksLeft list.phase
   pub last : IfSome list.last IsFrame
@@ -26,18 +26,17 @@ frame_from (Some source) places sequence = frame_at places (steps_between source
 abbrev pub frame_under : PlayList → ℕ → Option (List ℤ)
 frame_under list sequence = frame_from list.source list.places sequence
 
--- what the next tick gives after so many others, if no frame comes in between
+-- what the next tick plays after this many ticks without a new frame
 abbrev pub given_after : ℕ → PlayList → Played
 given_after zero list = (ticked list).1
 given_after (suc ticks) list = given_after ticks (ticked list).0
 
--- the frame whose turn comes right before that of the place, if there is one
+-- the frame just before that of the place in playing order, if there is one
 abbrev pub frame_before : FramePlaces → Option (List ℤ) → ℕ → Option (List ℤ)
 frame_before places last zero = last
 frame_before places last (suc place) = frame_at places place
 
--- what the turn of the place gives. There is no turn where neither this place nor one above has a
--- frame.
+-- What is played for the place. Nothing is if neither this place nor a later one has a frame.
 abbrev pub given_at : FramePlaces → Option (List ℤ) → ℕ → Played
 given_at places last place =
     if has_no_frame (drop place places) then Silence

@@ -1,23 +1,23 @@
--- What a play list gives in a tick (this project's own).
+-- What a play list plays in a tick (this project's own).
 use Rattle.std.specs.Prelude.{ℤ, Bool, true, false, List, map, Option, Some, None}
 use Rattle.mg_g711.specs.Frame.{halved}
 use Rattle.mg_playout.specs.declared.played.Played.{Played}
 use Rattle.mg_playout.specs.declared.played.Played.TheVariants.{Silence, Frame, Concealed}
 
--- what is given for the frame whose turn it is, by the one of the turn before: where it is missing,
--- that one halved toward zero
+-- what is played, by the frame that is due and the last frame. A missing frame is replaced by the
+-- last one, halved toward zero.
 abbrev pub given : Option (List ℤ) → Option (List ℤ) → Played
 given (Some frame) last = Frame frame
 given None (Some last) = Concealed (map halved last)
 given None None = Silence
 
--- the frame that is heard
+-- the frame that is heard, if any
 abbrev pub sound_of : Played → Option (List ℤ)
 sound_of Silence = None
 sound_of (Frame frame) = Some frame
 sound_of (Concealed frame) = Some frame
 
--- the frame, if it came in a packet
+-- the frame, if it was received in a packet
 abbrev pub frame_from_packet : Played → Option (List ℤ)
 frame_from_packet Silence = None
 frame_from_packet (Frame frame) = Some frame

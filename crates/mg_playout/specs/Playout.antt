@@ -1,4 +1,4 @@
--- What a play list is, and what each call does to it (this project's own).
+-- A play list, and what each call does to it (this project's own). It is the jitter buffer.
 use Rattle.std.specs.Prelude.{ℕ, ◌+◌, ◌-◌, ◌/◌, ◌%◌, ℤ, pos, neg_ℤ, nat_abs, int_lt, int_le, ◌||◌}
 use Rattle.std.specs.Prelude.{◌==◌, ◌≤◌, nat_le, if◌then◌else◌, List, length, slice_set, Option}
 use Rattle.std.specs.Prelude.{Some, None, is_some}
@@ -18,28 +18,28 @@ use Rattle.mg_playout.specs.declared.source.Source.{Source}
 use Rattle.mg_playout.specs.declared.turn.Turn.{Turn}
 use Rattle.mg_playout.specs.declared.turn.Turn.TheVariants.{Start, Late, Again, At, Push}
 
--- a play list: whether it gives frames, whose, the one of the turn before, and the places of those
--- that wait. Place i is that of the source's next sequence number plus i, modulo 65536.
+-- A play list: its phase, its source, the frame played last, and the places of the frames that
+-- wait. Place i belongs to the source's next sequence number plus i, modulo 65536.
 pub record PlayList : Type 0 where
   pub phase : Phase
   pub source : Option Source
   pub last : Option (List ℤ)
   pub places : FramePlaces
 
--- a wait lasts for at least one more tick
+-- a wait lasts at least one more tick
 abbrev pub HasTicksLeft : Phase → Type 0
 HasTicksLeft (Wait ticks) = 1 ≤ ticks
 HasTicksLeft phase = Unit {0}
 
--- the depth: how many places there are
+-- the depth: the number of places
 abbrev pub depth_of : PlayList → ℕ
 depth_of list = length list.places
 
--- what a play list begins as
+-- a new play list
 abbrev pub first_list : PlayList
 first_list = record { phase = Idle; source = None; last = None; places = empty_places first_depth }
 
--- a start: the frame's sequence number is the next one, and the wait is half of the depth in ticks
+-- a start: the frame's sequence number is the next one, and the wait in ticks is half the depth
 abbrev pub started : PlayList → ℕ → ℕ → List ℤ → PlayList
 started list ssrc sequence frame = record {
   phase = Wait (depth_of list / 2);
@@ -48,11 +48,11 @@ started list ssrc sequence frame = record {
   places = started_with frame (depth_of list);
 }
 
--- the source, so many sequence numbers on
+-- the source, with its next sequence number raised by `count`
 abbrev pub advanced : ℕ → Source → Source
 advanced count source = record { ssrc = source.ssrc; next = (source.next + count) % 65536 }
 
--- a shift: the next sequence number rises, and the frames fall, by so many
+-- a shift by `count`: the next sequence number rises, and every frame moves down
 abbrev pub shifted : PlayList → ℕ → PlayList
 shifted list count = record list {
   source = option_map (advanced count) list.source;
@@ -63,7 +63,7 @@ shifted list count = record list {
 abbrev pub filled : PlayList → ℕ → List ℤ → PlayList
 filled list place frame = record list { places = slice_set list.places place (Some frame) }
 
--- where a frame belongs that lies at no place below 0, by its place
+-- where a frame belongs whose place is not below 0
 abbrev pub turn_of_place : Phase → FramePlaces → ℕ → Turn
 turn_of_place Idle places place = Start
 turn_of_place phase places place =
@@ -71,20 +71,20 @@ turn_of_place phase places place =
     else if is_some (frame_at places place) then Again
     else At place
 
--- where a frame of the source belongs, by its distance from the next one
+-- where a frame of the current source belongs, by its distance from the next sequence number
 abbrev pub turn_at : PlayList → ℤ → Turn
 turn_at list distance =
     if int_lt distance (neg_ℤ (pos 100)) || int_le (pos 3000) distance then Start
     else if int_lt distance (pos 0) then Late
     else turn_of_place list.phase list.places (nat_abs distance)
 
--- where a frame belongs, by the first case that holds
+-- where a frame belongs: the first case that holds
 abbrev pub turn_of : PlayList → ℕ → ℕ → Turn
 turn_of list ssrc sequence =
     option_map_or (λ source. if ssrc == source.ssrc
     then turn_at list (distance_of source.next sequence) else Start) list.source Start
 
--- the play list with the frame where it belongs, and the answer
+-- the play list and the result after the frame is put where it belongs
 abbrev pub placed_at : Turn → PlayList → ℕ → ℕ → List ℤ → PlayList × Placed
 placed_at Start list ssrc sequence frame = (started list ssrc sequence frame, answer.Started)
 placed_at Late list ssrc sequence frame = (list, answer.Late)
@@ -93,12 +93,13 @@ placed_at (At place) list ssrc sequence frame = (filled list place frame, answer
 placed_at (Push count) list ssrc sequence frame =
     (filled (shifted list count) (depth_of list - 1) frame, answer.Pushed)
 
--- placing: the play list after a frame came, and the answer
+-- placing a frame: the play list after it, and the result
 abbrev pub placed : PlayList → ℕ → ℕ → List ℤ → PlayList × Placed
 placed list ssrc sequence frame = placed_at (turn_of list ssrc sequence) list ssrc sequence frame
 
--- a tick: the play list after it, and what it gives. The frame of this turn, or that it is missing,
--- is what the next turn finds. An empty list has no turn, and forgets the last frame.
+-- A tick: the play list after it, and what it plays. The next turn finds as the last frame what
+-- this turn had at place 0, a frame or none. An empty list has no turn, and forgets the last
+-- frame.
 abbrev pub ticked_in : Phase → PlayList → PlayList × Played
 ticked_in Idle list = (list, Silence)
 ticked_in (Wait ticks) list =
@@ -113,7 +114,6 @@ ticked_in Run list =
 abbrev pub ticked : PlayList → PlayList × Played
 ticked list = ticked_in list.phase list
 
--- the play list at another depth. Its phase stays, so how long it waits changes with its next
--- start.
+-- A change of depth. The phase stays, so a wait that has started keeps its length.
 abbrev pub with_depth : PlayList → ℕ → PlayList
 with_depth list depth = record list { places = resized list.places depth }

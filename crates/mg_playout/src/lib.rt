@@ -1,16 +1,15 @@
-//! A play list: it puts the frames of one RTP source into the order of their sequence numbers, and
-//! gives one frame a tick of 20 ms.
+//! The jitter buffer, called a play list: RTP frames in order of sequence number.
 //!
-//! A [`Playout`] has a place for each of the next sequence numbers (RFC 3550, section 5.1), as many
-//! as its depth. A frame is placed by its sequence number, not by when it came. After a start it
-//! waits for half of its depth in ticks, so that frames which come late or out of order still
-//! find their place. Then each tick gives the frame of the next number, if it has come, until none
-//! is left. For one that is missing it gives the frame before it once more, at half of its level. For
-//! a second one in a row it gives silence.
+//! It plays one frame in each tick of 20 ms.
 //!
-//! A frame starts the list if there is none to follow: at first, after the list ran empty, from
-//! another source, and where its number lies [`MAX_DROPOUT`] or more ahead, or more than
-//! [`MAX_MISORDER`] behind.
+//! A [`Playout`] has a place for each of the next sequence numbers (RFC 3550, section 5.1); the number of places is
+//! its depth. A frame is placed by its sequence number, whenever it arrives. After a start the list waits for half its
+//! depth in ticks, so that late and reordered frames still find their place. Then each tick plays the next frame,
+//! until none is left. A missing frame is replaced by the one before it at half its level; a second one in a row is
+//! silence.
+//!
+//! A frame starts the list if there is no sequence to continue: at first, after the list ran empty, or if the source
+//! changes. It also does if its number is [`MAX_DROPOUT`] or more ahead, or more than [`MAX_MISORDER`] behind.
 //!
 //! ```rust
 //! let mut playout = Playout::new(alloc)?;
@@ -22,11 +21,10 @@
 //! assert_eq!(rt; playout.tick(), Played::Frame(second));
 //! ```
 //!
-//! [`Playout::new`] takes the memory for [`MAX_DEPTH`] places and the last frame, and no other call
-//! takes any.
+//! [`Playout::new`] allocates memory for [`MAX_DEPTH`] places and the last frame. No other call allocates.
 //!
-//! The rules are this project's own. They stand in `specs/Playout.antt`, and each call is one step of
-//! them. [`theorems`] says what the steps come to.
+//! The rules are this project's own. `specs/Playout.antt` defines them; each call is one step. [`theorems`] states
+//! what follows.
 #![tactic(auto)]
 
 mod phase;
@@ -42,7 +40,7 @@ mod turn;
 pub use mg_words::{FIRST_DEPTH, MAX_DEPTH, MIN_DEPTH};
 pub use phase::Phase;
 pub use placed::Placed;
-// A crate can name a play list in a contract only if the types of its fields are exported.
+// A contract of another crate can name a play list only if the types of its fields are exported.
 #[doc(hidden)]
 pub use places::Places;
 pub use played::Played;

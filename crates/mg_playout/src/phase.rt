@@ -1,10 +1,10 @@
-/// Whether a play list gives frames.
+/// Whether a play list is idle, waiting or playing.
 #[derive(Clone, Copy, Debug, PartialEq, Eq, Hash)]
 pub enum Phase {
-    /// It gives none until a packet starts it.
+    /// Plays nothing until a frame starts it.
     Idle,
-    /// It has started, and gives none for this many ticks, at least one.
+    /// Has started, and plays nothing for this many ticks, at least one.
     Wait(u8),
-    /// Each tick gives the next frame, if it is there.
+    /// Plays the next frame in each tick, if it has arrived.
     Run,
 }

@@ -1,14 +1,14 @@
-/// What became of a frame that was to be placed.
+/// The result of placing a frame.
 #[derive(Clone, Copy, Debug, PartialEq, Eq, Hash)]
 pub enum Placed {
-    /// The play list started anew with this frame, and dropped all others.
+    /// The play list restarted with this frame, and dropped all others.
     Started,
     /// The frame is at its place.
     Placed,
-    /// The frame is at the last place. Earlier ones were dropped to make room.
+    /// The frame is at the last place. Frames at the first places were dropped to make room.
     Pushed,
-    /// There is a frame of this sequence number already, which stays. This one was dropped.
+    /// A frame with this sequence number is already there and stays. This one was dropped.
     Again,
-    /// The turn of this sequence number is over. The frame was dropped.
+    /// This sequence number's turn is over. The frame was dropped.
     Late,
 }

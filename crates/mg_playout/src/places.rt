@@ -13,12 +13,10 @@ use mg_words::{FIRST_DEPTH, MAX_DEPTH, MIN_DEPTH};
 use std::alloc::{AllocError, Global};
 use std::marker::Model;
 
-/// The frame of the turn before, and those that wait for their turn, by place. Place 0 is the next
-/// one to be played.
+/// The frame played last, and the frames that wait, by place. Place 0 is played next.
 ///
-/// The ring's first item is the last frame, and it has an item for each place. So a turn moves no
-/// frame: what was at place 0 becomes the last frame where it lies. Contracts see the record
-/// `KeptFrames` of `specs/Places.antt`.
+/// The ring's first item is the last frame, followed by an item for each place. So a turn moves no frame: what was at
+/// place 0 becomes the last frame. Contracts see the record `KeptFrames` of `specs/Places.antt`.
 #[derive(Drop)]
 pub struct Places {
     ring: HeapCircularBuffer<Option<Frame>>,
@@ -40,7 +38,7 @@ impl Model for Places {
 impl Places {
     ghost use Rattle.mg_playout.specs.Places.{ArePlaces};
 
-    /// As many empty places as a play list begins with, and no last frame.
+    /// Returns the empty places of a new play list, without a last frame.
     pub(crate) fn new(alloc: Global) -> Result<Self, AllocError>
         ensures last { IfOk result (λ kept. kept.last ≡ None) }
         ensures places { IfOk result (λ kept. kept.places ≡ empty_places FIRST_DEPTH) }
@@ -50,7 +48,7 @@ impl Places {
         Ok(Places { ring })
     }
 
-    /// Shows what holds of the frames of every play list, and does nothing.
+    /// Shows a proof the invariant of the frames. Has no effect.
     pub(crate) fn assert_invariant(&self)
         ensures last { IfSome self.now.last IsFrame }
         ensures places { ArePlaces self.now.places }
@@ -58,7 +56,7 @@ impl Places {
         let _ring = &self.ring;
     }
 
-    /// How many places there are.
+    /// Returns the number of places.
     pub(crate) fn depth(&self) -> usize
         ensures depth { result ≡ length self.now.places }
         ensures at_least { MIN_DEPTH ≤ result }
@@ -67,7 +65,7 @@ impl Places {
         self.ring.len() - 1
     }
 
-    /// Whether no place is filled.
+    /// Returns whether no place has a frame.
     pub(crate) fn is_empty(&self) -> bool
         ensures { result ≡ has_no_frame self.now.places }
     {
@@ -76,7 +74,7 @@ impl Places {
         items.all(|place| place.is_none())
     }
 
-    /// Whether the place is filled.
+    /// Returns whether the place has a frame.
     #[tactic(auto, using(crate::proofs::RingLemmas::flatten_of_get))]
     pub(crate) fn is_filled(&self, place: usize) -> bool
         requires { place < length self.now.places }
@@ -85,7 +83,7 @@ impl Places {
         matches!(self.ring.get(place + 1), Some(Some(_)))
     }
 
-    /// Fills the place.
+    /// Puts a frame at a place.
     pub(crate) fn put(&mut self, place: usize, frame: Frame)
         requires { place < length self.old.places }
         ensures last { self.new.last ≡ self.old.last }
@@ -97,7 +95,7 @@ impl Places {
         }
     }
 
-    /// Drops all frames and fills place 0.
+    /// Drops all frames and puts one at place 0.
     pub(crate) fn start(&mut self, frame: Frame)
         ensures last { self.new.last ≡ None }
         ensures places { self.new.places ≡ started_with frame (length self.old.places) }
@@ -110,7 +108,7 @@ impl Places {
         append_empty(&mut self.ring, len - 2);
     }
 
-    /// Moves each frame down by this many places. Those that have none to go to are dropped.
+    /// Moves each frame down by `count` places. Frames that would fall below place 0 are dropped.
     pub(crate) fn shift(&mut self, count: usize)
         ensures last { self.new.last ≡ self.old.last }
         ensures places { self.new.places ≡ fallen self.old.places count }
@@ -123,7 +121,7 @@ impl Places {
         append_empty(&mut self.ring, depth - kept);
     }
 
-    /// Gives what the turn of place 0 gives, and moves the others down by one place.
+    /// Plays place 0, and moves the other frames down by one place.
     pub(crate) fn give(&mut self) -> Played
         ensures last { self.new.last ≡ frame_at self.old.places 0 }
         ensures places { self.new.places ≡ fallen self.old.places 1 }
@@ -137,7 +135,7 @@ impl Places {
         played
     }
 
-    /// Forgets the last frame.
+    /// Drops the last frame.
     pub(crate) fn forget(&mut self)
         ensures last { self.new.last ≡ None }
         ensures places { self.new.places ≡ self.old.places }
@@ -147,7 +145,7 @@ impl Places {
         }
     }
 
-    /// Drops the frames at the places from the depth on.
+    /// Changes the depth. Frames at places that no longer exist are dropped.
     pub(crate) fn set_depth(&mut self, depth: usize)
         requires at_least { MIN_DEPTH ≤ depth }
         requires at_most { depth ≤ MAX_DEPTH }
@@ -159,7 +157,7 @@ impl Places {
         append_empty(&mut self.ring, missing);
     }
 
-    /// Goes back to as many empty places as a play list begins with, and no last frame.
+    /// Drops all frames, and returns to the depth of a new play list.
     pub(crate) fn clear(&mut self)
         ensures last { self.new.last ≡ None }
         ensures places { self.new.places ≡ empty_places FIRST_DEPTH }
@@ -169,7 +167,7 @@ impl Places {
     }
 }
 
-/// What is given for the frame of a place, by the last frame.
+/// Returns what is played, by the frame that is due and the last frame.
 fn given(frame: Option<&Option<Frame>>, last: Option<&Option<Frame>>) -> Played
     ensures value { result ≡ given (option_flatten (option_copied frame.entry))
         (option_flatten (option_copied last.entry)) }
@@ -183,7 +181,7 @@ fn given(frame: Option<&Option<Frame>>, last: Option<&Option<Frame>>) -> Played
     }
 }
 
-/// Appends places without a frame.
+/// Appends empty places.
 fn append_empty(ring: &mut HeapCircularBuffer<Option<Frame>>, count: usize)
     requires { length ring.old.items + count ≤ ring.old.capacity }
     ensures { ring.new ≡ buffer (ring.old.items ++ empty_places count) ring.old.capacity }

@@ -4,19 +4,19 @@ ghost use Rattle.mg_playout.specs.Played.{is_concealed, sound_of};
 
 use mg_g711::Frame;
 
-/// What a play list gives in a tick.
+/// What a play list plays in a tick.
 #[derive(Clone, Copy, Debug, PartialEq, Eq, Hash)]
 pub enum Played {
     /// No sound: 20 ms of zeros.
     Silence,
-    /// The frame whose turn it is.
+    /// The frame that is due.
     Frame(Frame),
-    /// In place of a missing frame, the one before it at half of its level.
+    /// The frame before a missing one, at half its level.
     Concealed(Frame),
 }
 
 impl Played {
-    /// The frame that is heard, if it is no silence.
+    /// Returns the frame that is heard, or `None` for silence.
     pub fn sound(&self) -> Option<&Frame>
         ensures { option_copied result ≡ sound_of self.now }
     {
@@ -26,7 +26,7 @@ impl Played {
         }
     }
 
-    /// Whether it stands in for a missing frame.
+    /// Returns whether a frame replaces a missing one.
     pub fn is_concealed(&self) -> bool
         ensures { result ≡ is_concealed self.now }
     {

@@ -14,7 +14,7 @@ use mg_words::{MAX_DEPTH, MIN_DEPTH};
 use std::alloc::{AllocError, Global};
 use std::marker::Model;
 
-/// The frames of one RTP source, in the order of their sequence numbers.
+/// A jitter buffer: the frames of one RTP source, in order of sequence number.
 ///
 /// Contracts see a play list as the record `PlayList` of `specs/Playout.antt`.
 #[derive(Drop)]
@@ -42,9 +42,9 @@ impl Playout {
     ghost use Rattle.mg_playout.specs.Played.{given, sound_of};
     ghost use Rattle.mg_playout.specs.Order.{IsValidList};
 
-    /// An idle play list without a source, with a depth of four places.
+    /// Makes an idle play list without a source, with a depth of four places.
     ///
-    /// It takes the memory for the most places that there may be. Fails only where that is refused.
+    /// It allocates memory for the greatest depth. Fails only if the allocation does.
     pub fn new(alloc: Global) -> Result<Self, AllocError>
         ensures first { IfOk result (λ playout. playout ≡ first_list) }
     {
@@ -55,7 +55,7 @@ impl Playout {
         })
     }
 
-    /// Places a frame by its source and its sequence number, and says what became of it.
+    /// Places a frame by its source and its sequence number. Returns the result.
     pub fn place(&mut self, ssrc: u32, sequence: u16, frame: Frame) -> Placed
         ensures step { placed self.old ssrc sequence frame ≡ (self.new, result) }
     {
@@ -79,8 +79,8 @@ impl Playout {
         }
     }
 
-    /// Passes on by 20 ms, and gives the frame whose turn it is. Where that is missing, the one of the
-    /// turn before is given once more at half of its level.
+    /// Advances by 20 ms, and returns the frame that is due. A missing frame is replaced by the last one at half its
+    /// level.
     pub fn tick(&mut self) -> Played
         ensures step { ticked self.old ≡ (self.new, result) }
         ensures frame { IfSome (sound_of result) IsFrame }
@@ -104,9 +104,9 @@ impl Playout {
         }
     }
 
-    /// Sets the depth, in places. The frames at the places from it on are dropped.
+    /// Sets the depth, in places of 20 ms. Frames at places that no longer exist are dropped.
     ///
-    /// How long the play list waits changes with its next start.
+    /// A wait that has started keeps its length.
     pub fn set_depth(&mut self, depth: usize)
         requires at_least { MIN_DEPTH ≤ depth }
         requires at_most { depth ≤ MAX_DEPTH }
@@ -115,7 +115,7 @@ impl Playout {
         self.places.set_depth(depth);
     }
 
-    /// Goes back to the first state, with its depth of four places.
+    /// Returns to the state of a new play list, with its depth of four places.
     pub fn clear(&mut self)
         ensures first { self.new ≡ first_list }
     {
@@ -124,7 +124,7 @@ impl Playout {
         self.places.clear();
     }
 
-    /// Shows what holds of every play list, and does nothing.
+    /// Shows a proof the invariant of every play list. Has no effect.
     pub(crate) fn assert_invariant(&self)
         ensures { IsValidList self.now }
     {
@@ -132,7 +132,7 @@ impl Playout {
         let _next = self.source.map(|source| source.next);
     }
 
-    /// Where the frame of a packet belongs.
+    /// Returns where the frame of a packet belongs.
     fn turn(&self, ssrc: u32, sequence: u16) -> Turn
         ensures { result ≡ turn_of self.now ssrc sequence }
     {
@@ -142,7 +142,7 @@ impl Playout {
         }
     }
 
-    /// Where a frame of the source belongs, by its distance from the next one.
+    /// Returns where a frame of the current source belongs, by its distance from the next sequence number.
     fn turn_at(&self, distance: i16) -> Turn
         ensures { result ≡ turn_at self.now distance }
     {
@@ -166,7 +166,7 @@ impl Playout {
         }
     }
 
-    /// Starts anew with a frame of the source, whose sequence number becomes the next one.
+    /// Restarts with a frame, whose sequence number becomes the next one.
     fn start(&mut self, ssrc: u32, sequence: u16, frame: Frame)
         ensures { self.new ≡ started self.old ssrc sequence frame }
     {
@@ -178,7 +178,7 @@ impl Playout {
         self.places.start(frame);
     }
 
-    /// Raises the next sequence number, and lets the frames fall by as many places.
+    /// Raises the next sequence number, and moves every frame down by as many places.
     fn shift(&mut self, count: usize)
         requires { count < 65536 }
         ensures { self.new ≡ shifted self.old count }
@@ -188,7 +188,7 @@ impl Playout {
         self.places.shift(usize::from(count));
     }
 
-    /// Gives what the turn of place 0 gives, and shifts by one.
+    /// Plays place 0, and shifts by one.
     fn advance(&mut self) -> Played
         ensures list { self.new ≡ record (shifted self.old 1) { last = frame_at self.old.places 0 } }
         ensures value { result ≡ given (frame_at self.old.places 0) self.old.last }

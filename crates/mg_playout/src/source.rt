@@ -1,6 +1,6 @@
 ghost use Rattle.std.specs.Prelude.{◌≡◌};
 
-/// Whom a play list plays, and what it plays next.
+/// The source that a play list plays, and its next sequence number.
 #[derive(Clone, Copy, Debug, PartialEq, Eq, Hash)]
 pub struct Source {
     /// The synchronization source that sent the frames (RFC 3550, section 3).
@@ -12,7 +12,7 @@ pub struct Source {
 impl Source {
     ghost use Rattle.mg_playout.specs.Playout.{advanced};
 
-    /// The same source, so many sequence numbers on.
+    /// Returns the source with its next sequence number raised by `count`.
     pub(crate) fn advanced(self, count: u16) -> Self
         ensures { result ≡ advanced count self }
     {

@@ -1,6 +1,6 @@
-//! What the steps of a play list come to, whatever keeps it.
+//! Properties of play lists.
 //!
-//! The functions here do nothing: their contracts are the theorems, in the words of `specs/Order.antt`.
+//! The functions have empty bodies: their contracts are the theorems, in the words of `specs/Order.antt`.
 
 ghost use Rattle.std.specs.Prelude.{◌≡◌, ◌≢◌, ℕ, ◌+◌, ◌%◌, ◌<◌, ◌≤◌, ℤ, ◌+ℤ◌, pos, List, length, map, Option, Some, None, FitsSigned};
 ghost use Rattle.std.specs.Int.{w16, int_rem_euclid};
@@ -17,21 +17,21 @@ use crate::played::Played;
 use crate::playout::Playout;
 use crate::source::Source;
 
-/// Each play list has 2 to 16 places, each of its frames is whole, and no wait of it is over.
+/// Every play list has 2 to 16 places, valid frames, and a wait of at least one tick if it waits.
 pub fn play_lists_are_valid(list: &Playout)
     ensures { IsValidList list.now }
 {
     list.assert_invariant();
 }
 
-/// The distance between two sequence numbers leads from the one to the other, modulo 65536.
+/// Adding the distance between two sequence numbers to the first gives the second, modulo 65536.
 pub fn distances_recover_the_number()
     ensures range { (from to : ℕ) → FitsSigned w16 (distance_of from to) }
     ensures sum { (from to : ℕ) → from < 65536 → to < 65536 →
         int_rem_euclid (pos from +ℤ distance_of from to) (pos 65536) ≡ pos to }
 {}
 
-/// A frame that is taken in waits under its own sequence number, whenever it came.
+/// A frame that is accepted waits under its own sequence number, whenever it arrives.
 pub fn placed_frame_waits_under_its_number()
     ensures { (list : PlayList) (ssrc sequence : ℕ) (frame : List ℤ) →
         IsValidList list → sequence < 65536 →
@@ -40,8 +40,7 @@ pub fn placed_frame_waits_under_its_number()
         frame_under (placed list ssrc sequence frame).0 sequence ≡ Some frame }
 {}
 
-/// The other frames stay under their sequence numbers while there is a place for them. A start drops
-/// them all.
+/// The other frames stay under their sequence numbers while there is a place for them. A start drops them all.
 pub fn other_frames_keep_their_numbers()
     ensures stay { (list : PlayList) (ssrc sequence : ℕ) (frame : List ℤ) (after : Source) (other : ℕ) →
         IsValidList list → sequence < 65536 → other < 65536 → other ≢ sequence →
@@ -55,9 +54,9 @@ pub fn other_frames_keep_their_numbers()
         frame_under (placed list ssrc sequence frame).0 other ≡ None }
 {}
 
-/// While no frame comes, a play list that runs gives the frames in the order of their sequence
-/// numbers, one a tick, and none of a packet where one is missing. One that waits does so when its wait
-/// is over.
+/// Without new frames, a running play list plays its frames in order of sequence number, one a tick.
+///
+/// A place without a frame plays no frame of a packet. A waiting list does the same when its wait is over.
 pub fn ticks_give_frames_in_order()
     ensures run { (list : PlayList) (ticks : ℕ) → list.phase ≡ Phase.Run →
         given_after ticks list ≡ given_at list.places list.last ticks }
@@ -74,8 +73,9 @@ pub fn ticks_give_frames_in_order()
         frame_at list.places place ≡ frame_under list ((source.next + place) % 65536) }
 {}
 
-/// One missing frame between two that came is concealed by the one before it, halved. So is the one of
-/// place 0, if the last turn had a frame.
+/// One missing frame between two received ones is concealed by the one before it, halved.
+///
+/// So is a missing frame at place 0, if there is a last frame.
 pub fn one_missing_frame_is_concealed()
     ensures next { (places : FramePlaces) (last after : List ℤ) →
         frame_at places 0 ≡ None → frame_at places 1 ≡ Some after →

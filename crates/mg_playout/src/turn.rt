@@ -1,14 +1,14 @@
 /// Where the frame of a packet belongs in a play list.
 #[derive(Clone, Copy, Debug)]
 pub(crate) enum Turn {
-    /// At the first place of a list that starts anew.
+    /// At the first place, after a restart.
     Start,
-    /// Nowhere, as its turn is over.
+    /// Nowhere: its turn is over.
     Late,
-    /// Nowhere, as its place is filled.
+    /// Nowhere: its place already has a frame.
     Again,
     /// At this place.
     At(usize),
-    /// At the last place, after a shift by this many.
+    /// At the last place, after a shift by this many places.
     Push(usize),
 }

@@ -1,4 +1,4 @@
--- How far the scanning of a source has come, and one step of it.
+-- The state of a scanner, and one step of it.
 use Rattle.std.specs.Prelude.{◌≡◌, ℕ, Bool, ◌+◌, ◌<◌, ◌≤◌, List, [], drop, length, Option, Some}
 use Rattle.std.specs.Prelude.{None, Result, Ok, Err}
 use Rattle.mg_scan.specs.declared.token.Token.{Token}
@@ -6,17 +6,17 @@ use Rattle.mg_scan.specs.declared.fault.ScanFault.{ScanFault}
 use Rattle.mg_scan.specs.Span.{text_of}
 use Rattle.mg_scan.specs.Tokens.{first_token, token_and_rest, closing_len, names_octets}
 
--- a place in a source, and whether the token before it names a session description
+-- a position in a source, and whether the last token announces a session description
 pub record Scanning : Type 0 where
   pub source : List ℕ
   pub at : ℕ
   pub named : Bool
 
--- what is not scanned yet
+-- the bytes that are not scanned yet
 abbrev pub rest_of : Scanning → List ℕ
 rest_of s = drop s.at s.source
 
--- A token that lies after the old place and before the new one, and is the first of the rest. Its
+-- A token lies between the old position and the new one, and is the first token of the rest. Its
 -- text is the part of the source that its span names.
 pub record IsNext (old : Scanning) (token : Token) (new : Scanning) : Type 0 where
   pub start : old.at ≤ token.span.start
@@ -28,7 +28,7 @@ pub record IsNext (old : Scanning) (token : Token) (new : Scanning) : Type 0 whe
   pub is : first_token old.named (rest_of old)
       ≡ token_and_rest token.kind (text_of old.source token.span) (rest_of new)
 
--- One step: a token, a fault, or the end. After a fault and at the end there is nothing left.
+-- One step: a token, a fault, or the end. After a fault or the end nothing is left.
 abbrev pub IsStep : Scanning → Option (Result Token ScanFault) → Scanning → Type 0
 IsStep old None new = (first_token old.named (rest_of old) ≡ None) × (rest_of new ≡ [])
 IsStep old (Some (Err f)) new =

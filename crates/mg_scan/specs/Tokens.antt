@@ -1,5 +1,5 @@
--- The tokens of a text, by its bytes (RFC 3525, Annex B.2; which words and white space there are is
--- the profile of this gateway).
+-- The tokens of a text (RFC 3525, Annex B.2). Which bytes are words and white space is this
+-- gateway's profile.
 use Rattle.std.specs.Prelude.{ℕ, ◌+◌, Bool, true, false, ◌||◌, ◌&&◌, ◌==◌, not, List, [], ◌∷◌, ◌++◌}
 use Rattle.std.specs.Prelude.{take, drop, Option, Some, None, Result, Ok, Err, codes, if◌then◌else◌}
 use Rattle.std.specs.List.{prefix_len, position_or_len, list_any}
@@ -13,15 +13,15 @@ use Rattle.mg_scan.specs.declared.kind.TokenKind.TheVariants.{Quoted, Octets}
 use Rattle.mg_scan.specs.declared.fault.ScanFault.{ScanFault}
 use Rattle.mg_scan.specs.declared.fault.ScanFault.TheVariants.{BadByte, OpenQuote, OpenOctets}
 
--- space, tab or line end
+-- a space, a tab or a line end
 abbrev pub is_blank : ℕ → Bool
 is_blank b = b == 32 || b == 9 || is_line_end b
 
--- a byte at which a quoted text ends, well or not
+-- a byte that ends a quoted text, properly or not
 abbrev pub is_quote_end : ℕ → Bool
 is_quote_end b = b == 34 || b == 13 || b == 10
 
--- What stands after white space, which may begin inside a comment.
+-- The bytes after white space, which may start inside a comment.
 unfoldable pub after_white : Bool → List ℕ → List ℕ
 after_white inside [] = []
 after_white inside (b ∷ bs) =
@@ -36,7 +36,7 @@ pub record Piece : Type 0 where
   pub kind : TokenKind
   pub text : List ℕ
 
--- a token and the bytes after it
+-- a token, and the bytes after it
 pub record TokenAndRest : Type 0 where
   pub piece : Piece
   pub rest : List ℕ
@@ -45,16 +45,16 @@ abbrev pub token_and_rest : TokenKind → List ℕ → List ℕ → Option (Resu
 token_and_rest kind text rest =
     Some (Ok (record { piece = record { kind = kind; text = text }; rest = rest }))
 
--- the end of a quoted text and what follows it
+-- a quoted text with what follows it, if it is closed
 abbrev pub closed_at : List ℕ → List ℕ → Option (Result TokenAndRest ScanFault)
 closed_at text [] = Some (Err OpenQuote)
 closed_at text (b ∷ bs) = if b == 34 then token_and_rest Quoted text bs else Some (Err OpenQuote)
 
--- the text after an opening quote
+-- the quoted text after an opening quotation mark
 abbrev pub quoted_at : List ℕ → Option (Result TokenAndRest ScanFault)
 quoted_at bs = let n = position_or_len is_quote_end bs in closed_at (take n bs) (drop n bs)
 
--- the token that begins with the first byte
+-- the token that starts at the first byte
 unfoldable pub token_at : List ℕ → Option (Result TokenAndRest ScanFault)
 token_at [] = None
 token_at (b ∷ bs) =
@@ -67,18 +67,18 @@ token_at (b ∷ bs) =
     else (if b == 34 then quoted_at bs
     else Some (Err BadByte))))))
 
--- How many bytes stand before the brace that closes a session description: the first without a
--- backslash before it. The byte before the first one may be a backslash.
+-- The number of bytes before the brace that closes a session description: the first one without a
+-- backslash before it. Whether the byte before the list is a backslash is given.
 unfoldable pub content_len : Bool → List ℕ → Option ℕ
 content_len escaped [] = None
 content_len escaped (b ∷ bs) =
     if b == 125 && not escaped then Some 0 else option_map (λ n. 1 + n) (content_len (b == 92) bs)
 
--- a byte 0 stands among the bytes
+-- whether a byte is 0
 abbrev pub has_null : List ℕ → Bool
 has_null bs = list_any (λ b. b == 0) bs
 
--- a session description of so many bytes, if it is closed
+-- a session description of this many bytes, if it is closed
 abbrev pub octets_closed : List ℕ → Option ℕ → Option (Result TokenAndRest ScanFault)
 octets_closed bs None = if has_null bs then Some (Err BadByte) else Some (Err OpenOctets)
 octets_closed bs (Some n) =
@@ -89,12 +89,13 @@ octets_closed bs (Some n) =
 abbrev pub octets_at : List ℕ → Option (Result TokenAndRest ScanFault)
 octets_at bs = octets_closed bs (content_len false bs)
 
--- the token that begins with the first byte, where the token before may name a session description
+-- the token that starts at the first byte, if the token before it may announce a session
+-- description
 unfoldable pub token_after : Bool → List ℕ → Option (Result TokenAndRest ScanFault)
 token_after named [] = None
 token_after named (b ∷ bs) = if named && b == 123 then octets_at bs else token_at (b ∷ bs)
 
--- whether a session description follows a token
+-- whether the token announces a session description
 unfoldable pub names_octets : TokenKind → List ℕ → Bool
 names_octets Word text =
     str_eq_ignore_ascii_case text (codes "Local") || str_eq_ignore_ascii_case text (codes "L")
@@ -105,7 +106,7 @@ names_octets _ text = false
 abbrev pub first_token : Bool → List ℕ → Option (Result TokenAndRest ScanFault)
 first_token named bytes = token_after named (after_white false bytes)
 
--- a token as it stands in its source
+-- the spelling of a token in its source
 abbrev pub spelled : TokenKind → List ℕ → List ℕ
 spelled Quoted text = 34 ∷ (text ++ 34 ∷ [])
 spelled Octets text = 123 ∷ (text ++ 125 ∷ [])

@@ -3,8 +3,8 @@ use Rattle.std.specs.Prelude.{◌≡◌, ℕ, Bool, true, false, List, [], ◌�
 use Rattle.mg_words.specs.LineEnd.{is_line_end}
 use Rattle.mg_scan.specs.Tokens.{is_blank}
 
--- Blanks and comments, one after another. A comment goes from a semicolon to the end of its line,
--- or of the text. White space may begin inside a comment.
+-- Blanks and comments, one after another. A comment goes from a semicolon to the end of its line
+-- or of the text. White space may start inside a comment.
 pub data IsWhite : Bool → List ℕ → Type 0 where
   nothing : (inside : Bool) → IsWhite inside []
   blank : (b : ℕ) (bs : List ℕ) → is_blank b ≡ true → IsWhite false bs → IsWhite false (b ∷ bs)

@@ -6,21 +6,21 @@ ghost use Rattle.mg_scan.specs.Tokens.{is_blank, after_white};
 
 use mg_words::is_word_byte;
 
-/// Whether a byte ends a line: CR or LF.
+/// Returns whether a byte is CR or LF.
 fn is_line_end(b: u8) -> bool
     ensures { result ≡ is_line_end b }
 {
     b == b'\r' || b == b'\n'
 }
 
-/// Whether a byte is a space, a tab or the end of a line.
+/// Returns whether a byte is a space, a tab, CR or LF.
 fn is_blank(b: u8) -> bool
     ensures { result ≡ is_blank b }
 {
     b == b' ' || b == b'\t' || is_line_end(b)
 }
 
-/// How many bytes the word at the front has.
+/// Returns the length in bytes of the word that the bytes start with.
 pub fn word_len(bytes: &[u8]) -> usize
     ensures in_range { result ≤ length bytes.now }
     ensures value { result ≡ prefix_len is_word_byte bytes.now }
@@ -28,7 +28,7 @@ pub fn word_len(bytes: &[u8]) -> usize
     bytes.iter().take_while(|b| is_word_byte(**b)).count()
 }
 
-/// How many bytes a comment has before its line's end.
+/// Returns how many bytes a comment has before its line ends.
 fn comment_len(bytes: &[u8]) -> usize
     ensures in_range { result ≤ length bytes.now }
     ensures value { result ≡ position_or_len is_line_end bytes.now }
@@ -36,7 +36,7 @@ fn comment_len(bytes: &[u8]) -> usize
     bytes.iter().take_while(|b| !is_line_end(**b)).count()
 }
 
-/// How many bytes of white space and comments there are at the front.
+/// Returns how many bytes of white space and comments the bytes start with.
 #[tactic(auto, using(crate::proofs::WhiteSteps::steps))]
 pub fn white_len(bytes: &[u8]) -> usize
     ensures in_range { result ≤ length bytes.now }

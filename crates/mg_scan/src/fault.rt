@@ -1,7 +1,7 @@
 /// Why a source has no further token.
 #[derive(Clone, Copy, Debug, PartialEq, Eq)]
 pub enum ScanFault {
-    /// A byte begins no token, or a byte 0 stands in a session description.
+    /// A byte starts no token, or a session description has a byte 0.
     BadByte,
     /// A line or the source ends before a quotation mark is closed.
     OpenQuote,

@@ -10,7 +10,7 @@ use crate::octets::content_len;
 use memchr::memchr3;
 use mg_words::is_word_byte;
 
-/// The text after an opening quotation mark, which is the first of the bytes.
+/// Returns the quoted text of bytes that start with a quotation mark.
 fn quoted_at(bytes: &[u8]) -> Option<Result<Found, ScanFault>>
     requires { 0 < length bytes.now }
     ensures { FindsAs bytes.now (quoted_at (drop 1 bytes.now)) result }
@@ -27,7 +27,7 @@ fn quoted_at(bytes: &[u8]) -> Option<Result<Found, ScanFault>>
     }
 }
 
-/// The token at the front, unless the bytes are empty.
+/// Returns the token that the bytes start with, or `None` if there are no bytes.
 #[tactic(auto, unfolding(crate::specs::Tokens::token_at))]
 fn token_at(bytes: &[u8]) -> Option<Result<Found, ScanFault>>
     ensures { FindsAs bytes.now (token_at bytes.now) result }
@@ -52,7 +52,7 @@ fn token_at(bytes: &[u8]) -> Option<Result<Found, ScanFault>>
     }
 }
 
-/// The session description after an opening brace, which is the first of the bytes.
+/// Returns the session description of bytes that start with a brace.
 fn octets_at(bytes: &[u8]) -> Option<Result<Found, ScanFault>>
     requires { 0 < length bytes.now }
     ensures { FindsAs bytes.now (octets_at (drop 1 bytes.now)) result }
@@ -78,7 +78,7 @@ fn octets_at(bytes: &[u8]) -> Option<Result<Found, ScanFault>>
     }))
 }
 
-/// The token at the front, where the token before it may be a word that a session description follows.
+/// Returns the token that the bytes start with, if the token before it may announce a session description.
 #[tactic(auto, unfolding(crate::specs::Tokens::token_after))]
 pub fn token_after(named: bool, bytes: &[u8]) -> Option<Result<Found, ScanFault>>
     ensures { FindsAs bytes.now (token_after named bytes.now) result }
@@ -90,7 +90,7 @@ pub fn token_after(named: bool, bytes: &[u8]) -> Option<Result<Found, ScanFault>
     }
 }
 
-/// Whether a session description follows a token: the words `Local` and `Remote`, long or short.
+/// Returns whether a token announces a session description: `Local` or `Remote`, in long or short form.
 #[tactic(auto, unfolding(crate::specs::Tokens::names_octets))]
 pub fn names_octets(kind: TokenKind, text: &[u8]) -> bool
     ensures { result ≡ names_octets kind text.now }

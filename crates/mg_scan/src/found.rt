@@ -1,6 +1,6 @@
 use crate::kind::TokenKind;
 
-/// A token at the front of some bytes: where its text begins and ends, and where the bytes after it begin.
+/// A token at the start of some bytes: where its text starts and ends, and where the bytes after it start.
 #[derive(Clone, Copy)]
 pub struct Found {
     pub kind: TokenKind,
@@ -12,7 +12,7 @@ pub struct Found {
 impl Found {
     ghost use Rattle.std.specs.Prelude.{◌≡◌};
 
-    /// A mark of one byte.
+    /// Returns a mark of one byte.
     pub fn mark(kind: TokenKind) -> Self
         ensures { result ≡ record { kind = kind; start = 0; end = 1; next = 1 } }
     {

@@ -1,7 +1,7 @@
-/// What a token is.
+/// The kinds of tokens.
 #[derive(Clone, Copy, Debug, PartialEq, Eq)]
 pub enum TokenKind {
-    /// Visible ASCII bytes that are no marks, as many as follow one another.
+    /// A run of visible ASCII bytes that are not marks.
     Word,
     /// An opening brace.
     Open,
@@ -9,9 +9,9 @@ pub enum TokenKind {
     Close,
     Comma,
     Equals,
-    /// A text between quotation marks, on one line. Its span leaves the marks out.
+    /// A text between quotation marks, on one line. Its span excludes the marks.
     Quoted,
-    /// The session description between the braces after `Local` or `Remote`. Its span leaves the
-    /// braces out. A closing brace in it has a backslash before it.
+    /// The session description in braces after `Local` or `Remote`. Its span excludes the braces. A closing brace
+    /// inside it has a backslash before it.
     Octets,
 }

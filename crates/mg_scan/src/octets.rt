@@ -3,11 +3,12 @@ ghost use Rattle.mg_scan.specs.Tokens.{content_len};
 
 use memchr::memchr;
 
-/// The byte that takes its meaning from a closing brace after it.
+/// The byte that escapes a closing brace.
 const ESCAPE: u8 = b'\\';
 
-/// How many bytes stand before the brace that closes a session description, if one does: the first brace
-/// without a backslash before it.
+/// Returns how many bytes precede the brace that closes a session description, if it is closed.
+///
+/// That is the first brace without a backslash before it.
 pub fn content_len(bytes: &[u8]) -> Option<usize>
     ensures in_range { IfSome result (λ n. n < length bytes.now) }
     ensures value { result ≡ content_len false bytes.now }

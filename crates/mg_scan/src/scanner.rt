@@ -10,7 +10,7 @@ use crate::span::Span;
 use crate::token::Token;
 use std::marker::Model;
 
-/// Finds the tokens of a source, one after the other.
+/// Scans a source token by token.
 #[derive(Drop)]
 pub struct Scanner<'a> {
     source: &'a [u8],
@@ -30,7 +30,7 @@ impl<'a> Model for Scanner<'a> {
 }
 
 impl<'a> Scanner<'a> {
-    /// A scanner at the front of a source.
+    /// Makes a scanner at the start of a source.
     pub fn new(source: &'a [u8]) -> Self
         ensures start { result ≡ record { source = source.now; at = 0; named = false } }
     {
@@ -41,8 +41,7 @@ impl<'a> Scanner<'a> {
         }
     }
 
-    /// The next token, or the fault that stands in its place. At the end, and after a fault, there is
-    /// none.
+    /// Returns the next token, or the fault in its place. Returns `None` at the end and after a fault.
     pub fn next(&mut self) -> Option<Result<Token, ScanFault>>
         ensures source { self.new.source ≡ self.old.source }
         ensures answer { IsStep self.old result self.new }
@@ -74,8 +73,7 @@ impl<'a> Scanner<'a> {
     }
 }
 
-/// How the parts of a text join: where a first token is found, the bytes are white space, that token as it
-/// is spelled, and the bytes after it.
+/// If a first token is found, the bytes are white space, the token's spelling, and the rest.
 pub fn parts_join()
     ensures { (named : Bool) (bytes : List ℕ) (x : TokenAndRest) → first_token named bytes ≡ Some (Ok x) →
         (white : List ℕ) × IsWhite false white × (bytes ≡ white ++ (spelled x.piece.kind x.piece.text ++ x.rest)) }

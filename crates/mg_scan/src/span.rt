@@ -1,4 +1,4 @@
-/// A part of a source, from its start up to its end, in bytes.
+/// A part of a source: its start and end in bytes.
 #[derive(Clone, Copy, Debug, PartialEq, Eq)]
 pub struct Span {
     pub start: usize,
@@ -9,7 +9,7 @@ impl Span {
     ghost use Rattle.std.specs.Prelude.{◌≡◌};
     ghost use Rattle.mg_scan.specs.Span.{text_of};
 
-    /// The text of the span, as far as the source has it.
+    /// Returns the text of the span. It is cut at the end of the source.
     pub fn text(self, source: &[u8]) -> &[u8]
         ensures value { result.now ≡ text_of source.now self }
     {

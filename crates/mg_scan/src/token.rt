@@ -1,7 +1,7 @@
 use crate::kind::TokenKind;
 use crate::span::Span;
 
-/// A token: what it is, and where its text stands.
+/// A token: its kind, and the span of its text.
 #[derive(Clone, Copy, Debug, PartialEq, Eq)]
 pub struct Token {
     pub kind: TokenKind,

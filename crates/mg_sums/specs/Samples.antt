@@ -1,4 +1,4 @@
--- Rows of numbers, place by place, and their sums (this project's own).
+-- Rows of numbers and their sums (this project's own).
 use Rattle.std.specs.Prelude.{ℕ, ℤ, pos, negsuc, ◌+ℤ◌, List, [], ◌∷◌, slice_index_or, Option, Some}
 use Rattle.std.specs.Prelude.{None, replicate}
 use Rattle.std.specs.Int.{int_min, int_max}
@@ -7,12 +7,12 @@ use Rattle.std.specs.Int.{int_min, int_max}
 abbrev pub sample : List ℤ → ℕ → ℤ
 sample row i = slice_index_or row i (pos 0)
 
--- the plain sum of a number of each
+-- the sum of a number of each item
 unfoldable pub sum_of : {A : Type 0} → (A → ℤ) → List A → ℤ
 sum_of f [] = pos 0
 sum_of f (x ∷ xs) = f x +ℤ sum_of f xs
 
--- the nearest of the numbers from -32768 to 32767
+-- the nearest number from -32768 to 32767
 abbrev pub nearest_sample : ℤ → ℤ
 nearest_sample v = int_max (negsuc 32767) (int_min v (pos 32767))
 
@@ -20,7 +20,7 @@ nearest_sample v = int_max (negsuc 32767) (int_min v (pos 32767))
 abbrev pub silence : List ℤ
 silence = replicate 160 (pos 0)
 
--- a frame, or silence where there is none
+-- a frame, or silence if there is none
 abbrev pub frame_or_silence : Option (List ℤ) → List ℤ
 frame_or_silence None = silence
 frame_or_silence (Some frame) = frame

@@ -1,5 +1,5 @@
--- The frames of rows, the rooms that the rows are joined to, and what the frames of a room add up
--- to (this project's own: a total is never limited, and a mix is limited once).
+-- The frames of rows, the rooms that rows are joined to, and the sums of a room's frames (this
+-- project's own: a total is never limited, and a mix is limited once).
 use Rattle.std.specs.Prelude.{◌≡◌, ◌≢◌, ℕ, ◌+◌, ◌%◌, ◌^◌, ◌<◌, ℤ, Bool, false, not, ◌==◌, Option}
 use Rattle.std.specs.Prelude.{Some, None, List, [], ◌∷◌, length, map, filter, replicate}
 use Rattle.std.specs.Prelude.{slice_index_or, AllPairs, Contains, IsTrue, IfSome, All}
@@ -8,14 +8,14 @@ use Rattle.mg_words.specs.Limits.{context_limit, termination_limit}
 use Rattle.mg_g711.specs.Frame.{IsFrame}
 use Rattle.mg_sums.specs.Samples.{sample, sum_of, nearest_sample, silence}
 
--- what is kept: by row its frame and the room that it is joined to, if any, and how often a row
--- kernel was called, modulo 2^32
+-- The state: for each row its frame and the room that it is joined to, if any, and the number of
+-- calls of row kernels, modulo 2^32.
 pub record SumsState : Type 0 where
   pub frames : List (List ℤ)
   pub rooms : List (Option ℕ)
   pub work : ℕ
 
--- as many rows of silence as there can be terminations, joined nowhere
+-- a silent row for each termination that there can be, joined to no room
 unfoldable pub first_sums : SumsState
 first_sums =
     record {
@@ -32,7 +32,7 @@ frame_of_row kept row = slice_index_or kept.frames row []
 abbrev pub room_of : SumsState → ℕ → Option ℕ
 room_of kept row = slice_index_or kept.rooms row None
 
--- sample i of the frame of a row
+-- sample i of a row's frame
 abbrev pub sample_in : List (List ℤ) → ℕ → ℕ → ℤ
 sample_in frames i row = sample (slice_index_or frames row []) i
 
@@ -48,27 +48,27 @@ is_joined rooms room row = is_room (slice_index_or rooms row None) room
 unfoldable pub joined_rows : List (Option ℕ) → ℕ → List ℕ
 joined_rows rooms room = filter (is_joined rooms room) (range_with_len 0 (length rooms))
 
--- sample i of a room's total: the plain sum over the rows that are joined to it
+-- sample i of a room's total: the plain sum over the rows joined to it
 abbrev pub total_of : SumsState → ℕ → ℕ → ℤ
 total_of kept room i = sum_of (sample_in kept.frames i) (joined_rows kept.rooms room)
 
--- whether a row is one of these
+-- whether the row is in the list
 abbrev pub is_among : List ℕ → ℕ → Bool
 is_among rows row = list_any (λ r. row == r) rows
 
--- the rows that are joined to a room, but for those that are left out
+-- the rows joined to a room, without those left out
 unfoldable pub heard_rows : List (Option ℕ) → ℕ → List ℕ → List ℕ
 heard_rows rooms room out = filter (λ row. not (is_among out row)) (joined_rows rooms room)
 
--- sample i of what is heard: the plain sum over those rows
+-- sample i of what is heard: the plain sum over these rows
 abbrev pub heard_of : SumsState → ℕ → List ℕ → ℕ → ℤ
 heard_of kept room out i = sum_of (sample_in kept.frames i) (heard_rows kept.rooms room out)
 
--- a mix: what is heard, each sample of it limited once
+-- a mix: what is heard, each sample limited once
 unfoldable pub mix_of : SumsState → ℕ → List ℕ → List ℤ
 mix_of kept room out = map (λ i. nearest_sample (heard_of kept room out i)) (range_with_len 0 160)
 
--- whom a mix leaves out: the base, if there is one, and those of minus
+-- the rows that a mix leaves out: the base, if there is one, and those of `minus`
 abbrev pub left_out_by : Option ℕ → List ℕ → List ℕ
 left_out_by None minus = minus
 left_out_by (Some base) minus = base ∷ minus
@@ -78,21 +78,21 @@ pub record AreOfRoom (rooms : List (Option ℕ)) (room : ℕ) (rows : List ℕ) 
   pub joined : All (λ row. IsTrue (is_joined rooms room row)) rows
   pub different : AllPairs (λ a b. a ≢ b) rows
 
--- and they are all that are joined to it
+-- they are all the rows joined to the room
 pub record AreAllOfRoom (rooms : List (Option ℕ)) (room : ℕ) (rows : List ℕ) : Type 0 where
   pub are : AreOfRoom rooms room rows
   pub all : (row : ℕ) → IsTrue (is_joined rooms room row) → Contains rows row
 
--- the work after so many calls more of a row kernel
+-- the counter of work after this many more kernel calls
 abbrev pub work_after : ℕ → ℕ → ℕ
 work_after calls work = (work + calls) % 2 ^ 32
 
--- how many calls it takes to set the frame of a row: two where it is joined to a room
+-- how many kernel calls it takes to set a row's frame: two if it is joined to a room
 abbrev pub frame_calls : Option ℕ → ℕ
 frame_calls None = 0
 frame_calls (Some room) = 2
 
--- a row for each termination that there can be, with a frame, and joined to a room or to none
+-- a row for each termination that there can be, with a frame, joined to a room or to none
 pub record AreValidSums (kept : SumsState) : Type 0 where
   pub frames : length kept.frames ≡ termination_limit
   pub rooms : length kept.rooms ≡ termination_limit

@@ -1,7 +1,7 @@
-//! Sums and differences of rows, and the limit of a row, on slices of equal length.
+//! Vector kernels on slices of equal length: sum, difference and limiting of rows.
 //!
-//! Samples have 16 bits, and sums have 32. Each call works on eight places at a time, and on the
-//! rest one by one. None counts what it does.
+//! Samples have 16 bits, sums 32. A kernel processes eight elements at a time, and the rest one by one. These kernels
+//! do not count their calls.
 
 ghost use Rattle.std.specs.Prelude.{◌≡◌, ℕ, ◌+◌, ◌<◌, ◌≤◌, ◌+ℤ◌, ◌-ℤ◌, length, EachIndex, FitsSigned};
 ghost use Rattle.std.specs.Int.{w16, w32};
@@ -11,7 +11,7 @@ ghost use Rattle.mg_g711.specs.aids.Chunks.{WritesChunk};
 use crate::ranges::{assert_sample_range, assert_sum_range};
 use std::simd::prelude::*;
 
-// How many places of a row a vector has.
+// The number of elements in a vector.
 const LANES: usize = 8;
 
 /// Adds a row to a total.
@@ -33,7 +33,7 @@ pub fn add_row(total: &mut [i32], row: &[i16])
     }
 }
 
-// Adds a chunk to the places of a total from `at` on.
+// Adds eight samples to a total, from index `at` on.
 fn add_chunk(total: &mut [i32], at: usize, chunk: &[i16; LANES])
     requires within { at + 8 ≤ length total.old }
     requires samples { (j : ℕ) → j < 8 → FitsSigned w16 (sample chunk.now j) }
@@ -48,7 +48,7 @@ fn add_chunk(total: &mut [i32], at: usize, chunk: &[i16; LANES])
     sums.copy_to_slice(&mut total[at..]);
 }
 
-/// Takes a row away from a total.
+/// Subtracts a row from a total.
 pub fn take_row(total: &mut [i32], row: &[i16])
     requires same_length { length total.old ≡ length row.now }
     requires fits { EachIndex total.old (λ i.
@@ -67,7 +67,7 @@ pub fn take_row(total: &mut [i32], row: &[i16])
     }
 }
 
-// Takes a chunk away from the places of a total from `at` on.
+// Subtracts eight samples from a total, from index `at` on.
 fn take_chunk(total: &mut [i32], at: usize, chunk: &[i16; LANES])
     requires within { at + 8 ≤ length total.old }
     requires samples { (j : ℕ) → j < 8 → FitsSigned w16 (sample chunk.now j) }
@@ -82,7 +82,7 @@ fn take_chunk(total: &mut [i32], at: usize, chunk: &[i16; LANES])
     rest.copy_to_slice(&mut total[at..]);
 }
 
-/// Writes the difference of a total and a row.
+/// Writes the difference between a total and a row.
 pub fn difference(out: &mut [i32], total: &[i32], row: &[i16])
     requires same_length { length out.old ≡ length row.now }
     requires same_lengths { length total.now ≡ length row.now }
@@ -103,7 +103,7 @@ pub fn difference(out: &mut [i32], total: &[i32], row: &[i16])
     }
 }
 
-// Writes the difference of two chunks into the places from `at` on.
+// Writes the differences of eight sums and samples, from index `at` on.
 fn difference_chunk(out: &mut [i32], at: usize, total: &[i32; LANES], chunk: &[i16; LANES])
     requires within { at + 8 ≤ length out.old }
     requires samples { (j : ℕ) → j < 8 → FitsSigned w16 (sample chunk.now j) }
@@ -116,7 +116,7 @@ fn difference_chunk(out: &mut [i32], at: usize, total: &[i32; LANES], chunk: &[i
     rest.copy_to_slice(&mut out[at..]);
 }
 
-/// Limits each sum to 16 bits.
+/// Limits each sum to the nearest number of 16 bits.
 pub fn limit(samples: &mut [i16], sums: &[i32])
     requires same_length { length samples.old ≡ length sums.now }
     ensures limits { EachIndex samples.new (λ i.
@@ -132,7 +132,7 @@ pub fn limit(samples: &mut [i16], sums: &[i32])
     }
 }
 
-// Limits a chunk into the places from `at` on.
+// Limits eight sums, from index `at` on.
 fn limit_chunk(samples: &mut [i16], at: usize, chunk: &[i32; LANES])
     requires within { at + 8 ≤ length samples.old }
     requires sums { (j : ℕ) → j < 8 → FitsSigned w32 (sample chunk.now j) }

@@ -1,14 +1,12 @@
-//! The frames of a conference mixer, and one kept total for each room.
+//! The frames of a conference mixer, and one total for each room.
 //!
-//! Each termination has a row, by the number of its slot, and each context a room. A [`Sums`]
-//! keeps the frame of each [`Row`] and the room that it is joined to, if any; it is joined while
-//! its termination talks. For each [`Room`] it keeps the sum of the frames that are joined to it,
-//! sample by sample, as 160 numbers of 32 bits. These totals are never limited: at most
-//! [`TERMINATIONS`] samples of 16 bits come together.
+//! Each termination has a [`Row`], numbered by its slot, and each context a [`Room`]. A [`Sums`] keeps the frame of
+//! each row and the room that it is joined to, if any. A row is joined while its termination talks. For each room it
+//! keeps the sum of the joined frames, sample by sample, as 160 numbers of 32 bits. These totals are never limited: at
+//! most [`TERMINATIONS`] samples of 16 bits are added.
 //!
-//! So the mix of a listener costs no sum over all talkers: it is the total of the room less the
-//! rows that the listener isn't to hear, its own (the base) and those that are silenced for it.
-//! It is limited once to 16 bits, and encoded by G.711.
+//! So a listener's mix needs no sum over all talkers. It is the room's total less the rows that the listener must not
+//! hear: its own (the base) and those silenced for it. It is limited once to 16 bits, and encoded as G.711.
 //!
 //! ```rust
 //! let mut sums = Sums::new(alloc)?;
@@ -21,14 +19,14 @@
 //! assert_eq!(rt; sums.mix(room, Some(second), &[], Law::Mu), [0x80; 160]);
 //! ```
 //!
-//! [`Sums::work`] counts the calls of three row kernels: to add a row, to take one away, and to write the difference of
-//! two. No module but `rows` sees the fields of a row; elsewhere frames and totals are read by [`Sums::frame`] and
-//! [`Sums::total`]. To join or to leave takes one call, to set the frame of a row that is joined two, and a mix one and
-//! one more for each row that is silenced.
+//! [`Sums::work`] counts the calls of three row kernels: add a row, subtract a row, and write the difference of two.
+//! Joining or leaving takes one call, and setting the frame of a joined row two. A mix takes one, and one more for
+//! each silenced row. Only module `rows` sees the fields of a row; other code reads frames and totals through
+//! [`Sums::frame`] and [`Sums::total`].
 //!
-//! [`Sums::new`] takes all memory, and no other call takes any. What a total and a mix are stands in `specs/Sums.antt`,
-//! and [`theorems`] has what follows from it. The sums run on the vectors of [`kernels`]; what a proof has to be told of
-//! rows before it calls a kernel is in [`ranges`].
+//! [`Sums::new`] allocates all memory; no other call allocates. `specs/Sums.antt` defines totals and mixes, and
+//! [`theorems`] states what follows. The vector code is in [`kernels`]; [`ranges`] shows proofs the ranges that a
+//! kernel requires.
 #![tactic(auto)]
 
 pub mod kernels;

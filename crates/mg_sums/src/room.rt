@@ -3,7 +3,7 @@ ghost use Rattle.mg_words.specs.Limits.{context_limit};
 
 use std::marker::Model;
 
-/// The room of a context, a number below [`CONTEXTS`](crate::CONTEXTS). Contracts see the number.
+/// The room of a context: a number below [`CONTEXTS`](crate::CONTEXTS), which contracts see.
 #[derive(Clone, Copy, Debug, PartialEq, Eq, Hash)]
 pub struct Room {
     number: u8,
@@ -23,7 +23,7 @@ impl Model for Room {
 }
 
 impl Room {
-    /// The room with a number.
+    /// Returns the room with this number.
     pub fn new(number: u8) -> Self
         requires { number < context_limit }
         ensures { result ≡ number }
@@ -31,7 +31,7 @@ impl Room {
         Room { number }
     }
 
-    /// Its number.
+    /// Returns the number of the room.
     pub fn number(self) -> usize
         ensures value { result ≡ self }
         ensures within { result < context_limit }

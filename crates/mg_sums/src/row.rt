@@ -3,8 +3,7 @@ ghost use Rattle.mg_words.specs.Limits.{termination_limit};
 
 use std::marker::Model;
 
-/// The row of a termination, the number of its slot below [`TERMINATIONS`](crate::TERMINATIONS). Contracts see the
-/// number.
+/// The row of a termination: the number of its slot, below [`TERMINATIONS`](crate::TERMINATIONS), which contracts see.
 #[derive(Clone, Copy, Debug, PartialEq, Eq, Hash)]
 pub struct Row {
     number: u8,
@@ -23,7 +22,7 @@ impl Model for Row {
     ghost inverse = { λ number. record { number = number } };
 }
 
-/// The first row.
+/// Returns row 0.
 impl Default for Row {
     ghost use Rattle.std.specs.Prelude.{◌≡◌};
 
@@ -35,7 +34,7 @@ impl Default for Row {
 }
 
 impl Row {
-    /// The row with a number.
+    /// Returns the row with this number.
     pub fn new(number: u8) -> Self
         requires { number < termination_limit }
         ensures { result ≡ number }
@@ -43,7 +42,7 @@ impl Row {
         Row { number }
     }
 
-    /// Its number.
+    /// Returns the number of the row.
     pub fn number(self) -> usize
         ensures value { result ≡ self }
         ensures within { result < termination_limit }

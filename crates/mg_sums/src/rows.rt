@@ -1,6 +1,6 @@
-//! The rows of a mixer, and the three kernels that add them up and count their calls.
+//! The rows of a mixer, and the three kernels on them, which count their calls.
 //!
-//! The fields of a row are private to this module. Elsewhere a row is read by its readers alone.
+//! The fields of a row are private to this module.
 
 ghost use Rattle.std.specs.Prelude.{◌≡◌, ℕ, ◌+◌, ◌%◌, ◌^◌, ◌<◌, ◌+ℤ◌, ◌-ℤ◌, pos, length, replicate, IsTrue};
 ghost use Rattle.std.specs.Option.{option_copied};
@@ -19,7 +19,7 @@ use std::marker::Model;
 #[derive(Drop)]
 pub struct FrameRow {
     samples: Frame,
-    /// Whether it is known to be silent.
+    /// Whether the samples are known to be all 0.
     is_silent: bool,
 }
 
@@ -34,7 +34,7 @@ impl Model for FrameRow {
     ghost invariant = { λ row. IsTrue row.is_silent → row.samples ≡ silence };
 }
 
-/// Sums of samples: a total, or what is left of one.
+/// A row of sums: a room's total, or a total less some rows.
 #[derive(Drop)]
 pub struct SumRow {
     sums: [i32; SAMPLES],
@@ -48,7 +48,7 @@ impl Model for SumRow {
     ghost view = { λ row. row.sums };
 }
 
-/// Counts a call of a kernel.
+/// Counts a kernel call.
 fn count(work: &mut u32)
     ensures { work.new ≡ work_after 1 work.old }
 {
@@ -56,7 +56,7 @@ fn count(work: &mut u32)
 }
 
 impl FrameRow {
-    /// The row of a frame, or of silence.
+    /// Returns the row of a frame, or of silence.
     pub fn new(frame: Option<&Frame>) -> Self
         ensures value { result ≡ frame_or_silence (option_copied frame.entry) }
         ensures frame { IsFrame result }
@@ -67,7 +67,7 @@ impl FrameRow {
         }
     }
 
-    /// The row of a frame.
+    /// Returns the row of a frame.
     fn of(samples: Frame) -> Self
         ensures value { result ≡ samples }
         ensures frame { IsFrame result }
@@ -79,7 +79,7 @@ impl FrameRow {
         }
     }
 
-    /// The row of silence.
+    /// Returns a silent row.
     fn silent() -> Self
         ensures value { result ≡ silence }
         ensures frame { IsFrame result }
@@ -92,14 +92,14 @@ impl FrameRow {
         }
     }
 
-    /// Whether it is known to be silent.
+    /// Returns whether the row is known to be silent.
     pub fn is_silent(&self) -> bool
         ensures value { IsTrue result → self.now ≡ silence }
     {
         self.is_silent
     }
 
-    /// The samples.
+    /// Returns the samples.
     pub fn frame(&self) -> &Frame
         ensures { result.now ≡ self.now }
     {
@@ -118,14 +118,14 @@ impl FrameRow {
 }
 
 impl SumRow {
-    /// The row of 160 zeros.
+    /// Returns a row of 160 zeros.
     pub fn new() -> Self
         ensures { result ≡ replicate 160 (pos 0) }
     {
         SumRow { sums: [0; SAMPLES] }
     }
 
-    /// The sum at a place.
+    /// Returns the sum at an index.
     pub fn sum(&self, i: usize) -> &i32
         requires { i < 160 }
         ensures { result.now ≡ sample self.now i }
@@ -145,7 +145,7 @@ impl SumRow {
         kernels::add_row(&mut self.sums, &row.samples);
     }
 
-    /// Takes a row away.
+    /// Subtracts a row.
     pub fn take(&mut self, row: &FrameRow, work: &mut u32)
         requires near { AreNear (2 ^ 30) self.old }
         ensures sums { (i : ℕ) → i < 160 →
@@ -157,7 +157,7 @@ impl SumRow {
         kernels::take_row(&mut self.sums, &row.samples);
     }
 
-    /// Takes a row away and adds another in its place.
+    /// Subtracts one row and adds another.
     pub fn replace(&mut self, old: &FrameRow, new: &FrameRow, work: &mut u32)
         requires near { AreNear (2 ^ 29) self.old }
         ensures sums { (i : ℕ) → i < 160 →

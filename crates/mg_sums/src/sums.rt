@@ -15,16 +15,16 @@ use mg_words::{CONTEXTS, TERMINATIONS};
 use std::alloc::{AllocError, Global};
 use std::marker::Model;
 
-/// The frames of all rows, the rooms that the rows are joined to, and one total for each room.
+/// The frames of all rows, the rooms that the rows are joined to, and a total for each room.
 ///
-/// Contracts see the record `SumsState` of `specs/Sums.antt`, which has no totals: that each kept
-/// total is the sum of its room holds at all times.
+/// Contracts see the record `SumsState` of `specs/Sums.antt`. It has no totals: an invariant says that each stored
+/// total is the sum of its room.
 #[derive(Drop)]
 pub struct Sums {
     frames: Vec<FrameRow>,
     rooms: [Option<Room>; TERMINATIONS],
     totals: Vec<SumRow>,
-    // What a mix is made in: its sums, and its samples.
+    // Scratch space for a mix: its sums and its samples.
     rest: SumRow,
     mix: FrameRow,
     work: u32,
@@ -48,8 +48,9 @@ impl Model for Sums {
 impl Sums {
     ghost use Rattle.mg_sums.specs.Sums.{first_sums, frame_of_row, room_of, total_of, mix_of, heard_of, AreOfRoom, AreValidSums};
 
-    /// Rows of silence that are joined nowhere. Fails only where memory is refused, and no other
-    /// call takes any.
+    /// Makes silent rows that are joined to no room.
+    ///
+    /// Fails only if the allocation does. No other call allocates.
     pub fn new(alloc: Global) -> Result<Self, AllocError>
         ensures first { IfOk result (λ sums. sums ≡ first_sums) }
         ensures nowhere { IfOk result (λ sums. (row : ℕ) → room_of sums row ≡ None) }
@@ -65,8 +66,7 @@ impl Sums {
         })
     }
 
-    /// Joins a row that is joined nowhere to a room. From then on its frame is in the room's
-    /// total.
+    /// Joins a row to a room. The row must not be joined to any. Its frame then counts in the room's total.
     pub fn join(&mut self, room: Room, row: Row)
         requires free { room_of self.old row ≡ None }
         ensures joined { self.new ≡ record self.old {
@@ -80,7 +80,7 @@ impl Sums {
         self.totals[room.number()].add(frame, &mut self.work);
     }
 
-    /// Takes a row out of the room that it is joined to, and its frame out of the room's total.
+    /// Removes a row from its room, and its frame from the room's total.
     pub fn leave(&mut self, room: Room, row: Row)
         requires joined { room_of self.old row ≡ Some room }
         ensures left { self.new ≡ record self.old {
@@ -94,8 +94,9 @@ impl Sums {
         self.totals[room.number()].take(frame, &mut self.work);
     }
 
-    /// Sets the frame of a row, silence for none. Where the row is joined, its old frame leaves
-    /// the total and the new one comes in.
+    /// Sets the frame of a row; `None` is silence.
+    ///
+    /// If the row is joined, its old frame leaves the total and the new one enters.
     pub fn set_frame(&mut self, row: Row, frame: Option<&Frame>)
         ensures set { self.new ≡ record self.old {
           frames = slice_set self.old.frames row (frame_or_silence (option_copied frame.entry));
@@ -111,12 +112,11 @@ impl Sums {
         self.frames[row.number()] = new;
     }
 
-    /// What is heard in a room without the base and the rows of `minus`, as the payload of a
-    /// packet: the room's total less those rows, limited once.
+    /// Returns the payload that a listener hears in a room: the total less the base and the rows of `minus`, limited
+    /// once.
     ///
-    /// The base is the listener's own row, or none where the listener doesn't talk, and `minus`
-    /// has the rows that are silenced for it. All are joined to the room, and no two are the
-    /// same.
+    /// The base is the listener's own row, or `None` if the listener does not talk. `minus` has the rows that are
+    /// silenced for it. All must be joined to the room, and no two may be the same.
     pub fn mix(&mut self, room: Room, base: Option<Row>, minus: &[Row], law: Law) -> [u8; 160]
         requires rows { AreOfRoom self.old.rooms room (left_out_by base minus.now) }
         ensures mix { result
@@ -135,8 +135,9 @@ impl Sums {
         encode_frame(law, self.mix.frame())
     }
 
-    /// Sample `i` of a room's total, which is not limited. No total is farther from zero than 32768 times
-    /// the terminations that there can be.
+    /// Returns sample `i` of a room's total, which is not limited.
+    ///
+    /// Its magnitude is at most 32768 times the greatest number of terminations.
     pub fn total(&self, room: Room, i: usize) -> &i32
         requires { i < 160 }
         ensures value { result.now ≡ total_of self.now room i }
@@ -145,7 +146,7 @@ impl Sums {
         self.totals[room.number()].sum(i)
     }
 
-    /// The frame that was last set for a row: silence where that was none, or before any.
+    /// Returns the frame that was last set for a row: silence if none was set.
     pub fn frame(&self, row: Row) -> &Frame
         ensures value { result.now ≡ frame_of_row self.now row }
         ensures frame { IsFrame result.now }
@@ -153,14 +154,14 @@ impl Sums {
         self.frames[row.number()].frame()
     }
 
-    /// Whether a row is known to be silent: no frame was set for it since it was last set to none, or ever.
+    /// Returns whether a row is known to be silent: its last setting was `None`, or it has had none.
     pub fn is_silent(&self, row: Row) -> bool
         ensures value { IsTrue result → frame_of_row self.now row ≡ silence }
     {
         self.frames[row.number()].is_silent()
     }
 
-    /// The room that a row is joined to, if any.
+    /// Returns the room that a row is joined to, if any.
     pub fn room(&self, row: Row) -> Option<Room>
         ensures value { result ≡ room_of self.now row }
         ensures valid { AreValidSums self.now }
@@ -168,7 +169,7 @@ impl Sums {
         self.rooms[row.number()]
     }
 
-    /// How often a row kernel was called, modulo 2^32.
+    /// Returns the number of calls of row kernels, modulo 2^32.
     pub fn work(&self) -> u32
         ensures { result ≡ self.now.work }
     {
@@ -176,7 +177,7 @@ impl Sums {
     }
 }
 
-/// Writes a total without the rows left out.
+/// Writes a total less the rows that are left out.
 fn write_rest(
     rest: &mut SumRow,
     total: &SumRow,
@@ -199,7 +200,7 @@ fn write_rest(
     }
 }
 
-/// Writes a total without the base, if there is one.
+/// Writes a total less the base, if there is one.
 fn write_without(
     rest: &mut SumRow,
     total: &SumRow,

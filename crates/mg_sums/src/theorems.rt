@@ -1,19 +1,19 @@
-//! What follows from the definitions, whatever keeps the frames and the totals.
+//! Properties of totals and mixes, whatever stores them.
 //!
-//! The calls do nothing: their contracts are the theorems.
+//! The functions have empty bodies: their contracts are the theorems.
 
 ghost use Rattle.std.specs.Prelude.{◌≡◌, ℕ, ◌++◌, List, Option, map};
 ghost use Rattle.std.specs.List.{range_with_len};
 ghost use Rattle.mg_sums.specs.Samples.{nearest_sample, sum_of};
 ghost use Rattle.mg_sums.specs.Sums.{SumsState, AreAllOfRoom, sample_in, total_of, heard_of, left_out_by, mix_of};
 
-/// The total is the sum over the rows of the room, in whatever order they come.
+/// A total does not depend on the order of the room's rows.
 pub fn order_does_not_matter()
     ensures { (kept : SumsState) (room i : ℕ) (rows : List ℕ) → AreAllOfRoom kept.rooms room rows →
         total_of kept room i ≡ sum_of (sample_in kept.frames i) rows }
 {}
 
-/// Where the rows of a room are its base, those of minus and others, the others are heard.
+/// If the rows of a room are the base, those of `minus` and others, then the others are heard.
 pub fn others_are_heard()
     ensures heard { (kept : SumsState) (room i : ℕ) (base : Option ℕ) (minus others : List ℕ) →
         AreAllOfRoom kept.rooms room (left_out_by base minus ++ others) →

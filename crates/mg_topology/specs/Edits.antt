@@ -1,46 +1,47 @@
--- The edits of one context, newest first, and what they say of its seats (RFC 3525, section
--- 7.1.18). That a newcomer and each member hear each other is this project's own rule.
+-- The edits of one context, newest first, and what they determine (RFC 3525, section 7.1.18). That
+-- a newcomer and each member hear each other is this project's own rule.
 use Rattle.std.specs.Prelude.{ℕ, Bool, true, false, not, ◌&&◌, ◌||◌, ◌==◌, Option, Some, None}
 use Rattle.std.specs.Prelude.{if◌then◌else◌, List, [], ◌∷◌}
 use Rattle.mg_topology.specs.Triple.{mentions, word_of}
 use Rattle.mg_topology.specs.declared.triple.Triple.{Triple}
 
--- a seat is taken or left, or a triple is applied
+-- a member takes a seat or leaves it, or a triple is applied
 pub data TopologyEdit : Type 0 where
   Enter : (seat : ℕ) → TopologyEdit
   Leave : (seat : ℕ) → TopologyEdit
   Apply : (triple : Triple) → TopologyEdit
 
--- whether the seat is held: the last of its Enters and Leaves is an Enter
+-- whether the seat is held: the latest of its Enters and Leaves is an Enter
 abbrev pub is_held : List TopologyEdit → ℕ → Bool
 is_held [] seat = false
 is_held (Enter n ∷ es) seat = if seat == n then true else is_held es seat
 is_held (Leave n ∷ es) seat = if seat == n then false else is_held es seat
 is_held (Apply triple ∷ es) seat = is_held es seat
 
--- the last word on a pair: the last triple that speaks of it after the latest Enter of each
+-- the last word on a pair: the last triple that mentions it since both entered, if any
 abbrev pub last_word : List TopologyEdit → ℕ → ℕ → Option Triple
 last_word [] a b = None
 last_word (Enter n ∷ es) a b = if (a == n) || (b == n) then None else last_word es a b
 last_word (Leave n ∷ es) a b = last_word es a b
 last_word (Apply triple ∷ es) a b = if mentions triple a b then Some triple else last_word es a b
 
--- whether a last word lets the listener hear the talker: it does where there is none
+-- whether a last word lets the listener hear the talker; without a last word it does
 abbrev pub allows : Option Triple → ℕ → ℕ → Bool
 allows None talker listener = true
 allows (Some triple) talker listener = word_of triple talker listener
 
--- whether the last word on the two lets the listener hear the talker
+-- whether the last word on the pair lets the listener hear the talker
 abbrev pub may_hear : List TopologyEdit → ℕ → ℕ → Bool
 may_hear es talker listener = allows (last_word es talker listener) talker listener
 
--- whether the listener hears the talker: both are held, they differ, and the last word lets it
+-- whether the listener hears the talker: both seats are held, they differ, and the last word
+-- allows it
 abbrev pub hears_in : List TopologyEdit → ℕ → ℕ → Bool
 hears_in es talker listener =
     is_held es talker
     && (is_held es listener && (not (talker == listener) && may_hear es talker listener))
 
--- the edits, and then the triples in order
+-- the edits followed by the triples in order
 abbrev pub apply_all : List Triple → List TopologyEdit → List TopologyEdit
 apply_all [] es = es
 apply_all (triple ∷ triples) es = apply_all triples (Apply triple ∷ es)

@@ -3,12 +3,12 @@ use Rattle.std.specs.Prelude.{ℕ, ◌<◌, Bool, ◌==◌, bit_and, List, lengt
 use Rattle.std.specs.Int.{bit_at}
 use Rattle.std.specs.List.{filter, range_with_len}
 
--- Seats are the numbers below it: a mask has so many bits, and a context no more members
--- (`each_member_has_a_seat` in src/theorems.rt).
+-- Seats are the numbers below this limit. A mask has as many bits, and a context at most as many
+-- members (`each_member_has_a_seat` in src/theorems.rt).
 abbrev pub seat_limit : ℕ
 seat_limit = 64
 
--- whether the seat is in the set: bit s stands for seat s
+-- whether the seat is in the set: bit s is for seat s
 unfoldable pub has_seat : ℕ → ℕ → Bool
 has_seat mask seat = bit_at mask seat == 1
 

@@ -1,26 +1,28 @@
--- What a topology is seen as, and which lists of edits it stands for (this project's own).
+-- The state of a topology, and which lists of edits it represents (this project's own).
 use Rattle.std.specs.Prelude.{◌≡◌, ℕ, Bool, not, ◌&&◌, ◌==◌, nat_lt, List, slice_index}
 use Rattle.mg_topology.specs.Mask.{seat_limit, has_seat}
 use Rattle.mg_topology.specs.Edits.{TopologyEdit, is_held, hears_in}
 
--- what is kept: the held seats as a mask, and for each listener a row, the mask of those that its
--- last words let it hear. What a row says of itself or of a seat that is not held means nothing.
+-- The held seats as a mask, and for each listener a row: the mask of the talkers that its last
+-- words let it hear. Bits for the listener itself, or for a seat that is not held, have no
+-- meaning.
 pub record TopologyState : Type 0 where
   pub held : ℕ
   pub rows : List ℕ
 
--- whether the seat is held; none is from the seat limit on
+-- whether the seat is held; no seat at or above the limit is
 abbrev pub holds : TopologyState → ℕ → Bool
 holds kept seat = nat_lt seat seat_limit && has_seat kept.held seat
 
--- whether the listener hears the talker: both are held, they differ, and the row has the talker
+-- whether the listener hears the talker: both seats are held, they differ, and the row has the
+-- talker
 abbrev pub hears : TopologyState → ℕ → ℕ → Bool
 hears kept talker listener =
     holds kept talker
     && (holds kept listener
     && (not (talker == listener) && has_seat (slice_index kept.rows listener) talker))
 
--- what is kept agrees with the edits, for each seat and for each pair
+-- the state represents the edits: it agrees with them on each seat and each pair
 pub record StandsFor (kept : TopologyState) (es : List TopologyEdit) : Type 0 where
   pub seats : (seat : ℕ) → holds kept seat ≡ is_held es seat
   pub pairs : (talker listener : ℕ) → hears kept talker listener ≡ hears_in es talker listener

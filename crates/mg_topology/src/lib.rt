@@ -1,10 +1,9 @@
 //! Who hears whom among the members of one context.
 //!
-//! Each member of a context has a seat, a number below [`SEATS`]. A [`Topology`] keeps which
-//! seats are held and, for each pair of them, what the last word on the pair says. That is the
-//! last [`Triple`] of a topology descriptor (RFC 3525, section 7.1.18) that spoke of the pair
-//! since both entered, and where there was none the two hear each other. So a newcomer hears all
-//! and is heard by all, whatever was said before of its seat, which is this project's own rule.
+//! Each member of a context has a seat, a number below [`SEATS`]. A [`Topology`] keeps which seats are held and, for
+//! each pair, the last word on it. That is the last [`Triple`] of a topology descriptor (RFC 3525, section 7.1.18)
+//! that mentions the pair since both entered. Without one, the two hear each other. So a newcomer hears all and is
+//! heard by all, whatever was said of its seat before; that is this project's own rule.
 //!
 //! ```rust
 //! let mut topology = Topology::new();
@@ -19,12 +18,11 @@
 //! assert!(rt; !topology.hears(0, 1));
 //! ```
 //!
-//! A topology keeps bits and no history. So its contracts speak of each list of edits that it stood
-//! for before a call, and say which list it stands for afterwards (`StandsFor` in
-//! `specs/Topology.antt`). What a list of edits means stands in `specs/Edits.antt`, by looking
-//! backwards over the list, and [`theorems`] has what follows from that alone.
+//! A topology keeps bits and no history. So its contracts speak of every list of edits that it represents, before and
+//! after a call (`StandsFor` in `specs/Topology.antt`). `specs/Edits.antt` defines what a list of edits means, looking
+//! backwards from the newest. [`theorems`] states what follows.
 //!
-//! Sets of seats are bit masks, and [`mask`] has the only functions that touch their bits.
+//! Sets of seats are bit masks. Only functions of [`mask`] touch their bits.
 #![tactic(auto)]
 
 pub mod mask;

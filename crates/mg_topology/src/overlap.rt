@@ -3,10 +3,10 @@ ghost use Rattle.std.specs.Prelude.{Some, codes};
 use std::error::Error;
 use std::fmt;
 
-/// A Oneway triple has a seat in both of its sets, so none of the triples was applied.
+/// A Oneway triple has a seat in both of its sets. None of the triples was applied.
 ///
-/// Such a triple would lead from this seat to itself and not back, which has no meaning. That it is
-/// refused is this project's own rule.
+/// Such a triple would let a seat hear itself in one direction, which has no meaning. Rejecting it is this project's
+/// own rule.
 #[derive(Clone, Copy, Debug, PartialEq, Eq, Hash)]
 pub struct Overlap;
 

@@ -6,9 +6,9 @@ use crate::mask::{self, Mask};
 use std::iter::FusedIterator;
 use std::marker::Model;
 
-/// The seats of a set in rising order, made by [`mask::seats`].
+/// An iterator over the seats of a set in rising order; see [`mask::seats`].
 ///
-/// Contracts see the list of those that are still to come.
+/// Contracts see the list of the seats that are left.
 #[derive(Debug, Drop)]
 pub struct Seats {
     left: Mask,

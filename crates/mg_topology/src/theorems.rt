@@ -1,7 +1,7 @@
-//! Theorems on the definitions: what the edits of a context say, whatever keeps them.
+//! What the edits of a context determine, whatever stores them.
 //!
-//! Each function here does nothing, and its contract is the theorem. A crate above calls one where a
-//! proof needs what it says. The lists of edits stand newest first.
+//! The functions have empty bodies: their contracts are the theorems. A proof that needs one calls the function. Lists
+//! of edits have the newest first.
 
 ghost use Rattle.std.specs.Prelude.{◌≡◌, ◌≢◌, ℕ, ◌<◌, ◌≤◌, ◌^◌, [], ◌∷◌, ◌++◌, ◌==◌, ◌||◌, ◌↔◌, Bool, List, Some, IsTrue, IsFalse, Any, Contains};
 ghost use Rattle.std.specs.List.{list_any, filter, range_with_len};
@@ -14,7 +14,7 @@ ghost use Rattle.mg_topology.specs.Mask.{seat_limit, has_seat, seats_of, seat_co
 ghost use Rattle.mg_topology.specs.Triple.{is_forward, mentions, overlaps, Overlaps};
 ghost use Rattle.mg_topology.specs.Edits.{TopologyEdit, Enter, Leave, Apply, is_held, last_word, may_hear, hears_in, touches};
 
-/// A newcomer and each member hear each other, whatever was said of its seat before.
+/// A newcomer and each member hear each other, whatever was said of the newcomer's seat before.
 pub fn newcomer_hears_and_is_heard()
     ensures hears { (es : List TopologyEdit) (newcomer member : ℕ) →
         newcomer ≢ member → IsTrue (is_held es member) →
@@ -24,7 +24,7 @@ pub fn newcomer_hears_and_is_heard()
         IsTrue (hears_in (Enter newcomer ∷ es) newcomer member) }
 {}
 
-/// Two hear each other where no triple has spoken of them since both entered.
+/// Two members hear each other if no triple has mentioned them since both entered.
 pub fn unmentioned_pair_hears()
     ensures { (newer older : List TopologyEdit) (newcomer a b : ℕ) →
         IsTrue ((a == newcomer) || (b == newcomer)) →
@@ -32,7 +32,7 @@ pub fn unmentioned_pair_hears()
         IsTrue (may_hear (newer ++ Enter newcomer ∷ older) a b) }
 {}
 
-/// Of the triples that speak of a pair, the last one has the last word.
+/// The last triple that mentions a pair is its last word.
 pub fn last_triple_wins()
     ensures { (newer older : List TopologyEdit) (triple : Triple) (a b : ℕ) →
         IsTrue (mentions triple a b) →
@@ -40,14 +40,14 @@ pub fn last_triple_wins()
         last_word (newer ++ Apply triple ∷ older) a b ≡ Some triple }
 {}
 
-/// What each association says of a seat of the first set and a seat of the second.
+/// What each association means for a seat of the first set and a seat of the second.
 pub fn associations()
     ensures isolate { (es : List TopologyEdit) (triple : Triple) (first second : ℕ) →
         IsTrue (is_forward triple first second) → triple.association ≡ Isolate →
         IsFalse (may_hear (Apply triple ∷ es) first second)
         × IsFalse (may_hear (Apply triple ∷ es) second first) }
 
-    // A Oneway triple that overlaps is refused.
+    // A Oneway triple that overlaps is rejected.
     ensures oneway { (es : List TopologyEdit) (triple : Triple) (first second : ℕ) →
         IsTrue (is_forward triple first second) → triple.association ≡ Oneway → IsFalse (overlaps triple) →
         IsTrue (may_hear (Apply triple ∷ es) first second)
@@ -58,7 +58,7 @@ pub fn associations()
         × IsTrue (may_hear (Apply triple ∷ es) second first) }
 {}
 
-/// No edit changes what is heard between two others.
+/// An edit of others does not change what is heard between two members.
 pub fn others_are_unaffected()
     ensures enter { (es : List TopologyEdit) (newcomer a b : ℕ) → newcomer ≢ a → newcomer ≢ b →
         hears_in (Enter newcomer ∷ es) a b ≡ hears_in es a b }
@@ -68,7 +68,7 @@ pub fn others_are_unaffected()
         hears_in (Apply triple ∷ es) a b ≡ hears_in es a b }
 {}
 
-/// Nobody hears itself, and who has left hears nobody and is heard by nobody.
+/// Nobody hears itself. A member that has left hears nobody and is heard by nobody.
 pub fn absent_pairs_are_silent()
     ensures itself { (es : List TopologyEdit) (member : ℕ) → IsFalse (hears_in es member member) }
     ensures left { (es : List TopologyEdit) (leaver other : ℕ) →
@@ -76,14 +76,15 @@ pub fn absent_pairs_are_silent()
         × IsFalse (hears_in (Leave leaver ∷ es) other leaver) }
 {}
 
-/// The test of the masks tells a Oneway triple with a seat in both of its sets.
+/// The test on masks finds exactly the Oneway triples with a seat in both sets.
 pub fn overlap_is_a_common_seat()
     ensures one { (triple : Triple) → IsTrue (overlaps triple) ↔ Overlaps triple }
     ensures any { (triples : List Triple) →
         IsTrue (list_any overlaps triples) ↔ Any Overlaps triples }
 {}
 
-/// The empty mask has no seat, the full one has each, and no mask has a seat from their number on.
+/// The empty mask has no seat, the full one has every seat, and no mask has a seat at or above the limit.
+///
 /// Masks with the same seats are equal.
 pub fn masks_are_sets()
     ensures empty { IsEmpty EMPTY }
@@ -93,14 +94,14 @@ pub fn masks_are_sets()
     ensures same { (a b : ℕ) → ((seat : ℕ) → has_seat a seat ≡ has_seat b seat) → a ≡ b }
 {}
 
-/// There is a seat for each member of a context. A member limit for which there isn't is refused
-/// here.
+/// Each member of a context has a seat. A greater limit of members fails here.
 pub fn each_member_has_a_seat()
     ensures { member_limit ≤ seat_limit }
 {}
 
-/// The list of a mask's seats has each of them and no other, in rising order, so it has at most as
-/// many as there are seats. Whatever tells the same of each seat as the mask gives the same list.
+/// The list of a mask's seats has exactly its seats, in rising order.
+///
+/// Any test that agrees with the mask on each seat gives the same list.
 pub fn seats_are_listed()
     ensures seats { (mask seat : ℕ) →
         Contains (seats_of mask) seat ↔ ((seat < seat_limit) × IsTrue (has_seat mask seat)) }

@@ -10,9 +10,9 @@ use std::marker::Model;
 
 /// Who hears whom among the seats of one context.
 ///
-/// Contracts see the held seats and the rows as they are kept, and read them by `holds`, `hears`
-/// and `StandsFor`. [`Topology::new`] stands for the empty list of edits, and each call leads from
-/// the lists that the topology stood for to those with its edits, so each topology stands for one.
+/// Contracts see the held seats and the rows, and read them through `holds`, `hears` and `StandsFor`.
+/// [`Topology::new`] represents the empty list of edits, and each call adds its edits to the lists that the topology
+/// represents. So every topology represents some list.
 #[derive(Debug, Drop)]
 pub struct Topology {
     held: Mask,
@@ -31,7 +31,7 @@ impl Topology {
     ghost use Rattle.mg_topology.specs.Edits.{TopologyEdit, Enter, Leave, Apply, is_held, hears_in, apply_all};
     ghost use Rattle.mg_topology.specs.Topology.{holds, hears, StandsFor};
 
-    /// The topology of a context that nobody has entered.
+    /// Returns the topology of a context without members.
     pub fn new() -> Self
         ensures { StandsFor result [] }
     {
@@ -41,7 +41,7 @@ impl Topology {
         }
     }
 
-    /// Whether the seat is held, which no seat from [`SEATS`] on is.
+    /// Returns whether the seat is held. Seats at or above [`SEATS`] are not.
     pub fn holds(&self, seat: usize) -> bool
         ensures kept { result ≡ holds self.now seat }
         ensures edits { (es : List TopologyEdit) → StandsFor self.now es → result ≡ is_held es seat }
@@ -49,7 +49,7 @@ impl Topology {
         seat < SEATS && mask::has_seat(self.held, seat)
     }
 
-    /// The seats that are held.
+    /// Returns the seats that are held.
     pub fn held(&self) -> Mask
         ensures kept { (seat : ℕ) → has_seat result seat ≡ holds self.now seat }
         ensures edits { (es : List TopologyEdit) → StandsFor self.now es → (seat : ℕ) →
@@ -58,7 +58,7 @@ impl Topology {
         self.held
     }
 
-    /// A member takes the free seat. It hears all others and is heard by them.
+    /// Lets a member take a free seat. It hears all others and is heard by them.
     pub fn enter(&mut self, seat: usize)
         requires below_limit { seat < SEATS }
         requires free { IsFalse (holds self.old seat) }
@@ -72,7 +72,7 @@ impl Topology {
         self.rows[seat] = mask::FULL;
     }
 
-    /// The member on the seat leaves. Nothing changes between the others.
+    /// Lets the member on the seat leave. Nothing changes between the others.
     pub fn leave(&mut self, seat: usize)
         requires held { IsTrue (holds self.old seat) }
         ensures edits { (es : List TopologyEdit) → StandsFor self.old es →
@@ -83,8 +83,9 @@ impl Topology {
         self.held = mask::without_seat(self.held, seat);
     }
 
-    /// Applies all triples in order, so that of those that speak of a pair the last one counts, or
-    /// none of them, where a Oneway triple has a seat in both of its sets.
+    /// Applies triples in order, so that the last one that mentions a pair counts.
+    ///
+    /// If a Oneway triple has a seat in both of its sets, none is applied.
     pub fn apply(&mut self, triples: &[Triple]) -> Result<(), Overlap>
         ensures overlap { IsErr result ↔ Any Overlaps triples.now }
         ensures ok { OnOk result ((es : List TopologyEdit) → StandsFor self.old es →
@@ -110,7 +111,7 @@ impl Topology {
         apply_to_rows(&mut self.rows, triple);
     }
 
-    /// The seats of the members that the listener hears. They are none where its own seat isn't held.
+    /// Returns the seats of the members that the listener hears: none if the listener's seat is not held.
     #[tactic(auto, using(crate::proofs::MaskLemmas::seat_rules))]
     pub fn talkers(&self, listener: usize) -> Mask
         ensures kept { (talker : ℕ) → has_seat result talker ≡ hears self.now talker listener }
@@ -123,8 +124,10 @@ impl Topology {
         mask::without_seat(mask::intersection(self.rows[listener], self.held), listener)
     }
 
-    /// Whether the listener hears the talker: both seats are held, they differ, and the last word on
-    /// the pair lets it. The listener comes first, as in the sentence.
+    /// Returns whether `listener` hears `talker`: both seats are held, they differ, and the last word on the pair
+    /// allows it.
+    ///
+    /// The listener comes first.
     pub fn hears(&self, listener: usize, talker: usize) -> bool
         ensures kept { result ≡ hears self.now talker listener }
         ensures edits { (es : List TopologyEdit) → StandsFor self.now es →
@@ -144,7 +147,7 @@ impl Default for Topology {
     }
 }
 
-/// Whether a Oneway triple has a seat in both of its sets.
+/// Returns whether a Oneway triple has a seat in both of its sets.
 fn any_overlaps(triples: &[Triple]) -> bool
     ensures { result ≡ list_any overlaps triples.now }
 {
@@ -163,7 +166,7 @@ fn unmute_seat(rows: &mut [Mask; SEATS], seat: usize)
     }
 }
 
-/// Writes into each listener's row what the triple says of it.
+/// Updates each listener's row by the triple.
 fn apply_to_rows(rows: &mut [Mask; SEATS], triple: &Triple)
     ensures { (talker listener : ℕ) → listener < SEATS →
         has_seat (slice_index rows.new listener) talker ≡

@@ -4,22 +4,22 @@ ghost use Rattle.mg_topology.specs.Mask.{has_seat};
 use crate::Association;
 use crate::mask::{self, Mask, SEATS};
 
-/// One triple of a topology descriptor: two sets of seats, and which of them hears the other
-/// (RFC 3525, section 7.1.18).
+/// One triple of a topology descriptor: two sets of seats, and which of them hears the other (RFC 3525, section
+/// 7.1.18).
 ///
-/// It speaks of each pair of a seat of the first set and a seat of the second. A wildcard is the
-/// set of all that it matches. A seat that nobody holds may be in a set and changes nothing.
+/// It mentions each pair of a seat in the first set and a seat in the second. A wildcard is the set of all that it
+/// matches. A seat that nobody holds has no effect.
 #[derive(Clone, Copy, Debug, PartialEq, Eq, Hash)]
 pub struct Triple {
-    /// The first term of the triple: where a Oneway flow comes from.
+    /// The first term of the triple: the talkers of a Oneway triple.
     pub first: Mask,
-    /// The second term: where a Oneway flow goes to.
+    /// The second term: the listeners of a Oneway triple.
     pub second: Mask,
     /// Which of the two hears the other.
     pub association: Association,
 }
 
-/// One that speaks of no pair.
+/// Makes a triple that mentions no pair.
 impl Default for Triple {
     ghost use Rattle.std.specs.Prelude.{◌≡◌};
     ghost use Rattle.mg_topology.specs.Triple.{empty_triple};
@@ -39,7 +39,7 @@ impl Triple {
     ghost use Rattle.mg_topology.specs.Triple.{overlaps, Overlaps};
     ghost use Rattle.mg_topology.specs.aids.Word.{after_triple};
 
-    /// Whether it is a Oneway triple with a seat in both of its sets, which a topology refuses.
+    /// Returns whether a Oneway triple has a seat in both of its sets. A topology rejects such a triple.
     pub fn overlaps(&self) -> bool
         ensures value { result ≡ overlaps self.now }
         ensures common { IsTrue (overlaps self.now) ↔ Overlaps self.now }
@@ -50,7 +50,7 @@ impl Triple {
         }
     }
 
-    /// The listener's row of talkers after the triple, by its row before.
+    /// Returns the listener's row of talkers after the triple, by its row before.
     pub(crate) fn row_after(&self, row: Mask, listener: usize) -> Mask
         requires { listener < SEATS }
         ensures { (talker : ℕ) →
@@ -66,7 +66,7 @@ impl Triple {
     }
 }
 
-/// The other set, if the seat is in the one.
+/// Returns the other set if the seat is in the first, and the empty set otherwise.
 #[tactic(auto, using(crate::proofs::MaskLemmas::seat_rules))]
 fn across(one: Mask, seat: usize, other: Mask) -> Mask
     requires { seat < SEATS }

@@ -1,4 +1,4 @@
--- One room by its seats, and the masks of each listener in it.
+-- One room by its seats, and the masks of each of its listeners.
 use Rattle.std.specs.Prelude.{◌≡◌, ℕ, ◌<◌, Bool, not, ◌&&◌, ◌==◌, if◌then◌else◌, List, []}
 use Rattle.std.specs.Prelude.{slice_index}
 use Rattle.mg_topology.specs.Mask.{seat_limit, has_seat, IsEmpty}
@@ -11,8 +11,7 @@ pub record IsVacant (room : RoomFlows) : Type 0 where
   pub talks : IsEmpty room.talks
   pub listens : IsEmpty room.listens
 
--- The seat is now held, or not, and its member talks, or not, and listens, or not; each other
--- seat is as it was.
+-- Whether the seat is held, talks and listens is as given; every other seat is unchanged.
 pub record SetsSeat (old new : RoomFlows) (seat : ℕ)
     (is_held does_talk does_listen : Bool) : Type 0 where
   pub held : (s : ℕ) →
@@ -22,12 +21,12 @@ pub record SetsSeat (old new : RoomFlows) (seat : ℕ)
   pub listeners : (s : ℕ) →
       has_seat new.listens s ≡ (if s == seat then does_listen else has_seat old.listens s)
 
--- the talker's speech goes to the listener
+-- whether the talker's speech flows to the listener
 abbrev pub flows_to : TopologyState → (talks listens : ℕ) → (talker listener : ℕ) → Bool
 flows_to topology talks listens talker listener =
     has_seat talks talker && (has_seat listens listener && hears topology talker listener)
 
--- the talker is another member, whom the last word keeps from the listener
+-- whether the talker is another member whom the last word keeps from the listener
 abbrev pub is_blocked_for : TopologyState → (talks : ℕ) → (talker listener : ℕ) → Bool
 is_blocked_for topology talks talker listener =
     has_seat talks talker
@@ -35,7 +34,7 @@ is_blocked_for topology talks talker listener =
     && (holds topology listener
     && (not (talker == listener) && not (hears topology talker listener))))
 
--- the masks tell who flows to each listener and who is kept from it
+-- the masks have, for each listener, who flows to it and who is silenced for it
 pub record AreMasks (room : RoomFlows) (open_masks silenced_masks : List ℕ) : Type 0 where
   pub flows : (talker listener : ℕ) → listener < seat_limit →
       has_seat (slice_index open_masks listener) talker

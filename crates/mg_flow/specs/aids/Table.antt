@@ -1,4 +1,4 @@
--- What holds of each flow table.
+-- The invariant of every flow table.
 use Rattle.std.specs.Prelude.{◌≡◌, List, length}
 use Rattle.mg_words.specs.Limits.{context_limit}
 use Rattle.mg_flow.specs.Table.{RoomFlows, StandsForSome}

@@ -1,18 +1,18 @@
--- What holds of the totals that are kept.
+-- The invariant of the stored totals.
 use Rattle.std.specs.Prelude.{◌≡◌, ℕ, ◌*◌, ◌<◌, ◌≤◌, ℤ, List, [], length, slice_index_or, unsigned_abs}
 use Rattle.mg_words.specs.Limits.{context_limit, termination_limit}
 use Rattle.mg_sums.specs.Samples.{sample}
 use Rattle.mg_sums.specs.Sums.{SumsState, AreValidSums, total_of}
 
--- no total is farther from zero: it is a sum of so many samples, none of them farther than 32768
+-- the greatest magnitude of a total: a sum of this many samples, each at most 32768
 abbrev pub total_limit : ℕ
 total_limit = termination_limit * 32768
 
--- no number of a row is farther from zero
+-- no number of a row has a greater magnitude
 abbrev pub AreNear : ℕ → List ℤ → Type 0
 AreNear limit row = (i : ℕ) → i < 160 → unsigned_abs (sample row i) ≤ limit
 
--- each kept total is the plain sum of its room
+-- each stored total is the plain sum of its room
 pub record AreTotals (kept : SumsState) (totals : List (List ℤ)) : Type 0 where
   pub valid : AreValidSums kept
   pub rooms : length totals ≡ context_limit

@@ -1,9 +1,9 @@
--- How a triple changes one row of talkers, which the code keeps.
+-- How a triple changes a row of talkers.
 use Rattle.std.specs.Prelude.{ℕ, Bool, if◌then◌else◌}
 use Rattle.mg_topology.specs.declared.triple.Triple.{Triple}
 use Rattle.mg_topology.specs.Triple.{mentions, word_of}
 
--- what holds of a pair after the triple, by what held before
+-- what holds of a pair after the triple, by what held before it
 abbrev pub after_triple : Triple → ℕ → ℕ → Bool → Bool
 after_triple triple talker listener before =
     if mentions triple talker listener then word_of triple talker listener else before

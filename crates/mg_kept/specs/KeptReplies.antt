@@ -1,23 +1,22 @@
--- The replies that are kept, so that a request that comes again is answered and not run twice
--- (RFC 3525, section 8.2 and annex D.1). They stand oldest first.
+-- The replies that are kept, so that a retransmitted request is answered and not run twice (RFC
+-- 3525, section 8.2 and annex D.1). They are listed oldest first.
 use Rattle.std.specs.Prelude.{◌≡◌, ℕ, ◌-◌, ◌≤◌, Bool, false, not, ◌&&◌, ◌==◌, nat_le, List, [], ◌∷◌}
 use Rattle.std.specs.Prelude.{◌++◌, length, drop, filter, find, Option, option_map, if◌then◌else◌}
 use Rattle.std.specs.List.{AllPairs}
 use Rattle.std.specs.Str.{str_eq_ignore_ascii_case}
 use Rattle.mg_words.specs.Limits.{kept_limit}
 
--- A reply that is kept for a request that comes again: the sender's name as it stood in the
--- request, the request's number, and the reply's text.
+-- A kept reply: the sender's name as in the request, the request's number, and the text.
 pub record KeptReply : Type 0 where
   pub sender : List ℕ
   pub number : ℕ
   pub text : List ℕ
 
--- whether a reply went to this sender, whatever the case of the letters of its name
+-- whether a reply went to this sender, ignoring case
 abbrev pub is_from : List ℕ → KeptReply → Bool
 is_from sender reply = str_eq_ignore_ascii_case reply.sender sender
 
--- whether a reply answers the request with this number of this sender
+-- whether a reply answers the sender's request with this number
 abbrev pub is_reply_to : List ℕ → ℕ → KeptReply → Bool
 is_reply_to sender number reply = (reply.number == number) && is_from sender reply
 
@@ -26,36 +25,36 @@ abbrev pub is_in_range : List ℕ → ℕ → ℕ → KeptReply → Bool
 is_in_range sender first last reply =
     nat_le first reply.number && nat_le reply.number last && is_from sender reply
 
--- the text that is kept for a request
+-- the kept text for a request
 abbrev pub kept_text : List KeptReply → List ℕ → ℕ → Option (List ℕ)
 kept_text replies sender number =
     option_map (λ reply. reply.text) (find (is_reply_to sender number) replies)
 
--- the replies that were kept after the one that answers a request
+-- the replies that were kept after the one that answers the request
 abbrev pub newer_than : List KeptReply → List ℕ → ℕ → List KeptReply
 newer_than [] sender number = []
 newer_than (reply ∷ replies) sender number =
     if is_reply_to sender number reply then replies else newer_than replies sender number
 
--- the last so many of some replies
+-- the newest `count` replies
 abbrev pub newest : ℕ → List KeptReply → List KeptReply
 newest count replies = drop (length replies - count) replies
 
--- One more reply is kept, the newest. Where as many are kept as may be, the oldest makes room.
+-- One more reply is kept, as the newest. If the limit is reached, the oldest is dropped.
 abbrev pub with_reply : KeptReply → List KeptReply → List KeptReply
 with_reply reply replies = newest kept_limit (replies ++ reply ∷ [])
 
--- what is left where a sender acknowledged the replies with the numbers from first to last
+-- the replies left after a sender acknowledged the numbers from `first` to `last`
 abbrev pub without_range : List ℕ → ℕ → ℕ → List KeptReply → List KeptReply
 without_range sender first last replies =
     filter (λ reply. not (is_in_range sender first last reply)) replies
 
--- no two replies answer one request
+-- no two replies answer the same request
 abbrev pub AreDistinct : List KeptReply → Type 0
 AreDistinct replies =
     AllPairs (λ older newer. is_reply_to newer.sender newer.number older ≡ false) replies
 
--- what holds of the replies that are kept
+-- the invariant of the kept replies
 pub record AreKept (replies : List KeptReply) : Type 0 where
   pub at_most : length replies ≤ kept_limit
   pub distinct : AreDistinct replies

@@ -1,4 +1,4 @@
--- What holds of the replies that are kept.
+-- Properties of kept replies.
 use Rattle.std.specs.Prelude.{◌≡◌, ℕ, ◌+◌, ◌<◌, ◌≤◌, ◌⊎◌, ◌&&◌, nat_le, true, false, List, [], ◌∷◌}
 use Rattle.std.specs.Prelude.{length, Some, None}
 use Rattle.std.specs.Str.{str_eq_ignore_ascii_case}
@@ -6,28 +6,28 @@ use Rattle.mg_words.specs.Limits.{kept_limit}
 use Rattle.mg_kept.specs.KeptReplies.{KeptReply, AreKept, is_from, is_reply_to, kept_text}
 use Rattle.mg_kept.specs.KeptReplies.{newer_than, with_reply, without_range}
 
--- A reply that was kept is found by its sender, in letters of any case.
+-- A kept reply is found under its sender's name, ignoring case.
 abbrev pub KeptIsFound : Type 0
 KeptIsFound =
     (replies : List KeptReply) (reply : KeptReply) (sender : List ℕ)
     → kept_text replies reply.sender reply.number ≡ None → is_from sender reply ≡ true
     → kept_text (with_reply reply replies) sender reply.number ≡ Some reply.text
 
--- What is found for a sender is found for it in letters of any case.
+-- The case of a sender's name does not matter.
 abbrev pub CaseIsIgnored : Type 0
 CaseIsIgnored =
     (replies : List KeptReply) (sender same : List ℕ) (number : ℕ)
     → str_eq_ignore_ascii_case sender same ≡ true
     → kept_text replies same number ≡ kept_text replies sender number
 
--- Where there is room for one more reply, what is found for other requests stays.
+-- While the limit is not reached, keeping a reply changes nothing for other requests.
 abbrev pub OthersStay : Type 0
 OthersStay =
     (replies : List KeptReply) (reply : KeptReply) (sender : List ℕ) (number : ℕ)
     → length replies < kept_limit → is_reply_to sender number reply ≡ false
     → kept_text (with_reply reply replies) sender number ≡ kept_text replies sender number
 
--- Where there is none, it stays for all requests but the one that the oldest answers.
+-- At the limit, it changes nothing for other requests except the oldest.
 abbrev pub OnlyOldestIsDropped : Type 0
 OnlyOldestIsDropped =
     (oldest : KeptReply) (rest : List KeptReply) (reply : KeptReply) (sender : List ℕ) (number : ℕ)
@@ -36,7 +36,7 @@ OnlyOldestIsDropped =
     → kept_text (with_reply reply (oldest ∷ rest)) sender number
     ≡ kept_text (oldest ∷ rest) sender number
 
--- A reply that was pushed out isn't found.
+-- A reply that was dropped for a newer one is not found.
 abbrev pub OldestIsDropped : Type 0
 OldestIsDropped =
     (oldest : KeptReply) (rest : List KeptReply) (reply : KeptReply) (sender : List ℕ)
@@ -44,15 +44,14 @@ OldestIsDropped =
     → is_from sender oldest ≡ true → is_reply_to sender oldest.number reply ≡ false
     → kept_text (with_reply reply (oldest ∷ rest)) sender oldest.number ≡ None
 
--- A reply that was acknowledged isn't found.
+-- A reply that was acknowledged is not found.
 abbrev pub AcknowledgedIsDropped : Type 0
 AcknowledgedIsDropped =
     (replies : List KeptReply) (sender same : List ℕ) (first last number : ℕ)
     → str_eq_ignore_ascii_case same sender ≡ true → first ≤ number → number ≤ last
     → kept_text (without_range sender first last replies) same number ≡ None
 
--- What an acknowledgement doesn't name is still found: requests of another sender, and those with
--- a number outside its range.
+-- An acknowledgement changes nothing for other senders, nor for numbers outside its range.
 abbrev pub OtherSendersStay : Type 0
 OtherSendersStay =
     (replies : List KeptReply) (sender other : List ℕ) (first last number : ℕ)
@@ -69,7 +68,7 @@ OtherNumbersStay =
 
 -- ## From one change to the next
 
--- A reply stays as long as fewer than 32 are newer: keeping one more makes one more newer than it.
+-- A reply stays while fewer than 32 are newer; keeping one more adds one newer reply.
 abbrev pub FewNewerStay : Type 0
 FewNewerStay =
     (replies : List KeptReply) (reply : KeptReply) (sender text : List ℕ) (number : ℕ)
@@ -79,7 +78,7 @@ FewNewerStay =
     × (length (newer_than (with_reply reply replies) sender number)
     ≡ length (newer_than replies sender number) + 1)
 
--- Where as many are newer as may be, one more pushes it out.
+-- If the limit of newer replies is reached, keeping one more drops the reply.
 abbrev pub NewerRepliesEvict : Type 0
 NewerRepliesEvict =
     (replies : List KeptReply) (reply : KeptReply) (sender : List ℕ) (number : ℕ)
@@ -87,14 +86,14 @@ NewerRepliesEvict =
     → is_reply_to sender number reply ≡ false
     → kept_text (with_reply reply replies) sender number ≡ None
 
--- None is newer than the last that was kept.
+-- No reply is newer than the one kept last.
 abbrev pub LastIsNewest : Type 0
 LastIsNewest =
     (replies : List KeptReply) (reply : KeptReply) (sender : List ℕ)
     → kept_text replies reply.sender reply.number ≡ None → is_from sender reply ≡ true
     → newer_than (with_reply reply replies) sender reply.number ≡ []
 
--- An acknowledgement that doesn't name a reply leaves it, and makes none newer than it.
+-- An acknowledgement that does not name a reply keeps it, and adds no newer one.
 abbrev pub UnnamedStay : Type 0
 UnnamedStay =
     (replies : List KeptReply) (sender from : List ℕ) (number first last : ℕ)
@@ -104,7 +103,7 @@ UnnamedStay =
     × (length (newer_than (without_range from first last replies) sender number)
     ≤ length (newer_than replies sender number))
 
--- What isn't found comes back by its own request alone.
+-- Only its own request brings a dropped reply back.
 abbrev pub DroppedStayDropped : Type 0
 DroppedStayDropped =
     (replies : List KeptReply) (sender : List ℕ) (number : ℕ)
@@ -114,7 +113,7 @@ DroppedStayDropped =
     × ((from : List ℕ) (first last : ℕ)
     → kept_text (without_range from first last replies) sender number ≡ None)
 
--- What holds of kept replies holds of them after a new one, and after an acknowledgement.
+-- Keeping a reply and acknowledging replies preserve the invariant.
 abbrev pub KeptStayDistinct : Type 0
 KeptStayDistinct =
     (replies : List KeptReply) → AreKept replies

@@ -8,7 +8,7 @@ use mg_words::{REPLY_LIMIT, SENDER_LIMIT};
 use std::alloc::{AllocError, Global};
 use std::marker::Model;
 
-/// A place for a reply that is kept, with room for the longest text. Contracts see the reply.
+/// A place for a kept reply, with room for the longest text. Contracts see the reply.
 #[derive(Drop)]
 pub(crate) struct Entry {
     sender: ArrayVec<u8, SENDER_LIMIT>,
@@ -28,7 +28,7 @@ impl Model for Entry {
     ghost invariant = { λ e. e.text.room + length e.text.text ≡ reply_limit };
 }
 
-/// Whether two names are one, whatever the case of their letters.
+/// Returns whether two names are equal, ignoring case.
 fn is_same_name(a: &[u8], b: &[u8]) -> bool
     ensures value { result ≡ str_eq_ignore_ascii_case a.now b.now }
 {
@@ -36,7 +36,7 @@ fn is_same_name(a: &[u8], b: &[u8]) -> bool
 }
 
 impl Entry {
-    /// A place that serves no reply. This takes all the memory.
+    /// Makes a place without a reply. Fails only if the allocation does.
     pub(crate) fn new(alloc: Global) -> Result<Self, AllocError> {
         Ok(Entry {
             sender: ArrayVec::new(),
@@ -45,7 +45,7 @@ impl Entry {
         })
     }
 
-    /// Puts another reply in the place.
+    /// Overwrites the place with another reply.
     pub(crate) fn set(&mut self, sender: &[u8], number: u32, text: &[u8])
         requires short { length sender.now ≤ SENDER_LIMIT }
         requires fits { length text.now ≤ REPLY_LIMIT }
@@ -58,14 +58,14 @@ impl Entry {
         self.text.push(text);
     }
 
-    /// Whether the reply answers the request with this number of this sender.
+    /// Returns whether this is the reply to the sender's request with this number.
     pub(crate) fn is_reply_to(&self, sender: &[u8], number: u32) -> bool
         ensures value { result ≡ is_reply_to sender.now number self.now }
     {
         self.number == number && is_same_name(self.sender.as_slice(), sender)
     }
 
-    /// Whether the reply went to this sender and has a number from first to last.
+    /// Returns whether the reply went to this sender and has a number from `first` to `last`.
     pub(crate) fn is_in_range(&self, sender: &[u8], first: u32, last: u32) -> bool
         ensures value { result ≡ is_in_range sender.now first last self.now }
     {
@@ -73,7 +73,7 @@ impl Entry {
         is_named && is_same_name(self.sender.as_slice(), sender)
     }
 
-    /// The reply's text.
+    /// Returns the text of the reply.
     pub(crate) fn text(&self) -> &[u8]
         ensures value { result.now ≡ self.now.text }
         ensures fits { length result.now ≤ REPLY_LIMIT }

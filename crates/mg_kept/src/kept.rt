@@ -7,10 +7,10 @@ use mg_words::{KEPT_REPLIES, REPLY_LIMIT, SENDER_LIMIT};
 use std::alloc::{AllocError, Global};
 use std::marker::Model;
 
-/// The replies that are kept for requests that come again. Contracts see the list of them, oldest first.
+/// The replies that are kept to answer retransmissions. Contracts see them as a list, oldest first.
 #[derive(Drop)]
 pub struct Kept {
-    /// As many places as replies may be kept, of which the first hold replies, oldest first.
+    /// A place for each reply that may be kept. The first `len` have replies, oldest first.
     places: Vec<Entry>,
     len: usize,
 }
@@ -28,7 +28,7 @@ impl Model for Kept {
 }
 
 impl Kept {
-    /// No reply is kept. This takes the memory for all, and no other call takes any.
+    /// Makes an empty store. Fails only if the allocation does. No other call allocates.
     pub fn new(alloc: Global) -> Result<Self, AllocError>
         ensures value { IfOk result (λ kept. kept ≡ []) }
     {
@@ -39,7 +39,7 @@ impl Kept {
         Ok(Kept { places, len: 0 })
     }
 
-    /// The text that is kept for the request with this number of this sender.
+    /// Returns the kept reply to the sender's request with this number.
     pub fn find(&self, sender: &[u8], number: u32) -> Option<&[u8]>
         ensures value { MatchOption result (kept_text self.now sender.now number ≡ None)
             (λ text. kept_text self.now sender.now number ≡ Some text.now) }
@@ -53,8 +53,9 @@ impl Kept {
         None
     }
 
-    /// Keeps the text of the reply to a request for which none is kept. It is the newest then. Where
-    /// [`KEPT_REPLIES`] are kept, the oldest makes room.
+    /// Keeps the reply to a request that has none yet. It is then the newest.
+    ///
+    /// If [`KEPT_REPLIES`] are kept already, the oldest is dropped.
     pub fn keep(&mut self, sender: &[u8], number: u32, text: &[u8])
         requires is_new { kept_text self.old sender.now number ≡ None }
         requires short { length sender.now ≤ SENDER_LIMIT }
@@ -67,15 +68,16 @@ impl Kept {
         self.len += 1;
     }
 
-    /// Drops this sender's replies with the numbers from first to last. A range whose first number exceeds its last
-    /// names none.
+    /// Drops the sender's replies with the numbers from `first` to `last`.
+    ///
+    /// If `first` exceeds `last`, none is dropped.
     pub fn ack(&mut self, sender: &[u8], first: u32, last: u32)
         ensures value { self.new ≡ without_range sender.now first last self.old }
     {
         self.len = drop_range(&mut self.places, self.len, sender, first, last);
     }
 
-    /// Drops the oldest reply where no more may be kept. Its place is the next to be written in.
+    /// Drops the oldest reply if no more may be kept. Its place is reused next.
     fn make_room(&mut self)
         ensures value { self.new ≡ drop (length self.old + 1 - kept_limit) self.old }
         ensures room { length self.new < kept_limit }
@@ -87,7 +89,7 @@ impl Kept {
         self.len -= 1;
     }
 
-    /// Shows what holds of the replies that are kept, and does nothing.
+    /// Shows a proof the invariant of the kept replies. Has no effect.
     pub(crate) fn assert_invariant(&self)
         ensures { AreKept self.now }
     {
@@ -95,8 +97,9 @@ impl Kept {
     }
 }
 
-/// Moves those of the first replies that a sender's range doesn't name to the front, in their order, and answers how
-/// many they are.
+/// Removes the sender's replies in the range from the first `len` places.
+///
+/// The others move to the front, in order. Returns their number.
 fn drop_range(places: &mut [Entry], len: usize, sender: &[u8], first: u32, last: u32) -> usize
     requires { len ≤ length places.old }
     ensures front { take result places.new ≡ without_range sender.now first last (take len places.old) }

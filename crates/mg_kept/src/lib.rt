@@ -1,9 +1,9 @@
-//! Replies that are kept, so that a request that comes again is answered and not run twice (Megaco, RFC 3525,
-//! section 8.2 and annex D.1).
+//! Kept replies, which answer retransmitted requests without running them twice.
 //!
-//! A gateway keeps the text of each reply in [`Kept`], under the sender's name and the number of the request. Letters'
-//! case in the name doesn't matter. [`KEPT_REPLIES`] are kept, and one more pushes out the oldest. A sender that has
-//! its replies says so by an acknowledgement of their numbers, and they are dropped:
+//! See RFC 3525, section 8.2 and annex D.1.
+//!
+//! [`Kept`] stores the text of each reply under the sender's name, ignoring case, and the request's number. The last
+//! [`KEPT_REPLIES`] are kept. A sender that has received replies acknowledges their numbers, and they are dropped:
 //!
 //! ```rust
 //! let mut kept = Kept::new(alloc)?;
@@ -13,8 +13,8 @@
 //! assert_eq!(rt; kept.find(b"<mgc.example>:2945", 7), None);
 //! ```
 //!
-//! [`Kept::new`] takes the memory for all texts, and no other call takes any. The rules stand in
-//! `specs/KeptReplies.antt`, and [`theorems`] says what follows from them.
+//! [`Kept::new`] allocates memory for all texts; no other call allocates. `specs/KeptReplies.antt` has the rules, and
+//! [`theorems`] states what follows.
 #![tactic(auto)]
 
 mod entry;

@@ -1,13 +1,13 @@
-//! What follows from the rules of kept replies, whatever keeps them.
+//! Properties of kept replies.
 //!
-//! The functions here do nothing: their contracts are the theorems, in the words of `specs/Theorems.antt`.
+//! The functions have empty bodies: their contracts are the theorems, in the words of `specs/Theorems.antt`.
 
 ghost use Rattle.mg_kept.specs.KeptReplies.{AreKept};
 ghost use Rattle.mg_kept.specs.Theorems.{KeptIsFound, CaseIsIgnored, OthersStay, OnlyOldestIsDropped, OldestIsDropped, AcknowledgedIsDropped, OtherSendersStay, OtherNumbersStay, FewNewerStay, NewerRepliesEvict, LastIsNewest, UnnamedStay, DroppedStayDropped, KeptStayDistinct};
 
 use crate::kept::Kept;
 
-/// At most [`KEPT_REPLIES`] replies are kept, and no two of them answer one request.
+/// At most [`KEPT_REPLIES`] replies are kept, and no two of them answer the same request.
 ///
 /// [`KEPT_REPLIES`]: crate::KEPT_REPLIES
 pub fn kept_replies_are_distinct(kept: &Kept)
@@ -16,15 +16,14 @@ pub fn kept_replies_are_distinct(kept: &Kept)
     kept.assert_invariant();
 }
 
-/// A reply that was kept is found by its sender, in letters of any case.
+/// A kept reply is found under its sender's name, ignoring case.
 #[tactic(auto, using(crate::proofs::KeepLemmas::kept_is_found, crate::proofs::KeepLemmas::letters_are_one))]
 pub fn kept_reply_is_found()
     ensures theorem { KeptIsFound }
     ensures letters { CaseIsIgnored }
 {}
 
-/// Keeping one more reply changes nothing that is found for other requests. Where it pushes out the oldest, that one
-/// isn't found any more, and the others are.
+/// Keeping one more reply changes nothing for other requests, except that the oldest may be dropped.
 #[tactic(auto, using(crate::proofs::KeepLemmas::others_stay, crate::proofs::KeepLemmas::only_oldest_goes, crate::proofs::KeepLemmas::oldest_is_dropped))]
 pub fn only_oldest_is_dropped()
     ensures room { OthersStay }
@@ -32,7 +31,7 @@ pub fn only_oldest_is_dropped()
     ensures oldest { OldestIsDropped }
 {}
 
-/// A reply that was acknowledged isn't found any more. What the acknowledgement doesn't name is still found.
+/// An acknowledged reply is no longer found. Replies that the acknowledgement does not name still are.
 #[tactic(auto, using(crate::proofs::AckLemmas::acknowledged_is_dropped, crate::proofs::AckLemmas::other_senders_stay, crate::proofs::AckLemmas::other_numbers_stay))]
 pub fn only_acknowledged_is_dropped()
     ensures named { AcknowledgedIsDropped }
@@ -40,8 +39,9 @@ pub fn only_acknowledged_is_dropped()
     ensures numbers { OtherNumbersStay }
 {}
 
-/// How long a reply is kept: until as many newer ones are kept as may be, or an acknowledgement names it. Then it comes
-/// back by its own request alone.
+/// A reply is kept until the limit of newer ones is reached, or until an acknowledgement names it.
+///
+/// After that, only its own request brings it back.
 pub fn replies_stay_while_few_are_newer()
     ensures few { FewNewerStay }
     ensures many { NewerRepliesEvict }

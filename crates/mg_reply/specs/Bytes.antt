@@ -1,11 +1,11 @@
--- Text with a bound on its length.
+-- A text buffer of fixed capacity.
 use Rattle.std.specs.Prelude.{ℕ, ◌-◌, List, ◌++◌, length}
 
--- a text, and how many more bytes there is room for
+-- a text, and the room that is left after it
 pub record Written : Type 0 where
   pub text : List ℕ
   pub room : ℕ
 
--- the text with a part after it
+-- the text with another part appended
 abbrev pub appended : Written → List ℕ → Written
 appended old part = record { text = old.text ++ part; room = old.room - length part }

@@ -14,12 +14,12 @@ use Rattle.mg_words.specs.ErrorNumber.{error_text}
 use Rattle.mg_reply.specs.Listed.{listed, grouped}
 use Rattle.mg_reply.specs.Media.{reported_parts}
 
--- what stands after the name of a command's termination: its error alone, or its parts
+-- the text after a command's termination: its error, or what is reported of it
 abbrev pub outcome_text : Outcome → List ℕ
 outcome_text (Failed e) = grouped (error_text e ∷ [])
 outcome_text (Done parts) = grouped (reported_parts parts)
 
--- an item by itself: a triple, a command or an error
+-- the text of an item: a triple, a command or an error
 abbrev pub item_text : Item → List ℕ
 item_text (Triple a b association) =
     a ++ (codes "," ++ (b ++ (codes "," ++ association_text association)))
@@ -35,11 +35,11 @@ is_of Commands (Command word term outcome) = true
 is_of Faults (Fault e) = true
 is_of _ _ = false
 
--- the items of a kind, in the order in which they were put
+-- the texts of the items of a kind, in order
 abbrev pub texts_of : EntryKind → List Item → List (List ℕ)
 texts_of kind items = map item_text (filter (is_of kind) items)
 
--- all triples together, if there is one
+-- all triples together as one entry, if there is any
 abbrev pub topology_entry : List (List ℕ) → List (List ℕ)
 topology_entry [] = []
 topology_entry (x ∷ xs) = (listed (codes "Topology{") (x ∷ xs) ++ codes "}") ∷ []

@@ -1,11 +1,11 @@
--- A reply by its items.
+-- The items of a reply.
 use Rattle.std.specs.Prelude.{◌≡◌, ℕ, ◌-◌, Bool, true, false, ◌&&◌, ◌||◌}
 use Rattle.std.specs.Prelude.{◌==◌, not, List, [], ◌∷◌, ◌++◌, if◌then◌else◌}
 use Rattle.mg_reply.specs.declared.item.Item.{Item}
 use Rattle.mg_reply.specs.declared.item.Item.TheVariants.{Fault, Action}
 
--- The number of the transaction, the items so far, the room that is left, whether items wait for
--- the end of their action, and whether an item found no room.
+-- The number of the transaction, the items so far, and the room that is left; whether items wait
+-- for the end of their action, and whether an item found no room.
 pub record Answered : Type 0 where
   pub number : ℕ
   pub items : List Item
@@ -20,18 +20,18 @@ abbrev pub is_action : Item → Bool
 is_action (Action id) = true
 is_action _ = false
 
--- whether the last of these ends an action; where there is none, what was said before
+-- whether the last item ends an action; `before` if there is none
 abbrev pub last_is_action : Bool → List Item → Bool
 last_is_action before [] = before
 last_is_action before (x ∷ xs) = last_is_action (is_action x) xs
 
--- one error alone, the refusal of the whole request
+-- a single error, which rejects the whole request
 abbrev pub is_refusal : List Item → Bool
 is_refusal (Fault e ∷ []) = true
 is_refusal _ = false
 
--- A reply that can be written, or is told to be too long: one error alone, or actions of which the
--- last has ended.
+-- A reply that can be written: it is a single error, or its last action has ended, or it is marked
+-- as too long.
 abbrev pub is_whole : Answered → Bool
 is_whole r = r.is_long || is_refusal r.items || last_is_action false r.items
 
@@ -41,7 +41,7 @@ IsWhole r = is_whole r ≡ true
 abbrev pub marked : Answered → Answered
 marked r = record r { is_long = true }
 
--- with an item more, which takes so much room
+-- the reply with one more item, which takes `size` room
 abbrev pub with_item : Answered → Item → ℕ → Answered
 with_item r item size =
     record r {
@@ -50,14 +50,14 @@ with_item r item size =
       has_pending = not (is_action item);
     }
 
--- The end of an action that has items takes no room, any other item takes one place, and where
--- there is none it marks the reply.
+-- The end of an action that has items takes no room. Any other item takes one place; if there is
+-- none, it is dropped and the reply is marked.
 abbrev pub after_put : Answered → Item → Answered
 after_put r item =
     if is_action item && r.has_pending then with_item r item 0
     else (if r.room == 0 then marked r else with_item r item 1)
 
--- the reply with items more, one after another
+-- the reply after these items, one after another
 abbrev pub after_all : Answered → List Item → Answered
 after_all r [] = r
 after_all r (x ∷ xs) = after_all (after_put r x) xs

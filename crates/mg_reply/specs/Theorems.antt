@@ -1,4 +1,4 @@
--- What holds of replies as a whole.
+-- Properties of replies.
 use Rattle.std.specs.Prelude.{◌≡◌, ℕ, Bool, true, false, ◌&&◌, ◌||◌, nat_le, nat_lt, List, [], ◌++◌}
 use Rattle.std.specs.Prelude.{length}
 use Rattle.std.specs.List.{list_all}
@@ -10,33 +10,33 @@ use Rattle.mg_reply.specs.Entries.{item_text}
 use Rattle.mg_reply.specs.Reply.{Answered, new_reply, is_refusal, last_is_action, after_all}
 use Rattle.mg_reply.specs.Written.{action_text, reply_text}
 
--- whether the names in an item are names of terminations, as they are in each that is made
+-- whether the names in an item are names of terminations, as the types of the code ensure
 abbrev pub has_terms : Item → Bool
 has_terms (Triple a b association) = is_term a && is_term b
 has_terms (Command word term outcome) = is_term term
 has_terms _ = true
 
--- no reply's text goes on after another reply's text
+-- no reply's text is a proper prefix of another reply's text
 abbrev pub NoProperPrefix : Type 0
 NoProperPrefix =
     (n m : ℕ) (xs ys : List Item) (rest : List ℕ)
     → list_all has_terms xs ≡ true → list_all has_terms ys ≡ true
     → reply_text m ys ≡ reply_text n xs ++ rest → rest ≡ []
 
--- An item that has at least 10 bytes with its comma, as each has that a request leads to; of the
--- end of an action, where it has no entries.
+-- The item has at least 10 bytes with its comma, as every item of a request's reply has. The end
+-- of an action counts without its entries.
 abbrev pub is_wide : Item → Bool
 is_wide (Triple a b association) = nat_le 9 (length (item_text (Triple a b association)))
 is_wide (Command word term outcome) = nat_le 9 (length (item_text (Command word term outcome)))
 is_wide (Fault e) = nat_le 9 (length (item_text (Fault e)))
 is_wide (Action id) = nat_le 9 (length (action_text id []))
 
--- a reply that tells that it is too long
+-- a reply that is too long, by its mark or by its text
 abbrev pub is_too_long : Answered → Bool
 is_too_long r = r.is_long || nat_lt reply_limit (length (reply_text r.number r.items))
 
--- Whole items, put into a new reply, make it too long exactly where their text is longer than a
--- reply may be, those that found no room among them. Where they don't, they are all there.
+-- Complete items, put into a new reply, make it too long exactly if their whole text exceeds the
+-- limit, including those that found no room. If they do not, all of them are in the reply.
 abbrev pub TooLongByText : Type 0
 TooLongByText =
     (n : ℕ) (xs : List Item) → list_all is_wide xs ≡ true

@@ -1,5 +1,4 @@
--- The text that a gateway writes (RFC 3525, Annex B.2, in its long forms; the layout is this
--- gateway's own).
+-- The text of replies (RFC 3525, Annex B.2, in long forms). The layout is this gateway's own.
 use Rattle.std.specs.Prelude.{ℕ, List, [], ◌∷◌, ◌++◌, codes, decimal}
 use Rattle.mg_words.specs.Address.{address_text}
 use Rattle.mg_words.specs.declared.context_id.ContextId.{ContextId}
@@ -19,15 +18,15 @@ head_text address port =
 abbrev pub action_text : ContextId → List Item → List ℕ
 action_text id items = codes "Context=" ++ (context_text id ++ grouped (entries_of items))
 
--- Actions with a mark before each. An action has the items since the end of the action before it;
--- those that wait for their action's end stand in pending.
+-- Actions with a mark before each. An action has the items since the previous action; `pending`
+-- are the items so far of the next one.
 unfoldable pub actions_text : List ℕ → List Item → List Item → List ℕ
 actions_text mark pending [] = []
 actions_text mark pending (Action id ∷ xs) =
     mark ++ (action_text id pending ++ actions_text (codes ",") [] xs)
 actions_text mark pending (x ∷ xs) = actions_text mark (pending ++ x ∷ []) xs
 
--- an error alone, or actions with commas between them
+-- a single error, or actions with commas between them
 abbrev pub items_text : List Item → List ℕ
 items_text (Fault e ∷ []) = error_text e
 items_text items = actions_text [] [] items

@@ -40,7 +40,7 @@ fn put_outcome(draft: &mut Draft, outcome: Outcome)
     }
 }
 
-/// A comma and the word of an association: a literal each, so that it is put by one store.
+/// Appends a comma and an association. Each is one literal, so that one store writes it.
 fn put_association(draft: &mut Draft, association: Association)
     ensures value { draft.new ≡ drafted draft.old (codes "," ++ association_text association) }
 {
@@ -71,7 +71,7 @@ fn put_command(draft: &mut Draft, word: CommandWord, term: &Term, outcome: Outco
     put_outcome(draft, outcome);
 }
 
-/// An item by itself.
+/// Appends an item.
 fn put_item(draft: &mut Draft, item: &Item)
     ensures value { draft.new ≡ drafted draft.old (item_text item.now) }
 {
@@ -83,7 +83,7 @@ fn put_item(draft: &mut Draft, item: &Item)
     }
 }
 
-/// The mark before the next part of a list.
+/// Appends the mark before the next part of a list.
 fn put_mark(draft: &mut Draft, opening: &[u8], is_first: bool)
     ensures value { draft.new ≡ drafted draft.old (mark_of opening.now is_first) }
 {
@@ -94,7 +94,7 @@ fn put_mark(draft: &mut Draft, opening: &[u8], is_first: bool)
     }
 }
 
-/// What closes a list, unless it has no part.
+/// Appends the closing brace of a list, unless the list is empty.
 fn close(draft: &mut Draft, is_empty: bool)
     ensures value { draft.new ≡ drafted draft.old (closing is_empty) }
 {
@@ -105,7 +105,7 @@ fn close(draft: &mut Draft, is_empty: bool)
     }
 }
 
-/// An item with the mark before it, if it is of this kind. Tells whether the next part is the first.
+/// Appends an item with the mark before it, if it is of this kind. Returns whether the next part is the first.
 #[tactic(auto, using(crate::proofs::ListedLemmas::one_other), unfolding(crate::specs::Listed::listed))]
 fn put_if_of(
     draft: &mut Draft,
@@ -127,8 +127,9 @@ fn put_if_of(
     false
 }
 
-/// The items of a kind, with an opening before the first part of the list and a comma before each other. Tells
-/// whether the next part is the first.
+/// Appends the items of a kind, with `opening` before the first part of the list and commas between parts.
+///
+/// Returns whether the next part is the first.
 fn put_all(
     draft: &mut Draft,
     opening: &[u8],
@@ -147,7 +148,7 @@ fn put_all(
     is_next_first
 }
 
-/// The topology, as the first entry. Tells whether the next entry is the first.
+/// Appends the topology as the first entry. Returns whether the next entry is the first.
 fn put_topology(draft: &mut Draft, items: &[Item]) -> bool
     ensures value { draft.new ≡ drafted draft.old
         (listed (codes "{") (topology_entry (texts_of EntryKind.Triples items.now))) }
@@ -158,7 +159,7 @@ fn put_topology(draft: &mut Draft, items: &[Item]) -> bool
     is_empty
 }
 
-/// The entries of an action, in braces, if there is one.
+/// Appends the entries of an action in braces, or nothing if there is none.
 fn put_entries(draft: &mut Draft, items: &[Item])
     ensures value { draft.new ≡ drafted draft.old (grouped (entries_of items.now)) }
 {
@@ -168,7 +169,7 @@ fn put_entries(draft: &mut Draft, items: &[Item])
     close(draft, is_empty);
 }
 
-/// An action with its entries, and a mark before it.
+/// Appends an action with its entries, after a mark.
 #[tactic(auto, using(crate::proofs::DraftLemmas::joins))]
 fn put_action(draft: &mut Draft, mark: &[u8], id: ContextId, items: &[Item])
     ensures value { draft.new ≡ drafted draft.old (mark.now ++ action_text id items.now) }
@@ -179,7 +180,7 @@ fn put_action(draft: &mut Draft, mark: &[u8], id: ContextId, items: &[Item])
     put_entries(draft, items);
 }
 
-/// All actions of a reply.
+/// Appends all actions of a reply.
 pub(crate) fn put_actions(draft: &mut Draft, items: &[Item])
     ensures value { draft.new ≡ drafted draft.old (actions_text [] [] items.now) }
 {

@@ -6,11 +6,12 @@ use crate::rtp_name::RtpName;
 use std::alloc::{AllocError, Global};
 use std::marker::Model;
 
-/// Text in memory that was taken when it was made. Contracts see the text and the room that is left, in
-/// bytes.
+/// A text buffer of fixed capacity.
+///
+/// Contracts see the text and the room that is left, in bytes.
 #[derive(Drop)]
 pub struct Bytes {
-    /// As many bytes as there is room for in all, of which the first are the text.
+    /// The whole buffer, which starts with the text.
     bytes: Vec<u8>,
     len: usize,
 }
@@ -26,7 +27,7 @@ impl Model for Bytes {
     ghost invariant = { λ b. b.len ≤ length b.bytes.items };
 }
 
-/// Writes a name at a place, with all 16 bytes that it is kept in.
+/// Writes a name into a buffer, with all 16 bytes that it is stored in.
 fn write_at(bytes: &mut [u8], at: usize, name: &RtpName)
     requires fits { at + 16 ≤ length bytes.old }
     ensures value { take (at + length name.now) bytes.new ≡ take at bytes.old ++ name.now }
@@ -36,7 +37,7 @@ fn write_at(bytes: &mut [u8], at: usize, name: &RtpName)
 }
 
 impl Bytes {
-    /// An empty text with room for so many bytes. This takes all the memory.
+    /// Makes an empty buffer with room for `room` bytes. Fails only if the allocation does. No other call allocates.
     pub fn new(alloc: Global, room: usize) -> Result<Self, AllocError>
         ensures value { IfOk result (λ bytes. bytes ≡ record { text = []; room = room }) }
     {
@@ -46,7 +47,7 @@ impl Bytes {
         })
     }
 
-    /// An empty text without room, with another's allocator. This takes no memory.
+    /// Returns an empty buffer without room, with the allocator of another. It does not allocate.
     pub(crate) fn empty_like(other: &Bytes) -> Self
         ensures value { result ≡ record { text = []; room = 0 } }
     {
@@ -57,21 +58,21 @@ impl Bytes {
         }
     }
 
-    /// The text.
+    /// Returns the text.
     pub fn as_slice(&self) -> &[u8]
         ensures value { result.now ≡ self.now.text }
     {
         &self.bytes[..self.len]
     }
 
-    /// How many more bytes there is room for.
+    /// Returns the room that is left, in bytes.
     pub fn room(&self) -> usize
         ensures value { result ≡ self.now.room }
     {
         self.bytes.len() - self.len
     }
 
-    /// Puts a part after the text.
+    /// Appends to the text.
     pub fn push(&mut self, part: &[u8])
         requires fits { length part.now ≤ self.old.room }
         ensures value { self.new ≡ appended self.old part.now }
@@ -81,7 +82,7 @@ impl Bytes {
         self.len = end;
     }
 
-    /// Puts a name after the text: all 16 bytes that it is kept in at once, where there is room for them.
+    /// Appends a name. If there is room, it copies all 16 bytes that the name is stored in.
     pub(crate) fn push_name(&mut self, name: &RtpName)
         requires fits { length name.now ≤ self.old.room }
         ensures value { self.new ≡ appended self.old name.now }
@@ -95,14 +96,14 @@ impl Bytes {
         self.len += name.len();
     }
 
-    /// Empties the text, and gives its room back.
+    /// Empties the text.
     pub fn clear(&mut self)
         ensures value { self.new ≡ record { text = []; room = self.old.room + length self.old.text } }
     {
         self.len = 0;
     }
 
-    /// Takes the text back to its first bytes.
+    /// Shortens the text to its first `len` bytes.
     pub(crate) fn truncate(&mut self, len: usize)
         requires within { len ≤ length self.old.text }
         ensures value { self.new ≡ cut_to len self.old }

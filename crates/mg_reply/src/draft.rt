@@ -8,7 +8,7 @@ use mg_words::REPLY_LIMIT;
 use std::marker::Model;
 use std::mem;
 
-/// A reply that is being written after a text: its text so far, or that it grew too long.
+/// A reply that is being written after an existing text, as long as it is not too long.
 #[derive(Drop)]
 pub struct Draft {
     bytes: Bytes,
@@ -33,7 +33,7 @@ impl Model for Draft {
 }
 
 impl Draft {
-    /// Begins a reply after the text of some bytes, which the draft holds until it is closed.
+    /// Starts a reply after the text of a buffer. The draft holds the buffer until it is closed.
     pub fn begin(bytes: &mut Bytes) -> Self
         requires room { reply_limit ≤ bytes.old.room }
         ensures value { result ≡ record { front = bytes.old.text; room = bytes.old.room; text = Some [] } }
@@ -49,7 +49,7 @@ impl Draft {
         }
     }
 
-    /// Puts a part after the reply, unless it grows too long by it.
+    /// Appends to the reply, unless that makes it too long.
     #[tactic(auto, unfolding(crate::specs::aids::Draft::drafted))]
     pub fn put(&mut self, part: &[u8])
         ensures value { self.new ≡ drafted self.old part.now }
@@ -62,7 +62,7 @@ impl Draft {
         }
     }
 
-    /// Puts a name after the reply, unless it grows too long by it.
+    /// Appends a name to the reply, unless that makes it too long.
     #[tactic(auto, unfolding(crate::specs::aids::Draft::drafted))]
     pub fn put_name(&mut self, name: &RtpName)
         ensures value { self.new ≡ drafted self.old name.now }
@@ -75,8 +75,9 @@ impl Draft {
         }
     }
 
-    /// The bytes with the whole reply, or as they were before a reply that grew too long, and whether it
-    /// did.
+    /// Returns the buffer, and whether the reply was too long.
+    ///
+    /// If it was, the buffer is unchanged; otherwise it has the whole reply.
     pub fn close(self) -> (Bytes, bool)
         ensures value { closed self result.0 result.1 }
     {

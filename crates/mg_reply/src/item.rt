@@ -12,17 +12,17 @@ use mg_words::{Association, CommandWord, ContextId, ErrorNumber, Term};
 pub enum Item {
     /// Who hears whom between two terminations of the action's context.
     Triple(RtpName, RtpName, Association),
-    /// A command that was tried, the termination that it named, and how it came out.
+    /// A command that was tried, the termination that it names, and its outcome.
     Command(CommandWord, Term, Outcome),
-    /// The refusal of an action, or of the whole request where it stands alone.
+    /// The error of an action, or of the whole request if it is the only item.
     Fault(ErrorNumber),
-    /// The end of an action, whose items stand before it, back to the action before; with its context. They are
-    /// written as the topology, the commands and the errors, whatever the order in which they were put.
+    /// The end of an action in this context. The action has the items since the previous one. They are written as
+    /// topology, commands and errors, in whatever order they were put.
     Action(ContextId),
 }
 
 impl Item {
-    /// Whether it is written among the entries of a kind.
+    /// Returns whether the item is written among the entries of this kind.
     pub(crate) fn is_of(&self, kind: EntryKind) -> bool
         ensures value { result ≡ is_of kind self.now }
     {
@@ -34,7 +34,7 @@ impl Item {
         }
     }
 
-    /// The context of an action that ends here.
+    /// Returns the context of the action that ends with this item, if one does.
     pub(crate) fn action_id(&self) -> Option<ContextId>
         ensures value { result ≡ action_id self.now }
     {

@@ -1,6 +1,7 @@
-//! Replies of a gateway in text encoding (Megaco, RFC 3525, Annex B): put together item by item, and written.
+//! Replies in text encoding (Megaco, RFC 3525, Annex B): collected, then written.
 //!
-//! A [`Reply`] takes all its memory when it is made, and so do the [`Bytes`] that its text is written to:
+//! A [`Reply`] collects items. It allocates all its memory in [`Reply::new`], and [`Bytes::new`] allocates the buffer
+//! of its text:
 //!
 //! ```rust
 //! let mut reply = Reply::new(alloc)?;
@@ -11,10 +12,10 @@
 //! assert!(rt; write_reply(&reply, &mut text).is_ok());
 //! ```
 //!
-//! The end of an action is put after the items that it owns, in whatever order they come: they are written as the
-//! topology, the commands and the errors. A reply that is one [`Item::Fault`] alone refuses the whole request. One with
-//! more items than it has room for, and one whose text would be longer than 16,000 bytes, is reported as too long by
-//! [`write_reply`], which then writes nothing. [`theorems`] has what holds of replies as a whole.
+//! Put the end of an action after its items, which may have any order: they are written as topology, commands and
+//! errors. A reply whose only item is an [`Item::Fault`] rejects the whole request. [`write_reply`] returns
+//! [`TooLong`], and writes nothing, if the reply had more items than room or if its text would exceed 16,000 bytes.
+//! [`theorems`] states properties of replies.
 #![tactic(auto)]
 
 mod action_writing;

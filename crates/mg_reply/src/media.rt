@@ -1,17 +1,17 @@
 use crate::control::Control;
 use mg_sdp::Chosen;
 
-/// What a reply tells of a termination's one stream (RFC 3525, sections 7.1.4 to 7.1.8).
+/// What a reply reports of a termination's stream (RFC 3525, sections 7.1.4 to 7.1.8).
 #[derive(Clone, Copy, Debug, PartialEq, Eq)]
 pub enum Media {
-    /// The description that was set by the command, alone.
+    /// Only the Local that the command set.
     Local(Chosen),
-    /// The whole stream, as an audit asks for it.
+    /// The whole stream, for an audit.
     Whole {
         control: Control,
-        /// What the gateway receives, where it was set.
+        /// What the gateway receives, if it was set.
         local: Option<Chosen>,
-        /// Where the gateway sends, where it was set.
+        /// Where the gateway sends, if it was set.
         remote: Option<Chosen>,
     },
 }

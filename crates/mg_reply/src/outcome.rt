@@ -1,14 +1,14 @@
 use crate::media::Media;
 use mg_words::{ErrorNumber, Stats};
 
-/// What a command that was done tells of its termination. The default tells nothing.
+/// What a reply reports of a command that was done. The default is nothing.
 #[derive(Clone, Copy, Debug, Default, PartialEq, Eq)]
 pub struct Parts {
     pub media: Option<Media>,
     pub statistics: Option<Stats>,
 }
 
-/// How a command came out.
+/// The outcome of a command.
 #[derive(Clone, Copy, Debug, PartialEq, Eq)]
 pub enum Outcome {
     Failed(ErrorNumber),

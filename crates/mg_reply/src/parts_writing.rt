@@ -11,7 +11,7 @@ use itoa::Buffer;
 use mg_sdp::{Chosen, write_local, write_remote};
 use mg_words::Stats;
 
-/// A number in plain decimal.
+/// Appends a number in decimal.
 pub(crate) fn put_number(draft: &mut Draft, n: u64)
     ensures value { draft.new ≡ drafted draft.old (decimal n) }
 {
@@ -19,7 +19,7 @@ pub(crate) fn put_number(draft: &mut Draft, n: u64)
     draft.put(buffer.format(n).as_bytes());
 }
 
-/// The mode and the depth of the play-out buffer.
+/// Appends the mode and the depth of the play list.
 #[tactic(auto, using(crate::proofs::DraftLemmas::joins), unfolding(crate::specs::Media::control_text))]
 fn put_control(draft: &mut Draft, control: Control)
     ensures value { draft.new ≡ drafted draft.old (control_text control) }
@@ -49,7 +49,7 @@ fn put_remote(draft: &mut Draft, chosen: &Chosen)
     draft.put(b"}");
 }
 
-/// A Local after another part, if it is there.
+/// Appends a comma and a Local, if there is one.
 #[tactic(auto, using(crate::proofs::DraftLemmas::joins), unfolding(crate::specs::Listed::listed))]
 fn put_next_local(draft: &mut Draft, local: Option<Chosen>)
     ensures value { draft.new ≡ drafted draft.old (listed (codes ",") (optional local_text local)) }
@@ -63,7 +63,7 @@ fn put_next_local(draft: &mut Draft, local: Option<Chosen>)
     }
 }
 
-/// A Remote after another part, if it is there.
+/// Appends a comma and a Remote, if there is one.
 #[tactic(auto, using(crate::proofs::DraftLemmas::joins), unfolding(crate::specs::Listed::listed))]
 fn put_next_remote(draft: &mut Draft, remote: Option<Chosen>)
     ensures value { draft.new ≡ drafted draft.old (listed (codes ",") (optional remote_text remote)) }
@@ -77,7 +77,7 @@ fn put_next_remote(draft: &mut Draft, remote: Option<Chosen>)
     }
 }
 
-/// The parts of a stream as an audit asks for it, in braces.
+/// Appends the whole stream, as an audit asks for it, in braces.
 #[tactic(auto, using(crate::proofs::StreamLemmas::whole))]
 fn put_whole(draft: &mut Draft, control: Control, local: Option<Chosen>, remote: Option<Chosen>)
     ensures value { draft.new ≡ drafted draft.old (grouped (reported_stream (Media.Whole control local remote))) }
@@ -89,7 +89,7 @@ fn put_whole(draft: &mut Draft, control: Control, local: Option<Chosen>, remote:
     draft.put(b"}");
 }
 
-/// The parts of a stream, in braces.
+/// Appends the parts of a stream, in braces.
 #[tactic(auto, using(crate::proofs::DraftLemmas::joins), unfolding(crate::specs::Listed::listed))]
 fn put_stream(draft: &mut Draft, media: Media)
     ensures value { draft.new ≡ drafted draft.old (grouped (reported_stream media)) }
@@ -132,7 +132,7 @@ fn put_statistics(draft: &mut Draft, statistics: Stats)
     draft.put(b"}");
 }
 
-/// The parts that a command tells, in braces, if there is one.
+/// Appends the parts of a command's outcome in braces, or nothing if there is none.
 #[tactic(auto, using(crate::proofs::DraftLemmas::joins), unfolding(crate::specs::Listed::listed))]
 pub(crate) fn put_parts(draft: &mut Draft, parts: Parts)
     ensures value { draft.new ≡ drafted draft.old (grouped (reported_parts parts)) }

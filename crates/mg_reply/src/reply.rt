@@ -6,10 +6,10 @@ use crate::item::Item;
 use std::alloc::{AllocError, Global};
 use std::marker::Model;
 
-/// How many items a reply has room for. An action that has items takes no room of its own.
+/// The number of items that a reply has room for. The end of an action that has items takes no room.
 pub const ITEM_LIMIT: usize = 1600;
 
-/// A reply that is put together item by item, in memory that was taken when it was made.
+/// A reply that is collected item by item, in memory that was allocated at the start.
 #[derive(Drop)]
 pub struct Reply {
     number: u32,
@@ -39,7 +39,7 @@ impl Model for Reply {
 }
 
 impl Reply {
-    /// An empty reply to transaction 0. This takes all the memory.
+    /// Makes an empty reply to transaction 0. Fails only if the allocation does. No other call allocates.
     pub fn new(alloc: Global) -> Result<Self, AllocError>
         ensures value { IfOk result (λ reply. reply ≡ new_reply 0) }
     {
@@ -52,7 +52,7 @@ impl Reply {
         })
     }
 
-    /// Empties the reply, and begins that to a transaction.
+    /// Empties the reply, and starts the reply to a transaction.
     pub fn start(&mut self, number: u32)
         ensures value { self.new ≡ new_reply number }
     {
@@ -63,8 +63,7 @@ impl Reply {
         self.is_long = false;
     }
 
-    /// Puts an item after the others. One that finds no room is dropped, and the reply is marked as too
-    /// long.
+    /// Appends an item. If there is no room, the item is dropped and the reply is marked as too long.
     #[tactic(auto, using(crate::proofs::ReplyLemmas::last_items))]
     pub fn put(&mut self, item: Item)
         ensures value { self.new ≡ after_put self.old item }
@@ -83,22 +82,22 @@ impl Reply {
         self.has_pending = !is_action;
     }
 
-    /// The number of the transaction.
+    /// Returns the number of the transaction.
     pub fn number(&self) -> u32
         ensures value { result ≡ self.now.number }
     {
         self.number
     }
 
-    /// The items that were put.
+    /// Returns the items that were put.
     pub fn items(&self) -> &[Item]
         ensures value { result.now ≡ self.now.items }
     {
         self.items.as_slice()
     }
 
-    /// Whether the reply can be written, or is told to be too long: one error alone, or actions of which the last
-    /// has ended.
+    /// Returns whether the reply can be written: it is a single error, or its last action has ended, or it is marked
+    /// as too long.
     #[tactic(auto, using(crate::proofs::ReplyLemmas::last_items))]
     pub fn is_whole(&self) -> bool
         ensures value { result ≡ is_whole self.now }
@@ -113,7 +112,7 @@ impl Reply {
         }
     }
 
-    /// Whether an item found no room.
+    /// Returns whether the reply is marked as too long: an item found no room.
     pub fn is_long(&self) -> bool
         ensures value { result ≡ self.now.is_long }
     {

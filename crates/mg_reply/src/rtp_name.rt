@@ -4,8 +4,9 @@ ghost use Rattle.mg_words.specs.Term.{rtp_name};
 use itoa::Buffer;
 use std::marker::Model;
 
-/// The name of a termination by its number, `RTP/` and the number in plain decimal: 5 to 14 bytes, kept in 16, so that
-/// it is written by one move. Contracts see the name.
+/// The name of a termination, `RTP/` and its number in decimal.
+///
+/// It has 5 to 14 bytes, stored in 16, so that one move copies it. Contracts see the name.
 #[derive(Drop)]
 pub struct RtpName {
     padded: [u8; 16],
@@ -23,7 +24,7 @@ impl Model for RtpName {
 }
 
 impl RtpName {
-    /// The name of the termination with a number.
+    /// Returns the name of the termination with this number.
     #[tactic(auto, using(crate::proofs::WrittenLemmas::lengths))]
     pub fn new(number: u32) -> Self
         ensures value { result ≡ rtp_name number }
@@ -36,14 +37,14 @@ impl RtpName {
         RtpName { padded, len }
     }
 
-    /// The bytes of the name.
+    /// Returns the bytes of the name.
     pub fn as_slice(&self) -> &[u8]
         ensures value { result.now ≡ self.now }
     {
         &self.padded[..self.len]
     }
 
-    /// The same name once more.
+    /// Returns a copy of the name.
     pub fn again(&self) -> Self
         ensures value { result ≡ self.now }
     {
@@ -53,14 +54,14 @@ impl RtpName {
         }
     }
 
-    /// How many bytes the name has.
+    /// Returns the length of the name in bytes.
     pub(crate) fn len(&self) -> usize
         ensures value { result ≡ length self.now }
     {
         self.len
     }
 
-    /// The 16 bytes that begin with the name.
+    /// Returns the 16 bytes that start with the name.
     pub(crate) fn padded(&self) -> &[u8; 16]
         ensures value { take (length self.now) result.now ≡ self.now }
         ensures short { length self.now ≤ 16 }

@@ -1,6 +1,6 @@
-//! What holds of replies as a whole.
+//! Properties of replies.
 //!
-//! The calls change nothing: their contracts are the theorems. A caller whose proof needs one makes the call.
+//! The functions have no effect: their contracts are the theorems. A proof that needs one calls the function.
 
 ghost use Rattle.mg_reply.specs.Theorems.{NoProperPrefix, TooLongByText, AllItemsAreKept};
 
@@ -9,8 +9,9 @@ pub fn no_proper_prefix()
     ensures prefix { NoProperPrefix }
 {}
 
-/// Whether a reply is too long depends on the text of its items alone, whether or not they found room, where each of
-/// them has at least 10 bytes with its comma.
+/// Whether a reply is too long depends only on the text of its items, not on whether they found room.
+///
+/// This holds if each item has at least 10 bytes with its comma.
 pub fn too_long_by_text()
     ensures theorem { TooLongByText }
     ensures kept { AllItemsAreKept }

@@ -16,14 +16,14 @@ use crate::reply::Reply;
 use itoa::Buffer;
 use mg_words::{ErrorNumber, address_text};
 
-/// A reply's text would be longer than 16,000 bytes.
+/// The text of the reply would exceed 16,000 bytes. Nothing was written.
 #[derive(Clone, Copy, Debug, PartialEq, Eq)]
 pub struct TooLong;
 
-/// The bytes of the longest head.
+/// The greatest length in bytes of a message head.
 pub const HEAD_LIMIT: usize = 33;
 
-/// Writes a port in plain decimal, which takes at most 5 bytes.
+/// Writes a port in decimal: at most 5 bytes.
 #[tactic(auto, using(crate::proofs::WrittenLemmas::lengths))]
 pub fn write_port(port: u16, out: &mut Bytes)
     requires room { 5 ≤ out.old.room }
@@ -34,7 +34,7 @@ pub fn write_port(port: u16, out: &mut Bytes)
     out.push(buffer.format(port).as_bytes());
 }
 
-/// Writes an IPv4 address in plain decimal, which takes at most 15 bytes.
+/// Writes an IPv4 address in dotted decimal: at most 15 bytes.
 pub fn write_address(address: [u8; 4], out: &mut Bytes)
     requires room { 15 ≤ out.old.room }
     ensures value { out.new ≡ appended out.old (address_text address) }
@@ -43,7 +43,7 @@ pub fn write_address(address: [u8; 4], out: &mut Bytes)
     out.push(address_text(address).as_slice());
 }
 
-/// Writes the head of a message from the gateway at this address and port, which takes at most 33 bytes.
+/// Writes the head of a message from the gateway at this address and port: at most 33 bytes.
 #[tactic(auto, using(crate::proofs::WrittenLemmas::lengths))]
 pub fn write_head(address: [u8; 4], port: u16, out: &mut Bytes)
     requires room { 33 ≤ out.old.room }
@@ -57,7 +57,7 @@ pub fn write_head(address: [u8; 4], port: u16, out: &mut Bytes)
     out.push(b"\n");
 }
 
-/// Writes an error: its number and its text, which take at most 64 bytes.
+/// Writes an error descriptor: at most 64 bytes.
 #[tactic(auto, using(crate::proofs::WrittenLemmas::lengths))]
 pub fn write_error(number: ErrorNumber, out: &mut Bytes)
     requires room { 64 ≤ out.old.room }
@@ -88,8 +88,9 @@ fn put_reply(draft: &mut Draft, number: u32, items: &[Item])
     draft.put(b"}");
 }
 
-/// Writes the text of a reply after what stands in `out`. Where the reply was marked, or its text is longer
-/// than 16,000 bytes, nothing is written.
+/// Appends the text of a reply to `out`.
+///
+/// Writes nothing if the reply is marked as too long, or if its text would exceed 16,000 bytes.
 #[tactic(auto, unfolding(crate::specs::aids::Draft::drafted))]
 pub fn write_reply(reply: &Reply, out: &mut Bytes) -> Result<(), TooLong>
     requires room { reply_limit ≤ out.old.room }

@@ -1,4 +1,4 @@
--- How a command changes the terminations and contexts.
+-- How a command changes terminations and contexts.
 use Rattle.std.specs.Prelude.{ℕ, ◌+◌, List, [], ◌∷◌, ◌++◌, Option, Some, None, ◌==◌, if◌then◌else◌}
 use Rattle.std.specs.Prelude.{option_to_list}
 use Rattle.std.specs.Option.{option_map_or}
@@ -8,30 +8,30 @@ use Rattle.mg_rooms.specs.declared.place.EntryPlace.{EntryPlace}
 use Rattle.mg_rooms.specs.Members.{without}
 use Rattle.mg_rooms.specs.Registry.{Registry}
 
--- the first with the key n becomes f of it, or goes
+-- the first item with the key n is replaced by what f returns, or removed
 abbrev pub change : {A : Type 0} → (A → ℕ) → ℕ → (A → Option A) → List A → List A
 change key n f [] = []
 change key n f (x ∷ xs) = if key x == n then option_to_list (f x) ++ xs else x ∷ change key n f xs
 
 -- ## Terminations
 
--- r is made, and the next number is above its own
+-- the termination r is made, and the next number is one higher
 abbrev pub inserted : Registry → Record → Registry
 inserted w r =
     record w { terminations = w.terminations ++ r ∷ []; next_termination = w.next_termination + 1 }
 
--- the termination with the number of r is r from now on
+-- the termination with the number of r becomes r
 abbrev pub replaced : Registry → Record → Registry
 replaced w r =
     record w { terminations = change (λ x. x.number) r.number (λ _. Some r) w.terminations }
 
--- n is there no longer
+-- the termination n is removed
 abbrev pub removed : Registry → ℕ → Registry
 removed w n = record w { terminations = change (λ x. x.number) n (λ _. None) w.terminations }
 
 -- ## Contexts
 
--- a context is made in a room, with its first member
+-- a context is made in a room, with n as its first member
 abbrev pub made : Registry → ℕ → ℕ → ℕ → Registry
 made w c room n =
     record w {
@@ -39,7 +39,7 @@ made w c room n =
       next_context = w.next_context + 1;
     }
 
--- n enters the context c, after the other members
+-- n becomes the last member of the context c
 abbrev pub joined : Registry → ℕ → ℕ → Registry
 joined w c n =
     record w {
@@ -47,17 +47,17 @@ joined w c n =
           (λ x. Some (record x { members = x.members ++ n ∷ [] })) w.contexts;
     }
 
--- n enters, into a context that is made for it or one that is there
+-- n enters a context that is made for it, or one that exists
 abbrev pub entered : Registry → EntryPlace → ℕ → Registry
 entered w place n =
     option_map_or (λ room. made w place.context room n) place.made (joined w place.context n)
 
--- a context with these members, where there is one
+-- a context with these members, or none if there are no members
 abbrev pub with_members : Context → List ℕ → Option Context
 with_members x [] = None
 with_members x (m ∷ ms) = Some (record x { members = m ∷ ms })
 
--- n leaves the context c, which ends with its last member
+-- n leaves the context c, which ends if it has no other member
 abbrev pub left : Registry → ℕ → ℕ → Registry
 left w c n =
     record w {

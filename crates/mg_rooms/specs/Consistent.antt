@@ -1,4 +1,4 @@
--- What holds of the terminations and contexts of a gateway after any commands (this project's own).
+-- The invariant of a gateway's terminations and contexts (this project's own).
 use Rattle.std.specs.Prelude.{◌≡◌, ℕ, ◌<◌, ◌≤◌, ◌+◌, ◌&&◌, ◌==◌, List, length}
 use Rattle.std.specs.List.{AllByRecursion, AllPairs, count_by}
 use Rattle.mg_rooms.specs.declared.record.Record.{Record}
@@ -9,7 +9,7 @@ use Rattle.mg_words.specs.Limits.{least_depth, greatest_depth}
 use Rattle.mg_words.specs.Limits.{context_limit, member_limit, last_termination, last_context}
 use Rattle.mg_rooms.specs.Registry.{Registry, members_at}
 
--- what a termination has is within the limits, where the next one has the number next
+-- the fields of a termination are within the limits, and its number is below the next one
 pub record IsTermination (limits : Limits) (next : ℕ) (r : Record) : Type 0 where
   pub from : limits.first_termination ≤ r.number
   pub below : r.number < next
@@ -18,8 +18,8 @@ pub record IsTermination (limits : Limits) (next : ℕ) (r : Record) : Type 0 wh
   pub min_depth : least_depth ≤ r.depth
   pub max_depth : r.depth ≤ greatest_depth
 
--- each is within the limits; their numbers rise; a number, a slot, and a seat of a context is that
--- of one termination at most
+-- Each is within the limits, and numbers rise. No two terminations have the same number, the same
+-- slot, or the same seat in a context.
 pub record AreTerminations (limits : Limits) (next : ℕ) (rs : List Record) : Type 0 where
   pub each : AllByRecursion (IsTermination limits next) rs
   pub rising : AllPairs (λ r later. r.number < later.number) rs
@@ -27,7 +27,7 @@ pub record AreTerminations (limits : Limits) (next : ℕ) (rs : List Record) : T
   pub one_slot : (slot : ℕ) → count_by (λ r. r.slot == slot) rs ≤ 1
   pub one_seat : (c seat : ℕ) → count_by (λ r. (r.context == c) && (r.seat == seat)) rs ≤ 1
 
--- what a context has is within the limits, where the next one has the number next
+-- the fields of a context are within the limits, and its number is below the next one
 pub record IsContext (limits : Limits) (next : ℕ) (x : Context) : Type 0 where
   pub from : limits.first_context ≤ x.number
   pub below : x.number < next
@@ -35,15 +35,14 @@ pub record IsContext (limits : Limits) (next : ℕ) (x : Context) : Type 0 where
   pub some : 0 < length x.members
   pub few : length x.members ≤ member_limit
 
--- each is within the limits; their numbers rise; a number and a room is that of one context at most
+-- each is within the limits, and numbers rise; no two have the same number or the same room
 pub record AreContexts (limits : Limits) (next : ℕ) (xs : List Context) : Type 0 where
   pub each : AllByRecursion (IsContext limits next) xs
   pub rising : AllPairs (λ x later. x.number < later.number) xs
   pub one_number : (c : ℕ) → count_by (λ x. x.number == c) xs ≤ 1
   pub one_room : (room : ℕ) → count_by (λ x. x.room == room) xs ≤ 1
 
--- the members of each context are the terminations whose records say that they are in it: no
--- others, and as many
+-- The members of each context are exactly the terminations whose records name it, each once.
 pub record Agree (members : ℕ → List ℕ) (rs : List Record) : Type 0 where
   pub same : (c n : ℕ) → count_by (λ m. m == n) (members c)
       ≡ count_by (λ r. (r.context == c) && (r.number == n)) rs

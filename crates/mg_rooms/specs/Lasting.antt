@@ -1,11 +1,10 @@
--- What one command leaves as it was (this project's own).
+-- What one command leaves unchanged (this project's own).
 use Rattle.std.specs.Prelude.{◌≡◌, ◌≢◌, ℕ, Some}
 use Rattle.mg_rooms.specs.declared.record.Record.{Record}
 use Rattle.mg_rooms.specs.declared.context.Context.{Context}
 use Rattle.mg_rooms.specs.Registry.{Registry, record_at, context_at}
 
--- a termination keeps its slot, a member its seat and a context its room, for as long as each is
--- there
+-- A termination keeps its slot, a member its seat, and a context its room, as long as it exists.
 pub record Lasts (w after : Registry) : Type 0 where
   pub slot : (n : ℕ) (r s : Record) → record_at w n ≡ Some r → record_at after n ≡ Some s → s.slot
       ≡ r.slot
@@ -14,7 +13,7 @@ pub record Lasts (w after : Registry) : Type 0 where
   pub room : (c : ℕ) (x y : Context) → context_at w c ≡ Some x → context_at after c ≡ Some y
       → y.room ≡ x.room
 
--- no termination but n changes, and no context but c and d, its members and their order included
+-- no termination except n changes, and no context except c and d, including the order of members
 pub record LeavesOthers (w after : Registry) (n c d : ℕ) : Type 0 where
   pub termination : (m : ℕ) → m ≢ n → record_at after m ≡ record_at w m
   pub context : (e : ℕ) → e ≢ c → e ≢ d → context_at after e ≡ context_at w e

@@ -1,4 +1,4 @@
--- What the terminations and contexts of a gateway are made within (this project's own).
+-- The limits of a gateway's terminations and contexts (this project's own).
 use Rattle.std.specs.Prelude.{◌≡◌, ℕ, ◌+◌, ◌-◌, ◌*◌, ◌%◌, ◌<◌, ◌≤◌}
 use Rattle.mg_words.specs.Limits.{termination_limit, last_context}
 use Rattle.mg_rooms.specs.declared.limits.Limits.{Limits}
@@ -7,7 +7,7 @@ use Rattle.mg_rooms.specs.declared.limits.Limits.{Limits}
 abbrev pub slot_port : Limits → ℕ → ℕ
 slot_port limits slot = limits.base_port + 2 * slot
 
--- there is a slot and not too many, and each has an even UDP port
+-- there is a slot, there are not too many, and each has an even UDP port
 pub record HasPool (limits : Limits) : Type 0 where
   pub some_slot : 0 < limits.slots
   pub few_slots : limits.slots ≤ termination_limit
@@ -15,7 +15,7 @@ pub record HasPool (limits : Limits) : Type 0 where
   pub even : limits.base_port % 2 ≡ 0
   pub last : slot_port limits (limits.slots - 1) ≤ 65535
 
--- a context number 0 stands for the null context, and those above the last for $ and *
+-- the first numbers are valid: context 0 is the null context, and those above the last are $ and *
 pub record HasFirstNumbers (limits : Limits) : Type 0 where
   pub termination : 0 < limits.first_termination
   pub context : 0 < limits.first_context

@@ -1,7 +1,7 @@
--- The outcome of a command on one termination (RFC 3525, sections 7.2.1 to 7.2.4): the refusal of
--- the first check that fails, or the registry after the command with the termination as it is then,
--- or as it was until it was subtracted. The order of the checks is this project's own: the
--- termination, the action's context, what is used up, the media.
+-- The outcome of a command on one termination (RFC 3525, sections 7.2.1 to 7.2.4). It is the error
+-- of the first check that fails, or the registry after the command with the termination: its new
+-- record, or the old one if it was subtracted. The order of the checks is this project's own: the
+-- termination, the action's context, exhausted resources, the media.
 use Rattle.std.specs.Prelude.{◌≡◌, ℕ, Bool, false, not, ◌&&◌, length, Some, None, Result, Ok, Err}
 use Rattle.std.specs.Prelude.{◌==◌, nat_lt, nat_le, ok_or}
 use Rattle.mg_rooms.specs.declared.record.Record.{Record}
@@ -28,13 +28,13 @@ named w n = ok_or (record_at w n) refusals.UnknownTermination
 abbrev pub there : Registry → ℕ → Result (Unit {0}) ErrorNumber
 there w c = elim (context_at w c) [ Some x ↦ Ok tt | None ↦ Err refusals.UnknownContext ]
 
--- a termination may enter a context that is there, or one to be made
+-- a termination may enter a context that exists, or a new one
 abbrev pub may_enter : Registry → Target → Result (Unit {0}) ErrorNumber
 may_enter w targets.Null = Err refusals.UnknownContext
 may_enter w targets.New = Ok tt
 may_enter w (targets.Number c) = there w c
 
--- a termination may be in a context that is there
+-- only a context that exists may have members
 abbrev pub may_have_members : Registry → Target → Result (Unit {0}) ErrorNumber
 may_have_members w targets.Null = Err refusals.NotInContext
 may_have_members w targets.New = Err refusals.UnknownContext
@@ -53,22 +53,22 @@ member w target n = do
   _ ← passes (is_number target r.context) refusals.NotInContext
   Ok r
 
--- ## What may be used up
+-- ## Resources that may be exhausted
 
--- a slot for one more termination
+-- the slot for one more termination
 abbrev pub new_slot : Registry → Result ℕ ErrorNumber
 new_slot w = do
   _ ← passes (nat_le w.next_termination last_termination) refusals.NoTerminationLeft
   ok_or (free_slot w) refusals.NoTerminationLeft
 
--- a seat in a context that is there; one is free where it has not as many members as it can have
+-- a seat in a context that exists; one is free if the context is not full
 abbrev pub new_seat : Registry → ℕ → Result EntryPlace ErrorNumber
 new_seat w c = do
   _ ← passes (nat_lt (length (members_at w c)) member_limit) refusals.ContextFull
   seat ← ok_or (free_seat w c) refusals.ContextFull
   Ok (record { context = c; seat = seat; made = None })
 
--- the first seat of one more context; a room is free where there are not as many as there can be
+-- the first seat of a new context; a room is free if the limit of contexts is not reached
 abbrev pub new_context : Registry → Result EntryPlace ErrorNumber
 new_context w = do
   _ ← passes (nat_lt (length w.contexts) context_limit && nat_le w.next_context last_context)
@@ -76,7 +76,7 @@ new_context w = do
   room ← ok_or (free_room w) refusals.NoContextLeft
   Ok (record { context = w.next_context; seat = 0; made = Some room })
 
--- where a termination enters that may enter
+-- the place where a termination enters
 abbrev pub new_place : Registry → Target → Result EntryPlace ErrorNumber
 new_place w targets.Null = Err refusals.UnknownContext
 new_place w targets.New = new_context w
@@ -112,7 +112,7 @@ subtract w target n = do
   r ← member w target n
   Ok (left (removed w r.number) r.context r.number, r)
 
--- what a call returned and left is the outcome. A refused call changes nothing
+-- The call's result and the state after it are the outcome. A rejected call changes nothing.
 abbrev pub Gives : {A : Type 0} → (A → Record) → Registry → Registry → Result A ErrorNumber
     → Result (Registry × Record) ErrorNumber → Type 0
 Gives record_of old new (Ok x) outcome = outcome ≡ Ok (new, record_of x)

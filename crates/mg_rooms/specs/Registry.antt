@@ -8,7 +8,7 @@ use Rattle.mg_rooms.specs.declared.context.Context.{Context}
 use Rattle.mg_rooms.specs.declared.limits.Limits.{Limits}
 use Rattle.mg_words.specs.Limits.{context_limit, member_limit}
 
--- terminations and contexts stand in the order of their numbers, which is that of their making
+-- terminations and contexts in order of their numbers, which is the order in which they were made
 pub record Registry : Type 0 where
   pub limits : Limits
   pub terminations : List Record
@@ -16,7 +16,7 @@ pub record Registry : Type 0 where
   pub next_termination : ℕ
   pub next_context : ℕ
 
--- the registry in which nothing was done
+-- the registry of a new gateway
 abbrev pub start_of : Limits → Registry
 start_of limits =
     record {
@@ -27,7 +27,7 @@ start_of limits =
       next_context = limits.first_context;
     }
 
--- ## What is looked up
+-- ## Lookups
 
 abbrev pub record_at : Registry → ℕ → Option Record
 record_at w n = find (λ r. r.number == n) w.terminations
@@ -35,30 +35,30 @@ record_at w n = find (λ r. r.number == n) w.terminations
 abbrev pub context_at : Registry → ℕ → Option Context
 context_at w c = find (λ x. x.number == c) w.contexts
 
--- the termination that holds a slot
+-- the termination in a slot
 abbrev pub holder_of : Registry → ℕ → Option Record
 holder_of w slot = find (λ r. r.slot == slot) w.terminations
 
--- a context that is not there has no members
+-- the members of a context; none if the context does not exist
 abbrev pub members_at : Registry → ℕ → List ℕ
 members_at w c = option_map_or (λ x. x.members) (context_at w c) []
 
--- ## What is free
+-- ## Free slots, rooms and seats
 
 -- the least number below n that passes the test
 abbrev pub least_below : ℕ → (ℕ → Bool) → Option ℕ
 least_below n test = find test (range_with_len 0 n)
 
--- the least slot that no termination holds
+-- the least slot without a termination
 abbrev pub free_slot : Registry → Option ℕ
 free_slot w =
     least_below w.limits.slots (λ slot. not (list_any (λ r. r.slot == slot) w.terminations))
 
--- the least room that no context holds
+-- the least room without a context
 abbrev pub free_room : Registry → Option ℕ
 free_room w = least_below context_limit (λ room. not (list_any (λ x. x.room == room) w.contexts))
 
--- the least seat of the context that no termination in it holds
+-- the least seat of the context without a termination
 abbrev pub free_seat : Registry → ℕ → Option ℕ
 free_seat w c =
     least_below member_limit (λ seat. not

@@ -1,7 +1,7 @@
--- A step that may be refused.
+-- A step that may fail.
 use Rattle.std.specs.Prelude.{Bool, Result, Ok, Err, if◌then◌else◌}
 use Rattle.mg_words.specs.declared.error_number.ErrorNumber.{ErrorNumber}
 
--- refuses where the test fails
+-- fails if the test does
 abbrev pub passes : Bool → ErrorNumber → Result (Unit {0}) ErrorNumber
 passes test refusal = if test then Ok tt else Err refusal

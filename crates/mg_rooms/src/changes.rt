@@ -1,4 +1,4 @@
-//! What a command changes of terminations and contexts, each step by itself.
+//! The single steps by which commands change terminations and contexts.
 
 ghost use Rattle.std.specs.Prelude.{◌≡◌, ◌<◌, IfSome, Some, true, length, nat_le};
 ghost use Rattle.mg_words.specs.Limits.{last_termination};
@@ -16,7 +16,7 @@ use crate::tables::Tables;
 use mg_words::MEMBERS;
 
 impl Tables {
-    /// The number of the termination that is made next.
+    /// Returns the number of the next termination.
     pub(crate) fn next_number(&self) -> u32
         requires left { nat_le self.now.next_termination last_termination ≡ true }
         ensures value { result ≡ self.now.next_termination }
@@ -35,7 +35,7 @@ impl Tables {
         self.next_termination += 1;
     }
 
-    /// Writes a termination's record.
+    /// Overwrites a termination's record.
     pub(crate) fn replace(&mut self, changed: Record)
         requires slot { IfSome (record_at self.old changed.number) (λ r. r.slot ≡ changed.slot) }
         ensures value { self.new ≡ replaced self.old changed }
@@ -45,7 +45,7 @@ impl Tables {
         }
     }
 
-    /// Ends a termination.
+    /// Removes a termination.
     pub(crate) fn remove(&mut self, old: Record)
         ensures value { self.new ≡ removed self.old old.number }
     {
@@ -54,7 +54,7 @@ impl Tables {
         }
     }
 
-    /// Lets a member leave its context, which ends with its last member.
+    /// Lets a member leave its context, which ends if it has no other member.
     pub(crate) fn leave(&mut self, old: Member)
         ensures value { self.new ≡ left self.old old.record.context old.record.number }
     {
@@ -63,7 +63,7 @@ impl Tables {
         }
     }
 
-    /// Lets a termination enter at a place that is free.
+    /// Lets a termination enter at a free place.
     pub(crate) fn enter(&mut self, place: EntryPlace, number: u32)
         requires can { CanEnter self.old place }
         ensures value { self.new ≡ entered self.old place number }
@@ -74,7 +74,7 @@ impl Tables {
         }
     }
 
-    /// Lets a termination enter a context that is there.
+    /// Lets a termination enter an existing context.
     fn join(&mut self, context: u32, number: u32)
         requires room { length (members_at self.old context) < MEMBERS }
         ensures value { self.new ≡ joined self.old context number }

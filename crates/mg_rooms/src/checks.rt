@@ -1,4 +1,4 @@
-//! What a command needs of terminations and contexts. Nothing is changed here.
+//! The checks of commands. They change nothing.
 
 ghost use Rattle.std.specs.Prelude.{◌≡◌, ◌<◌, true, nat_le, IfOk, Some};
 ghost use Rattle.mg_words.specs.Limits.{last_termination};
@@ -16,7 +16,7 @@ use crate::target::Target;
 use mg_words::{ErrorNumber, LAST_CONTEXT, LAST_TERMINATION, MEMBERS};
 
 impl Target {
-    /// Whether it is the context with this number.
+    /// Returns whether the target is the context with this number.
     pub(crate) fn is_number(self, number: u32) -> bool
         ensures value { result ≡ is_number self number }
     {
@@ -28,7 +28,7 @@ impl Target {
 }
 
 impl Tables {
-    /// The termination that a command names.
+    /// Returns the termination that a command names.
     pub(crate) fn named(&self, number: u32) -> Result<Record, ErrorNumber>
         ensures value { result ≡ named self.now number }
         ensures there { IfOk result (λ r. record_at self.now r.number ≡ Some r) }
@@ -46,7 +46,7 @@ impl Tables {
         }
     }
 
-    /// That a termination may enter the action's context.
+    /// Checks that a termination may enter the action's context.
     pub(crate) fn may_enter(&self, target: Target) -> Result<(), ErrorNumber>
         ensures value { result ≡ may_enter self.now target }
     {
@@ -67,7 +67,7 @@ impl Tables {
         }
     }
 
-    /// A member of the action's context.
+    /// Returns a member of the action's context.
     pub(crate) fn member(&self, target: Target, number: u32) -> Result<Record, ErrorNumber>
         ensures value { result ≡ member self.now target number }
         ensures there { IfOk result (λ r. record_at self.now r.number ≡ Some r) }
@@ -82,7 +82,7 @@ impl Tables {
         }
     }
 
-    /// The slot of one more termination.
+    /// Returns the slot for one more termination.
     pub(crate) fn new_slot(&self) -> Result<u8, ErrorNumber>
         ensures value { result ≡ new_slot self.now }
         ensures free { IfOk result (λ slot. free_slot self.now ≡ Some slot) }
@@ -125,7 +125,7 @@ impl Tables {
         }
     }
 
-    /// Where a termination enters the action's context.
+    /// Returns the place where a termination enters the action's context.
     pub(crate) fn new_place(&self, target: Target) -> Result<EntryPlace, ErrorNumber>
         ensures value { result ≡ new_place self.now target }
         ensures can { IfOk result (CanEnter self.now) }
@@ -137,7 +137,7 @@ impl Tables {
         }
     }
 
-    /// A termination with the settings that a command names.
+    /// Returns a termination with the settings of a command.
     pub(crate) fn with_settings(
         &self,
         settings: &Settings,

@@ -1,12 +1,12 @@
 use crate::members::Members;
 
-/// A context with its members.
+/// A context and its members.
 #[derive(Drop)]
 pub struct Context {
-    /// Its number, which no other context of the gateway ever has.
+    /// The number. No other context of the gateway ever has it.
     pub(crate) number: u32,
-    /// The room that it holds while it is there, below [`CONTEXTS`](crate::CONTEXTS).
+    /// The room of the context as long as it exists, below [`CONTEXTS`](crate::CONTEXTS).
     pub(crate) room: u8,
-    /// Its members.
+    /// The members, in order of entry.
     pub(crate) members: Members,
 }

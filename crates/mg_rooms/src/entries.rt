@@ -1,4 +1,4 @@
-//! Searches in tables by slot and by room, and what changes in one entry of them.
+//! Searches in the tables by slot and by room, and changes of one entry.
 
 ghost use Rattle.std.specs.Prelude.{◌≡◌, ℕ, ◌<◌, ◌==◌, ◌&&◌, ◌||◌, true, not, length, replicate, None, is_none, IfOk, IfSome, slice_index_or};
 ghost use Rattle.std.specs.List.{position_from, list_any};
@@ -11,7 +11,7 @@ use crate::record::Record;
 use mg_words::MEMBERS;
 use std::alloc::{AllocError, Global};
 
-/// A table with nothing in it.
+/// Makes a table of empty entries. Fails only if the allocation does.
 pub fn empty_table<T: Drop>(alloc: Global, len: usize) -> Result<Vec<Option<T>>, AllocError>
     ensures value { IfOk result (λ table. table.items ≡ replicate len None) }
 {
@@ -22,7 +22,7 @@ pub fn empty_table<T: Drop>(alloc: Global, len: usize) -> Result<Vec<Option<T>>,
     Ok(table)
 }
 
-/// The first place that is empty.
+/// Returns the first empty entry.
 #[tactic(auto, using(crate::proofs::TableLemmas::position_within))]
 pub fn empty_place<T>(table: &[Option<T>]) -> Option<usize>
     ensures value { result ≡ position_from is_none 0 table.now }
@@ -31,14 +31,14 @@ pub fn empty_place<T>(table: &[Option<T>]) -> Option<usize>
     table.iter().position(|entry| entry.is_none())
 }
 
-/// Whether a slot's entry is the termination with this number.
+/// Returns whether a slot has the termination with this number.
 fn has_termination(entry: &Option<Record>, number: u32) -> bool
     ensures { result ≡ has_key (λ r. r.number) number entry.now }
 {
     entry.is_some_and(|record| record.number == number)
 }
 
-/// Whether a room's entry is the context with this number.
+/// Returns whether a room has the context with this number.
 fn has_context(entry: &Option<Context>, number: u32) -> bool
     ensures { result ≡ has_key (λ x. x.number) number entry.now }
 {
@@ -48,8 +48,7 @@ fn has_context(entry: &Option<Context>, number: u32) -> bool
     }
 }
 
-/// The slot of a termination: the one of the hint, where that holds it, and else the one that a search
-/// finds.
+/// Finds the slot of a termination: first at the hint, then by a search.
 pub fn slot_of(slots: &[Option<Record>], hint: u8, number: u32) -> Option<usize>
     requires once { HoldsOnce (λ r. r.number) slots.now }
     ensures value { result ≡ position_from (has_key (λ r. r.number) number) 0 slots.now }
@@ -64,7 +63,7 @@ pub fn slot_of(slots: &[Option<Record>], hint: u8, number: u32) -> Option<usize>
     }
 }
 
-/// The room of a context: the one of the hint, where that holds it, and else the one that a search finds.
+/// Finds the room of a context: first at the hint, then by a search.
 pub fn room_of(rooms: &[Option<Context>], hint: u8, number: u32) -> Option<usize>
     requires once { HoldsOnce (λ x. x.number) rooms.now }
     ensures value { result ≡ position_from (has_key (λ x. x.number) number) 0 rooms.now }
@@ -77,7 +76,7 @@ pub fn room_of(rooms: &[Option<Context>], hint: u8, number: u32) -> Option<usize
     }
 }
 
-/// Notes the seat of a slot's termination, where it is in the context.
+/// Marks the seat of a slot's termination as held, if it is in the context.
 fn note_seat(held: &mut [bool; MEMBERS], context: u32, entry: &Option<Record>)
     ensures long { length held.new ≡ length held.old }
     ensures value { (seat : ℕ) → seat < MEMBERS → slice_index_or held.new seat true
@@ -91,7 +90,7 @@ fn note_seat(held: &mut [bool; MEMBERS], context: u32, entry: &Option<Record>)
     }
 }
 
-/// Whether each seat of the context is held by a termination in it.
+/// Returns which seats of the context are held.
 pub fn held_seats(slots: &[Option<Record>], context: u32) -> [bool; MEMBERS]
     ensures long { length result ≡ MEMBERS }
     ensures value { (seat : ℕ) → seat < MEMBERS → slice_index_or result seat true
@@ -104,7 +103,7 @@ pub fn held_seats(slots: &[Option<Record>], context: u32) -> [bool; MEMBERS]
     held
 }
 
-/// The first seat that isn't held.
+/// Returns the first free seat.
 pub fn first_free(held: &[bool; MEMBERS]) -> Option<usize>
     ensures value { result ≡ position_from not 0 held.now }
     ensures in_range { IfSome result (λ seat. seat < MEMBERS) }
@@ -122,7 +121,7 @@ pub fn enter_entry(entry: &mut Option<Context>, number: u32)
     }
 }
 
-/// Lets a termination leave the context in a room, which ends with its last member.
+/// Lets a termination leave the context in a room, which ends if it has no other member.
 pub fn leave_entry(entry: &mut Option<Context>, number: u32)
     ensures value { entry.new ≡ left_entry number entry.old }
 {

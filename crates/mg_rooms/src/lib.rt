@@ -1,13 +1,14 @@
-//! The terminations and contexts of a gateway under command (RFC 3525, section 6).
+//! The terminations and contexts of a gateway, and commands on them.
 //!
-//! [`Rooms`] keeps the terminations by slot and the contexts by room. A slot is a place for a termination
-//! and its media port, a room a place for a context, and a seat a place for a member in its context. Slots,
-//! rooms and seats are small numbers that are used again, so that the crates above can keep what they know
-//! of terminations, contexts and members in tables of a fixed size. The numbers of terminations and
-//! contexts rise, and none is used twice.
+//! See RFC 3525, section 6.
 //!
-//! Each command names the action's context by a [`Target`] and, but for an Add, a termination by its number.
-//! It is either done, or refused by the first check that fails, and then nothing has changed:
+//! [`Rooms`] stores terminations by slot and contexts by room. A slot is for a termination and its media port, a room
+//! for a context, and a seat for a member of a context. Slots, rooms and seats are small numbers that are reused, so
+//! that the crates above can use tables of fixed size. The numbers of terminations and contexts rise, and none is used
+//! twice.
+//!
+//! Each command names the action's context by a [`Target`] and, except for an Add, a termination by its number. It is
+//! either done, or rejected by the first check that fails; then nothing has changed:
 //!
 //! ```rust
 //! let mut rooms = Rooms::new(alloc, limits)?;
@@ -16,12 +17,12 @@
 //! assert_eq!(rt; rooms.subtract(Target::Null, made.number), Err(ErrorNumber::NotInContext));
 //! ```
 //!
-//! [`Rooms::new`] takes the memory for all that there can be, and no other call takes any.
+//! [`Rooms::new`] allocates all memory; no other call allocates.
 //!
-//! Contracts see a registry: the terminations and contexts in the order of their numbers (`specs/Registry.antt`). Each
-//! call's contract is the outcome of its command on that registry (`specs/Outcome.antt`), and says that the registry
-//! after it is sound (`specs/Sound.antt`), and what the command leaves as it was (`specs/Lasting.antt`). Each call gives
-//! back the termination with the room of its context. [`theorems`] says when something is used up.
+//! Contracts see a registry: the terminations and contexts in order of their numbers (`specs/Registry.antt`). The
+//! contract of each call has the outcome of its command on that registry (`specs/Outcome.antt`). It also says that the
+//! new registry is sound (`specs/Sound.antt`), and what the call leaves unchanged (`specs/Lasting.antt`). Each call
+//! returns the termination with the room of its context. [`theorems`] states when a resource is exhausted.
 #![tactic(auto)]
 
 mod changes;
@@ -55,8 +56,7 @@ pub use moved::Moved;
 pub use record::Record;
 pub use rooms::Rooms;
 pub use target::Target;
-// A crate can name a gateway's terminations and contexts in a contract only if the types of their fields
-// are exported.
+// A contract of another crate can name terminations and contexts only if the types of their fields are exported.
 #[doc(hidden)]
 pub use context::Context;
 #[doc(hidden)]

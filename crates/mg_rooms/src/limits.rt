@@ -3,14 +3,14 @@ ghost use Rattle.mg_rooms.specs.Limits.{slot_port, AreValidLimits, HasPool, HasF
 
 use mg_words::{LAST_CONTEXT, TERMINATIONS};
 
-/// What the terminations and contexts of a gateway are made within.
+/// The limits of a gateway's terminations and contexts.
 #[derive(Clone, Copy, Debug, PartialEq, Eq)]
 pub struct Limits {
     /// The gateway's own IPv4 address.
     pub address: [u8; 4],
-    /// The UDP port of slot 0. Slot s has the port `base_port + 2 * s`.
+    /// The UDP port of slot 0, which must be even. Slot s has the port `base_port + 2 * s`.
     pub base_port: u16,
-    /// How many slots there are, from 1 to [`TERMINATIONS`].
+    /// The number of slots, from 1 to [`TERMINATIONS`].
     pub slots: u16,
     /// The number of the first termination.
     pub first_termination: u32,
@@ -19,15 +19,16 @@ pub struct Limits {
 }
 
 impl Limits {
-    /// Whether a gateway can be made within them: there is a slot and not too many, each slot has an
-    /// even UDP port, and the first numbers are in range.
+    /// Returns whether a gateway can be made with these limits.
+    ///
+    /// There must be 1 to [`TERMINATIONS`] slots with even UDP ports, and the first numbers must be in range.
     pub fn is_valid(&self) -> bool
         ensures value { IsTrue result ↔ AreValidLimits self.now }
     {
         self.has_pool() && self.has_first_numbers()
     }
 
-    /// The UDP port of a slot.
+    /// Returns the UDP port of a slot.
     pub fn slot_port(&self, slot: u8) -> u16
         requires valid { AreValidLimits self.now }
         requires slot { slot < self.now.slots }

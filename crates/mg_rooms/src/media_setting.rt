@@ -1,12 +1,12 @@
 use mg_sdp::Sessions;
 
-/// What a command says of a side's media, by its Local or Remote descriptor (RFC 3525, section 7.1.8).
+/// The content of a Local or Remote descriptor in a command (RFC 3525, section 7.1.8).
 #[derive(Debug, Drop)]
 pub enum MediaSetting {
-    /// The content was blank, which takes the old one away.
+    /// The content is blank, which removes the old setting.
     Clear,
-    /// The alternatives of the content. Where it has none, it is a blank one.
+    /// The alternatives of the content. If there is none, the content is blank.
     Offer(Sessions),
-    /// The content is no session description.
+    /// The content is not a session description.
     Unreadable,
 }

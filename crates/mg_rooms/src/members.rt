@@ -6,7 +6,7 @@ use arrayvec::ArrayVec;
 use mg_words::MEMBERS;
 use std::marker::Model;
 
-/// The numbers of a context's members in the order of their entry, at most [`MEMBERS`].
+/// The numbers of a context's members in order of entry, at most [`MEMBERS`].
 #[derive(Drop)]
 pub struct Members {
     numbers: ArrayVec<u32, MEMBERS>,
@@ -21,7 +21,7 @@ impl Model for Members {
 }
 
 impl Members {
-    /// The first member alone.
+    /// Returns the members of a new context: its first member.
     pub(crate) fn alone(number: u32) -> Members
         ensures value { result ≡ number ∷ [] }
     {
@@ -43,7 +43,7 @@ impl Members {
         self.numbers.is_empty()
     }
 
-    /// Lets a member enter, after the others.
+    /// Adds a member after the others.
     pub(crate) fn enter(&mut self, number: u32)
         requires room { length self.old < MEMBERS }
         ensures value { self.new ≡ self.old ++ number ∷ [] }
@@ -51,7 +51,7 @@ impl Members {
         self.numbers.push(number);
     }
 
-    /// Lets a member leave.
+    /// Removes a member.
     #[tactic(auto, using(crate::proofs::MemberLemmas::rules))]
     pub(crate) fn leave(&mut self, number: u32)
         ensures value { self.new ≡ without number self.old }
@@ -62,7 +62,7 @@ impl Members {
     }
 }
 
-/// The first place of a member.
+/// Returns the first position of a member.
 fn place_of(members: &[u32], number: u32) -> Option<usize>
     ensures value { result ≡ position_from (λ m. m == number) 0 members.now }
     ensures in_range { IfSome result (λ place. place < length members.now) }

@@ -1,10 +1,10 @@
 use crate::member::Member;
 
-/// A termination that was moved.
+/// A termination that was moved, before and after.
 #[derive(Clone, Copy, Debug, PartialEq, Eq)]
 pub struct Moved {
-    /// As it was in the context that it left.
+    /// The termination in the context that it left.
     pub from: Member,
-    /// As it is in the context that it entered.
+    /// The termination in the context that it entered.
     pub to: Member,
 }

@@ -1,4 +1,4 @@
-//! The commands on one termination: all checks, and then all changes.
+//! The commands on one termination: all checks first, then all changes.
 
 ghost use Rattle.std.specs.Prelude.{◌≡◌, ◌<◌, Some};
 ghost use Rattle.mg_rooms.specs.Registry.{record_at};
@@ -44,7 +44,7 @@ impl Tables {
         Ok(changed)
     }
 
-    /// Takes a termination that is there into the action's context, out of the one that it is in.
+    /// Moves an existing termination from its context to the action's context.
     #[tactic(auto, unfolding(crate::specs::Outcome::move_to))]
     pub(crate) fn move_to(
         &mut self,
@@ -70,7 +70,7 @@ impl Tables {
         Ok(moved)
     }
 
-    /// Takes a termination out of the context that it is in, and ends it.
+    /// Removes a termination and its membership.
     pub(crate) fn end(&mut self, old: Member)
         ensures value { self.new ≡ left (removed self.old old.record.number) old.record.context old.record.number }
     {

@@ -1,10 +1,10 @@
-/// Where a termination enters.
+/// The place where a termination enters.
 #[derive(Clone, Copy)]
 pub struct EntryPlace {
-    /// The context.
+    /// The number of the context.
     pub context: u32,
-    /// The seat that the termination takes in it.
+    /// The seat of the termination in the context.
     pub seat: u8,
-    /// The room of the context, where it is made for the termination.
+    /// The room of the context, if it is made for the termination.
     pub made: Option<u8>,
 }

@@ -8,26 +8,26 @@ use mg_words::{FIRST_DEPTH, Mode};
 /// A termination.
 #[derive(Clone, Copy, Debug, PartialEq, Eq)]
 pub struct Record {
-    /// Its number, which no other termination of the gateway ever has.
+    /// The number. No other termination of the gateway ever has it.
     pub number: u32,
-    /// The context that it is in.
+    /// The number of its context.
     pub context: u32,
-    /// The slot that it holds until it is subtracted, below the gateway's number of slots.
+    /// Its slot until it is subtracted, below the gateway's number of slots.
     pub slot: u8,
-    /// The seat that it holds while it is in this context, below [`MEMBERS`](crate::MEMBERS).
+    /// Its seat while it is in this context, below [`MEMBERS`](crate::MEMBERS).
     pub seat: u8,
     /// The mode of its stream.
     pub mode: Mode,
-    /// The depth of its play list, in packets of 20 ms.
+    /// The depth of its play list, in frames of 20 ms.
     pub depth: u8,
     /// What the gateway receives, with the gateway's own address and the termination's own port.
     pub local: Option<Chosen>,
-    /// What the gateway sends, and where to.
+    /// What the gateway sends, and to which address and port.
     pub remote: Option<Chosen>,
 }
 
 impl Record {
-    /// A termination as it is made.
+    /// Returns a new termination.
     pub(crate) fn fresh(number: u32, slot: u8, place: EntryPlace) -> Record
         ensures value { result ≡ fresh number slot place }
     {
@@ -43,7 +43,7 @@ impl Record {
         }
     }
 
-    /// The termination at another place.
+    /// Returns the termination at another place.
     pub(crate) fn at_place(self, place: EntryPlace) -> Record
         ensures value { result ≡ at_place self place }
     {

@@ -19,8 +19,8 @@ use std::marker::Model;
 
 /// The terminations and contexts of a gateway.
 ///
-/// Contracts see the terminations and the contexts in the order of their numbers, and the numbers of the
-/// next ones (`specs/Registry.antt`). What holds of them after any commands is `IsSound` (`specs/Sound.antt`).
+/// Contracts see the terminations and contexts in order of their numbers, and the next numbers
+/// (`specs/Registry.antt`). `IsSound` (`specs/Sound.antt`) holds after any commands.
 #[derive(Drop)]
 pub struct Rooms {
     tables: Tables,
@@ -41,8 +41,9 @@ impl Model for Rooms {
 impl Rooms {
     ghost use Rattle.mg_rooms.specs.Consistent.{IsConsistent};
 
-    /// A gateway without terminations and contexts. It takes the memory for all that there can be, and
-    /// no other call takes any.
+    /// Makes a gateway without terminations and contexts.
+    ///
+    /// Fails only if the allocation does. No other call allocates.
     pub fn new(alloc: Global, limits: Limits) -> Result<Rooms, AllocError>
         requires valid { AreValidLimits limits }
         ensures start { IfOk result (λ rooms. rooms ≡ start_of limits) }
@@ -52,7 +53,7 @@ impl Rooms {
         Ok(Rooms { tables })
     }
 
-    /// The termination with this number.
+    /// Returns the termination with this number.
     pub fn record(&self, number: u32) -> Option<Record>
         ensures value { result ≡ record_at self.now number }
         ensures slot { IfSome result (λ r. r.slot < self.now.limits.slots) }
@@ -60,7 +61,7 @@ impl Rooms {
         self.tables.record(number)
     }
 
-    /// The termination with this number, with the room of its context.
+    /// Returns the termination with this number and the room of its context.
     pub fn member(&self, number: u32) -> Option<Member>
         ensures some { IfSome result (ExistsAs self.now number) }
         ensures none { IfNone result (record_at self.now number ≡ None) }
@@ -69,8 +70,7 @@ impl Rooms {
         Some(self.tables.member_of(record))
     }
 
-    /// The numbers of a context's members in the order of their entry. A context that isn't there has
-    /// none.
+    /// Returns the numbers of a context's members in order of entry: none if the context does not exist.
     pub fn members(&self, context: u32) -> &[u32]
         ensures value { result.now ≡ members_at self.now context }
         ensures few { length result.now ≤ MEMBERS }
@@ -78,15 +78,16 @@ impl Rooms {
         self.tables.members(context)
     }
 
-    /// The room of a context, below [`CONTEXTS`](crate::CONTEXTS): a number that no other context has
-    /// while this one is there.
+    /// Returns the room of a context, below [`CONTEXTS`](crate::CONTEXTS).
+    ///
+    /// No other existing context has this number.
     pub fn room(&self, context: u32) -> Option<u8>
         ensures value { result ≡ option_map (λ x. x.room) (context_at self.now context) }
     {
         self.tables.room(context)
     }
 
-    /// The termination that holds a slot.
+    /// Returns the termination in a slot.
     pub fn held(&self, slot: u8) -> Option<Record>
         ensures value { result ≡ holder_of self.now slot }
         ensures slot { IfSome result (λ r. r.slot < self.now.limits.slots) }
@@ -94,7 +95,7 @@ impl Rooms {
         self.tables.held(slot)
     }
 
-    /// The number of the termination that holds a slot.
+    /// Returns the number of the termination in a slot.
     pub fn at_slot(&self, slot: u8) -> Option<u32>
         ensures value { result ≡ option_map (λ r. r.number) (holder_of self.now slot) }
     {
@@ -102,15 +103,16 @@ impl Rooms {
         Some(record.number)
     }
 
-    /// A member of the action's context, as a command that names it finds it.
+    /// Returns a member of the action's context, or the error of a command that names it.
     pub fn find(&self, target: Target, number: u32) -> Result<Record, ErrorNumber>
         ensures value { result ≡ member self.now target number }
     {
         self.tables.member(target, number)
     }
 
-    /// Makes a termination in the action's context, and the context too where it is new (RFC 3525,
-    /// section 7.2.1). The answer is the termination as it was made.
+    /// Makes a termination in the action's context, and that context if it is new (RFC 3525, section 7.2.1).
+    ///
+    /// Returns the new termination.
     #[tactic(auto, using(crate::proofs::RoomsLemmas::rules))]
     pub fn add(&mut self, target: Target, settings: &Settings) -> Result<Member, ErrorNumber>
         ensures outcome { Gives (λ m. m.record) self.old self.new result (add self.old target settings.now) }
@@ -125,8 +127,9 @@ impl Rooms {
         Ok(self.tables.member_of(made))
     }
 
-    /// Changes a member of the action's context (RFC 3525, section 7.2.2). The answer is the termination
-    /// as it is then.
+    /// Changes a member of the action's context (RFC 3525, section 7.2.2).
+    ///
+    /// Returns the changed termination.
     #[tactic(auto, using(crate::proofs::RoomsLemmas::rules))]
     pub fn modify(
         &mut self,
@@ -145,9 +148,9 @@ impl Rooms {
         Ok(self.tables.member_of(changed))
     }
 
-    /// Takes a termination into the action's context, out of the one that it is in, which ends where it
-    /// was the last there (RFC 3525, section 7.2.4). The answer is the termination as it was and as it is
-    /// then.
+    /// Moves a termination to the action's context (RFC 3525, section 7.2.4).
+    ///
+    /// The context that it leaves ends if it has no other member. Returns the termination before and after.
     #[tactic(auto, using(crate::proofs::RoomsLemmas::rules))]
     pub fn move_to(
         &mut self,
@@ -172,8 +175,9 @@ impl Rooms {
         Ok(Moved { from, to })
     }
 
-    /// Takes a member out of the action's context and ends it. The context ends with its last member
-    /// (RFC 3525, section 7.2.3). The answer is the termination as it was.
+    /// Removes a member from the action's context, and ends it (RFC 3525, section 7.2.3).
+    ///
+    /// The context ends if it has no other member. Returns the termination before the command.
     #[tactic(auto, using(crate::proofs::RoomsLemmas::rules), unfolding(crate::specs::Outcome::subtract))]
     pub fn subtract(&mut self, target: Target, number: u32) -> Result<Member, ErrorNumber>
         ensures outcome { Gives (λ m. m.record) self.old self.new result (subtract self.old target number) }

@@ -7,12 +7,12 @@ use crate::media_setting::MediaSetting;
 use mg_sdp::{Chosen, Sessions, choose, choose_remote};
 use mg_words::{ErrorNumber, MAX_DEPTH, MIN_DEPTH, Mode};
 
-/// What a command names of a termination. What it doesn't name stays.
+/// The settings that a command names. What it does not name stays.
 #[derive(Debug, Default, Drop)]
 pub struct Settings {
     /// The mode of the stream.
     pub mode: Option<Mode>,
-    /// The depth of the play list in packets of 20 ms, which is taken to 2 to 16 (see [`depth_within`]).
+    /// The depth of the play list in frames of 20 ms, brought to 2 to 16 (see [`depth_within`]).
     pub depth: Option<u16>,
     /// What the gateway is to receive.
     pub local: Option<MediaSetting>,
@@ -20,8 +20,7 @@ pub struct Settings {
     pub remote: Option<MediaSetting>,
 }
 
-/// The depth of a play list that comes nearest to one that is asked for, in packets of 20 ms: from [`MIN_DEPTH`] to
-/// [`MAX_DEPTH`].
+/// Brings a depth in frames of 20 ms to [`MIN_DEPTH`] to [`MAX_DEPTH`].
 pub fn depth_within(depth: u16) -> u8
     ensures value { result ≡ depth_after (Some depth) depth }
     ensures at_least { MIN_DEPTH ≤ result }
@@ -31,14 +30,14 @@ pub fn depth_within(depth: u16) -> u8
 }
 
 impl Settings {
-    /// The mode of a termination that had the old one.
+    /// Returns the mode after the command.
     pub(crate) fn mode_after(&self, old: Mode) -> Mode
         ensures value { result ≡ unwrap_or self.now.mode old }
     {
         self.mode.unwrap_or(old)
     }
 
-    /// The depth of a termination that had the old one.
+    /// Returns the depth after the command.
     pub(crate) fn depth_after(&self, old: u8) -> u8
         ensures value { result ≡ depth_after self.now.depth old }
     {
@@ -48,7 +47,7 @@ impl Settings {
         }
     }
 
-    /// The Local of a termination that had the old one, at the gateway's address and its own port.
+    /// Returns the Local after the command, at the gateway's address and the termination's port.
     pub(crate) fn local_after(
         &self,
         old: Option<Chosen>,
@@ -65,7 +64,7 @@ impl Settings {
         }
     }
 
-    /// The Remote of a termination that had the old one.
+    /// Returns the Remote after the command.
     pub(crate) fn remote_after(&self, old: Option<Chosen>) -> Result<Option<Chosen>, ErrorNumber>
         ensures value { result ≡ media_after remote_choice self.now.remote old }
     {
@@ -78,7 +77,7 @@ impl Settings {
     }
 }
 
-/// What is chosen of a Local's alternatives, where it has any.
+/// Returns the choice from a Local's alternatives, if it has any.
 #[tactic(auto, using(crate::proofs::SettingsLemmas::rules))]
 fn chosen_local(
     sessions: &Sessions,
@@ -94,7 +93,7 @@ fn chosen_local(
     Ok(Some(chosen))
 }
 
-/// What is chosen of a Remote's alternatives, where it has any.
+/// Returns the choice from a Remote's alternatives, if it has any.
 #[tactic(auto, using(crate::proofs::SettingsLemmas::rules))]
 fn chosen_remote(sessions: &Sessions) -> Result<Option<Chosen>, ErrorNumber>
     ensures value { result ≡ offered remote_choice sessions.now }

@@ -12,10 +12,10 @@ use mg_words::{CONTEXTS, MEMBERS};
 use std::alloc::{AllocError, Global};
 use std::marker::Model;
 
-/// The terminations by slot and the contexts by room. Contracts see them in the order of their numbers.
+/// The terminations by slot and the contexts by room.
 ///
-/// Its calls that change something keep what the tables need and no more: the members of contexts and
-/// the contexts of terminations agree in [`Rooms`](crate::Rooms) alone.
+/// Contracts see them in order of their numbers. The calls keep only what the tables need. That the members of
+/// contexts agree with the contexts of terminations is the invariant of [`Rooms`](crate::Rooms).
 #[derive(Drop)]
 pub struct Tables {
     pub(crate) limits: Limits,
@@ -40,7 +40,7 @@ impl Model for Tables {
 }
 
 impl Tables {
-    /// Tables without terminations.
+    /// Makes empty tables. Fails only if the allocation does.
     pub(crate) fn new(alloc: Global, limits: Limits) -> Result<Tables, AllocError>
         requires valid { AreValidLimits limits }
         ensures value { IfOk result (λ tables. tables ≡ start_of limits) }
@@ -58,7 +58,7 @@ impl Tables {
         })
     }
 
-    /// The record of a termination.
+    /// Returns the record of a termination.
     pub(crate) fn record(&self, number: u32) -> Option<Record>
         ensures value { result ≡ record_at self.now number }
         ensures slot { IfSome result (λ r. r.slot < self.now.limits.slots) }
@@ -67,7 +67,7 @@ impl Tables {
         self.slots[slot]
     }
 
-    /// The members of a context in the order of their entry; none where it is not there.
+    /// Returns the members of a context in order of entry: none if the context does not exist.
     pub(crate) fn members(&self, context: u32) -> &[u32]
         ensures value { result.now ≡ members_at self.now context }
         ensures few { length result.now ≤ MEMBERS }
@@ -81,7 +81,7 @@ impl Tables {
         }
     }
 
-    /// The room of a context.
+    /// Returns the room of a context.
     pub(crate) fn room(&self, context: u32) -> Option<u8>
         ensures value { result ≡ option_map (λ x. x.room) (context_at self.now context) }
     {
@@ -89,7 +89,7 @@ impl Tables {
         Some(room as u8)
     }
 
-    /// A termination with the room of its context, which is there.
+    /// Returns a termination with the room of its context, which must exist.
     pub(crate) fn member_of(&self, termination: Record) -> Member
         requires there { IsSome (context_at self.now termination.context) }
         ensures termination { result.record ≡ termination }
@@ -102,7 +102,7 @@ impl Tables {
         }
     }
 
-    /// The record of the termination that holds a slot.
+    /// Returns the record of the termination in a slot.
     pub(crate) fn held(&self, slot: u8) -> Option<Record>
         ensures value { result ≡ holder_of self.now slot }
         ensures slot { IfSome result (λ r. r.slot < self.now.limits.slots) }
@@ -115,7 +115,7 @@ impl Tables {
         }
     }
 
-    /// The least slot that no termination holds.
+    /// Returns the least free slot.
     pub(crate) fn free_slot(&self) -> Option<u8>
         ensures value { result ≡ free_slot self.now }
         ensures below { IfSome result (λ slot. slot < self.now.limits.slots) }
@@ -124,7 +124,7 @@ impl Tables {
         Some(slot as u8)
     }
 
-    /// The least seat of the context that no termination in it holds.
+    /// Returns the least free seat of the context.
     pub(crate) fn free_seat(&self, context: u32) -> Option<u8>
         ensures value { result ≡ free_seat self.now context }
     {

@@ -1,10 +1,10 @@
 /// The context of an action.
 #[derive(Clone, Copy, Debug, PartialEq, Eq)]
 pub enum Target {
-    /// The null context, of terminations that are in none.
+    /// The null context, which holds the terminations that are in no other context.
     Null,
-    /// A context that is to be made (`$`) and isn't made yet.
+    /// A new context (`$`), which has not been made yet.
     New,
-    /// The context with this number, whether it is there or not.
+    /// The context with this number, whether it exists or not.
     Number(u32),
 }

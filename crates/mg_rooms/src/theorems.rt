@@ -1,6 +1,6 @@
-//! What is free and what is used up, and what holds of all that there is, whatever commands were done.
+//! When resources are free or exhausted, and the invariants of terminations and contexts.
 //!
-//! The functions here do nothing: their contracts are the theorems.
+//! The functions have empty bodies: their contracts are the theorems.
 
 ghost use Rattle.std.specs.Prelude.{◌≡◌, ℕ, ◌<◌, ◌≤◌, ◌↔◌, ◌⊎◌, None, Ok, Err, IsSome, length};
 ghost use Rattle.mg_words.specs.declared.limits.TheConstants.{CONTEXTS, MEMBERS, LAST_TERMINATION, LAST_CONTEXT};
@@ -15,18 +15,19 @@ ghost use Rattle.mg_rooms.specs.Outcome.{new_slot, new_seat, new_context, add, m
 ghost use Rattle.mg_rooms.specs.Consistent.{IsConsistent};
 ghost use Rattle.mg_rooms.specs.Sound.{IsSound};
 
-/// A seat is free in each context that isn't full, and a room where there are not as many contexts as
-/// there can be. So a command is told that a context is full, or that none can be made, only where that
-/// is so.
+/// A context that is not full has a free seat, and a gateway below the limit of contexts has a free room.
+///
+/// So a context is reported full, or no context left, only if that is true.
 pub fn tables_that_are_not_full_have_a_free_place()
     ensures seat { (w : Registry) (c : ℕ) → IsConsistent w → length (members_at w c) < MEMBERS →
         IsSome (free_seat w c) }
     ensures room { (w : Registry) → IsConsistent w → length w.contexts < CONTEXTS → IsSome (free_room w) }
 {}
 
-/// What is told to be used up is: no slot is free or the numbers are used up, a context has as many
-/// members as it can have, or there are as many contexts as there can be or their numbers are used up. And
-/// where that is so it is told.
+/// A resource is reported exhausted exactly when it is.
+///
+/// No slot is free or the numbers of terminations are used up; a context is full; the limit of contexts is reached or
+/// their numbers are used up.
 pub fn exhausted_resources_are_refused()
     ensures slot { (w : Registry) → (new_slot w ≡ Err NoTerminationLeft) ↔
         ((free_slot w ≡ None) ⊎ (LAST_TERMINATION < w.next_termination)) }
@@ -36,8 +37,8 @@ pub fn exhausted_resources_are_refused()
         ((CONTEXTS ≤ length w.contexts) ⊎ (LAST_CONTEXT < w.next_context)) }
 {}
 
-/// At first all is consistent, and what a command leads to is, where what it was done on was. So it holds of whatever
-/// commands lead to, with no table at hand.
+/// A new gateway is consistent, and every command preserves that. So it holds after any commands, without the tables
+/// at hand.
 pub fn outcomes_are_consistent()
     ensures start { (limits : Limits) → AreValidLimits limits → limits.first_termination ≤ LAST_TERMINATION →
         IsConsistent (start_of limits) }
@@ -52,7 +53,7 @@ pub fn outcomes_are_consistent()
         subtract w target n ≡ Ok (next, r) → IsConsistent next }
 {}
 
-/// What is consistent is sound: what is looked up of terminations and contexts agrees, with no table at hand.
+/// Consistency implies soundness: all lookups of terminations and contexts agree.
 pub fn consistent_registries_are_sound()
     ensures { (w : Registry) → IsConsistent w → IsSound w }
 {}

@@ -1,8 +1,7 @@
--- The grammar of messages, by productions (RFC 3525, Annex B.2, as far as this gateway reads it).
--- `IsX x ts rest` says that the tokens ts begin with x, and that rest stands after it. `P ▹ Q` is P
--- and straight after it Q, and `P or Q` is one of the two. Above each production stands its text:
--- square brackets mark what may be missing, * what may be repeated, and words in capitals are words
--- of the encoding in either form.
+-- The grammar of messages by productions: the part of RFC 3525, Annex B.2, that this gateway
+-- reads. `IsX x ts rest` says that the tokens ts start with x, and that rest follows it. `P ▹ Q`
+-- is P followed by Q, and `P or Q` is one of the two. Above each production is its text: parts in
+-- square brackets are optional, * repeats, and words in capitals are keywords in either form.
 use Rattle.std.specs.Prelude.{◌≡◌, ◌≢◌, ℕ, ◌⊎◌, Bool, true, false, ◌==◌, List, [], ◌∷◌, ◌++◌}
 use Rattle.std.specs.Prelude.{Option, Some, None, filter_map, codes, if◌then◌else◌}
 use Rattle.std.specs.Option.{option_and_then}
@@ -70,12 +69,12 @@ IsWord = IsSpan Word
 abbrev pub IsWordThat : (List ℕ → Bool) → List ℕ → Span → Production
 IsWordThat test source w ts rest = (test (text_of source w) ≡ true) × IsWord w ts rest
 
--- a word that stands for a value
+-- a word with this value
 abbrev pub IsWorded : {X : Type 0} → (List ℕ → Option X) → List ℕ → X → Production
 IsWorded meaning source x ts rest =
     (w : Span) × (meaning (text_of source w) ≡ Some x) × IsWord w ts rest
 
--- a word of the encoding, in one of its forms
+-- a keyword, in either of its forms
 abbrev pub IsName : List ℕ → Keyword → Production
 IsName = IsWorded keyword_of
 
@@ -129,7 +128,7 @@ abbrev pub IsContent : Bool → Production
 IsContent true ts rest = IsGroup ts rest × (IsEmptyBraces ts rest → ⊥)
 IsContent false ts rest = (IsNothing or IsEmptyBraces) ts rest
 
--- [group], whatever it holds
+-- [group], whatever is in it
 abbrev pub IsOptionalGroup : Production
 IsOptionalGroup = IsAny IsContent
 
@@ -139,12 +138,12 @@ IsValue (values.Word w) = IsWord w
 IsValue (values.Quoted w) = IsSpan Quoted w
 IsValue values.Group = IsGroup
 
--- a slash (47) stands in a word
+-- the word has a slash (47)
 abbrev pub has_slash : List ℕ → Bool
 has_slash text = list_any (λ b. b == 47) text
 
--- lparm = MODE "=" mode | (RESERVEDVALUE | RESERVEDGROUP) "=" (ON | OFF) | prop ["=" (Word | Quoted
--- | group)], where prop = a Word with "/" in it, which no word of the encoding has
+-- lparm = MODE "=" mode | (RESERVEDVALUE | RESERVEDGROUP) "=" (ON | OFF) | prop ["=" (Word |
+-- Quoted | group)], where prop = a Word with a slash, which no keyword has
 abbrev pub IsControlPart : List ℕ → ControlPart → Production
 IsControlPart source (controls.Mode mode) =
     IsName source keywords.Mode ▹ IsMark Equals ▹ IsWorded long_word source (mode_text mode)
@@ -176,7 +175,7 @@ abbrev pub IsAudit : List ℕ → List AuditWord → Production
 IsAudit source xs =
     IsName source keywords.Audit ▹ IsAnyBraced (IsWorded (by_keyword audit_word_named) source) xs
 
--- [group | "=" group | "=" Word [group]], and whether it is content: bare and empty braces are none
+-- [group | "=" group | "=" Word [group]], and whether it is content; bare and empty braces are not
 abbrev pub IsOtherContent : Bool → Production
 IsOtherContent false = IsContent false
 IsOtherContent true =
@@ -207,7 +206,7 @@ IsOptionalAudit source (descriptors.Audit xs ∷ []) ts rest =
     (IsMark Open ▹ IsAudit source xs ▹ IsMark Close) ts rest
 IsOptionalAudit source _ ts rest = ⊥
 
--- [group], and no descriptor
+-- [group], without a descriptor
 abbrev pub IsSkipped : List Descriptor → Production
 IsSkipped xs ts rest = (xs ≡ []) × IsOptionalGroup ts rest
 
@@ -222,16 +221,16 @@ IsDescribed source commands.Subtract xs = IsOptionalAudit source xs
 IsDescribed source commands.AuditValue xs = IsOptionalAudit source xs
 IsDescribed source _ xs = IsSkipped xs
 
--- O- before a command that is optional, and W- before one that wants one reply for all matches
+-- O- before an optional command, W- before one that wants one reply for all matches
 abbrev pub prefix_of : Bool → Bool → List ℕ
 prefix_of optional wildcard =
     (if optional then codes "O-" else []) ++ (if wildcard then codes "W-" else [])
 
--- the long form of the word of the encoding that stands after a prefix
+-- the long form of the keyword after a prefix
 abbrev pub word_after : List ℕ → List ℕ → Option (List ℕ)
 word_after prefix text = option_and_then long_word (after_prefix prefix text)
 
--- command = ["O-"]["W-"] word "=" term and its descriptors, where term = a Word of 1 to 64 bytes
+-- command = ["O-"]["W-"] word "=" term with its descriptors, where term = a Word of 1 to 64 bytes
 abbrev pub IsCommand : List ℕ → Command → Production
 IsCommand source x =
     IsWorded (word_after (prefix_of x.is_optional x.wants_wildcard)) source (command_text x.word)
@@ -282,8 +281,8 @@ IsAnswer source =
     (IsName source keywords.Reply or IsName source keywords.Pending) ▹ IsMark Equals
     ▹ IsAny (IsWorded number_of source) ▹ IsGroup
 
--- item = request | TRANSACTIONRESPONSEACK "{" range *("," range) "}" | answer, where an answer
--- isn't kept
+-- item = request | TRANSACTIONRESPONSEACK "{" range *("," range) "}" | answer, where an answer is
+-- not kept
 abbrev pub IsItem : List ℕ → Option MessageItem → Production
 IsItem source (Some (items.Request x)) = IsRequest source x
 IsItem source (Some (items.Acknowledgement xs)) =
@@ -305,7 +304,7 @@ body_of (x ∷ xs) = bodies.Requests (x ∷ xs)
 abbrev pub IsError : List ℕ → Production
 IsError source = IsName source keywords.Error ▹ IsMark Equals ▹ IsMark Word ▹ IsGroup
 
--- item *(item), with the items that are kept in the body
+-- item *(item), where the body has the items that are kept
 abbrev pub IsItems : List ℕ → Body → Production
 IsItems source x ts rest =
     (xs : List (Option MessageItem)) × (x ≡ body_of (filter_map (λ item. item) xs))
@@ -316,7 +315,7 @@ abbrev pub IsBody : List ℕ → Body → Production
 IsBody source x ts rest =
     ((x ≡ bodies.Ignored) × IsError source ts rest) ⊎ IsItems source x ts rest
 
--- message = head mid body, with version 1 in the head, and nothing after it
+-- message = head mid body, with version 1 in the head and nothing after the body
 abbrev pub IsText : List ℕ → Message → List Token → Type 0
 IsText source m ts =
     (IsWorded version_in_head source 1 ▹ IsWordThat is_sender source m.sender

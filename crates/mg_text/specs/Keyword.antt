@@ -1,4 +1,4 @@
--- The words of the encoding, in two forms and any case (RFC 3525, Annex B.2).
+-- The keywords of the encoding, in two forms, compared without case (RFC 3525, Annex B.2).
 use Rattle.std.specs.Prelude.{ℕ, Bool, ◌||◌, List, [], ◌∷◌, Option, find, codes}
 use Rattle.std.specs.Option.{option_map}
 use Rattle.std.specs.Str.{str_eq_ignore_ascii_case}
@@ -20,7 +20,7 @@ use Rattle.mg_text.specs.declared.keyword.Keyword.TheVariants.{DigitMap, EventBu
 use Rattle.mg_text.specs.declared.keyword.Keyword.TheVariants.{ObservedEvents, Packages, Priority}
 use Rattle.mg_text.specs.declared.keyword.Keyword.TheVariants.{Emergency}
 
--- the long form of a word and its short one, each in letters of any case
+-- the long and the short form of a keyword
 unfoldable pub forms_of : Keyword → List ℕ × List ℕ
 forms_of Transaction = (codes "Transaction", codes "T")
 forms_of Reply = (codes "Reply", codes "P")
@@ -68,13 +68,13 @@ forms_of Packages = (codes "Packages", codes "PG")
 forms_of Priority = (codes "Priority", codes "PR")
 forms_of Emergency = (codes "Emergency", codes "EG")
 
--- the text is the word in one of its forms
+-- the text is the keyword in one of its forms
 unfoldable pub is_named : List ℕ → Keyword → Bool
 is_named text keyword =
     str_eq_ignore_ascii_case text (forms_of keyword).0
     || str_eq_ignore_ascii_case text (forms_of keyword).1
 
--- each of the words
+-- all keywords
 abbrev pub keywords : List Keyword
 keywords =
     Transaction ∷ Reply ∷ Pending ∷ TransactionResponseAck ∷ Context ∷ ContextAudit ∷ Add ∷
@@ -84,10 +84,10 @@ keywords =
     ReservedValue ∷ ReservedGroup ∷ Statistics ∷ Error ∷ Signals ∷ Events ∷ Modem ∷ Mux ∷
     DigitMap ∷ EventBuffer ∷ ObservedEvents ∷ Packages ∷ Priority ∷ Emergency ∷ []
 
--- the word that a text is a form of
+-- the keyword that a text is a form of
 unfoldable pub keyword_of : List ℕ → Option Keyword
 keyword_of text = find (is_named text) keywords
 
--- the long form of that word
+-- the long form of that keyword
 abbrev pub long_word : List ℕ → Option (List ℕ)
 long_word text = option_map (λ keyword. (forms_of keyword).0) (keyword_of text)

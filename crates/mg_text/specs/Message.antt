@@ -1,4 +1,4 @@
--- A message, and the head of one of another version.
+-- Messages, and heads of other versions.
 use Rattle.std.specs.Prelude.{◌≡◌, ◌≢◌, ℕ, ◌+◌, ◌<◌, ◌≤◌, ◌⊎◌, false, List, [], ◌∷◌, length, Option}
 use Rattle.std.specs.Prelude.{None, Err}
 use Rattle.std.specs.Option.{option_map}
@@ -16,7 +16,7 @@ use Rattle.mg_text.specs.declared.message.Message.{Message}
 use Rattle.mg_text.specs.Head.{version_in_head}
 use Rattle.mg_text.specs.Grammar.{IsText, IsWorded}
 
--- scanning goes from one place to another by these tokens
+-- these tokens lead from one state of a scanner to another
 abbrev pub Reaches : Scanning → List Token → Scanning → Type 0
 Reaches old [] new = old ≡ new
 Reaches old (t ∷ ts) new =
@@ -25,20 +25,20 @@ Reaches old (t ∷ ts) new =
 abbrev pub scanning_of : List ℕ → Scanning
 scanning_of source = record { source = source; at = 0; named = false }
 
--- the bytes are these tokens, and then a fault or the end
+-- the bytes are these tokens, followed by a fault or the end
 pub record AreTokens (source : List ℕ) (ts : List Token) (fault : Option ScanFault) : Type 0 where
   pub last : Scanning
   pub way : Reaches (scanning_of source) ts last
   pub end : first_token last.named (rest_of last) ≡ option_map Err fault
 
--- the bytes, at most 8,192, have a tree of the grammar, and it is this one
+-- the bytes, at most 8192, follow the grammar, and this is their tree
 pub record IsTree (source : List ℕ) (m : Message) : Type 0 where
   pub short : length source ≤ message_limit
   pub tokens : List Token
   pub are : AreTokens source tokens None
   pub is : IsText source m tokens
 
--- how many requests there are among items, and how many commands in all of them
+-- the number of requests among items, and the number of commands in all of them
 abbrev pub requests_in : List MessageItem → ℕ
 requests_in [] = 0
 requests_in (items.Request x ∷ xs) = 1 + requests_in xs
@@ -57,25 +57,24 @@ abbrev pub items_of : Body → List MessageItem
 items_of (bodies.Requests xs) = xs
 items_of bodies.Ignored = []
 
--- the bytes are a message, with this tree: at most 4 requests, and at most 64 commands in all of
--- them
+-- The bytes are a message with this tree, of at most 4 requests and at most 64 commands in all.
 pub record IsMessage (source : List ℕ) (m : Message) : Type 0 where
   pub tree : IsTree source m
   pub requests : requests_in (items_of m.body) ≤ request_limit
   pub commands : commands_in (items_of m.body) ≤ command_limit
 
--- a message asks for more
+-- a message that exceeds the limits
 abbrev pub ExceedsLimits : Message → Type 0
 ExceedsLimits m =
     (request_limit < requests_in (items_of m.body))
     ⊎ (command_limit < commands_in (items_of m.body))
 
--- the bytes are too long, or they have a tree that asks for too much
+-- the bytes are too long, or their tree exceeds the limits
 abbrev pub IsTooMany : List ℕ → Type 0
 IsTooMany source =
     (message_limit < length source) ⊎ ((m : Message) × IsTree source m × ExceedsLimits m)
 
--- the bytes begin with the head of another version, whatever stands after it
+-- the bytes start with a head of another version, whatever follows it
 pub record HasOtherVersion (source : List ℕ) (version : ℕ) : Type 0 where
   pub short : length source ≤ message_limit
   pub tokens : List Token

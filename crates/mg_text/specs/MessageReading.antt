@@ -1,18 +1,18 @@
--- What a datagram is to a gateway that reads messages.
+-- The result of reading a datagram.
 use Rattle.std.specs.Prelude.{ℕ, ◌≤◌, List, length}
 use Rattle.mg_words.specs.Limits.{message_limit}
 use Rattle.mg_text.specs.declared.message.Message.{Message}
 use Rattle.mg_text.specs.Message.{IsTree, IsMessage, IsTooMany, HasOtherVersion}
 
--- a message with this tree, one that is too long or asks for too much, one of another version, or
--- none
+-- A message with its tree, a datagram that exceeds a limit, one of another version, or no message.
 pub data MessageReading : Type 0 where
   Read : (message : Message) → MessageReading
   TooMany : MessageReading
   OtherVersion : (version : ℕ) → MessageReading
   NoMessage : MessageReading
 
--- bytes of a fit length that have no head of another version, and no tree of the grammar
+-- bytes within the limit of length, without a head of another version, that do not follow the
+-- grammar
 pub record IsNoMessage (bytes : List ℕ) : Type 0 where
   pub short : length bytes ≤ message_limit
   pub no_version : (n : ℕ) → HasOtherVersion bytes n → ⊥

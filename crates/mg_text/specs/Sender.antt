@@ -1,5 +1,5 @@
--- The sender of a message (RFC 3525, Annex B.2: mId, as a domain address, a domain name or a device
--- name).
+-- The sender of a message (RFC 3525, Annex B.2, mId): a domain address, a domain name or a device
+-- name.
 use Rattle.std.specs.Prelude.{ℕ, Bool, true, false, ◌&&◌, ◌||◌, ◌==◌, not, nat_le, List}
 use Rattle.std.specs.Prelude.{[], ◌∷◌, length, Option, is_some, if◌then◌else◌}
 use Rattle.std.specs.Option.{option_map_or}
@@ -26,11 +26,11 @@ abbrev pub is_port_part : List ℕ → Bool
 is_port_part [] = true
 is_port_part (b ∷ port) = if b == 58 then is_some (port_of port) else false
 
--- what stands before the closing mark passes a test, and after the mark stands perhaps a port
+-- the part before the closing mark passes the test; a port may follow the mark
 abbrev pub is_host : (List ℕ → Bool) → Option (List ℕ × List ℕ) → Bool
 is_host test parts = option_map_or (λ p. test p.0 && is_port_part p.1) parts false
 
--- [address], <domain name>, each perhaps with a port, or a device name of 1 to 64 bytes
+-- [address] or <domain name>, each with an optional port, or a device name of 1 to 64 bytes
 abbrev pub is_sender : List ℕ → Bool
 is_sender [] = false
 is_sender (b ∷ rest) =

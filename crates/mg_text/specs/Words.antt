@@ -1,4 +1,4 @@
--- What single words stand for (RFC 3525, Annex B.2).
+-- The values of single words (RFC 3525, Annex B.2).
 use Rattle.std.specs.Prelude.{ℕ, Bool, true, false, List, Option, Some, None}
 use Rattle.std.specs.Prelude.{codes, if◌then◌else◌}
 use Rattle.std.specs.Option.{option_map, option_and_then}
@@ -14,18 +14,18 @@ use Rattle.mg_text.specs.declared.descriptor.AuditWord.TheVariants as audits
 use Rattle.mg_text.specs.declared.body.Range.{Range}
 use Rattle.mg_text.specs.Keyword.{keyword_of}
 
--- what a text stands for, as a word of the encoding with a meaning
+-- the value of a text that is a form of a keyword
 abbrev pub by_keyword : {X : Type 0} → (Keyword → Option X) → List ℕ → Option X
 by_keyword meaning text = option_and_then meaning (keyword_of text)
 
--- properties of a context that are audited: Topology, Priority, Emergency
+-- the properties of a context that ContextAudit asks for
 abbrev pub context_word_named : Keyword → Option ContextWord
 context_word_named keywords.Topology = Some contexts.Topology
 context_word_named keywords.Priority = Some contexts.Priority
 context_word_named keywords.Emergency = Some contexts.Emergency
 context_word_named _ = None
 
--- descriptors that are audited
+-- the descriptors that an Audit asks for
 abbrev pub audit_word_named : Keyword → Option AuditWord
 audit_word_named keywords.Media = Some audits.Media
 audit_word_named keywords.Statistics = Some audits.Statistics
@@ -45,7 +45,7 @@ switch_of text =
     if str_eq_ignore_ascii_case text (codes "ON") then Some true
     else (if str_eq_ignore_ascii_case text (codes "OFF") then Some false else None)
 
--- transaction numbers: one, or two with - (45) between them
+-- a range of transaction numbers: one number, or two with - (45) between them
 abbrev pub range_from : ℕ → Option ℕ → Option Range
 range_from first last = option_map (λ last. record { first = first; last = last }) last
 

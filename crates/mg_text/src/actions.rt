@@ -16,14 +16,14 @@ use mg_scan::{Token, TokenKind};
 use mg_words::ContextId;
 use std::alloc::Global;
 
-/// The properties of an action, and its commands.
+/// The properties and the commands of an action.
 #[derive(Drop)]
 pub struct ActionParts {
     pub properties: TreeList<ContextProperty>,
     pub commands: TreeList<Command>,
 }
 
-/// Properties and then commands, up to the brace that closes them, and what stands after it.
+/// Parses properties and then commands, up to their closing brace.
 fn parts_at<'t>(
     alloc: Global,
     source: &[u8],
@@ -64,7 +64,7 @@ fn parts_at<'t>(
     Err(ReadFault::Syntax(place_of(source, rest)))
 }
 
-/// An action.
+/// Parses an action.
 impl FromTokens for Action {
     ghost reading = { action_at };
 

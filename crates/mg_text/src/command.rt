@@ -3,17 +3,17 @@ use crate::tree_list::TreeList;
 use mg_scan::Span;
 use mg_words::CommandWord;
 
-/// A command, the termination that it names, and its descriptors in their order.
+/// A command, the termination that it names, and its descriptors in order.
 #[derive(Drop)]
 pub struct Command {
     pub word: CommandWord,
-    /// `O-` stands before the word: where the command fails, the ones after it are still tried.
+    /// The prefix `O-`: if the command fails, the next ones are still tried.
     pub is_optional: bool,
-    /// `W-` stands before the word, or after `O-`: one answer is wanted for all terminations that match.
+    /// The prefix `W-`, which may follow `O-`: one answer is wanted for all terminations that match.
     pub wants_wildcard: bool,
-    /// Where the termination's name stands in the message: a word of 1 to 64 bytes.
+    /// The span of the termination's name: a word of 1 to 64 bytes.
     pub term: Span,
-    /// A Subtract or AuditValue has at most one, which is an Audit. Those of a Notify, ServiceChange or
-    /// AuditCapability aren't kept.
+    /// The descriptors. A Subtract or AuditValue has at most one, an Audit. Those of a Notify, ServiceChange or
+    /// AuditCapability are not kept.
     pub descriptors: TreeList<Descriptor>,
 }

@@ -5,7 +5,7 @@ use crate::from_word::FromWord;
 use crate::keyword::{Keyword, keyword_of};
 use mg_words::{CommandWord, after_prefix};
 
-/// A command's word with what stands straight before it.
+/// A command's keyword and its prefixes.
 #[derive(Clone, Copy, Debug, PartialEq, Eq)]
 pub struct CommandHead {
     pub word: CommandWord,
@@ -13,7 +13,7 @@ pub struct CommandHead {
     pub wants_wildcard: bool,
 }
 
-/// The command that a word of the encoding stands for.
+/// Returns the command of a keyword.
 fn command_named(keyword: Keyword) -> Option<CommandWord>
     ensures value { result ≡ command_named keyword }
 {
@@ -30,7 +30,7 @@ fn command_named(keyword: Keyword) -> Option<CommandWord>
     }
 }
 
-/// A command's word with the prefixes that stood before it.
+/// Returns the command of a keyword with its prefixes.
 fn headed(is_optional: bool, wants_wildcard: bool, keyword: Keyword) -> Option<CommandHead>
     ensures value { result ≡ headed is_optional wants_wildcard keyword }
 {
@@ -42,7 +42,7 @@ fn headed(is_optional: bool, wants_wildcard: bool, keyword: Keyword) -> Option<C
     })
 }
 
-/// A word of the encoding, alone or with `O-W-`, `O-` or `W-` straight before it.
+/// Parses a command's keyword, alone or after `O-W-`, `O-` or `W-`.
 impl FromWord for CommandHead {
     ghost meaning = { command_of };
 

@@ -15,7 +15,7 @@ use mg_scan::{Token, TokenKind};
 use mg_words::CommandWord;
 use std::alloc::Global;
 
-/// What stands after the name of a command's termination.
+/// Parses the descriptors after the name of a command's termination.
 fn descriptors_at<'t>(
     alloc: Global,
     source: &[u8],
@@ -37,7 +37,7 @@ fn descriptors_at<'t>(
     }
 }
 
-/// A command.
+/// Parses a command.
 impl FromTokens for Command {
     ghost reading = { command_at };
 

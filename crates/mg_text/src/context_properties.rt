@@ -12,7 +12,7 @@ use mg_scan::{Token, TokenKind};
 use mg_words::Association;
 use std::alloc::Global;
 
-/// A triple of a topology.
+/// Parses a triple of a topology.
 impl FromTokens for NamedTriple {
     ghost reading = { triple_at };
 
@@ -37,7 +37,7 @@ impl FromTokens for NamedTriple {
     }
 }
 
-/// A priority after its word.
+/// Parses a priority after its keyword.
 #[tactic(auto, unfolding(crate::specs::aids::Requests::priority_at))]
 fn priority_at<'t>(
     source: &[u8],
@@ -50,7 +50,7 @@ fn priority_at<'t>(
     Ok((ContextProperty::Priority(word), rest))
 }
 
-/// An emergency after its word.
+/// Parses an emergency after its keyword.
 #[tactic(auto, unfolding(crate::specs::aids::Requests::emergency_at))]
 fn emergency_at<'t>(
     source: &[u8],
@@ -65,7 +65,7 @@ fn emergency_at<'t>(
     Ok((ContextProperty::Emergency(Some(word)), rest))
 }
 
-/// A property of a context.
+/// Parses a property of a context.
 #[tactic(auto, unfolding(crate::specs::aids::Requests::property_at))]
 pub fn property_at<'t>(
     alloc: Global,
@@ -90,7 +90,7 @@ pub fn property_at<'t>(
     }
 }
 
-/// Whether the word of a property stands at the front.
+/// Returns whether the tokens start with the keyword of a property.
 #[tactic(auto, unfolding(crate::specs::aids::Requests::begins_property))]
 pub fn begins_property(source: &[u8], tokens: &[Token]) -> bool
     ensures value { result ≡ begins_property source.now tokens.now }

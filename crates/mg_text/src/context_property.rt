@@ -2,7 +2,7 @@ use crate::tree_list::TreeList;
 use mg_scan::Span;
 use mg_words::Association;
 
-/// Two terminations by their names' places, and who hears whom between them.
+/// A triple of a topology: the spans of two names, and who hears whom between them.
 #[derive(Clone, Copy, Debug, PartialEq, Eq)]
 pub struct NamedTriple {
     pub first: Span,
@@ -10,7 +10,7 @@ pub struct NamedTriple {
     pub association: Association,
 }
 
-/// A property of a context that an audit asks for (RFC 3525, Annex B.2, contextAuditProperties).
+/// A property of a context that ContextAudit asks for (RFC 3525, Annex B.2, contextAuditProperties).
 #[derive(Clone, Copy, Debug, PartialEq, Eq)]
 pub enum ContextWord {
     Topology,
@@ -18,14 +18,13 @@ pub enum ContextWord {
     Emergency,
 }
 
-/// What an action asks of its context as a whole, before its commands (RFC 3525, Annex B.2,
-/// contextRequest).
+/// A property of an action's context, before its commands (RFC 3525, Annex B.2, contextRequest).
 #[derive(Drop)]
 pub enum ContextProperty {
     Topology(TreeList<NamedTriple>),
     ContextAudit(TreeList<ContextWord>),
-    /// The priority's word.
+    /// The span of the priority.
     Priority(Span),
-    /// The word after the equals sign, if one stands there.
+    /// The span of the word after the equals sign, if there is one.
     Emergency(Option<Span>),
 }

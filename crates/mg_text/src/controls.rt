@@ -15,7 +15,7 @@ use mg_scan::{Span, Token, TokenKind};
 use mg_words::Mode;
 use std::alloc::Global;
 
-/// The value of a package's property, and what stands after it.
+/// Parses the value of a package's property.
 #[tactic(auto, unfolding(crate::specs::aids::Media::value_at))]
 fn value_at<'t>(
     source: &[u8],
@@ -37,7 +37,7 @@ fn value_at<'t>(
     }
 }
 
-/// The value of a package's property after an equals sign, if one stands there.
+/// Parses an equals sign and the value of a package's property, if there is an equals sign.
 #[tactic(auto, unfolding(crate::specs::aids::Media::optional_value_at))]
 fn optional_value_at<'t>(
     source: &[u8],
@@ -52,14 +52,14 @@ fn optional_value_at<'t>(
     Ok((Some(value), rest))
 }
 
-/// Whether a slash stands in a word, as in the name of a package's property.
+/// Returns whether a word has a slash, as the name of a package's property does.
 fn has_slash(text: &[u8]) -> bool
     ensures value { result ≡ has_slash text.now }
 {
     text.contains(&b'/')
 }
 
-/// A mode after its word.
+/// Parses a mode after its keyword.
 #[tactic(auto, unfolding(crate::specs::aids::Media::mode_part_at))]
 fn mode_part_at<'t>(
     source: &[u8],
@@ -72,7 +72,7 @@ fn mode_part_at<'t>(
     Ok((ControlPart::Mode(mode), rest))
 }
 
-/// A reserved value after its word.
+/// Parses a ReservedValue after its keyword.
 #[tactic(auto, unfolding(crate::specs::aids::Media::switched_at))]
 fn value_part_at<'t>(
     source: &[u8],
@@ -85,7 +85,7 @@ fn value_part_at<'t>(
     Ok((ControlPart::ReservedValue(is_on), rest))
 }
 
-/// A reserved group after its word.
+/// Parses a ReservedGroup after its keyword.
 #[tactic(auto, unfolding(crate::specs::aids::Media::switched_at))]
 fn group_part_at<'t>(
     source: &[u8],
@@ -98,7 +98,7 @@ fn group_part_at<'t>(
     Ok((ControlPart::ReservedGroup(is_on), rest))
 }
 
-/// A package's property after its name.
+/// Parses a package's property after its name.
 #[tactic(auto, unfolding(crate::specs::aids::Media::package_part_at))]
 fn package_part_at<'t>(
     source: &[u8],
@@ -114,7 +114,7 @@ fn package_part_at<'t>(
     Ok((ControlPart::Property(name, value), rest))
 }
 
-/// A part of a LocalControl.
+/// Parses a part of a LocalControl.
 impl FromTokens for ControlPart {
     ghost reading = { control_at };
 

@@ -1,7 +1,7 @@
 use crate::media::MediaPart;
 use crate::tree_list::TreeList;
 
-/// A descriptor that an audit asks for (RFC 3525, section 7.1.12).
+/// A descriptor that an Audit asks for (RFC 3525, section 7.1.12).
 #[derive(Clone, Copy, Debug, PartialEq, Eq)]
 pub enum AuditWord {
     Media,
@@ -16,7 +16,7 @@ pub enum AuditWord {
     Packages,
 }
 
-/// A descriptor whose content isn't kept.
+/// A descriptor whose content is not kept.
 #[derive(Clone, Copy, Debug, PartialEq, Eq)]
 pub enum OtherWord {
     Signals,
@@ -32,7 +32,6 @@ pub enum OtherWord {
 pub enum Descriptor {
     Media(TreeList<MediaPart>),
     Audit(TreeList<AuditWord>),
-    /// Another descriptor, and whether it has content: it has none where its word stands alone or with braces
-    /// that have nothing between them.
+    /// Another descriptor, and whether it has content. A bare keyword or empty braces are no content.
     Other(OtherWord, bool),
 }

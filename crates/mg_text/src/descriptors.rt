@@ -14,7 +14,7 @@ use crate::tree_list::TreeList;
 use mg_scan::{Token, TokenKind};
 use std::alloc::Global;
 
-/// The words of an Audit, after its own word.
+/// Parses the words of an Audit after its keyword.
 fn audit_words_at<'t>(
     alloc: Global,
     source: &[u8],
@@ -25,7 +25,7 @@ fn audit_words_at<'t>(
     any_braced_at::<AuditWord>(alloc, source, tokens)
 }
 
-/// What stands after the value of a descriptor, whose equals sign was read.
+/// Parses the value of a descriptor after its equals sign.
 #[tactic(auto, unfolding(crate::specs::aids::Commands::assigned_at))]
 fn assigned_at<'t>(source: &[u8], tokens: &'t [Token]) -> Result<&'t [Token], ReadFault>
     ensures { Agrees (λ x. x.now) result (assigned_at source.now tokens.now) }
@@ -38,7 +38,7 @@ fn assigned_at<'t>(source: &[u8], tokens: &'t [Token]) -> Result<&'t [Token], Re
     Ok(rest)
 }
 
-/// Whether content stands after a descriptor's word, and what stands after that.
+/// Parses the content after a descriptor's keyword. Returns whether there is any.
 #[tactic(auto, unfolding(crate::specs::aids::Commands::content_at))]
 fn content_at<'t>(source: &[u8], tokens: &'t [Token]) -> Result<(bool, &'t [Token]), ReadFault>
     ensures { Agrees (λ x. (x.0, x.1.now)) result (content_at source.now tokens.now) }
@@ -50,7 +50,7 @@ fn content_at<'t>(source: &[u8], tokens: &'t [Token]) -> Result<(bool, &'t [Toke
     Ok((true, rest))
 }
 
-/// A descriptor whose content isn't kept, after its word.
+/// Parses a descriptor whose content is not kept, after its keyword.
 #[tactic(auto, unfolding(crate::specs::aids::Commands::other_at))]
 fn other_at<'t>(
     source: &[u8],
@@ -63,7 +63,7 @@ fn other_at<'t>(
     Ok((Descriptor::Other(word, has_content), rest))
 }
 
-/// A descriptor of an Add, Modify or Move.
+/// Parses a descriptor of an Add, Modify or Move.
 impl FromTokens for Descriptor {
     ghost reading = { descriptor_at };
 
@@ -94,7 +94,7 @@ impl FromTokens for Descriptor {
     }
 }
 
-/// An Audit, and what stands after it.
+/// Parses an Audit.
 #[tactic(auto, unfolding(crate::specs::aids::Commands::audit_at))]
 fn audit_at<'t>(
     alloc: Global,
@@ -110,7 +110,7 @@ fn audit_at<'t>(
     }
 }
 
-/// An Audit in braces, or no descriptor.
+/// Parses an Audit in braces, if there are braces.
 #[tactic(auto, unfolding(crate::specs::aids::Commands::optional_audit_at))]
 pub fn optional_audit_at<'t>(
     alloc: Global,
@@ -128,7 +128,7 @@ pub fn optional_audit_at<'t>(
     Ok((TreeList::new(audit), rest))
 }
 
-/// No descriptors: a group that stands there isn't kept.
+/// Skips a group, if there is one. Returns no descriptors.
 #[tactic(auto, unfolding(crate::specs::aids::Commands::skipped_at))]
 pub fn skipped_at<'t>(
     alloc: Global,

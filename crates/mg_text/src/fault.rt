@@ -1,14 +1,13 @@
 use std::alloc::{AllocError, AllocFailed};
 
-/// Why a datagram was not read as a message.
+/// Why a datagram is not a valid message.
 #[derive(Clone, Copy, Debug, PartialEq, Eq)]
 pub enum ReadFault {
-    /// The bytes have no tree of the grammar, as shows at this place, in bytes from the start.
+    /// The bytes do not follow the grammar, as seen at this offset in bytes.
     Syntax(usize),
-    /// The head is that of another version of the protocol than 1.
+    /// The head names a version of the protocol other than 1.
     Version(u8),
-    /// The datagram is longer than 8,192 bytes, or it is a message with more than 4 requests, or with more
-    /// than 64 commands in all of them.
+    /// The datagram exceeds 8192 bytes, or its message has more than 4 requests or more than 64 commands in all.
     TooMany,
     /// Memory ran out. The same datagram may be read later.
     NoMemory,

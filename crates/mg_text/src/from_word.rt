@@ -5,16 +5,16 @@ use crate::fault::ReadFault;
 use crate::marks::word_at;
 use mg_scan::Token;
 
-/// What a word of a message may stand for.
+/// A type that a word of a message can be parsed as.
 pub trait FromWord: Drop + Sized {
-    /// What a text stands for, if it stands for anything of this kind.
+    /// The value of a text, if it has one.
     ghost meaning: { List ℕ → Option Self };
 
     fn from_word(text: &[u8]) -> Option<Self>
         ensures value { result ≡ meaning text.now };
 }
 
-/// What a word stands for, and what stands after it.
+/// Parses a word as a value.
 #[tactic(auto, unfolding(crate::specs::aids::Reading::meaning_at))]
 pub fn meaning_at<'t, W: FromWord>(
     source: &[u8],

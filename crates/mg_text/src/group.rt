@@ -5,7 +5,7 @@ use crate::fault::ReadFault;
 use crate::marks::{after_mark, is_kind, mark_at};
 use mg_scan::{Token, TokenKind};
 
-/// What stands after the brace that closes a group, whose opening brace was read.
+/// Skips the rest of a group whose opening brace was read.
 #[tactic(auto, using(crate::proofs::GroupSteps::steps))]
 pub fn after_group<'t>(source: &[u8], tokens: &'t [Token]) -> Result<&'t [Token], ReadFault>
     ensures { Agrees (λ x. x.now) result (after_group source.now 0 tokens.now) }
@@ -25,7 +25,7 @@ pub fn after_group<'t>(source: &[u8], tokens: &'t [Token]) -> Result<&'t [Token]
     Err(ReadFault::Syntax(source.len()))
 }
 
-/// What stands after a group: braces and what is between them, with balanced braces.
+/// Skips a group: braces with tokens between them, whose own braces are balanced.
 #[tactic(auto, unfolding(crate::specs::aids::Reading::group_at))]
 pub fn group_at<'t>(source: &[u8], tokens: &'t [Token]) -> Result<&'t [Token], ReadFault>
     ensures { Agrees (λ x. x.now) result (group_at source.now tokens.now) }
@@ -34,7 +34,7 @@ pub fn group_at<'t>(source: &[u8], tokens: &'t [Token]) -> Result<&'t [Token], R
     after_group(source, tokens)
 }
 
-/// Whether a group stands there that has a token in it, and what stands after the group, if there is one.
+/// Skips a group, if there is one. Returns whether it has a token in it.
 #[tactic(auto, unfolding(crate::specs::aids::Reading::filled_at))]
 pub fn filled_at<'t>(source: &[u8], tokens: &'t [Token]) -> Result<(bool, &'t [Token]), ReadFault>
     ensures { Agrees (λ x. (x.0, x.1.now)) result (filled_at source.now tokens.now) }

@@ -3,7 +3,7 @@ ghost use Rattle.std.specs.Str.{str_eq_ignore_ascii_case};
 ghost use Rattle.mg_text.specs.Keyword.{forms_of, is_named, keyword_of};
 ghost use Rattle.mg_text.specs.aids.Keywords.{words_by};
 
-/// The words of the encoding. Each has a long and a short form, in letters of any case.
+/// The keywords of the encoding. Each has a long and a short form, ignoring case.
 #[derive(Clone, Copy, Debug, PartialEq, Eq)]
 pub enum Keyword {
     Transaction,
@@ -161,7 +161,9 @@ impl Keyword {
     }
 }
 
-/// The same where both words have one length. It is kept out of [`same_word`], which most words end by their length.
+/// Compares two words of equal length, ignoring case.
+///
+/// It is kept out of [`same_word`], since the lengths of most words differ.
 #[inline(never)]
 #[tactic(auto, using(crate::proofs::KeywordLemmas::exact))]
 fn same_letters(a: &[u8], b: &[u8]) -> bool
@@ -170,7 +172,7 @@ fn same_letters(a: &[u8], b: &[u8]) -> bool
     a == b || a.eq_ignore_ascii_case(b)
 }
 
-/// Whether two words are the same but for the case of their letters.
+/// Returns whether two words are equal, ignoring case.
 #[tactic(auto, using(mg_words::proofs::CutLemmas::same_len))]
 pub fn same_word(a: &[u8], b: &[u8]) -> bool
     ensures value { result ≡ str_eq_ignore_ascii_case a.now b.now }
@@ -178,7 +180,7 @@ pub fn same_word(a: &[u8], b: &[u8]) -> bool
     a.len() == b.len() && same_letters(a, b)
 }
 
-/// Whether a text is one of the two forms of a word.
+/// Returns whether a text is one of the two forms of a keyword.
 #[tactic(auto, unfolding(crate::specs::Keyword::is_named))]
 pub fn is_named(text: &[u8], keyword: Keyword) -> bool
     ensures value { result ≡ is_named text.now keyword }
@@ -186,7 +188,7 @@ pub fn is_named(text: &[u8], keyword: Keyword) -> bool
     same_word(text, keyword.long().as_bytes()) || same_word(text, keyword.short().as_bytes())
 }
 
-/// The words of which a form begins with a letter, which is given in lower case.
+/// Returns the keywords with a form that starts with this letter, given in lower case.
 #[tactic(auto, unfolding(crate::specs::aids::Keywords::words_by, crate::specs::Keyword::forms_of))]
 fn words_by(letter: u8) -> &'static [Keyword]
     ensures value { result.now ≡ words_by letter }
@@ -256,7 +258,7 @@ fn words_by(letter: u8) -> &'static [Keyword]
     }
 }
 
-/// The first of some words that a text is a form of.
+/// Returns the first of these keywords that the text is a form of.
 fn word_among(words: &[Keyword], text: &[u8]) -> Option<Keyword>
     ensures value { result ≡ find (is_named text.now) words.now }
 {
@@ -266,8 +268,9 @@ fn word_among(words: &[Keyword], text: &[u8]) -> Option<Keyword>
         .find(|keyword| is_named(text, *keyword))
 }
 
-/// The word that a text is a form of. Only forms that begin with the text's first letter are compared with
-/// it, and of these only such as have its length.
+/// Returns the keyword that a text is a form of.
+///
+/// It compares only forms that start with the text's first letter, and only those of its length.
 pub fn keyword_of(text: &[u8]) -> Option<Keyword>
     ensures value { result ≡ keyword_of text.now }
 {

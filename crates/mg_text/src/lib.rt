@@ -1,16 +1,16 @@
-//! Control messages in text encoding (Megaco, RFC 3525, Annex B): read into a tree, and answered in text.
+//! The parser of control messages in text encoding (Megaco, RFC 3525, Annex B).
 //!
-//! [`read`] turns the bytes of a datagram into a [`Message`], or says why they are none. The tree keeps the
-//! places of its texts in the source, and copies none of them. Replies are put together in a [`Reply`] and
-//! written by [`write_reply`] into [`Bytes`], which are of the crate `mg_reply`:
+//! [`read`] parses the bytes of a datagram as a [`Message`], or returns the reason why they are none. The tree keeps
+//! the spans of its texts in the source, and copies none of them. Replies are collected in a [`Reply`] and written by
+//! [`write_reply`] to [`Bytes`]; these are types of the crate `mg_reply`:
 //!
 //! ```rust
 //! let message = read(alloc, b"MEGACO/1 [127.0.0.1]:2945 Transaction=1{Context=-{AuditValue=ROOT}}")?;
 //! assert_eq!(rt; message.sender.text(source), b"[127.0.0.1]:2945".as_slice());
 //! ```
 //!
-//! A message is read whole or not at all. The tree keeps requests and acknowledgements in the order of the
-//! text, also what stands in it twice; Replies, Pending items and an Error body are read and left out.
+//! A message is read completely or not at all. The tree keeps requests and acknowledgements in order, repeated ones
+//! too. Replies, Pending items and an Error body are parsed and left out.
 #![tactic(auto)]
 
 mod actions;

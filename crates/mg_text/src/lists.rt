@@ -9,9 +9,9 @@ use crate::tree_list::TreeList;
 use mg_scan::{Token, TokenKind};
 use std::alloc::Global;
 
-/// What some tokens of a message stand for.
+/// A type that tokens of a message can be parsed as.
 pub trait FromTokens: Drop + Sized {
-    /// What reading gives: a value and the tokens after it, or the place of a fault.
+    /// The result of parsing: a value and the tokens after it, or the place of a fault.
     ghost reading: { List ℕ → List Token → Result (Self × List Token) ℕ };
 
     fn from_tokens<'t>(
@@ -22,7 +22,7 @@ pub trait FromTokens: Drop + Sized {
         ensures { Agrees (λ x. (x.0, x.1.now)) result (reading source.now tokens.now) };
 }
 
-/// A word alone.
+/// Parses a single word.
 impl<W: FromWord> FromTokens for W {
     ghost reading = { λ source tokens. meaning_at W.meaning source tokens };
 
@@ -36,7 +36,7 @@ impl<W: FromWord> FromTokens for W {
     }
 }
 
-/// Items parted by commas, up to the brace that closes them, and what stands after it.
+/// Parses items with commas between them, up to their closing brace.
 pub fn items_at<'t, T: FromTokens>(
     alloc: Global,
     source: &[u8],
@@ -58,7 +58,7 @@ pub fn items_at<'t, T: FromTokens>(
     Err(ReadFault::Syntax(place_of(source, rest)))
 }
 
-/// Items in braces, of which there is one at least, and what stands after them.
+/// Parses one or more items in braces.
 #[tactic(auto, unfolding(crate::specs::aids::Reading::braced_at))]
 pub fn braced_at<'t, T: FromTokens>(
     alloc: Global,
@@ -71,7 +71,7 @@ pub fn braced_at<'t, T: FromTokens>(
     items_at(alloc, source, rest)
 }
 
-/// Items in braces, of which there may be none, and what stands after them.
+/// Parses items in braces. There may be none.
 #[tactic(auto, unfolding(crate::specs::aids::Reading::any_braced_at))]
 pub fn any_braced_at<'t, T: FromTokens>(
     alloc: Global,
@@ -87,7 +87,7 @@ pub fn any_braced_at<'t, T: FromTokens>(
     items_at(alloc, source, inside)
 }
 
-/// Items in braces, or none where no braces stand, and what stands after them.
+/// Parses items in braces, if there are braces.
 #[tactic(auto, unfolding(crate::specs::aids::Reading::optional_braced_at))]
 pub fn optional_braced_at<'t, T: FromTokens>(
     alloc: Global,

@@ -6,7 +6,7 @@ use crate::keyword::{Keyword, is_named};
 use mg_scan::{Span, Token, TokenKind};
 use mg_words::is_term;
 
-/// Where the first of the tokens stands, or the source ends.
+/// Returns the offset of the first token, or the end of the source if there is none.
 pub fn place_of(source: &[u8], tokens: &[Token]) -> usize
     ensures value { result ≡ place_of_rest source.now tokens.now }
 {
@@ -16,14 +16,14 @@ pub fn place_of(source: &[u8], tokens: &[Token]) -> usize
     }
 }
 
-/// Whether two kinds are the same.
+/// Returns whether two kinds are the same.
 pub fn is_kind(a: TokenKind, b: TokenKind) -> bool
     ensures value { result ≡ is_kind a b }
 {
     a == b
 }
 
-/// What stands after a mark.
+/// Skips a mark.
 #[tactic(auto, unfolding(crate::specs::aids::Reading::mark_at))]
 pub fn mark_at<'t>(
     source: &[u8],
@@ -38,7 +38,7 @@ pub fn mark_at<'t>(
     }
 }
 
-/// What stands after a mark, if the mark is there.
+/// Skips a mark, if it is there.
 #[tactic(auto, unfolding(crate::specs::aids::Reading::after_mark))]
 pub fn after_mark(kind: TokenKind, tokens: &[Token]) -> Option<&[Token]>
     ensures { MatchOption result (after_mark kind tokens.now ≡ None) (λ x. after_mark kind tokens.now ≡ Some x.now) }
@@ -49,7 +49,7 @@ pub fn after_mark(kind: TokenKind, tokens: &[Token]) -> Option<&[Token]>
     }
 }
 
-/// The text of a token of a kind, and what stands after it.
+/// Parses a token of this kind. Returns its span.
 #[tactic(auto, unfolding(crate::specs::aids::Reading::span_at))]
 pub fn span_at<'t>(
     source: &[u8],
@@ -64,14 +64,14 @@ pub fn span_at<'t>(
     }
 }
 
-/// A word, and what stands after it.
+/// Parses a word. Returns its span.
 pub fn word_at<'t>(source: &[u8], tokens: &'t [Token]) -> Result<(Span, &'t [Token]), ReadFault>
     ensures { Agrees (λ x. (x.0, x.1.now)) result (word_at source.now tokens.now) }
 {
     span_at(source, TokenKind::Word, tokens)
 }
 
-/// What stands after a word of the encoding, in one of its forms.
+/// Skips a keyword, in either of its forms.
 #[tactic(auto, unfolding(crate::specs::aids::Reading::named_at))]
 pub fn named_at<'t>(
     source: &[u8],
@@ -88,7 +88,7 @@ pub fn named_at<'t>(
     }
 }
 
-/// The name of a termination, and what stands after it.
+/// Parses the name of a termination. Returns its span.
 #[tactic(auto, unfolding(crate::specs::aids::Reading::term_at))]
 pub fn term_at<'t>(source: &[u8], tokens: &'t [Token]) -> Result<(Span, &'t [Token]), ReadFault>
     ensures { Agrees (λ x. (x.0, x.1.now)) result (term_at source.now tokens.now) }

@@ -6,9 +6,9 @@ use mg_words::Mode;
 #[derive(Clone, Copy, Debug, PartialEq, Eq)]
 pub enum PropertyValue {
     Word(Span),
-    /// A text between quotation marks, without them.
+    /// A quoted text, without its quotation marks.
     Quoted(Span),
-    /// Braces with anything between them.
+    /// A group, whose content is not kept.
     Group,
 }
 
@@ -16,11 +16,11 @@ pub enum PropertyValue {
 #[derive(Clone, Copy, Debug, PartialEq, Eq)]
 pub enum ControlPart {
     Mode(Mode),
-    /// Whether it is `ON`.
+    /// Whether the value is `ON`.
     ReservedValue(bool),
-    /// Whether it is `ON`.
+    /// Whether the value is `ON`.
     ReservedGroup(bool),
-    /// A package's property: its name, and its value if it has one.
+    /// A package's property: the span of its name, and its value if there is one.
     Property(Span, Option<PropertyValue>),
 }
 
@@ -37,10 +37,10 @@ pub enum StreamPart {
 /// A part of a Media descriptor (RFC 3525, section 7.1.4).
 #[derive(Drop)]
 pub enum MediaPart {
-    /// A part that stands straight in the descriptor: it belongs to stream 1.
+    /// A part outside a Stream descriptor: it belongs to stream 1.
     Part(StreamPart),
-    /// A stream by its number, and its parts.
+    /// A stream's number and its parts.
     Stream(u32, TreeList<StreamPart>),
-    /// Whether it has content.
+    /// A TerminationState, and whether it has content.
     TerminationState(bool),
 }

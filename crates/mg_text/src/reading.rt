@@ -21,7 +21,7 @@ use mg_scan::{Span, Token};
 use mg_words::{COMMAND_LIMIT, MESSAGE_LIMIT, REQUEST_LIMIT};
 use std::alloc::Global;
 
-/// The sender's name, and what stands after it.
+/// Parses the sender's name.
 #[tactic(auto, unfolding(crate::specs::aids::Text::sender_at))]
 fn sender_at<'t>(source: &[u8], tokens: &'t [Token]) -> Result<(Span, &'t [Token]), ReadFault>
     ensures { Agrees (λ x. (x.0, x.1.now)) result (sender_at source.now tokens.now) }
@@ -34,7 +34,7 @@ fn sender_at<'t>(source: &[u8], tokens: &'t [Token]) -> Result<(Span, &'t [Token
     }
 }
 
-/// The message after its head, up to the end of the tokens.
+/// Parses a message after its head, up to the end of the tokens.
 #[tactic(auto, unfolding(crate::specs::aids::Text::text_at))]
 fn text_at(alloc: Global, source: &[u8], tokens: &[Token]) -> Result<Message, ReadFault>
     ensures { Agrees (λ x. x) result (text_at source.now tokens.now) }
@@ -44,7 +44,7 @@ fn text_at(alloc: Global, source: &[u8], tokens: &[Token]) -> Result<Message, Re
     Ok(Message { sender, body })
 }
 
-/// A fault whose place lies within a source of this length.
+/// Brings the place of a fault within a source of this length.
 fn within(fault: ReadFault, len: usize) -> ReadFault
     ensures value { result ≡ fault_within len fault }
 {
@@ -54,7 +54,7 @@ fn within(fault: ReadFault, len: usize) -> ReadFault
     }
 }
 
-/// The message after its head, if its version is 1 and its source has no fault.
+/// Parses a message after its head, if its version is 1 and its tokens have no fault.
 fn versioned(
     alloc: Global,
     source: &[u8],
@@ -73,7 +73,7 @@ fn versioned(
     text_at(alloc, source, rest)
 }
 
-/// What is left of so many commands after those of some actions, or `None` where these have more.
+/// Returns how many commands are left of `most` after those of the actions, or `None` if the actions have more.
 #[tactic(auto, using(crate::proofs::CountSteps::action_steps))]
 fn left_after(most: usize, actions: &[Action]) -> Option<usize>
     ensures value { result ≡ left_after most (action_commands actions.now) }
@@ -89,7 +89,7 @@ fn left_after(most: usize, actions: &[Action]) -> Option<usize>
     Some(left)
 }
 
-/// Whether there are at most 4 requests among some items, and at most 64 commands in all of these.
+/// Returns whether there are at most 4 requests among the items, with at most 64 commands in all.
 #[tactic(auto, using(crate::proofs::CountSteps::item_steps))]
 fn is_within(items: &[MessageItem]) -> bool
     ensures value { result ≡ is_within request_limit command_limit items.now }
@@ -114,7 +114,7 @@ fn is_within(items: &[MessageItem]) -> bool
     true
 }
 
-/// Whether a body asks for no more than a gateway serves at once.
+/// Returns whether a body is within the limits of a message.
 fn is_served(body: &Body) -> bool
     ensures value { result ≡ is_within request_limit command_limit (items_of body.now) }
 {
@@ -124,7 +124,7 @@ fn is_served(body: &Body) -> bool
     }
 }
 
-/// The message, unless it asks for too much, or else the fault, with its place within a source of this length.
+/// Checks the limits of a message, and brings the place of a fault within a source of this length.
 fn answered(message: Result<Message, ReadFault>, len: usize) -> Result<Message, ReadFault>
     ensures value { result ≡ answer_of len message }
 {
@@ -140,20 +140,20 @@ fn answered(message: Result<Message, ReadFault>, len: usize) -> Result<Message, 
     }
 }
 
-/// The message that a datagram is. Memory is taken for its tokens and its tree.
+/// Parses a datagram as a message. It allocates memory for the tokens and the tree.
 ///
-/// A datagram of more than 8,192 bytes is `TooMany`. Else the head decides: another version than 1 is
-/// `Version`, whatever stands after the head. All else that has no tree of the grammar is `Syntax`. A message
-/// with more than 4 requests, or with more than 64 commands in all of them, is `TooMany`.
+/// A datagram of more than 8192 bytes is `TooMany`. Then a head with a version other than 1 is `Version`, whatever
+/// follows it. Anything else that does not follow the grammar is `Syntax`. A message with more than 4 requests, or
+/// with more than 64 commands in all, is `TooMany`.
 pub fn read(alloc: Global, source: &[u8]) -> Result<Message, ReadFault>
-    // What is read is a message.
+    // The result is a message.
     ensures found { IfOk result (λ m. IsMessage source.now m) }
     ensures proper { IfOk result (λ m. are_proper source.now (items_of m.body) ≡ true) }
     ensures sender { IfOk result (λ m. length (text_of source.now m.sender) ≤ sender_limit) }
-    // Each message is read, unless memory runs out.
+    // Every message is read, unless memory runs out.
     ensures only { (m : Message) → IsMessage source.now m → (result ≡ Err ReadFault.NoMemory) ⊎ (result ≡ Ok m) }
 
-    // The faults, with their order.
+    // The faults and their order.
     ensures long { message_limit < length source.now → result ≡ Err ReadFault.TooMany }
     ensures many { (m : Message) → IsTree source.now m → ExceedsLimits m →
         (result ≡ Err ReadFault.NoMemory) ⊎ (result ≡ Err ReadFault.TooMany) }

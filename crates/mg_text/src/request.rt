@@ -3,8 +3,7 @@ use crate::context_property::ContextProperty;
 use crate::tree_list::TreeList;
 use mg_words::ContextId;
 
-/// What is asked of one context: properties and then commands, each in their order, and at least one of
-/// both together.
+/// An action on one context: properties and then commands, at least one in all.
 #[derive(Drop)]
 pub struct Action {
     pub context: ContextId,
@@ -12,7 +11,7 @@ pub struct Action {
     pub commands: TreeList<Command>,
 }
 
-/// A transaction request: its number and its actions, in their order.
+/// A transaction request: its number and its actions, in order.
 #[derive(Drop)]
 pub struct Request {
     pub number: u32,

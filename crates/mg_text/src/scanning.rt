@@ -4,7 +4,7 @@ ghost use Rattle.mg_text.specs.Message.{AreTokens};
 use mg_scan::{ScanFault, Scanner, Span, Token, TokenKind};
 use std::alloc::{AllocError, Global};
 
-/// All tokens of a source, up to its end or a fault.
+/// Scans all tokens of a source, up to its end or a fault.
 pub fn tokens_of(
     alloc: Global,
     source: &[u8],
@@ -22,8 +22,9 @@ pub fn tokens_of(
     }
 }
 
-/// Adds a token of these parts, which come in registers: a whole token would be written to the stack and read
-/// again in other sizes, and the processor waits for that.
+/// Appends a token, passed as separate parts in registers.
+///
+/// A whole token would be written to the stack and read back in other sizes, which stalls the processor.
 #[inline(never)]
 fn put(tokens: &mut Vec<Token>, kind: TokenKind, start: usize, end: usize) -> Result<(), AllocError>
     ensures items { IfOk result (λ _.

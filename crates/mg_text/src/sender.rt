@@ -5,28 +5,28 @@ ghost use Rattle.mg_text.specs.Sender.{is_sender, is_domain_byte, is_domain, is_
 
 use mg_words::{address_of, cut, port_of};
 
-/// Whether a byte may stand in a domain name: a letter, a digit, `-` or `.`.
+/// Returns whether a byte is allowed in a domain name: a letter, a digit, `-` or `.`.
 fn is_domain_byte(b: u8) -> bool
     ensures value { result ≡ is_domain_byte b }
 {
     b.is_ascii_alphanumeric() || b == b'-' || b == b'.'
 }
 
-/// Whether each byte of a text may stand in a domain name.
+/// Returns whether each byte of a text is allowed in a domain name.
 fn all_domain_bytes(text: &[u8]) -> bool
     ensures value { result ≡ list_all is_domain_byte text.now }
 {
     text.iter().all(|b| is_domain_byte(*b))
 }
 
-/// Whether a text is a domain name of 1 to 64 bytes.
+/// Returns whether a text is a domain name of 1 to 64 bytes.
 fn is_domain(text: &[u8]) -> bool
     ensures value { result ≡ is_domain text.now }
 {
     !text.is_empty() && text.len() <= 64 && all_domain_bytes(text)
 }
 
-/// Whether a text is empty, or a colon and a port.
+/// Returns whether a text is empty, or a colon and a port.
 fn is_port_part(text: &[u8]) -> bool
     ensures value { result ≡ is_port_part text.now }
 {
@@ -37,7 +37,7 @@ fn is_port_part(text: &[u8]) -> bool
     }
 }
 
-/// Whether a text, after its opening bracket, is an IPv4 address, the closing bracket, and perhaps a port.
+/// Returns whether a text after `[` is an IPv4 address, `]`, and an optional port.
 fn is_address_host(text: &[u8]) -> bool
     ensures value { result ≡ is_host is_address (cut 93 text.now) }
 {
@@ -47,7 +47,7 @@ fn is_address_host(text: &[u8]) -> bool
     }
 }
 
-/// Whether a text, after its opening mark, is a domain name, the closing mark, and perhaps a port.
+/// Returns whether a text after `<` is a domain name, `>`, and an optional port.
 fn is_domain_host(text: &[u8]) -> bool
     ensures value { result ≡ is_host is_domain (cut 62 text.now) }
 {
@@ -57,8 +57,10 @@ fn is_domain_host(text: &[u8]) -> bool
     }
 }
 
-/// Whether a word names a sender: an IPv4 address in brackets, a domain name in angle brackets, each perhaps
-/// with a port, or a device name of 1 to 64 bytes.
+/// Returns whether a word names a sender.
+///
+/// It is an IPv4 address in brackets, a domain name in angle brackets, or a device name of 1 to 64 bytes. A port may
+/// follow a closing bracket.
 pub fn is_sender(text: &[u8]) -> bool
     ensures value { result ≡ is_sender text.now }
 {

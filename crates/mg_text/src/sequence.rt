@@ -15,7 +15,7 @@ use crate::tree_list::TreeList;
 use mg_scan::{Token, TokenKind};
 use std::alloc::Global;
 
-/// A request after its word.
+/// Parses a request after its keyword.
 #[tactic(auto, unfolding(crate::specs::aids::Requests::request_at))]
 fn request_at<'t>(
     alloc: Global,
@@ -31,7 +31,7 @@ fn request_at<'t>(
     Ok((Some(MessageItem::Request(request)), rest))
 }
 
-/// An acknowledgement after its word.
+/// Parses an acknowledgement after its keyword.
 #[tactic(auto, unfolding(crate::specs::aids::Requests::ranges_at))]
 fn ranges_at<'t>(
     alloc: Global,
@@ -44,7 +44,7 @@ fn ranges_at<'t>(
     Ok((Some(MessageItem::Acknowledgement(ranges)), rest))
 }
 
-/// A Reply or Pending after its word: no item, since it isn't kept.
+/// Parses a Reply or Pending item after its keyword. Returns no item, since it is not kept.
 #[tactic(auto, unfolding(crate::specs::aids::Requests::answer_at))]
 fn answer_at<'t>(
     source: &[u8],
@@ -58,7 +58,7 @@ fn answer_at<'t>(
     Ok((None, rest))
 }
 
-/// An item of a message, if it is kept, and what stands after it.
+/// Parses an item of a message. Returns it if it is kept.
 #[tactic(auto, unfolding(crate::specs::aids::Requests::item_at))]
 fn item_at<'t>(
     alloc: Global,
@@ -76,7 +76,7 @@ fn item_at<'t>(
     }
 }
 
-/// The items that are kept, up to the end of the tokens.
+/// Parses the items of a message, up to the end of the tokens. Returns those that are kept.
 fn sequence_at(
     alloc: Global,
     source: &[u8],
@@ -99,7 +99,7 @@ fn sequence_at(
     Err(ReadFault::Syntax(place_of(source, rest)))
 }
 
-/// The body with these items.
+/// Returns the body with these items.
 fn body_of(items: Vec<MessageItem>) -> Body
     ensures value { result ≡ body_of items.items }
 {
@@ -110,7 +110,7 @@ fn body_of(items: Vec<MessageItem>) -> Body
     }
 }
 
-/// An Error body after its word, up to the end of the tokens, whatever it holds.
+/// Parses an Error body after its keyword, up to the end of the tokens.
 #[tactic(auto, unfolding(crate::specs::aids::Requests::error_at))]
 fn error_at(source: &[u8], tokens: &[Token]) -> Result<Body, ReadFault>
     ensures { Agrees (λ x. x) result (error_at source.now tokens.now) }
@@ -125,7 +125,7 @@ fn error_at(source: &[u8], tokens: &[Token]) -> Result<Body, ReadFault>
     }
 }
 
-/// The body of a message, up to the end of the tokens.
+/// Parses the body of a message, up to the end of the tokens.
 #[tactic(auto, unfolding(crate::specs::aids::Requests::body_at))]
 pub fn body_at(alloc: Global, source: &[u8], tokens: &[Token]) -> Result<Body, ReadFault>
     ensures { Agrees (λ x. x) result (body_at source.now tokens.now) }

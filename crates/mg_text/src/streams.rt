@@ -12,7 +12,7 @@ use crate::media::{ControlPart, MediaPart, StreamPart};
 use mg_scan::{Token, TokenKind};
 use std::alloc::Global;
 
-/// A part of a stream.
+/// Parses a part of a stream.
 impl FromTokens for StreamPart {
     ghost reading = { stream_part_at };
 
@@ -41,7 +41,7 @@ impl FromTokens for StreamPart {
     }
 }
 
-/// A stream after its word: its number and its parts.
+/// Parses a stream after its keyword: its number and its parts.
 #[tactic(auto, unfolding(crate::specs::aids::Media::numbered_at))]
 fn numbered_at<'t>(
     alloc: Global,
@@ -56,7 +56,7 @@ fn numbered_at<'t>(
     Ok((MediaPart::Stream(number, parts), rest))
 }
 
-/// A part of a Media descriptor.
+/// Parses a part of a Media descriptor.
 impl FromTokens for MediaPart {
     ghost reading = { media_part_at };
 

@@ -1,4 +1,6 @@
-//! What holds of all datagrams. The functions here change nothing: their contracts are the theorems.
+//! Properties of all datagrams.
+//!
+//! The functions have no effect: their contracts are the theorems.
 
 ghost use Rattle.std.specs.Prelude.{◌≡◌, ℕ, List, Option};
 ghost use Rattle.mg_scan.specs.declared.fault.ScanFault.{ScanFault};
@@ -9,12 +11,12 @@ ghost use Rattle.mg_text.specs.MessageReading.{MessageReading, IsMessageReading}
 
 use mg_scan::Scanner;
 
-/// Bytes have at most one tree.
+/// A datagram has at most one tree.
 pub fn one_tree()
     ensures theorem { (source : List ℕ) (m n : Message) → IsTree source m → IsTree source n → m ≡ n }
 {}
 
-/// All bytes are tokens up to their end or up to a fault.
+/// Every datagram consists of tokens, up to its end or a fault.
 fn bytes_are_tokens(source: &[u8])
     ensures tokens { (ts : List Token) × (fault : Option ScanFault) × AreTokens source.now ts fault }
 {
@@ -28,8 +30,8 @@ fn bytes_are_tokens(source: &[u8])
     }
 }
 
-/// Each datagram is exactly one of these: a message with its tree, one that is too long or asks for too much, one of
-/// another version, or none.
+/// Every datagram is exactly one of: a message with its tree, one that exceeds a limit, one of another version, or no
+/// message.
 pub fn one_reading(source: &[u8])
     ensures some { (reading : MessageReading) × IsMessageReading source.now reading }
     ensures at_most_one { (bytes : List ℕ) (a b : MessageReading) →

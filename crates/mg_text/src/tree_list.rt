@@ -2,7 +2,7 @@ ghost use Rattle.std.specs.Prelude.{◌≡◌};
 
 use std::marker::Model;
 
-/// Parts of a message in the order of its text, which contracts see as a list.
+/// A list of parts of a message, in order. Contracts see it as a list.
 #[derive(Drop)]
 pub struct TreeList<T> {
     items: Vec<T>,
@@ -17,14 +17,14 @@ impl<T> Model for TreeList<T> {
 }
 
 impl<T> TreeList<T> {
-    /// The elements of a vector.
+    /// Makes a list of a vector.
     pub fn new(items: Vec<T>) -> Self
         ensures value { result ≡ items.items }
     {
         TreeList { items }
     }
 
-    /// The elements as a slice.
+    /// Returns the elements as a slice.
     pub fn as_slice(&self) -> &[T]
         ensures value { result.now ≡ self.now }
     {

@@ -97,7 +97,7 @@ impl FromWord for Mode {
     }
 }
 
-/// Whether a reservation is `ON`, and not `OFF`.
+/// Parses `ON` as true and `OFF` as false.
 impl FromWord for bool {
     ghost meaning = { switch_of };
 
@@ -112,7 +112,7 @@ impl FromWord for bool {
     }
 }
 
-/// One number, or two with `-` between them.
+/// Parses one number, or two with `-` between them.
 impl FromWord for Range {
     ghost meaning = { range_of };
 

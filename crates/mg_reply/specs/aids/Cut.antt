@@ -1,7 +1,7 @@
--- A text that is cut.
+-- Shortening a text.
 use Rattle.std.specs.Prelude.{ℕ, ◌+◌, ◌-◌, length, take}
 use Rattle.mg_reply.specs.Bytes.{Written}
 
--- the first bytes of the text alone
+-- only the first `len` bytes of the text
 abbrev pub cut_to : ℕ → Written → Written
 cut_to len old = record { text = take len old.text; room = old.room + (length old.text - len) }

@@ -1,7 +1,7 @@
--- The marks of parts in a row that are written one by one.
+-- The marks of a list that is written part by part.
 use Rattle.std.specs.Prelude.{ℕ, Bool, true, false, List, [], ◌∷◌, codes, if◌then◌else◌}
 
--- whether there is no part
+-- whether the list is empty
 abbrev pub has_no_part : List (List ℕ) → Bool
 has_no_part [] = true
 has_no_part (x ∷ xs) = false
@@ -10,7 +10,7 @@ has_no_part (x ∷ xs) = false
 abbrev pub mark_of : List ℕ → Bool → List ℕ
 mark_of opening is_first = if is_first then opening else codes ","
 
--- what closes the braces round parts, if there is one
+-- the closing brace of a list, unless it is empty
 abbrev pub closing : Bool → List ℕ
 closing true = []
 closing false = codes "}"

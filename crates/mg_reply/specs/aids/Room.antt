@@ -1,4 +1,4 @@
--- How much room a reply's items take.
+-- The room that a reply's items take.
 use Rattle.std.specs.Prelude.{◌≡◌, ℕ, ◌+◌, ◌*◌, ◌^◌, ◌<◌, ◌≤◌, Bool, true, false, not, List, [], ◌∷◌, length}
 use Rattle.std.specs.Prelude.{Option, Some, None, if◌then◌else◌}
 use Rattle.mg_words.specs.declared.context_id.ContextId.{ContextId}
@@ -6,20 +6,20 @@ use Rattle.mg_reply.specs.declared.item.Item.{Item}
 use Rattle.mg_reply.specs.declared.item.Item.TheVariants.{Action}
 use Rattle.mg_reply.specs.Reply.{last_is_action}
 
--- the context of an action that ends with an item
+-- the context of the action that ends with this item, if one does
 abbrev pub action_id : Item → Option ContextId
 action_id (Action id) = Some id
 action_id _ = None
 
--- The room that items ask for, where some may wait for the end of their action: one place each, but
--- none for the end of an action that has items.
+-- The room that items need, where some may wait for the end of their action. Each needs one place,
+-- except for the end of an action that has items.
 abbrev pub places_of : Bool → List Item → ℕ
 places_of waits [] = 0
 places_of waits (Action id ∷ xs) = (if waits then 0 else 1) + places_of false xs
 places_of waits (_ ∷ xs) = 1 + places_of true xs
 
--- Which items wait is seen of the last, and there are twice as many places as there was room, so
--- that each item's action finds one
+-- The last item shows whether items wait. The capacity is twice the room, so that the end of each
+-- item's action finds a place.
 pub record IsReply (number : ℕ) (items : List Item) (capacity room : ℕ)
     (has_pending : Bool) : Type 0 where
   pub in_range : number < 2 ^ 32

@@ -1,4 +1,4 @@
--- What a place has to be so that a termination can enter there.
+-- When a termination can enter at a place.
 use Rattle.std.specs.Prelude.{◌≡◌, ℕ, ◌<◌, ◌≤◌, List, length, Option, Some, None, not, ◌==◌, find}
 use Rattle.std.specs.List.{list_any}
 use Rattle.std.specs.Option.{option_map_or}
@@ -9,7 +9,7 @@ use Rattle.mg_rooms.specs.Registry.{Registry, least_below}
 use Rattle.mg_rooms.specs.Changes.{made, joined}
 use Rattle.mg_rooms.specs.aids.Found.{members_of}
 
--- a free room for a context that is made, or a context that is not full
+-- a room is free for a new context, or the existing context is not full
 abbrev pub CanEnterAt : List Context → ℕ → ℕ → Option ℕ → Type 0
 CanEnterAt contexts next c (Some room) =
     (least_below context_limit (λ k. not (list_any (λ x. x.room == k) contexts)) ≡ Some room)
@@ -20,7 +20,7 @@ CanEnterAt contexts next c None =
 abbrev pub CanEnter : Registry → EntryPlace → Type 0
 CanEnter w place = CanEnterAt w.contexts w.next_context place.context place.made
 
--- n enters at a place, by the room of a context that is made for it, if one is
+-- n enters at a place; `room` is that of a context made for it, if one is
 abbrev pub entered_at : Registry → EntryPlace → ℕ → Option ℕ → Registry
 entered_at w place n room =
     option_map_or (λ room. made w place.context room n) room (joined w place.context n)

@@ -1,4 +1,4 @@
--- Reading a Media descriptor and its parts.
+-- Parsing a Media descriptor and its parts.
 use Rattle.std.specs.Prelude.{ℕ, Bool, List, [], ◌∷◌, length, Option, Some, None, Result, Ok, Err}
 use Rattle.std.specs.Prelude.{if◌then◌else◌}
 use Rattle.mg_scan.specs.declared.kind.TokenKind.{TokenKind}
@@ -79,7 +79,7 @@ control_at source ts = do
   name ← word_at source ts
   control_named source (keyword_of (text_of source name.0)) name.0 name.1
 
--- a part of a stream after its first word, or the place where that word stands
+-- a part of a stream after its keyword, or the place of that word
 abbrev pub stream_named : List ℕ → Keyword → ℕ → List Token → Result (StreamPart × List Token) ℕ
 stream_named source keywords.Local place ts =
     span_at source Octets ts >>= λ text. Ok (streams.Local text.0, text.1)
@@ -101,7 +101,7 @@ numbered_at source ts = do
   items ← braced_at source (stream_part_at source) number.1
   Ok (parts.Stream number.0 items.0, items.1)
 
--- a part of a Media descriptor after its first word; ts stands before that word
+-- a part of a Media descriptor after its keyword; ts starts with that word
 abbrev pub media_named : List ℕ → Keyword → List Token → List Token
     → Result (MediaPart × List Token) ℕ
 media_named source keywords.Stream ts rest = numbered_at source rest

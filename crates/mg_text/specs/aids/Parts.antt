@@ -1,4 +1,4 @@
--- Parts of definitions, by names that proofs speak of them by.
+-- Names for parts of definitions, for proofs.
 use Rattle.std.specs.Prelude.{ℕ, ◌≤◌, List, length, Option, Result, Err}
 use Rattle.std.specs.List.{filter_map}
 use Rattle.std.specs.Option.{option_map}
@@ -7,7 +7,7 @@ use Rattle.mg_scan.specs.declared.fault.ScanFault.{ScanFault}
 use Rattle.mg_scan.specs.Tokens.{TokenAndRest}
 use Rattle.mg_text.specs.declared.body.MessageItem.{MessageItem}
 
--- what stands where the tokens end: nothing, or a fault
+-- what follows the tokens: nothing, or a fault
 abbrev pub ending : Option ScanFault → Option (Result TokenAndRest ScanFault)
 ending fault = option_map Err fault
 
@@ -15,6 +15,6 @@ ending fault = option_map Err fault
 abbrev pub kept : List (Option MessageItem) → List MessageItem
 kept xs = filter_map (λ x. x) xs
 
--- a datagram that is read
+-- a datagram within the limit of length
 abbrev pub IsShort : List ℕ → Type 0
 IsShort source = length source ≤ message_limit

@@ -1,5 +1,5 @@
--- Reading tokens from left to right, with the first fault: what the readers of the code compute.
--- The grammar is a relation of its own, and lemmas join the two.
+-- Parsing from left to right, up to the first fault, as the code does. The grammar is a relation
+-- of its own; lemmas connect the two.
 use Rattle.std.specs.Prelude.{◌≡◌, ℕ, zero, suc, ◌-◌, ◌==◌, Bool, true, false, List, [], ◌∷◌}
 use Rattle.std.specs.Prelude.{length, Option, Some, None, Result, Ok, Err, if◌then◌else◌}
 use Rattle.mg_scan.specs.declared.kind.TokenKind.{TokenKind}
@@ -18,8 +18,8 @@ use Rattle.mg_text.specs.Keyword.{is_named, keyword_of}
 use Rattle.mg_words.specs.ContextId.{context_id_of}
 use Rattle.mg_words.specs.Term.{is_term}
 
--- What a reader returned, seen by view, is what reading gives, unless memory ran out. A reading's
--- fault is the place of a syntax fault.
+-- The result of a parser, seen by view, is that of the definition, unless memory ran out. The
+-- fault of a definition is the place of a syntax fault.
 abbrev pub Fails : {Y : Type 0} → ReadFault → Result Y ℕ → Type 0
 Fails NoMemory read = Unit {0}
 Fails (Syntax place) read = read ≡ Err place
@@ -48,7 +48,7 @@ unfoldable pub mark_at : List ℕ → TokenKind → List Token → Result (List 
 mark_at source kind [] = Err (length source)
 mark_at source kind (t ∷ ts) = if is_kind t.kind kind then Ok ts else Err t.span.start
 
--- the text of a token of a kind
+-- the span of a token of this kind
 unfoldable pub span_at : List ℕ → TokenKind → List Token → Result (Span × List Token) ℕ
 span_at source kind [] = Err (length source)
 span_at source kind (t ∷ ts) = if is_kind t.kind kind then Ok (t.span, ts) else Err t.span.start
@@ -60,7 +60,7 @@ unfoldable pub after_mark : TokenKind → List Token → Option (List Token)
 after_mark kind [] = None
 after_mark kind (t ∷ ts) = if is_kind t.kind kind then Some ts else None
 
--- one reading if a value is there, another if not
+-- one result if there is a value, another if there is none
 abbrev pub if_some : {A B : Type 0} → Option A → (A → B) → B → B
 if_some None f b = b
 if_some (Some a) f b = f a
@@ -70,7 +70,7 @@ named_at source keyword ts = do
   w ← word_at source ts
   if is_named (text_of source w.0) keyword then Ok w.1 else Err w.0.start
 
--- what a word stands for, by its text
+-- the value of a word, by its text
 unfoldable pub meaning_at : {X : Type 0} → (List ℕ → Option X) → List ℕ → List Token
     → Result (X × List Token) ℕ
 meaning_at meaning source ts = do
@@ -92,7 +92,7 @@ term_at source ts = do
   w ← word_at source ts
   if is_term (text_of source w.0) then Ok w else Err w.0.start
 
--- what stands after the brace that closes a group, inside of which so many groups are open
+-- the tokens after the brace that closes a group in which `depth` groups are open
 unfoldable pub after_group : List ℕ → ℕ → List Token → Result (List Token) ℕ
 after_group source depth [] = Err (length source)
 after_group source depth (t ∷ ts) =
@@ -106,7 +106,7 @@ group_at source ts = do
   ts ← mark_at source Open ts
   after_group source 0 ts
 
--- a group that may be missing, and whether one is there that has a token in it
+-- an optional group, and whether it is there and has a token in it
 unfoldable pub filled_at : List ℕ → List Token → Result (Bool × List Token) ℕ
 filled_at source ts =
     if_some (after_mark Open ts)
@@ -114,7 +114,7 @@ filled_at source ts =
     (after_group source 0 inside >>= λ rest. Ok (true, rest)))
     (Ok (false, ts))
 
--- items parted by commas, up to the brace that closes them; at most n
+-- items with commas between them, up to their closing brace; at most n
 unfoldable pub list_at : {X : Type 0} → List ℕ → (List Token → Result (X × List Token) ℕ) → ℕ
     → List Token → Result (List X × List Token) ℕ
 list_at source read zero ts = Err (place_of_rest source ts)
@@ -128,21 +128,21 @@ abbrev pub items_at : {X : Type 0} → List ℕ → (List Token → Result (X ×
     → Result (List X × List Token) ℕ
 items_at source read ts = list_at source read (length ts) ts
 
--- items in braces, of which there is one at least
+-- one or more items in braces
 unfoldable pub braced_at : {X : Type 0} → List ℕ → (List Token → Result (X × List Token) ℕ)
     → List Token → Result (List X × List Token) ℕ
 braced_at source read ts = do
   ts ← mark_at source Open ts
   items_at source read ts
 
--- items in braces, of which there may be none
+-- items in braces; there may be none
 unfoldable pub any_braced_at : {X : Type 0} → List ℕ → (List Token → Result (X × List Token) ℕ)
     → List Token → Result (List X × List Token) ℕ
 any_braced_at source read ts = do
   ts ← mark_at source Open ts
   if_some (after_mark Close ts) (λ rest. Ok ([], rest)) (items_at source read ts)
 
--- items in braces, or no braces
+-- items in braces, if there are braces
 unfoldable pub optional_braced_at : {X : Type 0} → List ℕ
     → (List Token → Result (X × List Token) ℕ) → List Token → Result (List X × List Token) ℕ
 optional_braced_at source read ts =

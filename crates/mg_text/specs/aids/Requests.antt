@@ -1,4 +1,4 @@
--- Reading properties, actions and the items of a message.
+-- Parsing properties, actions and the items of a message.
 use Rattle.std.specs.Prelude.{ℕ, zero, suc, ◌==◌, Bool, true, false, List, [], ◌∷◌, length, Option}
 use Rattle.std.specs.Prelude.{Some, None, Result, Ok, Err, if◌then◌else◌}
 use Rattle.std.specs.List.{cons_option}
@@ -55,7 +55,7 @@ emergency_at source ts =
     (λ rest. word_at source rest >>= λ word. Ok (properties.Emergency (Some word.0), word.1))
     (Ok (properties.Emergency None, ts))
 
--- a property after its first word, or the place where that word stands
+-- a property after its keyword, or the place of that word
 abbrev pub property_named : List ℕ → Keyword → ℕ → List Token
     → Result (ContextProperty × List Token) ℕ
 property_named source keywords.Topology place ts =
@@ -72,7 +72,7 @@ property_at source ts = do
   keyword ← keyword_at source ts
   property_named source keyword.0 (place_of_rest source ts) keyword.1
 
--- the word that a property begins with
+-- whether a property starts with this keyword
 abbrev pub is_property : Option Keyword → Bool
 is_property (Some keywords.Topology) = true
 is_property (Some keywords.ContextAudit) = true
@@ -84,14 +84,14 @@ unfoldable pub begins_property : List ℕ → List Token → Bool
 begins_property source [] = false
 begins_property source (t ∷ ts) = is_property (keyword_of (text_of source t.span))
 
--- the parts of an action, with a property before them, and without properties
+-- the parts of an action with one more property at the front, and without properties
 abbrev pub with_property : ContextProperty → ActionParts → ActionParts
 with_property x parts = record { properties = x ∷ parts.properties; commands = parts.commands }
 
 abbrev pub just_commands : List Command → ActionParts
 just_commands xs = record { properties = []; commands = xs }
 
--- properties, then commands, up to the brace that closes them; at most n properties
+-- properties, then commands, up to their closing brace; at most n properties
 unfoldable pub parts_at : List ℕ → ℕ → List Token → Result (ActionParts × List Token) ℕ
 parts_at source zero ts = Err (place_of_rest source ts)
 parts_at source (suc n) ts =
@@ -115,7 +115,7 @@ action_at source ts = do
   parts ← parts_at source (length ts) ts
   Ok (action_of context.0 parts.0, parts.1)
 
--- an item of a message that is kept, or None for one that isn't
+-- an item that is kept, or None for one that is not
 abbrev pub request_of : ℕ → List Action → Option MessageItem
 request_of number actions = Some (items.Request (record { number = number; actions = actions }))
 
@@ -138,7 +138,7 @@ answer_at source ts = do
   rest ← group_at source number.1
   Ok (None, rest)
 
--- an item after its first word, or the place where that word stands
+-- an item after its keyword, or the place of that word
 abbrev pub item_named : List ℕ → Keyword → ℕ → List Token
     → Result (Option MessageItem × List Token) ℕ
 item_named source keywords.Transaction place ts = request_at source ts
@@ -152,7 +152,7 @@ item_at source ts = do
   keyword ← keyword_at source ts
   item_named source keyword.0 (place_of_rest source ts) keyword.1
 
--- an item before others, if it is kept
+-- the items with one more at the front, if it is kept
 abbrev pub kept_before : Option MessageItem → List MessageItem → List MessageItem
 kept_before item items = cons_option item items
 
@@ -164,7 +164,7 @@ sequence_at source (suc n) ts = do
   if length x.1 == 0 then Ok (kept_before x.0 [])
       else (sequence_at source n x.1 >>= λ xs. Ok (kept_before x.0 xs))
 
--- an error after its first word, up to the end of the tokens
+-- an error after its keyword, up to the end of the tokens
 unfoldable pub error_at : List ℕ → List Token → Result Body ℕ
 error_at source ts = do
   ts ← mark_at source Equals ts
@@ -172,7 +172,7 @@ error_at source ts = do
   rest ← group_at source word.1
   if length rest == 0 then Ok bodies.Ignored else Err (place_of_rest source rest)
 
--- a body, by its first word; ts stands before that word
+-- a body, by its keyword; ts starts with that word
 abbrev pub body_named : List ℕ → Keyword → List Token → List Token → Result Body ℕ
 body_named source keywords.Error ts rest = error_at source rest
 body_named source _ ts rest = sequence_at source (length ts) ts >>= λ xs. Ok (body_of xs)

@@ -1,4 +1,4 @@
--- Reading a message: its head, its sender and its body.
+-- Parsing a message: its head, its sender and its body.
 use Rattle.std.specs.Prelude.{◌≡◌, ℕ, ◌-◌, ◌==◌, ◌&&◌, nat_le, Bool, true, false, min, List, Option}
 use Rattle.std.specs.Prelude.{Some, None, Result, Ok, Err, if◌then◌else◌}
 use Rattle.mg_words.specs.Limits.{request_limit, command_limit}
@@ -34,23 +34,23 @@ text_at source ts = do
   body ← body_at source sender.1
   Ok (message_of sender.0 body)
 
--- a fault, its place brought within a source of this length
+-- a fault with its place brought within a source of this length
 abbrev pub fault_within : ℕ → ReadFault → ReadFault
 fault_within len NoMemory = NoMemory
 fault_within len (Syntax place) = Syntax (min place len)
 fault_within len (Version n) = Version n
 fault_within len TooMany = TooMany
 
--- what is left of a number after another, if that is no more
+-- the difference of two numbers, if it is not negative
 abbrev pub left_after : ℕ → ℕ → Option ℕ
 left_after most n = if nat_le n most then Some (most - n) else None
 
--- there are at most so many requests, and at most so many commands in them
+-- there are at most this many requests, with at most this many commands in all
 abbrev pub is_within : ℕ → ℕ → List MessageItem → Bool
 is_within requests commands xs =
     nat_le (requests_in xs) requests && nat_le (commands_in xs) commands
 
--- the message that was read, unless it asks for too much, or else the fault
+-- the message, if it is within the limits, or else the fault
 abbrev pub answer_of : ℕ → Result Message ReadFault → Result Message ReadFault
 answer_of len (Ok m) =
     if is_within request_limit command_limit (items_of m.body) then Ok m else Err TooMany
@@ -64,8 +64,8 @@ UnlessNoMemory (Err (Syntax place)) P = P
 UnlessNoMemory (Err (Version n)) P = P
 UnlessNoMemory (Err TooMany) P = P
 
--- What reading gives where the head names a version: another version than 1 is a fault of its own,
--- and after version 1 a text that has a fault isn't read.
+-- The result of parsing after a head with a version. A version other than 1 is a fault of its own.
+-- After version 1, a source with a scan fault is a syntax fault.
 abbrev pub AgreesText : Result Message ReadFault → Bool → Bool → ℕ → Result Message ℕ → Type 0
 AgreesText result false faulty n text = result ≡ Err (Version n)
 AgreesText result true true n text = (place : ℕ) × (result ≡ Err (Syntax place))

@@ -1,5 +1,5 @@
--- What single words stand for, case by case. The grammar tells modes, associations and commands by
--- their long words; `proofs/WordLemmas` says that both are the same.
+-- The values of single words, case by case. The grammar defines modes, associations and commands
+-- by their long words; `proofs/WordLemmas` shows that both agree.
 use Rattle.std.specs.Prelude.{Bool, true, false, List, ℕ, Option, Some, None, codes}
 use Rattle.std.specs.Option.{option_map, option_map_or}
 use Rattle.mg_words.specs.Cut.{after_prefix}
@@ -44,18 +44,18 @@ command_named keywords.Notify = Some commands.Notify
 command_named keywords.ServiceChange = Some commands.ServiceChange
 command_named _ = None
 
--- a command's word, and whether O- and W- stand before it
+-- a command's keyword, and whether it has the prefixes O- and W-
 abbrev pub headed : Bool → Bool → Keyword → Option CommandHead
 headed optional wildcard keyword =
     option_map (λ word. record { word = word; is_optional = optional; wants_wildcard = wildcard })
     (command_named keyword)
 
--- the command after a prefix, or else another reading
+-- the command after a prefix, or else another result
 abbrev pub prefixed : Bool → Bool → Option (List ℕ) → Option CommandHead → Option CommandHead
 prefixed optional wildcard (Some rest) other = by_keyword (headed optional wildcard) rest
 prefixed optional wildcard None other = other
 
--- a command: a word of the encoding, alone or with O-W-, O- or W- straight before it
+-- a command: a keyword, alone or after O-W-, O- or W-
 unfoldable pub command_of : List ℕ → Option CommandHead
 command_of text =
     option_map_or (headed false false) (keyword_of text)
@@ -63,6 +63,6 @@ command_of text =
     (prefixed true false (after_prefix (codes "O-") text)
     (prefixed false true (after_prefix (codes "W-") text) None)))
 
--- the word of a command with its prefixes
+-- the keyword of a command with its prefixes
 abbrev pub head_of : Command → CommandHead
 head_of x = record { word = x.word; is_optional = x.is_optional; wants_wildcard = x.wants_wildcard }

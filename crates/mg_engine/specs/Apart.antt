@@ -1,5 +1,5 @@
--- What some terminations receive, and all that it leaves as it is: whoever doesn't hear them is
--- sent the same, whatever comes to them.
+-- What some terminations receive, and what it leaves unchanged: packets to anyone who does not
+-- hear them do not depend on it.
 use Rattle.std.specs.Prelude.{◌≡◌, ℕ, ◌&&◌, true, false, List, map, Some, Result, Ok, Err}
 use Rattle.std.specs.Prelude.{if◌then◌else◌}
 use Rattle.std.specs.Option.{option_map}
@@ -21,31 +21,31 @@ use Rattle.mg_engine.specs.Tick.{all_played, after_tick, packet_of}
 
 -- ## Agreement
 
--- counters as if no packet had been received
+-- counters, as if no packet had been received
 abbrev pub but_received : Stats → Stats
 but_received s = record s { pr = 0; or_ = 0 }
 
--- media as if nothing had come to their termination: no frame waits, none is played, and no packet
+-- media, as if its termination had received nothing: no frame waits, none is played, and no packet
 -- was received
 abbrev pub without_arrivals : TerminationMedia → TerminationMedia
 without_arrivals s =
     record s { play = first_list; frame = silence; stats = but_received s.stats }
 
--- the same for those of some terminations alone
+-- the same, but only for the terminations in the list
 abbrev pub unless_among : List ℕ → TerminationMedia → TerminationMedia
 unless_among some s = if has some s.number then without_arrivals s else s
 
--- Two gateways agree outside some terminations where they differ at most in what came to these: in
--- their play lists, the frames that they play, and the counters of what they received.
+-- Two gateways agree outside some terminations if they differ only in what these received: in
+-- their play lists, their current frames, and their counters of received packets.
 pub record AgreeOutside (some : List ℕ) (a b : Gateway) : Type 0 where
   pub config : a.config ≡ b.config
   pub rooms : a.rooms ≡ b.rooms
   pub edits : a.edits ≡ b.edits
   pub media : map (unless_among some) a.media ≡ map (unless_among some) b.media
 
--- ## What keeps it
+-- ## What preserves agreement
 
--- an edit is refused by both for one reason, or is done by both alike, and they agree afterwards
+-- both reject an edit with the same error, or both do it with the same result and then agree
 abbrev pub EndsAlike : {A : Type 0} → List ℕ → Result (Gateway × A) ErrorNumber
     → Result (Gateway × A) ErrorNumber → Type 0
 EndsAlike some (Ok p) (Ok q) = AgreeOutside some p.0 q.0 × (p.1 ≡ q.1)
@@ -73,12 +73,12 @@ SameArrivalKeepsAgreement =
     → AgreeOutside some a b → Takes a port source bytes x t → Takes b port source bytes y u
     → AgreeOutside some x y
 
--- the port is that of one of some terminations
+-- the port belongs to one of these terminations
 abbrev pub IsPortAmong : List ℕ → Gateway → ℕ → Type 0
 IsPortAmong some w port =
     (r : Record) × (at_port w.rooms port ≡ Some r) × (has some r.number ≡ true)
 
--- an RTP datagram to one of them may come to one gateway alone
+-- only one of the gateways receives an RTP datagram for one of these terminations
 abbrev pub OneArrivalKeepsAgreement : Type 0
 OneArrivalKeepsAgreement =
     (some : List ℕ) (a b x : Gateway) (port : ℕ) (source bytes : List ℕ) (t : Taken)
@@ -95,20 +95,20 @@ SameTickKeepsAgreement =
     → AgreeOutside some (all_played a) (all_played b)
     × AgreeOutside some (after_tick a) (after_tick b)
 
--- ## What agreement says of counters and packets
+-- ## What agreement implies for counters and packets
 
--- the counters of any termination are the same but for what was received
+-- the counters of every termination are equal, except for those of received packets
 abbrev pub SameStatsButReceived : Type 0
 SameStatsButReceived =
     (some : List ℕ) (a b : Gateway) (n : ℕ) → AgreeOutside some a b
     → option_map but_received (stats_of a n) ≡ option_map but_received (stats_of b n)
 
--- the speech of none of some goes to a listener, and it isn't one of them that is sent its own
+-- the listener hears none of these terminations, and is not one of them in a loopback
 pub record HearsNone (some : List ℕ) (w : Gateway) (listener : ℕ) : Type 0 where
   pub others : (talker : ℕ) → has some talker ≡ true → flow w talker listener ≡ false
   pub own : (has some listener && hears_itself w listener) ≡ false
 
--- the packet of a tick to one that hears none of them is the same in both, byte for byte
+-- a tick sends the same packet, byte for byte, to a listener that hears none of them
 abbrev pub SamePackets : Type 0
 SamePackets =
     (some : List ℕ) (a b : Gateway) (r : Record)

@@ -1,5 +1,5 @@
--- What becomes of an RTP datagram that comes to a media port (RFC 3550, section 5.1; the causes of
--- a drop and their order are this project's own).
+-- What an RTP datagram that arrives at a media port does (RFC 3550, section 5.1). The causes of a
+-- drop and their order are this project's own.
 use Rattle.std.specs.Prelude.{◌≡◌, ℕ, ℤ, ◌==◌, not, Bool, false, List, map, length}
 use Rattle.std.specs.Prelude.{find, Option, Some, None, Result, Ok, Err, if◌then◌else◌}
 use Rattle.std.specs.Option.{option_map_or}
@@ -23,11 +23,11 @@ use Rattle.mg_engine.specs.Gateway.{Gateway, TerminationMedia, media_of}
 use Rattle.mg_engine.specs.Steps.{received}
 use Rattle.mg_engine.specs.Tick.{type_of}
 
--- a frame with the header of its packet, or why there is none
+-- a frame with its packet's header, or the reason why there is none
 abbrev pub Arrived : Type 0
 Arrived = Result (Header × List ℤ) DropCause
 
--- the payload of a packet is one frame of the law
+-- the frame of a packet, if its payload is one frame of the law
 abbrev pub decoded : Law → Header × List ℕ → Arrived
 decoded law p =
     if not (p.0.payload_type == type_of law) then Err causes.PayloadType
@@ -37,23 +37,23 @@ abbrev pub frame_by_law : Law → Reading → Arrived
 frame_by_law law (Ok p) = decoded law p
 frame_by_law law (Err fault) = Err (causes.Rtp fault)
 
--- a termination that has a Remote takes packets from its address alone
+-- a termination with a Remote accepts packets only from the Remote's address
 abbrev pub is_stray_source : Option Chosen → List ℕ → Bool
 is_stray_source remote source = option_map_or (λ to. not (bytes_eq to.address source)) remote false
 
--- the law of the payloads that a termination takes from a source
+-- the law of the payloads that a termination accepts from a source
 abbrev pub law_for : Record → List ℕ → Result Law DropCause
 law_for r source =
     if is_stray_source r.remote source then Err causes.Stray
     else option_map_or (λ local. Ok local.law) r.local (Err causes.NoLocal)
 
--- what comes to a termination
+-- the frame that a datagram brings to a termination
 abbrev pub arrived : Record → List ℕ → Reading → Arrived
 arrived r source reading = do
   law ← law_for r source
   frame_by_law law reading
 
--- a frame is placed in the play list of a stream
+-- a frame is placed in the play list, and counted
 abbrev pub frame_placed : Header → List ℤ → TerminationMedia → TerminationMedia
 frame_placed header frame s =
     record s {
@@ -73,11 +73,11 @@ abbrev pub taken_at : Gateway → ℕ → Arrived → Gateway × Taken
 taken_at w n (Ok p) = frame_placed_at w n p (media_of w n)
 taken_at w n (Err cause) = (w, Dropped cause)
 
--- the termination that has a port
+-- the termination with this port
 abbrev pub at_port : rooms.Registry → ℕ → Option Record
 at_port w port = find (λ r. slot_port w.limits r.slot == port) w.terminations
 
--- the world after a datagram came to a port from an address, and what became of it
+-- the gateway after a datagram arrived at a port from an address, and what became of the datagram
 abbrev pub taken : Gateway → ℕ → List ℕ → Reading → Gateway × Taken
 taken w port source reading =
     option_map_or (λ r. taken_at w r.number (arrived r source reading)) (at_port w.rooms port)

@@ -1,11 +1,11 @@
--- What a gateway is started with.
+-- The configuration of a gateway.
 use Rattle.std.specs.Prelude.{◌≢◌, ℕ, ◌+◌, ◌*◌, ◌<◌, [], ◌∷◌}
 use Rattle.mg_words.specs.Limits.{termination_limit}
 use Rattle.mg_rooms.specs.declared.limits.Limits.{Limits}
 use Rattle.mg_rooms.specs.Limits.{AreValidLimits}
 use Rattle.mg_engine.specs.declared.config.Config.{Config}
 
--- the gateway on this machine, with all its slots
+-- a gateway on this machine, with all slots
 abbrev pub standard : Config
 standard = record {
   address = 127 ∷ 0 ∷ 0 ∷ 1 ∷ [];
@@ -20,7 +20,7 @@ standard = record {
   timestamp = 0;
 }
 
--- what terminations and contexts are made within
+-- the limits of terminations and contexts
 abbrev pub limits_of : Config → Limits
 limits_of c =
     record {
@@ -31,12 +31,12 @@ limits_of c =
       first_context = c.first_context;
     }
 
--- a control port that is none of the media ports
+-- the control port is not 0, and is not one of the media ports
 pub record HasControlPort (c : Config) : Type 0 where
   pub some : 0 < c.control_port
   pub apart : (slot : ℕ) → slot < c.slots → c.control_port ≢ c.base_port + 2 * slot
 
--- a gateway can be started with it
+-- a gateway can start with this configuration
 pub record IsValidConfig (c : Config) : Type 0 where
   pub limits : AreValidLimits (limits_of c)
   pub control_port : HasControlPort c

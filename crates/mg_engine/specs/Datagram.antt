@@ -1,8 +1,8 @@
--- Packets on their way.
+-- Packets to be sent.
 use Rattle.std.specs.Prelude.{[], ◌∷◌, replicate}
 use Rattle.mg_engine.specs.declared.datagram.Datagram.{Datagram}
 
--- a datagram of zeros, which fills the places of an outbox that are free
+-- a datagram of zeros, which fills the free places of an outbox
 abbrev pub blank : Datagram
 blank = record {
   from = 0;

@@ -1,4 +1,4 @@
--- What a gateway is, seen from outside: its configuration, its terminations with their media, its
+-- A gateway as seen from outside: its configuration, its terminations with their media, its
 -- contexts with their members, and what happened in them (RFC 3525, section 6; RFC 3550).
 use Rattle.std.specs.Prelude.{ℕ, ℤ, ◌==◌, Bool, false, List, [], Option, find, map}
 use Rattle.std.specs.Option.{option_map, option_map_or}
@@ -13,9 +13,9 @@ use Rattle.mg_words.specs.declared.stats.Stats.{Stats}
 use Rattle.mg_words.specs.Stats.{no_packets}
 use Rattle.mg_sums.specs.Samples.{silence}
 
--- The media of one termination: the frames that wait for their turn, the frame that this tick plays
--- (160 samples), its counters, how many ticks it has lived, how many packets it has sent, and
--- whether it sent one in its last tick.
+-- The media of one termination: its play list, the frame that this tick plays (160 samples), and
+-- its counters. Then how many ticks it has had, how many packets it has sent, and whether its last
+-- tick sent one.
 pub record TerminationMedia : Type 0 where
   pub number : ℕ
   pub play : PlayList
@@ -25,24 +25,22 @@ pub record TerminationMedia : Type 0 where
   pub packets : ℕ
   pub sent_last : Bool
 
--- What happens to the members of contexts: one enters a context or leaves it, or a triple of a
--- topology descriptor is applied to the members that its two names matched at that time (RFC 3525,
--- section 7.1.18).
+-- What happens in contexts (RFC 3525, section 7.1.18): a member enters or leaves, or a triple is
+-- applied. A triple has the members that its two names matched at that time.
 pub data ContextEdit : Type 0 where
   Enter : (member : ℕ) → ContextEdit
   Leave : (member : ℕ) → ContextEdit
   Apply : (first second : List ℕ) → (association : Association) → ContextEdit
 
--- What the gateway was started with; the terminations by their records, and the contexts with their
--- members, as rooms has them; the media of each termination, in the order of their numbers; and all
--- that happened to the members of all contexts so far, newest first.
+-- The configuration; the terminations and contexts; the media of each termination, in order of
+-- their numbers; and everything that happened to the members of all contexts, newest first.
 pub record Gateway : Type 0 where
   pub config : Config
   pub rooms : rooms.Registry
   pub media : List TerminationMedia
   pub edits : List ContextEdit
 
--- the world that nothing was done in
+-- a new gateway
 abbrev pub start_of : Config → Gateway
 start_of config = record {
   config = config;
@@ -51,7 +49,7 @@ start_of config = record {
   edits = [];
 }
 
--- the media of a termination as it is made
+-- the media of a new termination
 abbrev pub new_media : ℕ → TerminationMedia
 new_media n = record {
   number = n;
@@ -63,16 +61,16 @@ new_media n = record {
   sent_last = false;
 }
 
--- ## What is looked up by the number of a termination
+-- ## Lookups by the number of a termination
 
 abbrev pub media_of : Gateway → ℕ → Option TerminationMedia
 media_of w n = find (λ s. s.number == n) w.media
 
--- the counters of a termination, if there is one
+-- the counters of a termination, if it exists
 abbrev pub stats_of : Gateway → ℕ → Option Stats
 stats_of w n = option_map (λ s. s.stats) (media_of w n)
 
--- ## The same of any number: one that names no termination is Inactive, in context 0, and silent
+-- ## The same for any number: one that names no termination is Inactive, in context 0, and silent
 
 abbrev pub mode_of : Gateway → ℕ → Mode
 mode_of w n = option_map_or (λ r. r.mode) (rooms.record_at w.rooms n) Inactive

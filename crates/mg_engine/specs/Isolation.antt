@@ -1,4 +1,4 @@
--- Who isn't heard, in plain words: what follows from the definitions of flow, mix and packet.
+-- Who is not heard, in plain words: what follows from the definitions of flow, mix and packet.
 use Rattle.std.specs.Prelude.{◌≡◌, ℕ, ℤ, ◌+◌, ◌<◌, ◌==◌, ◌&&◌, ◌||◌, not, Bool, true, false, List}
 use Rattle.std.specs.Prelude.{◌∷◌, ◌++◌, map, slice_index, if◌then◌else◌}
 use Rattle.std.specs.List.{list_all}
@@ -13,38 +13,38 @@ use Rattle.mg_engine.specs.Flow.{flow, mentions}
 use Rattle.mg_engine.specs.Mix.{mix, is_loopback}
 use Rattle.mg_engine.specs.Tick.{packet, packet_of}
 
--- nobody hears himself: no termination's own speech goes to it
+-- nobody hears himself: no termination's speech flows to itself
 abbrev pub NoneHearsItself : Type 0
 NoneHearsItself = (w : Gateway) (n : ℕ) → flow w n n ≡ false
 
 abbrev pub replayed : ℕ → List ℤ → TerminationMedia → TerminationMedia
 replayed n frame s = if s.number == n then record s { frame = frame } else s
 
--- the gateway as it would be if this tick played another frame of a termination
+-- the gateway, if this tick played another frame for the termination
 abbrev pub with_frame : Gateway → ℕ → List ℤ → Gateway
 with_frame w n frame = record w { media = map (replayed n frame) w.media }
 
--- a termination is sent its own speech in a loopback alone
+-- a termination is sent its own speech only in a loopback
 abbrev pub hears_itself : Gateway → ℕ → Bool
 hears_itself w n = is_loopback (mode_of w n)
 
--- Outside a loopback, no byte of a packet to a termination depends on what it says itself. (That
--- its speech doesn't go to it stands in the definition of flow; this says what follows from it.)
+-- Except in a loopback, no byte of a packet to a termination depends on what it says itself. (The
+-- definition of flow says that its speech does not flow to itself; this is the consequence.)
 abbrev pub OwnSpeechChangesNoPacket : Type 0
 OwnSpeechChangesNoPacket =
     (w : Gateway) (frame : List ℤ) (r : Record) → hears_itself w r.number ≡ false
     → packet_of (with_frame w r.number frame) r ≡ packet_of w r
 
--- ## An isolated participant isn't heard
+-- ## An isolated participant is not heard
 
--- an edit leaves two who were isolated so, unless one of them enters a context by it, or it speaks
--- of the two
+-- an edit keeps two terminations isolated, unless one of them enters a context or a triple
+-- mentions the two
 abbrev pub leaves_isolated : ℕ → ℕ → ContextEdit → Bool
 leaves_isolated a b (Enter n) = not (a == n || b == n)
 leaves_isolated a b (Leave n) = true
 leaves_isolated a b (Apply first second association) = not (mentions first second a b)
 
--- two were isolated from each other, and all that happened since leaves them so
+-- the two were isolated from each other, and everything since then keeps them isolated
 pub record AreIsolated (w : Gateway) (a b : ℕ) : Type 0 where
   pub since : List ContextEdit
   pub first : List ℕ
@@ -54,21 +54,21 @@ pub record AreIsolated (w : Gateway) (a b : ℕ) : Type 0 where
   pub isolated : mentions first second a b ≡ true
   pub left : list_all (leaves_isolated a b) since ≡ true
 
--- the speech of neither goes to the other
+-- neither's speech flows to the other
 abbrev pub IsolatedAreNotHeard : Type 0
 IsolatedAreNotHeard =
     (w : Gateway) (a b : ℕ) → AreIsolated w a b → (flow w a b ≡ false) × (flow w b a ≡ false)
 
--- ## Who isn't heard leaves no trace
+-- ## Who is not heard leaves no trace
 
--- where the packets of a termination stand: its number, the ticks of its life, the packets that it
--- has sent, and whether its last tick sent one
+-- the progress of a termination's packets: its number, its ticks, the packets that it has sent,
+-- and whether its last tick sent one
 abbrev pub progress_of : TerminationMedia → ℕ × (ℕ × (ℕ × Bool))
 progress_of s = (s.number, (s.ticks, (s.packets, s.sent_last)))
 
--- A packet is a function of the configuration, the terminations and contexts, all edits, where its
--- listener's packets stand, and the frames of all whose speech goes to the listener: its own in a
--- loopback.
+-- A packet depends only on the configuration, the terminations and contexts, all edits, the
+-- progress of the listener's packets, and certain frames. These are the frames of those whose
+-- speech flows to the listener; in a loopback, its own.
 abbrev pub PacketsDependOnHeard : Type 0
 PacketsDependOnHeard =
     (a b : Gateway) (r : Record) → a.config ≡ b.config → a.rooms ≡ b.rooms → a.edits ≡ b.edits
@@ -77,8 +77,8 @@ PacketsDependOnHeard =
     → (hears_itself a r.number ≡ true → frame_of a r.number ≡ frame_of b r.number)
     → packet_of a r ≡ packet_of b r
 
--- Whatever a talker says, the packet to a listener to whom its speech doesn't go is the same, byte
--- for byte. (In a loopback a termination is its own listener.)
+-- Whatever a talker says, the packet to a listener to whom its speech does not flow is the same,
+-- byte for byte. (In a loopback a termination is its own listener.)
 abbrev pub UnheardChangesNoPacket : Type 0
 UnheardChangesNoPacket =
     (w : Gateway) (talker : ℕ) (frame : List ℤ) (r : Record) → flow w talker r.number ≡ false
@@ -87,7 +87,8 @@ UnheardChangesNoPacket =
 
 -- ## What a packet carries
 
--- after the twelve bytes of its header, the encoding of each sample of what the listener is sent
+-- after the 12 bytes of the header, a packet has the encoding of each sample that the listener is
+-- sent
 abbrev pub PayloadsAreMixes : Type 0
 PayloadsAreMixes =
     (w : Gateway) (r : Record) (to : Chosen) (s : TerminationMedia) (i : ℕ) → i < 160

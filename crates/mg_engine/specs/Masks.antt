@@ -1,5 +1,5 @@
--- What the table of who hears whom says of a world: for each member, whose speech goes to it, and
--- who is silenced for it (this project's own).
+-- What the table of flows represents: for each member, whose speech flows to it and who is
+-- silenced for it (this project's own).
 use Rattle.std.specs.Prelude.{◌≡◌, ℕ, IsTrue, List}
 use Rattle.mg_rooms.specs.declared.record.Record.{Record}
 use Rattle.mg_flow.specs.declared.place.Place.{Place}
@@ -9,8 +9,8 @@ use Rattle.mg_engine.specs.Flow.{flow, is_silenced}
 use Rattle.mg_engine.specs.Place.{IsOnPlace}
 use Rattle.mg_engine.specs.Stands.{ShareContext}
 
--- Each member's place is held, and no other. Of each two members of a context, the one's speech
--- goes to the other, and the one is silenced for the other, exactly where the world says so.
+-- Exactly the places of members are held. Between any two members of a context, the flows and who
+-- is silenced are those of the gateway.
 pub record RepresentsFlows (w : Gateway) (rooms : List table.RoomFlows) : Type 0 where
   pub held : (n : ℕ) (r : Record) (p : Place) → IsOnPlace w.rooms n r p
       → IsTrue (table.holds rooms p)

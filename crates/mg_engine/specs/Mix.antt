@@ -1,5 +1,5 @@
--- What is said in a context in this tick, and what each listener is sent of it (this project's own:
--- sums are plain, and a mix is limited once).
+-- What is said in a context in this tick, and what each listener is sent (this project's own: sums
+-- are plain, and a mix is limited once).
 use Rattle.std.specs.Prelude.{ℕ, ℤ, pos, Bool, true, false, List, map, ◌&&◌, nat_lt}
 use Rattle.std.specs.Prelude.{Option, Some, None, is_some, slice_index_or, if◌then◌else◌}
 use Rattle.std.specs.List.{range_with_len}
@@ -15,23 +15,23 @@ use Rattle.mg_engine.specs.Flow.{flow}
 abbrev pub played_sample : Gateway → ℕ → ℕ → ℤ
 played_sample w n i = slice_index_or (frame_of w n) i (pos 0)
 
--- what a member adds to the total of its context: its sample, if it talks
+-- what a member adds to its context's total: its sample, if it talks
 abbrev pub part_of_total : Gateway → ℕ → ℕ → ℤ
 part_of_total w i n = if talks (mode_of w n) then played_sample w n i else pos 0
 
--- the plain sum of sample i of the members of a context that talk
+-- the plain sum of sample i over the members of a context that talk
 abbrev pub total : Gateway → ℕ → ℕ → ℤ
 total w c i = sum_of (part_of_total w i) (members_at w.rooms c)
 
--- the same, where the context is there and the sample is one of a frame
+-- the same, if the context exists and a frame has this sample
 abbrev pub total_at : Gateway → ℕ → ℕ → Option ℤ
 total_at w c i = if is_some (context_at w.rooms c) && nat_lt i 160 then Some (total w c i) else None
 
--- what a termination adds to the mix of a listener: its sample, if its speech goes there
+-- what a termination adds to a listener's mix: its sample, if its speech flows to the listener
 abbrev pub part_of_mix : Gateway → ℕ → ℕ → ℕ → ℤ
 part_of_mix w listener i talker = if flow w talker listener then played_sample w talker i else pos 0
 
--- the plain sum of sample i of all whose speech goes to a listener
+-- the plain sum of sample i over everyone whose speech flows to the listener
 abbrev pub heard : Gateway → ℕ → ℕ → ℤ
 heard w listener i = sum_of (part_of_mix w listener i) (numbers_of w)
 
@@ -39,8 +39,8 @@ abbrev pub is_loopback : Mode → Bool
 is_loopback Loopback = true
 is_loopback _ = false
 
--- what a termination is sent as sample i: itself in a loopback, else all whose speech goes to it,
--- limited once
+-- sample i of what a termination is sent: its own in a loopback, otherwise the sum of everyone
+-- whose speech flows to it, limited once
 abbrev pub mix : Gateway → ℕ → ℕ → ℤ
 mix w n i = if is_loopback (mode_of w n) then played_sample w n i else nearest_sample (heard w n i)
 

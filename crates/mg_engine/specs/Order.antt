@@ -1,12 +1,12 @@
--- Which of two packets came first makes no difference where they came to two ports.
+-- The order of packets that arrive at different ports does not matter.
 use Rattle.std.specs.Prelude.{◌≢◌, ℕ, List}
 use Rattle.mg_rooms.specs.Consistent.{IsConsistent}
 use Rattle.mg_engine.specs.declared.taken.Taken.{Taken}
 use Rattle.mg_engine.specs.Arrival.{Takes}
 use Rattle.mg_engine.specs.Gateway.{Gateway}
 
--- Two RTP datagrams, one after the other, at two ports of a gateway whose terminations and contexts
--- are consistent: the other way round the same becomes of each, and of the gateway.
+-- Two RTP datagrams arrive at two ports of a gateway whose terminations and contexts are
+-- consistent. In the other order each has the same result, and the gateway ends in the same state.
 abbrev pub ArrivalOrderIsIrrelevant : Type 0
 ArrivalOrderIsIrrelevant =
     (w between last : Gateway) (port other : ℕ) (from source bytes list : List ℕ) (a b : Taken)

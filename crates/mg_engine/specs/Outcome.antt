@@ -1,5 +1,4 @@
--- What becomes of the world by an edit: its refusal, or the world after it with what it was done
--- on.
+-- The outcome of an edit: its error, or the gateway after it with what it changed.
 use Rattle.std.specs.Prelude.{ℕ, List, ◌++◌, [], ◌∷◌, Some, None, Result, Ok, Err}
 use Rattle.mg_rooms.specs.declared.record.Record.{Record}
 use Rattle.mg_rooms.specs.declared.target.Target.{Target}
@@ -34,7 +33,7 @@ media_without n list = change (λ s. s.number) n (λ _. None) list
 
 -- ## Commands on a termination
 
--- an outcome, once that of the terminations and contexts is known
+-- the outcome, given that of the terminations and contexts
 abbrev pub done_with : (rooms.Registry → Record → Gateway)
     → Result (rooms.Registry × Record) ErrorNumber → Result (Gateway × Record) ErrorNumber
 done_with f (Ok p) = Ok (f p.0 p.1, p.1)
@@ -80,14 +79,14 @@ subtract w target n = done_with (subtracted w) (outcomes.subtract w.rooms target
 
 -- ## Triples
 
--- the number of an action's context that is there
+-- the number of the action's context, if it exists
 abbrev pub existing_context : rooms.Registry → Target → Result ℕ ErrorNumber
 existing_context w (targets.Number c) = do
   _ ← outcomes.there w c
   Ok c
 existing_context w _ = Err UnknownContext
 
--- all triples are applied to the members that are there now, or none
+-- all triples are applied to the current members, or none
 unfoldable pub apply_triples : Gateway → Target → List TopologyTriple
     → Result (Gateway × ℕ) ErrorNumber
 apply_triples w target xs = do
@@ -100,7 +99,7 @@ apply_triples w target xs = do
 abbrev pub Outcome : Type 0
 Outcome = Result (Gateway × Done) ErrorNumber
 
--- what was done, in the words of an edit
+-- what was done, as the result of an edit
 abbrev pub done_as : {A : Type 0} → (A → Done) → Result (Gateway × A) ErrorNumber → Outcome
 done_as f (Ok p) = Ok (p.0, f p.1)
 done_as f (Err e) = Err e

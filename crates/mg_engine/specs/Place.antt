@@ -1,4 +1,4 @@
--- Where a member is in the table of who hears whom (this project's own).
+-- The place of a member in the table of flows (this project's own).
 use Rattle.std.specs.Prelude.{◌≡◌, ℕ, Option, Some}
 use Rattle.std.specs.Option.{option_map}
 use Rattle.mg_rooms.specs.declared.record.Record.{Record}
@@ -7,7 +7,7 @@ use Rattle.mg_rooms.specs.declared.member.Member.{Member}
 use Rattle.mg_engine.specs.declared.seated_member.SeatedMember.{SeatedMember}
 use Rattle.mg_flow.specs.declared.place.Place.{Place}
 
--- the room of its context, and its seat there
+-- the room of its context, and its seat
 abbrev pub place_of : Registry → Record → Option Place
 place_of w r =
     option_map (λ x. record { room = x.room; seat = r.seat }) (context_at w r.context)
@@ -16,15 +16,15 @@ place_of w r =
 abbrev pub member_place : Member → Place
 member_place m = record { room = m.room; seat = m.record.seat }
 
--- a termination has a record, and is on a place
+-- a termination has this record and this place
 pub record IsOnPlace (w : Registry) (n : ℕ) (r : Record) (p : Place) : Type 0 where
   pub found : record_at w n ≡ Some r
   pub place : place_of w r ≡ Some p
 
--- the place of a member that was found once
+-- the place of a member that was looked up before
 abbrev pub seated_place : SeatedMember → Place
 seated_place m = record { room = m.room; seat = m.seat }
 
--- the termination is there, and on that place
+-- the termination exists, and has this place
 abbrev pub IsOnSeat : Registry → SeatedMember → Type 0
 IsOnSeat w m = (r : Record) × IsOnPlace w m.number r (seated_place m)

@@ -1,4 +1,4 @@
--- Which worlds the state of an engine stands for.
+-- Which gateways the state of an engine represents.
 use Rattle.std.specs.Prelude.{◌≡◌, ◌≢◌, ℕ, ℤ, ◌+◌, ◌*◌, ◌%◌, ◌^◌, List, map, Some, Result, Ok}
 use Rattle.std.specs.Prelude.{Err, slice_index_or}
 use Rattle.mg_words.specs.declared.error_number.ErrorNumber.{ErrorNumber}
@@ -16,9 +16,9 @@ use Rattle.mg_engine.specs.Place.{IsOnPlace}
 use Rattle.mg_engine.specs.declared.share.Share.{Share}
 use Rattle.mg_sums.specs.Sums as sums
 
--- what an engine keeps: its configuration, the terminations and contexts, the media of each slot,
--- the table of who hears whom, the frame of each slot's row with the rooms that rows are joined to,
--- and by room the packets of the last tick that lend their payloads
+-- The state of an engine: its configuration, the terminations and contexts, the media of each
+-- slot, and the table of flows. Then the frame of each slot's row with the rooms that rows are
+-- joined to; and by room, the packets of the last tick that share their payloads.
 pub record EngineState : Type 0 where
   pub config : Config
   pub rooms : rooms.Registry
@@ -31,8 +31,8 @@ pub record EngineState : Type 0 where
 abbrev pub media_at : List media.SlotMedia → ℕ → media.SlotMedia
 media_at kept slot = slice_index_or kept slot media.idle
 
--- The media and the frame that are kept are those of a stream: the ticks of its life modulo 2^32,
--- the packets that it sent modulo 2^16, as the timestamp and the sequence number that they lead to.
+-- The stored media and frame are those of a termination. The timestamp and the sequence number
+-- count its ticks and packets, modulo 2^32 and 2^16.
 pub record IsMediaOf (config : Config) (m : media.SlotMedia) (row : List ℤ)
     (s : TerminationMedia) : Type 0 where
   pub play : m.play ≡ s.play
@@ -42,17 +42,16 @@ pub record IsMediaOf (config : Config) (m : media.SlotMedia) (row : List ℤ)
   pub sequence : m.sequence ≡ (config.sequence + s.packets) % 2 ^ 16
   pub is_sending : m.is_sending ≡ s.sent_last
 
--- Two different terminations are in one context, each on its place.
+-- two different terminations are in the same context, on these places
 pub record ShareContext (w : rooms.Registry) (m n : ℕ) (a b : Record) (p q : Place) : Type 0 where
   pub first : IsOnPlace w m a p
   pub second : IsOnPlace w n b q
   pub same : a.context ≡ b.context
   pub apart : m ≢ n
 
--- The configuration, the terminations and the contexts are the world's, and each termination has
--- its stream, whose media are those of its slot, and whose frame is that of the slot's row. Of each
--- two members of a context, the kept table lets one hear the other exactly where the last word
--- does.
+-- The configuration, terminations and contexts are those of the gateway. Each termination's media
+-- are those of its slot, and its frame is that of its slot's row. Between any two members of a
+-- context, the table lets one hear the other exactly if the last word does.
 pub record StandsFor (kept : EngineState) (w : Gateway) : Type 0 where
   pub config : w.config ≡ kept.config
   pub rooms : w.rooms ≡ kept.rooms
@@ -64,8 +63,8 @@ pub record StandsFor (kept : EngineState) (w : Gateway) : Type 0 where
       → ShareContext kept.rooms talker listener t l p q
       → flow.hears kept.flows p q ≡ may_hear w.edits talker listener
 
--- what a call returned is the outcome, and where it was done the engine stands for the world after
--- it
+-- the result of the call is the outcome; if the call was done, the engine represents the gateway
+-- after it
 abbrev pub IsOutcome : {A : Type 0} → EngineState → Result A ErrorNumber
     → Result (Gateway × A) ErrorNumber → Type 0
 IsOutcome kept (Ok x) outcome = (w : Gateway) × (outcome ≡ Ok (w, x)) × StandsFor kept w

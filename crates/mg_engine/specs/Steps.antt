@@ -1,22 +1,22 @@
--- The parts of a termination's media, a step each.
+-- Single steps of a termination's media.
 use Rattle.std.specs.Prelude.{ℕ, ◌+◌, ◌-◌, ◌^◌, min, Option, Some, None}
 use Rattle.mg_playout.specs.Playout.{PlayList, with_depth}
 use Rattle.mg_rooms.specs.Settings.{depth_after}
 use Rattle.mg_words.specs.declared.stats.Stats.{Stats}
 
--- a command that names a depth sets that of the play list
+-- a command that names a depth sets the depth of the play list
 abbrev pub play_after : Option ℕ → PlayList → PlayList
 play_after None play = play
 play_after (Some depth) play = with_depth play (depth_after (Some depth) depth)
 
--- a counter stays at its greatest value
+-- a counter that reaches its greatest value stays there
 abbrev pub counted_up : ℕ → ℕ → ℕ
 counted_up more n = min (n + more) (2 ^ 64 - 1)
 
--- a packet of 160 octets of payload came
+-- a packet with 160 octets of payload was received
 abbrev pub received : Stats → Stats
 received s = record s { pr = counted_up 1 s.pr; or_ = counted_up 160 s.or_ }
 
--- one was sent
+-- a packet was sent
 abbrev pub transmitted : Stats → Stats
 transmitted s = record s { ps = counted_up 1 s.ps; os = counted_up 160 s.os }

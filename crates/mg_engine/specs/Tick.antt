@@ -1,5 +1,5 @@
--- What becomes of the world by a tick of 20 ms, and the packets that are sent in it (RFC 3550,
--- section 5.1; RFC 3551, sections 4.1 and 6).
+-- What a tick of 20 ms does, and the packets that it sends (RFC 3550, section 5.1; RFC 3551,
+-- sections 4.1 and 6).
 use Rattle.std.specs.Prelude.{ℕ, ◌+◌, ◌-◌, ◌*◌, ◌%◌, ◌^◌, Bool, true, false, not, List, ◌++◌, map}
 use Rattle.std.specs.Prelude.{count_by, filter_map, Option, None, is_some, if◌then◌else◌}
 use Rattle.std.specs.Option.{option_map, option_map_or}
@@ -26,7 +26,7 @@ use Rattle.mg_engine.specs.Mix.{mixed}
 
 -- ## Frames
 
--- a play list ticks, and what it gives is the frame of this tick
+-- the play list ticks, and what it plays is the frame of this tick
 abbrev pub played : TerminationMedia → TerminationMedia
 played s =
     let after = play_lists.ticked s.play in
@@ -35,12 +35,12 @@ played s =
 abbrev pub all_played : Gateway → Gateway
 all_played w = record w { media = map played w.media }
 
--- whether the play list of a termination gives a frame that stands in for a missing one
+-- whether a termination's play list conceals a missing frame in this tick
 abbrev pub conceals : Gateway → ℕ → Bool
 conceals w n =
     option_map_or (λ s. is_concealed ((play_lists.ticked s.play).1)) (media_of w n) false
 
--- how many do in a tick
+-- how many do so in this tick
 abbrev pub concealed_in_tick : Gateway → ℕ
 concealed_in_tick w = count_by (conceals w) (numbers_of w)
 
@@ -62,8 +62,8 @@ abbrev pub type_of : Law → ℕ
 type_of Mu = 0
 type_of A = 8
 
--- The header of the next packet of a termination, in the tick of its life that its ticks count. The
--- marker is set where its last tick sent none.
+-- The header of a termination's next packet, in its current tick. The marker is set if its last
+-- tick sent no packet.
 abbrev pub header_of : Gateway → Chosen → TerminationMedia → Header
 header_of w to s = record {
   marker = not s.sent_last;
@@ -81,13 +81,13 @@ packet w r to s = record {
   bytes = header_bytes plain (header_of w to s) ++ map (byte_of to.law) (mixed w r.number);
 }
 
--- .. if it sends
+-- the packet of a termination, if it sends
 abbrev pub packet_of : Gateway → Record → Option Datagram
 packet_of w r = do
   to ← sent_to r
   option_map (packet w r to) (media_of w r.number)
 
--- the packets of a tick whose frames were played, by rising numbers of terminations
+-- the packets of a tick after its frames were played, in order of the terminations' numbers
 abbrev pub packets : Gateway → List Datagram
 packets w = filter_map (packet_of w) w.rooms.terminations
 
@@ -100,7 +100,7 @@ abbrev pub sent : Bool → TerminationMedia → TerminationMedia
 sent true s = record s { stats = transmitted s.stats; packets = s.packets + 1; sent_last = true }
 sent false s = record s { sent_last = false }
 
--- the world after a tick whose frames were played
+-- the gateway after a tick whose frames were played
 abbrev pub all_ended : Gateway → Gateway
 all_ended w = record w { media = map (λ s. sent (sends_at w.rooms s.number) s) w.media }
 

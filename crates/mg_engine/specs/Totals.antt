@@ -1,4 +1,4 @@
--- What the kept frames and totals say of a world (this project's own).
+-- What the stored frames and totals represent (this project's own).
 use Rattle.std.specs.Prelude.{◌≡◌, ℕ, ◌<◌, Some}
 use Rattle.mg_rooms.specs.declared.context.Context.{Context}
 use Rattle.mg_rooms.specs.declared.record.Record.{Record}
@@ -7,8 +7,8 @@ use Rattle.mg_sums.specs.Sums as sums
 use Rattle.mg_engine.specs.Gateway.{Gateway, frame_of}
 use Rattle.mg_engine.specs.Mix.{total}
 
--- The frame in the row of each termination's slot is the one that it plays in this tick. The total
--- of each context's room is the sum over those of its members who talk.
+-- The frame in the row of a termination's slot is its current frame. The total of a context's room
+-- is the sum over the members that talk.
 pub record RepresentsTotals (w : Gateway) (kept : sums.SumsState) : Type 0 where
   pub frames : (n : ℕ) (r : Record) → record_at w.rooms n ≡ Some r
       → sums.frame_of_row kept r.slot ≡ frame_of w n

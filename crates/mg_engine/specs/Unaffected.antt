@@ -1,4 +1,5 @@
--- Which contexts an edit or an RTP datagram leaves alone, and what of them (this project's own).
+-- Which contexts an edit or an RTP datagram does not affect, and in what respects (this project's
+-- own).
 use Rattle.std.specs.Prelude.{◌≡◌, ℕ, Bool, true, false, List, Some, IsSome, Ok}
 use Rattle.mg_rooms.specs.declared.record.Record.{Record}
 use Rattle.mg_rooms.specs.declared.target.Target.{Target}
@@ -19,9 +20,9 @@ use Rattle.mg_engine.specs.Outcome.{outcome}
 abbrev pub is_member : Gateway → ℕ → ℕ → Bool
 is_member w c n = has (members_at w.rooms c) n
 
--- The context c is as it was, its members in their order. Each of them has its record and its
--- media as they were, each hears the same others of them, whatever their modes, the same speech
--- goes between them, and each sample of their total is the same.
+-- The context c is unchanged, including the order of its members. Their records and media are
+-- unchanged, and so is who of them hears whom regardless of modes, which speech flows between
+-- them, and their total.
 pub record IsUnaffected (w next : Gateway) (c : ℕ) : Type 0 where
   pub context : context_at next.rooms c ≡ context_at w.rooms c
   pub records : (n : ℕ) → is_member w c n ≡ true → record_at next.rooms n ≡ record_at w.rooms n
@@ -32,15 +33,15 @@ pub record IsUnaffected (w next : Gateway) (c : ℕ) : Type 0 where
       → flow next a b ≡ flow w a b
   pub totals : (i : ℕ) → total next c i ≡ total w c i
 
--- ## What is elsewhere
+-- ## Edits and datagrams elsewhere
 
--- a command isn't about the context c: c isn't the action's context, and the termination that is
--- named is no member of c
+-- a command is not about the context c: c is not the action's context, and the termination that
+-- the command names is not a member of c
 abbrev pub IsElsewhere : Gateway → ℕ → Target → ℕ → Type 0
 IsElsewhere w c target n = (is_number target c ≡ false) × (is_member w c n ≡ false)
 
--- an edit isn't about the context c. An Add names no termination, and triples name members of the
--- action's context, so of these the action's context alone counts
+-- An edit is not about the context c. An Add names no termination, and triples name members of the
+-- action's context, so only the action's context matters for these.
 abbrev pub IsEditElsewhere : Gateway → ℕ → Edit → Type 0
 IsEditElsewhere w c (Add target settings) = is_number target c ≡ false
 IsEditElsewhere w c (Modify target n settings) = IsElsewhere w c target n
@@ -55,14 +56,14 @@ IsPortElsewhere w c port =
 
 -- ## The theorems
 
--- an edit leaves each context alone that is there and that it isn't about
+-- an edit does not affect an existing context that it is not about
 abbrev pub EditsDoNotAffectOthers : Type 0
 EditsDoNotAffectOthers =
     (w next : Gateway) (edit : Edit) (done : Done) (c : ℕ) → IsConsistent w.rooms
     → outcome w edit ≡ Ok (next, done) → IsSome (context_at w.rooms c) → IsEditElsewhere w c edit
     → IsUnaffected w next c
 
--- an RTP datagram leaves each context alone of which no member has the port that it came to
+-- an RTP datagram does not affect a context of which no member has the datagram's port
 abbrev pub DatagramsDoNotAffectOthers : Type 0
 DatagramsDoNotAffectOthers =
     (w next : Gateway) (port : ℕ) (source bytes : List ℕ) (result : Taken) (c : ℕ)

@@ -1,4 +1,4 @@
--- What a tick and an edit cost: how many rows of 160 samples are added up, taken away or written
+-- The cost of a tick and of an edit: how many rows of 160 samples are added, subtracted or written
 -- (this project's own).
 use Rattle.std.specs.Prelude.{◌≡◌, ℕ, ◌+◌, ◌*◌, ◌%◌, ◌^◌, ◌≤◌, length, is_some, sum_by, count_by}
 use Rattle.std.specs.Prelude.{if◌then◌else◌}
@@ -8,24 +8,25 @@ use Rattle.mg_engine.specs.Flow.{is_silenced}
 use Rattle.mg_engine.specs.Mix.{is_loopback}
 use Rattle.mg_engine.specs.Tick.{sent_to}
 
--- how many are silenced for a listener: other members of its context, who talk, and whom the last
--- word keeps from it
+-- how many talkers are silenced for a listener: other members of its context that talk, and whose
+-- speech the last word keeps from it
 abbrev pub silenced_for : Gateway → ℕ → ℕ
 silenced_for w listener = count_by (λ talker. is_silenced w talker listener) (numbers_of w)
 
--- the most rows of what a termination is sent: one, and one for each that is silenced for it; in a
--- loopback, where it is sent itself, none is
+-- the greatest number of rows for what a termination is sent: one, and one for each talker
+-- silenced for it; none of these in a loopback, where it is sent its own frame
 abbrev pub mix_work : Gateway → Record → ℕ
 mix_work w r = 1 + (if is_loopback r.mode then 0 else silenced_for w r.number)
 
 abbrev pub sending_work : Gateway → Record → ℕ
 sending_work w r = if is_some (sent_to r) then mix_work w r else 0
 
--- the most rows of a tick: two for the frame of each termination, and those of what is sent
+-- the greatest number of rows in a tick: two for each termination's frame, and those of what is
+-- sent
 abbrev pub tick_work : Gateway → ℕ
 tick_work w =
     2 * length w.rooms.terminations + sum_by (sending_work w) w.rooms.terminations
 
--- a number that is kept modulo 2^32 rises by at most so much
+-- a number that is stored modulo 2^32 rises by at most `most`
 abbrev pub RisesAtMost : ℕ → ℕ → ℕ → Type 0
 RisesAtMost most old new = (rows : ℕ) × (rows ≤ most) × (new % 2 ^ 32 ≡ (old + rows) % 2 ^ 32)

@@ -14,7 +14,7 @@ use mg_rtp::{Header, Packet, RtpFault};
 use mg_sdp::Chosen;
 use mg_words::{Peer, SAMPLES};
 
-/// Whether a datagram came from another address than that of the termination's Remote.
+/// Returns whether a datagram comes from an address other than that of the termination's Remote.
 fn is_stray(remote: Option<Chosen>, source: Peer) -> bool
     ensures value { result ≡ is_stray_source remote source.address }
 {
@@ -24,7 +24,7 @@ fn is_stray(remote: Option<Chosen>, source: Peer) -> bool
     }
 }
 
-/// The law of the payloads that a termination takes from a source.
+/// Returns the law of the payloads that a termination accepts from a source.
 pub fn law_for(termination: &Record, source: Peer) -> Result<Law, DropCause>
     ensures value { result ≡ law_for termination.now source.address }
 {
@@ -37,7 +37,7 @@ pub fn law_for(termination: &Record, source: Peer) -> Result<Law, DropCause>
     }
 }
 
-/// The frame of a payload that is of a law.
+/// Decodes a payload, if it is one frame of this law.
 fn frame_of(law: Law, header: Header, payload: &[u8]) -> Result<(Header, Frame), DropCause>
     ensures value { result ≡ decoded law (header, payload.now) }
 {
@@ -53,7 +53,7 @@ fn frame_of(law: Law, header: Header, payload: &[u8]) -> Result<(Header, Frame),
     }
 }
 
-/// The frame of a packet that is of a law.
+/// Decodes the payload of a packet, if it is one frame of this law.
 pub fn frame_by_law(
     law: Law,
     packet: Result<Packet<'_>, RtpFault>,

@@ -2,19 +2,20 @@ ghost use Rattle.std.specs.Prelude.{◌≡◌, ◌↔◌, IsTrue};
 
 use mg_rooms::{Limits, TERMINATIONS};
 
-/// What a gateway is started with. Its media ports are the pool of even ports `base_port`, `base_port + 2`,
-/// .. up to `base_port + 2 * (slots - 1)`.
+/// The configuration of a gateway.
+///
+/// The media ports are the even ports `base_port`, `base_port + 2`, .. up to `base_port + 2 * (slots - 1)`.
 #[derive(Clone, Copy, Debug, PartialEq, Eq)]
 pub struct Config {
-    /// The IPv4 address for media, which callers are told.
+    /// The IPv4 address for media, which session descriptions name.
     pub address: [u8; 4],
-    /// The IPv4 address for control messages, by which the gateway names itself to its controller.
+    /// The IPv4 address for control messages, which names the gateway in its messages.
     pub control_address: [u8; 4],
     /// The UDP port for control messages.
     pub control_port: u16,
     /// The first UDP port for media.
     pub base_port: u16,
-    /// How many media ports there are, from 1 to [`TERMINATIONS`].
+    /// The number of media ports, from 1 to [`TERMINATIONS`].
     pub slots: u16,
     /// The number of the first termination.
     pub first_termination: u32,
@@ -53,15 +54,17 @@ impl Default for Config {
 impl Config {
     ghost use Rattle.mg_engine.specs.Config.{IsValidConfig, HasControlPort, limits_of};
 
-    /// Whether a gateway can be started with it: the pool of media ports is not empty, even, and within the
-    /// ports that there are, the control port is not one of them, and the first numbers are in range.
+    /// Returns whether a gateway can start with this configuration.
+    ///
+    /// The media ports must be even and at most 65535, there must be 1 to [`TERMINATIONS`], and the control port must
+    /// be another. The first numbers must be in range.
     pub fn is_sound(&self) -> bool
         ensures value { IsTrue result ↔ IsValidConfig self.now }
     {
         self.limits().is_valid() && self.has_control_port()
     }
 
-    /// What terminations and contexts are made within.
+    /// Returns the limits of terminations and contexts.
     pub fn limits(&self) -> Limits
         ensures value { result ≡ limits_of self.now }
     {

@@ -9,14 +9,14 @@ use mg_rooms::TERMINATIONS;
 use mg_rtp::{Header, PACKET_LEN, write_header, write_payload};
 use mg_words::{Peer, SAMPLES};
 
-/// An RTP packet that is to be sent.
+/// An RTP packet to be sent.
 #[derive(Clone, Copy, Debug, PartialEq, Eq)]
 pub struct Datagram {
     /// The gateway's media port that it is sent from.
     pub from: u16,
-    /// Where it goes.
+    /// The destination.
     pub to: Peer,
-    /// A header of 12 bytes and a payload of 160.
+    /// The packet: a header of 12 bytes and a payload of 160.
     pub bytes: [u8; PACKET_LEN],
 }
 
@@ -38,7 +38,7 @@ impl Default for Datagram {
 }
 
 impl Datagram {
-    /// Is from a port of the gateway, to a peer, and has a header from then on.
+    /// Sets the source port, the destination and the header.
     pub(crate) fn address(&mut self, from: u16, to: Peer, header: Header)
         requires seven_bits { header.payload_type < 128 }
         ensures value { self.new ≡ addressed from to header self.old }
@@ -53,7 +53,7 @@ impl Datagram {
 /// The packets of one tick, in the order of their terminations' numbers.
 pub type Outbox = ArrayVec<Datagram, TERMINATIONS>;
 
-/// Puts a packet with a payload at the end of an outbox. Its header and its addresses are to come.
+/// Appends a packet with this payload to an outbox. Its header and addresses are set later.
 pub fn push_payload(outbox: &mut Outbox, payload: &[u8; SAMPLES])
     requires room { length outbox.old.items < TERMINATIONS }
     ensures put { IsPut outbox.old.items outbox.new.items payload.now }
@@ -63,7 +63,7 @@ pub fn push_payload(outbox: &mut Outbox, payload: &[u8; SAMPLES])
     write_payload(payload, &mut outbox[last].bytes);
 }
 
-/// The last packet of an outbox is from a port of the gateway, to a peer, and has a header from then on.
+/// Sets the source port, the destination and the header of the last packet in an outbox.
 pub fn address_last(outbox: &mut Outbox, from: u16, to: Peer, header: Header)
     requires last { 0 < length outbox.old.items }
     requires seven_bits { header.payload_type < 128 }
@@ -74,7 +74,7 @@ pub fn address_last(outbox: &mut Outbox, from: u16, to: Peer, header: Header)
     outbox[last].address(from, to, header);
 }
 
-/// Puts a packet like another of the outbox at its end.
+/// Appends a copy of a packet to an outbox.
 pub fn lend(outbox: &mut Outbox, packet: u8)
     requires there { packet < length outbox.old.items }
     requires room { length outbox.old.items < TERMINATIONS }

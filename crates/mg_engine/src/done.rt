@@ -1,9 +1,9 @@
 use mg_rooms::Record;
 
-/// What an edit was done on.
+/// The result of an edit that was done.
 #[derive(Clone, Copy, Debug, PartialEq, Eq)]
 pub enum Done {
-    /// A termination, as it is then or, of a Subtract, as it was.
+    /// The termination after the edit or, for a Subtract, before it.
     Termination(Record),
     /// The topology of the context with this number.
     Topology(u32),

@@ -1,7 +1,7 @@
 use crate::topology_triple::TopologyTriples;
 use mg_rooms::{Settings, Target};
 
-/// What a command asks of the gateway, with the action's context as its target (RFC 3525, section 7.2).
+/// What a command asks of the gateway; the target is the action's context (RFC 3525, section 7.2).
 #[derive(Debug, Drop)]
 pub enum Edit {
     /// Makes a termination in the context.
@@ -15,7 +15,7 @@ pub enum Edit {
         number: u32,
         settings: Settings,
     },
-    /// Takes a termination into the context, out of the one that it is in.
+    /// Moves a termination from its context to the target.
     Move {
         target: Target,
         number: u32,
@@ -26,7 +26,7 @@ pub enum Edit {
         target: Target,
         number: u32,
     },
-    /// Says who hears whom among the members of the context (RFC 3525, section 7.1.18).
+    /// Sets who hears whom among the members of the context (RFC 3525, section 7.1.18).
     Triples {
         target: Target,
         triples: TopologyTriples,

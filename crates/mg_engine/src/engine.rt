@@ -67,24 +67,23 @@ use mg_words::{Peer, SAMPLES, Stats};
 use std::alloc::{AllocError, Global};
 use std::marker::Model;
 
-/// The terminations and contexts of a gateway, with their media, with who hears whom, and with what each context's
-/// members say in this tick.
+/// The state of a gateway: terminations and contexts, media, who hears whom, and each context's total.
 #[derive(Drop)]
 pub struct Engine {
     config: Config,
     rooms: Rooms,
     ports: PortPool,
-    /// By slot.
+    /// The media of each slot.
     media: Vec<HeldMedia>,
-    /// The slots that are held, by rising numbers of their terminations.
+    /// The slots of terminations, in order of their numbers.
     held: ArrayVec<u8, TERMINATIONS>,
     /// Who hears whom, by the places of members.
     flows: FlowTable,
     /// The slot of the member on each place.
     seating: Seating,
-    /// The frame of this tick of each slot, and the total of each room.
+    /// The current frame of each slot, and the total of each room.
     sums: Sums,
-    /// The packets of this tick that lend their payloads.
+    /// The packets of this tick that share their payloads.
     shares: Shares,
 }
 
@@ -107,7 +106,7 @@ impl Model for Engine {
         e.sums.rooms };
 }
 
-/// Media of nobody for so many slots.
+/// Makes idle media for `slots` slots. Fails only if the allocation does.
 fn idle_media(alloc: Global, slots: u16) -> Result<Vec<HeldMedia>, AllocError>
     ensures value { IfOk result (λ media. media.items ≡ replicate slots idle) }
 {
@@ -118,8 +117,10 @@ fn idle_media(alloc: Global, slots: u16) -> Result<Vec<HeldMedia>, AllocError>
     Ok(media)
 }
 
-/// Who hears whom, who is on which place, what is said, and which packets lend their payloads, of a gateway without
-/// terminations. This takes all their memory.
+/// Makes the tables of a gateway without terminations.
+///
+/// They have the flows, the slots by place, the frames and totals, and the shared payloads. Fails only if the
+/// allocation does.
 fn empty_tables(alloc: Global) -> Result<(FlowTable, Seating, Sums, Shares), AllocError>
     ensures flows { IfOk result (λ (flows, seating, sums, shares). table.StandsFor flows []) }
     ensures seating { IfOk result (λ (flows, seating, sums, shares). seating ≡ replicate place_count 0) }
@@ -135,8 +136,10 @@ fn empty_tables(alloc: Global) -> Result<(FlowTable, Seating, Sums, Shares), All
 }
 
 impl Engine {
-    /// A gateway without terminations. It takes the memory for all that there can be, and no other call takes
-    /// any.
+    /// Starts a gateway without terminations.
+    ///
+    /// It allocates all memory; no other call allocates. Fails if the configuration is invalid or the allocation
+    /// fails.
     pub fn new(alloc: Global, config: Config) -> Result<Engine, StartFault>
         ensures bad { (result ≡ Err StartFault.BadConfig) ↔ ¬ IsValidConfig config }
         ensures start { IfOk result (λ engine. StandsFor engine (start_of config)) }
@@ -163,21 +166,21 @@ impl Engine {
         })
     }
 
-    /// What the gateway was started with.
+    /// Returns the configuration that the gateway was started with.
     pub fn config(&self) -> &Config
         ensures value { (w : Gateway) → StandsFor self.now w → result.now ≡ w.config }
     {
         &self.config
     }
 
-    /// The terminations and contexts.
+    /// Returns the terminations and contexts.
     pub fn rooms(&self) -> &Rooms
         ensures value { (w : Gateway) → StandsFor self.now w → result.now ≡ w.rooms }
     {
         &self.rooms
     }
 
-    /// How many terminations there are.
+    /// Returns the number of terminations.
     pub fn terminations(&self) -> usize
         ensures value { result ≡ length self.now.rooms.terminations }
         ensures few { result ≤ TERMINATIONS }
@@ -186,7 +189,7 @@ impl Engine {
         self.held.len()
     }
 
-    /// The termination on a place among all, counted from 0 by rising numbers.
+    /// Returns the termination at an index, counted from 0 in order of their numbers.
     pub fn termination(&self, place: usize) -> Record
         requires there { place < length self.now.rooms.terminations }
         ensures value { slice_get self.now.rooms.terminations place ≡ Some result }
@@ -196,7 +199,7 @@ impl Engine {
         self.rooms.held(slot).unwrap()
     }
 
-    /// The UDP port of a slot.
+    /// Returns the UDP port of a slot.
     pub fn port(&self, slot: u8) -> u16
         requires slot { slot < self.now.rooms.limits.slots }
         ensures value { result ≡ slot_port self.now.rooms.limits slot }
@@ -204,7 +207,7 @@ impl Engine {
         self.config.limits().slot_port(slot)
     }
 
-    /// Who hears whom, by the places of members.
+    /// Returns who hears whom, by the places of members.
     pub fn flows(&self) -> &FlowTable
         ensures value { result.now ≡ self.now.flows }
         ensures represented { (w : Gateway) → StandsFor self.now w → RepresentsFlows w result.now }
@@ -212,7 +215,7 @@ impl Engine {
         &self.flows
     }
 
-    /// The frame of each termination, in the row of its slot, and the total of each context, in its room.
+    /// Returns the frame of each termination, in its slot's row, and the total of each context, in its room.
     pub fn sums(&self) -> &Sums
         ensures value { result.now ≡ self.now.sums }
         ensures represented { (w : Gateway) → StandsFor self.now w → RepresentsTotals w result.now }
@@ -220,7 +223,7 @@ impl Engine {
         &self.sums
     }
 
-    /// Does what an edit asks, or refuses it, which changes nothing.
+    /// Does an edit, or rejects it without a change.
     pub fn edit(&mut self, edit: &Edit) -> Result<Done, ErrorNumber>
         ensures outcome { (w : Gateway) → StandsFor self.old w → IsOutcome self.new result (outcome w edit.now) }
         ensures refused { OnErr result (self.new ≡ self.old) }
@@ -261,7 +264,7 @@ impl Engine {
         }
     }
 
-    /// Makes a termination in the action's context, and the context too where it is new (RFC 3525, section 7.2.1).
+    /// Makes a termination in the action's context, and that context if it is new (RFC 3525, section 7.2.1).
     pub fn add(&mut self, target: Target, settings: &Settings) -> Result<Record, ErrorNumber>
         ensures outcome { (w : Gateway) → StandsFor self.old w → IsOutcome self.new result (add w target settings.now) }
         ensures refused { OnErr result (self.new ≡ self.old) }
@@ -300,8 +303,9 @@ impl Engine {
         Ok(changed.record)
     }
 
-    /// Takes a termination into the action's context, out of the one that it is in, which ends where it was the last
-    /// there (RFC 3525, section 7.2.4).
+    /// Moves a termination to the action's context (RFC 3525, section 7.2.4).
+    ///
+    /// The context that it leaves ends if it has no other member.
     pub fn move_to(
         &mut self,
         target: Target,
@@ -323,8 +327,9 @@ impl Engine {
         Ok(moved.to.record)
     }
 
-    /// Takes a member out of the action's context and ends it. The context ends with its last member (RFC 3525, section
-    /// 7.2.3).
+    /// Removes a member from the action's context, and ends it (RFC 3525, section 7.2.3).
+    ///
+    /// The context ends if it has no other member.
     pub fn subtract(&mut self, target: Target, number: u32) -> Result<Record, ErrorNumber>
         ensures outcome { (w : Gateway) → StandsFor self.old w → IsOutcome self.new result (subtract w target number) }
         ensures refused { OnErr result (self.new ≡ self.old) }
@@ -340,8 +345,9 @@ impl Engine {
         Ok(gone.record)
     }
 
-    /// Applies all triples to the members that the action's context has now, in order, or none of them, by the first
-    /// fault. The answer is the context's number (RFC 3525, section 7.1.18).
+    /// Applies triples in order to the current members of the action's context (RFC 3525, section 7.1.18).
+    ///
+    /// At the first error none is applied. Returns the context's number.
     pub fn apply_triples(
         &mut self,
         target: Target,
@@ -363,8 +369,9 @@ impl Engine {
         }
     }
 
-    /// The context that triples of an action would be applied to: the action's, if it is there. This is what becomes of
-    /// a topology without a triple, or of none.
+    /// Returns the context that triples of an action would be applied to, or the error if it does not exist.
+    ///
+    /// That is the result of a topology without triples.
     pub fn topology_context(&self, target: Target) -> Result<u32, ErrorNumber>
         ensures outcome { (w : Gateway) → StandsFor self.now w → IsOutcome self.now result (apply_triples w target []) }
     {
@@ -372,7 +379,7 @@ impl Engine {
         Ok(at.context)
     }
 
-    /// The termination that has a port.
+    /// Returns the termination with this port.
     fn at_port(&self, port: u16) -> Option<Record>
         ensures value { result ≡ at_port self.now.rooms port }
         ensures sound { IsSound self.now.rooms }
@@ -385,7 +392,7 @@ impl Engine {
         }
     }
 
-    /// Places the frame of a packet that came to a termination, or tells why there is none.
+    /// Places the frame of a packet for a termination, or returns the cause of its drop.
     fn place(
         &mut self,
         termination: &Record,
@@ -415,7 +422,7 @@ impl Engine {
         }
     }
 
-    /// Takes an RTP datagram that came to one of the media ports.
+    /// Handles an RTP datagram that arrived at a media port.
     pub fn media(&mut self, port: u16, source: Peer, bytes: &[u8]) -> Taken
         ensures taken { (w : Gateway) → StandsFor self.old w → (after : Gateway)
             × Takes w port source.address bytes.now after result × StandsFor self.new after }
@@ -431,7 +438,7 @@ impl Engine {
         }
     }
 
-    /// Whether a talker's speech goes to a listener. It is false for a number that names no termination.
+    /// Returns whether a talker's speech flows to a listener. It is false if a number names no termination.
     pub fn flow(&self, talker: u32, listener: u32) -> bool
         ensures value { (w : Gateway) → StandsFor self.now w → result ≡ flow w talker listener }
     {
@@ -445,8 +452,10 @@ impl Engine {
         }
     }
 
-    /// Whether a listener hears a talker, whatever their modes: both are different members of one context, and the last
-    /// word on the two lets it. The listener comes first, as in the sentence.
+    /// Returns whether `listener` hears `talker`, regardless of modes.
+    ///
+    /// They must be different members of the same context, and the last word on the two must allow it. The listener
+    /// comes first.
     pub fn hears(&self, listener: u32, talker: u32) -> bool
         ensures value { (w : Gateway) → StandsFor self.now w → result ≡ hears w talker listener }
     {
@@ -460,8 +469,9 @@ impl Engine {
         }
     }
 
-    /// The members of a context with their places, in the order of their entry: for callers that ask of many pairs of
-    /// them whether one hears the other.
+    /// Returns the members of a context with their places, in order of entry.
+    ///
+    /// It serves callers that ask about many pairs.
     pub fn seated(&self, context: u32) -> ArrayVec<SeatedMember, MEMBERS>
         ensures numbers { (w : Gateway) → StandsFor self.now w →
             map (λ m. m.number) result.items ≡ members_at w.rooms context }
@@ -470,7 +480,7 @@ impl Engine {
         seated_members(&self.rooms, self.rooms.members(context))
     }
 
-    /// Whether a listener hears a talker, whatever their modes. The listener comes first, as in the sentence.
+    /// Returns whether `listener` hears `talker`, regardless of modes. The listener comes first.
     pub fn hears_seated(&self, listener: SeatedMember, talker: SeatedMember) -> bool
         requires listener { IsOnSeat self.now.rooms listener }
         requires talker { IsOnSeat self.now.rooms talker }
@@ -481,8 +491,9 @@ impl Engine {
         self.flows.hears(to, from)
     }
 
-    /// The plain sum of a sample of this tick, the i-th of 160, over the members of a context that talk. There is none
-    /// where the context isn't there, or where a frame has no such sample.
+    /// Returns the plain sum of sample `i` in this tick over the members of a context that talk.
+    ///
+    /// Returns `None` if the context does not exist, or if `i` is not below 160.
     pub fn total(&self, context: u32, i: usize) -> Option<i32>
         ensures value { (w : Gateway) → StandsFor self.now w → result ≡ total_at w context i }
     {
@@ -493,14 +504,14 @@ impl Engine {
         Some(*self.sums.total(Room::new(room), i))
     }
 
-    /// How many rows of samples were added up, taken away or written since the start, modulo 2^32.
+    /// Returns how many rows of samples were added, subtracted or written since the start, modulo 2^32.
     pub fn work(&self) -> u32
         ensures value { result ≡ self.now.sums.work }
     {
         self.sums.work()
     }
 
-    /// The counters of a termination.
+    /// Returns the counters of a termination.
     pub fn stats(&self, number: u32) -> Option<Stats>
         ensures value { (w : Gateway) → StandsFor self.now w → result ≡ stats_of w number }
     {
@@ -510,9 +521,9 @@ impl Engine {
         }
     }
 
-    /// Passes on by 20 ms: each play list gives its frame of this tick, and the outbox has the packets of all that
-    /// send, in the order of their numbers. Says how many of these frames are concealed: each stands in for one that
-    /// is missing.
+    /// Advances by 20 ms: plays each play list, and fills the outbox with a packet from each termination that sends.
+    ///
+    /// Packets are in order of the terminations' numbers. Returns how many frames conceal a missing one.
     pub fn tick(&mut self, outbox: &mut Outbox) -> usize
         ensures concealed { (w : Gateway) → StandsFor self.old w → result ≡ concealed_in_tick w }
         ensures sent { (w : Gateway) → StandsFor self.old w → outbox.new.items ≡ sent_in_tick w }
@@ -526,7 +537,7 @@ impl Engine {
         concealed
     }
 
-    /// Has the play lists of all terminations tick, and says how many frames are concealed.
+    /// Advances all play lists. Returns how many frames conceal a missing one.
     fn play_all(&mut self) -> usize
         ensures concealed { (w : Gateway) → StandsFor self.old w → result ≡ concealed_in_tick w }
         ensures after { (w : Gateway) → StandsFor self.old w → StandsFor self.new (all_played w) }
@@ -536,7 +547,7 @@ impl Engine {
         play_slots(self.held.as_slice(), &mut self.media, &mut self.sums)
     }
 
-    /// Fills an outbox with the packets of those who send.
+    /// Fills an outbox with a packet from each termination that sends.
     fn send_all(&mut self, outbox: &mut Outbox)
         ensures sent { (w : Gateway) → HaveTicked w → StandsFor self.old w → outbox.new.items ≡ packets w }
         ensures after { (w : Gateway) → StandsFor self.old w → StandsFor self.new w }
@@ -549,7 +560,7 @@ impl Engine {
         fill(self, count, outbox);
     }
 
-    /// Ends a tick in which all that send have sent a packet.
+    /// Ends a tick in which each termination that sends has sent a packet.
     fn end_all(&mut self)
         ensures after { (w : Gateway) → StandsFor self.old w → StandsFor self.new (all_ended w) }
         ensures sums { self.new.sums ≡ self.old.sums }
@@ -557,7 +568,7 @@ impl Engine {
         end_slots(&self.rooms, self.held.as_slice(), &mut self.media);
     }
 
-    /// The slot of the i-th termination, in the order of their numbers.
+    /// Returns the slot of the i-th termination, in order of their numbers.
     fn held_at(&self, i: usize) -> u8
         requires there { i < length self.now.rooms.terminations }
         ensures value { result ≡ slice_index_or (map (λ r. r.slot) self.now.rooms.terminations) i 0 }
@@ -565,7 +576,7 @@ impl Engine {
         self.held[i]
     }
 
-    /// Puts the packet of the termination that holds a slot, if it sends.
+    /// Appends the packet of the termination in a slot, if it sends.
     fn put_packet(&mut self, slot: u8, outbox: &mut Outbox)
         requires room { length outbox.old.items < TERMINATIONS }
         requires shared { AreShared self.old outbox.old.items }
@@ -587,7 +598,7 @@ impl Engine {
         self.address(&sender, to, outbox);
     }
 
-    /// Makes the last packet of an outbox, which has its payload, that of this tick from a termination to its peer.
+    /// Completes the last packet of an outbox, which has its payload, as that of a termination to its peer.
     fn address(&self, sender: &Record, to: Chosen, outbox: &mut Outbox)
         requires member { record_at self.now.rooms sender.now.number ≡ Some sender.now }
         requires last { 0 < length outbox.old.items }
@@ -606,8 +617,9 @@ impl Engine {
         address_last(outbox, from, Peer { address, port }, header);
     }
 
-    /// Puts a packet with the payload of what a member is sent: itself in a loopback, else all that flow to it. Its
-    /// header and its addresses are to come.
+    /// Appends a packet with the payload of what a member is sent. Its header and addresses are set later.
+    ///
+    /// In a loopback that is its own frame, otherwise the sum of everyone whose speech flows to it.
     fn put_payload(&mut self, sender: &Record, law: Law, outbox: &mut Outbox)
         requires member { record_at self.old.rooms sender.now.number ≡ Some sender.now }
         requires sends { IsTrue (sends sender.now.mode) }
@@ -630,8 +642,9 @@ impl Engine {
         }
     }
 
-    /// Puts a packet with the payload of what a member on a place hears. Who hears the same, by the same law, has the
-    /// same payload, which is made once.
+    /// Appends a packet with the payload of what a member on a place hears.
+    ///
+    /// Listeners that hear the same in the same law have the same payload, which is computed once.
     fn put_heard(&mut self, listener: &Record, place: Place, law: Law, outbox: &mut Outbox)
         requires place { IsOnPlace self.old.rooms listener.now.number listener.now place }
         requires listens { IsTrue (listens listener.now.mode) }
@@ -663,7 +676,7 @@ impl Engine {
         push_payload(outbox, &payload);
     }
 
-    /// The payload of the total of a room without the listener on a place and those that are silenced for it.
+    /// Computes the payload of a room's total without the listener and without those silenced for it.
     fn mix(&mut self, listener: &Record, place: Place, law: Law) -> [u8; SAMPLES]
         requires place { IsOnPlace self.old.rooms listener.now.number listener.now place }
         requires listens { IsTrue (listens listener.now.mode) }
@@ -682,7 +695,7 @@ impl Engine {
     }
 }
 
-/// Fills an outbox with the packets of those who send, the terminations in the order of their numbers.
+/// Fills an outbox with a packet from each termination that sends, in order of their numbers.
 fn fill(engine: &mut Engine, count: usize, outbox: &mut Outbox)
     requires all { count ≡ length engine.old.rooms.terminations }
     requires few { count ≤ TERMINATIONS }
@@ -700,8 +713,9 @@ fn fill(engine: &mut Engine, count: usize, outbox: &mut Outbox)
     }
 }
 
-/// Has the play list of a slot tick, and its frame is in the slot's row from then on. Says whether the frame is
-/// concealed.
+/// Advances the play list of a slot, and stores its frame in the slot's row.
+///
+/// Returns whether the frame conceals a missing one.
 fn play(media: &mut Vec<HeldMedia>, sums: &mut Sums, slot: u8) -> bool
     requires slot { (slot < length media.old.items) × (slot < termination_limit) }
     ensures long { length media.new.items ≡ length media.old.items }
@@ -721,7 +735,7 @@ fn play(media: &mut Vec<HeldMedia>, sums: &mut Sums, slot: u8) -> bool
     played.is_concealed()
 }
 
-/// Has each play list of the slots that are held tick, and says how many frames are concealed.
+/// Advances the play list of each held slot. Returns how many frames conceal a missing one.
 fn play_slots(held: &[u8], media: &mut Vec<HeldMedia>, sums: &mut Sums) -> usize
     requires slots { EachIndex held.now (λ i. slice_index_or held.now i 0 < length media.old.items) }
     requires few { length media.old.items ≤ TERMINATIONS }
@@ -740,7 +754,7 @@ fn play_slots(held: &[u8], media: &mut Vec<HeldMedia>, sums: &mut Sums) -> usize
     concealed
 }
 
-/// Whether the termination that holds a slot sends.
+/// Returns whether the termination in a slot sends.
 fn sends_in(rooms: &Rooms, slot: u8) -> bool
     ensures value { result ≡ slot_sends rooms.now slot }
 {
@@ -750,7 +764,7 @@ fn sends_in(rooms: &Rooms, slot: u8) -> bool
     }
 }
 
-/// Ends a tick of the termination that holds a slot, in which it has sent a packet if it sends.
+/// Ends a tick for the termination in a slot, which has sent a packet if it sends.
 fn end_slot(rooms: &Rooms, media: &mut Vec<HeldMedia>, slot: u8)
     requires slot { slot < length media.old.items }
     ensures value { media.new.items ≡ slice_set media.old.items slot
@@ -760,7 +774,7 @@ fn end_slot(rooms: &Rooms, media: &mut Vec<HeldMedia>, slot: u8)
     media[usize::from(slot)].end_tick(is_sent);
 }
 
-/// Ends a tick of those who hold the slots, in which all that send have sent a packet.
+/// Ends a tick for the terminations in these slots, each of which has sent a packet if it sends.
 fn end_slots(rooms: &Rooms, held: &[u8], media: &mut Vec<HeldMedia>)
     requires slots { EachIndex held.now (λ i. slice_index_or held.now i 0 < length media.old.items) }
     requires apart { AreApart held.now }
@@ -773,7 +787,7 @@ fn end_slots(rooms: &Rooms, held: &[u8], media: &mut Vec<HeldMedia>)
     }
 }
 
-/// The counters of the termination that holds a slot.
+/// Returns the counters of the termination in a slot.
 fn stats_in(media: &[HeldMedia], slot: u8) -> Stats
     requires slot { slot < length media.now }
     ensures value { result ≡ (media_at media.now slot).stats }
@@ -781,7 +795,7 @@ fn stats_in(media: &[HeldMedia], slot: u8) -> Stats
     media[usize::from(slot)].stats()
 }
 
-/// The context of an action that is there, and its room.
+/// Returns the action's context with its room, or the error if it does not exist.
 fn topology_room(rooms: &Rooms, target: Target) -> Result<TopologyRoom, ErrorNumber>
     requires sound { IsSound rooms.now }
     ensures value { MatchResult result
@@ -798,7 +812,7 @@ fn topology_room(rooms: &Rooms, target: Target) -> Result<TopologyRoom, ErrorNum
     }
 }
 
-/// The slot of a termination.
+/// Returns the slot of a termination.
 fn slot_of(rooms: &Rooms, number: u32) -> Option<u8>
     ensures value { result ≡ option_map (λ r. r.slot) (record_at rooms.now number) }
     ensures slot { IfSome result (λ slot. slot < rooms.now.limits.slots) }
@@ -806,7 +820,7 @@ fn slot_of(rooms: &Rooms, number: u32) -> Option<u8>
     rooms.record(number).map(|record| record.slot)
 }
 
-/// Sets the depth of the play list of a slot, where a command names one.
+/// Sets the depth of a slot's play list, if a command names one.
 fn tune(media: &mut Vec<HeldMedia>, slot: u8, depth: Option<u16>)
     requires slot { slot < length media.old.items }
     ensures tuned { media.new.items ≡ slice_set media.old.items slot
@@ -815,7 +829,7 @@ fn tune(media: &mut Vec<HeldMedia>, slot: u8, depth: Option<u16>)
     media[usize::from(slot)].tune(depth);
 }
 
-/// Begins the media of a slot, with a silent frame.
+/// Resets the media of a slot for a new termination, with a silent frame.
 fn begin(media: &mut Vec<HeldMedia>, sums: &mut Sums, slot: u8, config: &Config)
     requires slot { (slot < length media.old.items) × (slot < termination_limit) }
     ensures initial_media { media.new.items ≡ slice_set media.old.items slot (initial_media config.now) }
@@ -828,7 +842,7 @@ fn begin(media: &mut Vec<HeldMedia>, sums: &mut Sums, slot: u8, config: &Config)
     sums.set_frame(Row::new(slot), None);
 }
 
-/// The slots that are held without one of them.
+/// Removes a slot from those that are held.
 fn without(held: &mut ArrayVec<u8, TERMINATIONS>, slot: u8)
     ensures value { held.new.items ≡ filter (λ s. not (s == slot)) held.old.items }
 {

@@ -1,10 +1,10 @@
 use std::alloc::AllocError;
 use thiserror::Error;
 
-/// Why a gateway was not started.
+/// Why a gateway did not start.
 #[derive(Clone, Copy, Debug, PartialEq, Eq, Error)]
 pub enum StartFault {
-    /// The configuration isn't sound, as `Config::is_sound` tells.
+    /// The configuration is invalid; see `Config::is_sound`.
     #[error("bad configuration")]
     BadConfig,
     #[error("no memory")]

@@ -1,4 +1,4 @@
-//! Which rows are joined to the rooms of contexts: those of the members who talk.
+//! Which rows are joined to the rooms of contexts: those of members that talk.
 
 ghost use Rattle.std.specs.Prelude.{◌≡◌, ◌<◌, ◌↔◌, IsTrue, None, Some, length};
 ghost use Rattle.mg_words.specs.Limits.{context_limit, termination_limit};
@@ -9,7 +9,7 @@ ghost use Rattle.mg_engine.specs.aids.Joined.{SetsRow, room_for};
 use mg_rooms::{Mode, mode_talks};
 use mg_sums::{Room, Row, Sums};
 
-/// The room that the row of one who is in a room with a mode is joined to: that one, if it talks.
+/// Returns the room that a member's row is joined to: its own if its mode talks, otherwise none.
 fn room_for(mode: Mode, room: u8) -> Option<Room>
     requires room { room < context_limit }
     ensures value { result ≡ room_for mode room }
@@ -21,7 +21,7 @@ fn room_for(mode: Mode, room: u8) -> Option<Room>
     }
 }
 
-/// Whether they are the same room, or both none.
+/// Returns whether both are the same room, or both are none.
 fn is_same(a: Option<Room>, b: Option<Room>) -> bool
     ensures value { IsTrue result ↔ (a ≡ b) }
 {
@@ -32,7 +32,7 @@ fn is_same(a: Option<Room>, b: Option<Room>) -> bool
     }
 }
 
-/// A row is joined to no room from then on.
+/// Removes a row from its room, if it is joined to one.
 pub fn part(sums: &mut Sums, row: Row)
     ensures rooms { SetsRow sums.old.rooms sums.new.rooms row None }
     ensures rows { length sums.new.rooms ≡ termination_limit }
@@ -44,7 +44,7 @@ pub fn part(sums: &mut Sums, row: Row)
     }
 }
 
-/// A row that is joined to none is joined to a room from then on, if there is one.
+/// Joins a row that is joined to none to a room, if there is one.
 fn join(sums: &mut Sums, row: Row, room: Option<Room>)
     requires free { room_of sums.old row ≡ None }
     requires rows { length sums.old.rooms ≡ termination_limit }
@@ -58,7 +58,7 @@ fn join(sums: &mut Sums, row: Row, room: Option<Room>)
     }
 }
 
-/// The row of one who is in a room with a mode is joined to that room alone, if it talks.
+/// Joins a member's row to its room if its mode talks, and to no room otherwise.
 pub fn join_if_talking(sums: &mut Sums, row: Row, room: u8, mode: Mode)
     requires room { room < context_limit }
     ensures rooms { SetsRow sums.old.rooms sums.new.rooms row (room_for mode room) }

@@ -1,7 +1,7 @@
-//! The state of a conference media gateway: its terminations and contexts, and what edits do to them.
+//! The state of a conference gateway, changed by edits, media and ticks.
 //!
-//! An [`Engine`] takes all its memory when it is made. A controller's commands come to it as calls, or as [`Edit`]s,
-//! each of which is done or refused with an [`ErrorNumber`](mg_rooms::ErrorNumber), and a refused one changes nothing:
+//! [`Engine::new`] allocates all memory. Commands arrive as calls, or as [`Edit`]s. Each is done, or rejected with an
+//! [`ErrorNumber`](mg_rooms::ErrorNumber) without a change:
 //!
 //! ```rust
 //! let mut engine = Engine::new(alloc, Config::default())?;
@@ -9,18 +9,18 @@
 //! assert_eq!(rt; engine.rooms().members(done.context), [done.number].as_slice());
 //! ```
 //!
-//! What an engine's tick costs grows with its terminations and packets, not with the pairs of those who hear each
-//! other. It keeps the frame of each termination and a total for each context, in [`Sums`], and counts each row of 160
-//! samples that is added to a total, taken away from one, or written ([`Engine::work`]). A tick takes two rows for each
-//! termination that talks, whose old frame leaves the total and whose new one comes in. A packet takes one, the total
-//! without the listener itself, and one more for each talker whom the topology keeps from the listener. One in Loopback
-//! is sent its own frame, which takes none. Listeners of one context who hear the same, by the same law, share a
-//! payload that is among the newest eight of their context. `specs/Work.antt` has the bound that each tick is proved to
-//! keep. An edit takes at most four rows, and an RTP datagram none.
+//! The cost of a tick grows with the terminations and packets, not with the pairs that hear each other. The engine
+//! keeps the frame of each termination and a total for each context, in [`Sums`]. It counts each row of 160 samples
+//! that is added to a total, subtracted from one, or written ([`Engine::work`]).
 //!
-//! The engine keeps no history, and what it keeps may be shorter than what it stands for. So its contracts speak of
-//! each `Gateway` (`specs/Gateway.antt`) that it stood for before a call, and say which one it stands for afterwards
-//! (`StandsFor` in `specs/Stands.antt`).
+//! A tick takes two rows for each termination that talks: its old frame leaves the total, and its new one enters. A
+//! packet takes one, the total without the listener itself, and one more for each talker that the topology silences
+//! for the listener. In Loopback a termination is sent its own frame, which takes none. Listeners of one context that
+//! hear the same in the same law share a payload, if it is among the newest eight of their context. `specs/Work.antt`
+//! has the proved bound of a tick. An edit takes at most four rows, and an RTP datagram none.
+//!
+//! The engine keeps no history, and its state may hold less than what it represents. So its contracts speak of every
+//! `Gateway` (`specs/Gateway.antt`) that it represents, before and after a call (`StandsFor` in `specs/Stands.antt`).
 #![tactic(auto)]
 
 mod arrival;

@@ -8,7 +8,7 @@ use mg_words::{SAMPLES, Stats};
 use std::alloc::{AllocError, Global};
 use std::marker::Model;
 
-/// The media of the termination that holds a slot.
+/// The media of the termination in a slot.
 #[derive(Drop)]
 pub struct HeldMedia {
     play: Playout,
@@ -41,7 +41,7 @@ impl HeldMedia {
     ghost use Rattle.mg_playout.specs.Played.{is_concealed, sound_of};
     ghost use Rattle.mg_sums.specs.Samples.{frame_or_silence};
 
-    /// Media of nobody. It takes the memory for a play list.
+    /// Makes idle media. Fails only if the allocation does.
     pub fn new(alloc: Global) -> Result<HeldMedia, AllocError>
         ensures value { IfOk result (λ media. media ≡ idle) }
     {
@@ -54,8 +54,8 @@ impl HeldMedia {
         })
     }
 
-    /// Begins anew, for a termination that is made, with the timestamp of its first tick and the sequence number of
-    /// its first packet.
+    /// Resets the media for a new termination, with the timestamp of its first tick and the sequence number of its
+    /// first packet.
     pub fn begin(&mut self, timestamp: u32, sequence: u16)
         ensures value { self.new ≡ initial_media_at timestamp sequence }
     {
@@ -66,7 +66,7 @@ impl HeldMedia {
         self.is_sending = false;
     }
 
-    /// Sets the depth of the play list, where a command names one, within what a play list can have.
+    /// Sets the depth of the play list, if a command names one, within the limits.
     pub fn tune(&mut self, depth: Option<u16>)
         ensures value { self.new ≡ slot_tuned depth self.old }
     {
@@ -75,7 +75,7 @@ impl HeldMedia {
         }
     }
 
-    /// Takes the frame of a packet that came.
+    /// Places the frame of a received packet.
     pub fn place(&mut self, header: Header, frame: Frame) -> Placed
         ensures value { slot_placed self.old header frame ≡ (self.new, result) }
     {
@@ -84,7 +84,7 @@ impl HeldMedia {
         self.play.place(header.ssrc, header.sequence, frame)
     }
 
-    /// Passes on by 20 ms. What the play list gives is the frame of this tick, which is silent where it gives none.
+    /// Advances by 20 ms. Returns the frame of this tick, which is silent if the play list has none.
     pub fn play(&mut self) -> Played
         ensures value { self.new ≡ slot_played self.old }
         ensures frame { frame_or_silence (sound_of result) ≡ frame_played self.old }
@@ -94,14 +94,14 @@ impl HeldMedia {
         self.play.tick()
     }
 
-    /// The counters.
+    /// Returns the counters.
     pub fn stats(&self) -> Stats
         ensures value { result ≡ self.now.stats }
     {
         self.stats
     }
 
-    /// The header of the next packet, with a payload of this type and from this source.
+    /// Returns the header of the next packet, with this payload type and SSRC.
     pub fn header(&self, payload_type: u8, ssrc: u32) -> Header
         ensures value { result ≡ header self.now payload_type ssrc }
     {

@@ -1,4 +1,4 @@
-//! What the table of who hears whom is told of members, each by its place, and which of their rows are joined.
+//! Updates the table of flows by the places of members, and which rows are joined.
 
 ghost use Rattle.std.specs.Prelude.{◌≡◌, ◌<◌, IsFalse, IsTrue, length, slice_set};
 ghost use Rattle.mg_words.specs.Limits.{termination_limit};
@@ -16,7 +16,7 @@ use mg_flow::{FlowTable, Place};
 use mg_rooms::{Member, Record, Rooms, mode_listens, mode_talks};
 use mg_sums::{Row, Sums};
 
-/// The place of a member.
+/// Returns the place of a member.
 pub fn member_place(member: Member) -> Place
     ensures value { result ≡ member_place member }
 {
@@ -26,7 +26,7 @@ pub fn member_place(member: Member) -> Place
     }
 }
 
-/// The place of a termination: the room of its context, and its seat there.
+/// Returns the place of a termination: the room of its context, and its seat.
 pub fn place_of(rooms: &Rooms, termination: &Record) -> Option<Place>
     ensures value { result ≡ place_of rooms.now termination.now }
 {
@@ -37,7 +37,7 @@ pub fn place_of(rooms: &Rooms, termination: &Record) -> Option<Place>
     })
 }
 
-/// A member enters on its place, and its row is joined to the room where it talks.
+/// Lets a member enter on its place. Its row is joined to the room if it talks.
 pub fn enter(flows: &mut FlowTable, seating: &mut Seating, sums: &mut Sums, member: Member)
     requires within { IsWithinLimits (member_place member) }
     requires slot { member.record.slot < termination_limit }
@@ -57,7 +57,7 @@ pub fn enter(flows: &mut FlowTable, seating: &mut Seating, sums: &mut Sums, memb
     join_if_talking(sums, Row::new(member.record.slot), place.room, mode);
 }
 
-/// A member leaves its place.
+/// Lets a member leave its place.
 pub fn vacate(flows: &mut FlowTable, member: Member)
     requires held { IsTrue (table.holds flows.old (member_place member)) }
     ensures left { Leaves flows.old flows.new (member_place member) }
@@ -65,7 +65,7 @@ pub fn vacate(flows: &mut FlowTable, member: Member)
     flows.on_leave(member_place(member));
 }
 
-/// A member has another mode, and its row is joined to the room where it talks now.
+/// Changes a member's mode. Its row is joined to the room if it now talks.
 pub fn take_mode(flows: &mut FlowTable, sums: &mut Sums, member: Member)
     requires within { IsWithinLimits (member_place member) }
     requires slot { member.record.slot < termination_limit }

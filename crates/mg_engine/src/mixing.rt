@@ -1,4 +1,4 @@
-//! What a mix is made of: the rows that are taken away from a total.
+//! The rows that a mix subtracts from a total.
 
 ghost use Rattle.std.specs.Prelude.{◌≡◌, ℕ, ◌<◌, ◌≤◌, length, map, IsTrue, Some, None, if◌then◌else◌};
 ghost use Rattle.mg_words.specs.Limits.{context_limit, termination_limit};
@@ -14,7 +14,7 @@ use mg_sums::Row;
 use mg_topology::SEATS;
 use mg_topology::mask::{self, Mask};
 
-/// The row of a listener that talks, which isn't to hear itself.
+/// Returns the row of a listener that talks, since it must not hear itself.
 pub fn own_row(listener: &Record) -> Option<Row>
     requires slot { listener.now.slot < termination_limit }
     ensures value { result ≡ (if talks listener.now.mode then Some listener.now.slot else None) }
@@ -26,7 +26,7 @@ pub fn own_row(listener: &Record) -> Option<Row>
     }
 }
 
-/// The rows of those on some seats of a room.
+/// Returns the rows of the members on some seats of a room.
 pub fn rows_on(seating: &Seating, room: u8, seats: Mask) -> ArrayVec<Row, SEATS>
     requires room { room < context_limit }
     requires slots { (seat : ℕ) → IsTrue (has_seat seats seat) →

@@ -7,7 +7,7 @@ use mg_rooms::Limits;
 use std::alloc::{AllocError, Global};
 use std::marker::Model;
 
-/// The slots of the media ports. Contracts see the limits that the pool is made by.
+/// The slots of the media ports. Contracts see the limits that define the pool.
 #[derive(Drop)]
 pub struct PortPool {
     limits: Limits,
@@ -28,7 +28,7 @@ impl Model for PortPool {
 }
 
 impl PortPool {
-    /// The ports of the pool. It takes memory for each of them.
+    /// Makes the pool of ports. Fails only if the allocation does.
     pub fn new(alloc: Global, limits: Limits) -> Result<PortPool, AllocError>
         requires valid { AreValidLimits limits }
         ensures value { IfOk result (λ ports. ports ≡ limits) }
@@ -40,7 +40,7 @@ impl PortPool {
         Ok(PortPool { limits, slots })
     }
 
-    /// The slot of a port, if it is one of the pool's.
+    /// Returns the slot of a port, if it is in the pool.
     pub fn slot(&self, port: u16) -> Option<u8>
         ensures value { result ≡ slot_of self.now port }
     {

@@ -8,10 +8,10 @@ use mg_topology::mask::Mask;
 use mg_words::MEMBERS;
 use std::marker::Model;
 
-/// How many of the newest packets of a room are looked at.
+/// How many of a room's newest packets are searched.
 const NEWEST: usize = 8;
 
-/// The packets of one room that lend their payloads: at most one for each of its members.
+/// The packets of one room that share their payloads: at most one for each member.
 #[derive(Drop)]
 pub struct RoomShares {
     shares: ArrayVec<Share, MEMBERS>,
@@ -27,7 +27,7 @@ impl Model for RoomShares {
 }
 
 impl RoomShares {
-    /// No packet lends its payload.
+    /// Makes an empty list of shares.
     pub fn new() -> Self
         ensures value { result ≡ [] }
     {
@@ -36,17 +36,17 @@ impl RoomShares {
         }
     }
 
-    /// No packet lends its payload any more.
+    /// Removes all shares.
     pub fn clear(&mut self)
         ensures value { self.new ≡ [] }
     {
         self.shares.clear();
     }
 
-    /// A packet that lends its payload, of a law, to those who hear these seats, if there is one among the newest.
+    /// Finds a packet with the payload, in this law, of what these seats say, if one of the newest has it.
     ///
-    /// Who talks hears what nobody else does. So a room of talkers has as many of these packets as members, and to look
-    /// at all of them for each would cost by their pairs. Those who listen alone find theirs among the newest.
+    /// A member that talks hears what nobody else does. So a room of talkers has as many of these packets as members,
+    /// and a full search would cost as much as all pairs. Members that only listen find theirs among the newest.
     pub fn find(&self, talkers: Mask, law: Law) -> Option<u8>
         ensures found { IfSome result
             (λ packet. Contains self.now (record { talkers = talkers; law = law; packet = packet })) }
@@ -56,7 +56,7 @@ impl RoomShares {
         packet_among(&shares[older..], talkers, law)
     }
 
-    /// A packet lends its payload, where there is room for one more.
+    /// Adds a share, if there is room.
     pub fn put(&mut self, share: Share)
         ensures value { self.new ≡ (if nat_lt (length self.old) member_limit then self.old ++ share ∷ [] else
             self.old) }
@@ -67,7 +67,7 @@ impl RoomShares {
     }
 }
 
-/// The first of some packets whose payload is of a law and for those who hear these seats.
+/// Returns the first of these packets with the payload, in this law, of what these seats say.
 fn packet_among(shares: &[Share], talkers: Mask, law: Law) -> Option<u8>
     ensures found { IfSome result (λ packet. Contains shares.now
         (record { talkers = talkers; law = law; packet = packet })) }

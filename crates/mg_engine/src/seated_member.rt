@@ -6,19 +6,19 @@ use arrayvec::ArrayVec;
 use mg_flow::Place;
 use mg_rooms::{MEMBERS, Rooms};
 
-/// A member of a context with its place, as it was found once. It holds until the next edit.
+/// A member of a context with its place, from one lookup. It is valid until the next edit.
 #[derive(Clone, Copy, Debug, Default, PartialEq, Eq)]
 pub struct SeatedMember {
     /// The number of the termination.
     pub number: u32,
     /// The room of its context.
     pub room: u8,
-    /// Its seat there.
+    /// Its seat in the context.
     pub seat: u8,
 }
 
 impl SeatedMember {
-    /// Its place.
+    /// Returns the place of the member.
     pub(crate) fn place(self) -> Place
         ensures value { result ≡ seated_place self }
     {
@@ -29,7 +29,7 @@ impl SeatedMember {
     }
 }
 
-/// A termination with its place.
+/// Returns a termination with its place.
 fn seated_member(rooms: &Rooms, number: u32) -> SeatedMember
     requires there { IsSome (record_at rooms.now number) }
     ensures number { result.number ≡ number }
@@ -43,7 +43,7 @@ fn seated_member(rooms: &Rooms, number: u32) -> SeatedMember
     }
 }
 
-/// The terminations with these numbers, with their places.
+/// Returns the terminations with these numbers, with their places.
 pub fn seated_members(rooms: &Rooms, numbers: &[u32]) -> ArrayVec<SeatedMember, MEMBERS>
     requires few { length numbers.now ≤ MEMBERS }
     requires there { (i : ℕ) → i < length numbers.now → IsSome (record_at rooms.now (slice_index_or numbers.now i 0)) }

@@ -8,7 +8,7 @@ use mg_words::CONTEXTS;
 use std::alloc::{AllocError, Global};
 use std::marker::Model;
 
-/// The slot of the member on each place. What it says of a place that nobody is on means nothing.
+/// The slot of the member on each place. The slot of an empty place has no meaning.
 #[derive(Drop)]
 pub struct Seating {
     slots: Vec<u8>,
@@ -25,7 +25,7 @@ impl Model for Seating {
     ghost invariant = { λ seating. length seating.slots.items ≡ place_count };
 }
 
-/// Where a place stands among those of all rooms.
+/// Returns the index of a place among those of all rooms.
 fn index_of(place: Place) -> usize
     requires within { IsWithinLimits place }
     ensures value { result ≡ index_of place }
@@ -35,7 +35,7 @@ fn index_of(place: Place) -> usize
 }
 
 impl Seating {
-    /// Nobody is on any place. It takes the memory for all places.
+    /// Makes a table without members. Fails only if the allocation does.
     pub fn new(alloc: Global) -> Result<Self, AllocError>
         ensures value { IfOk result (λ seating. seating ≡ replicate place_count 0) }
     {
@@ -46,7 +46,7 @@ impl Seating {
         Ok(Seating { slots })
     }
 
-    /// The slot of the member on the place.
+    /// Returns the slot of the member on the place.
     pub fn slot(&self, place: Place) -> u8
         requires within { IsWithinLimits place }
         ensures value { result ≡ slot_at self.now place }
@@ -54,7 +54,7 @@ impl Seating {
         self.slots[index_of(place)]
     }
 
-    /// The member that holds the slot is on the place from now on.
+    /// Sets the slot of the member on the place.
     pub fn put(&mut self, place: Place, slot: u8)
         requires within { IsWithinLimits place }
         ensures value { self.new ≡ slice_set self.old (index_of place) slot }

@@ -8,7 +8,7 @@ use mg_g711::Law;
 use mg_rooms::{Mode, Record};
 use mg_sdp::Chosen;
 
-/// Whether a termination in this mode sends to its peer.
+/// Returns whether a termination in this mode sends to its peer.
 fn sends(mode: Mode) -> bool
     ensures value { result ≡ sends mode }
 {
@@ -18,14 +18,14 @@ fn sends(mode: Mode) -> bool
     }
 }
 
-/// Whether a termination in this mode sends back what it receives.
+/// Returns whether a termination in this mode sends back what it receives.
 pub fn is_loopback(mode: Mode) -> bool
     ensures value { result ≡ is_loopback mode }
 {
     matches!(mode, Mode::Loopback)
 }
 
-/// Where a termination sends to, if it sends.
+/// Returns where a termination sends to, if it sends.
 pub fn sent_to(sender: &Record) -> Option<Chosen>
     ensures value { result ≡ sent_to sender.now }
 {
@@ -36,7 +36,7 @@ pub fn sent_to(sender: &Record) -> Option<Chosen>
     }
 }
 
-/// The type of a law's payload (RFC 3551, section 6).
+/// Returns the payload type of a law (RFC 3551, section 6).
 pub fn payload_type(law: Law) -> u8
     ensures value { result ≡ type_of law }
     ensures seven_bits { result < 128 }

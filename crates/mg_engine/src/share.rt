@@ -1,18 +1,18 @@
 use mg_g711::Law;
 use mg_topology::mask::Mask;
 
-/// A packet of this tick that lends its payload to listeners of its room who are sent the same.
+/// A packet of this tick whose payload other listeners of its room share.
 #[derive(Clone, Copy, Debug, PartialEq, Eq)]
 pub struct Share {
-    /// The seats of those whose speech goes to its listener.
+    /// The seats of those whose speech flows to its listener.
     pub talkers: Mask,
     /// The law of its payload.
     pub law: Law,
-    /// Where it stands in the outbox.
+    /// Its index in the outbox.
     pub packet: u8,
 }
 
-/// The first packet of an outbox, to one who hears nobody.
+/// Returns the first packet of an outbox, for a listener that hears nobody.
 impl Default for Share {
     ghost use Rattle.std.specs.Prelude.{◌≡◌};
     ghost use Rattle.mg_engine.specs.aids.Shares.{first_share};

@@ -10,7 +10,7 @@ use mg_words::CONTEXTS;
 use std::alloc::{AllocError, Global};
 use std::marker::Model;
 
-/// The packets of this tick that lend their payloads, by the rooms of their listeners.
+/// The packets of this tick that share their payloads, by the rooms of their listeners.
 #[derive(Drop)]
 pub struct Shares {
     rooms: Vec<RoomShares>,
@@ -29,7 +29,7 @@ impl Model for Shares {
 }
 
 impl Shares {
-    /// No packet lends its payload. It takes the memory for all that may.
+    /// Makes an empty table of shares. Fails only if the allocation does.
     pub fn new(alloc: Global) -> Result<Self, AllocError>
         ensures value { IfOk result (λ shares. shares ≡ replicate context_limit []) }
     {
@@ -40,14 +40,14 @@ impl Shares {
         Ok(Shares { rooms })
     }
 
-    /// No packet lends its payload any more.
+    /// Removes all shares.
     pub fn clear(&mut self)
         ensures value { self.new ≡ replicate context_limit [] }
     {
         clear_all(&mut self.rooms);
     }
 
-    /// A packet to a room that lends its payload, of a law, to those who hear these seats.
+    /// Finds a packet to this room with the payload, in this law, of what these seats say.
     pub fn find(&self, room: u8, talkers: Mask, law: Law) -> Option<u8>
         requires room { room < context_limit }
         ensures found { IfSome result (λ packet. Contains (shares_in self.now room)
@@ -56,7 +56,7 @@ impl Shares {
         self.rooms[usize::from(room)].find(talkers, law)
     }
 
-    /// A packet to a room lends its payload.
+    /// Adds a share to a room.
     pub fn put(&mut self, room: u8, share: Share)
         requires room { room < context_limit }
         ensures value { self.new ≡ with_share self.old room share }
@@ -66,7 +66,7 @@ impl Shares {
     }
 }
 
-/// Clears all rooms.
+/// Removes the shares of all rooms.
 fn clear_all(rooms: &mut Vec<RoomShares>)
     ensures value { rooms.new.items ≡ replicate (length rooms.old.items) [] }
 {

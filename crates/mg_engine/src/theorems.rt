@@ -1,4 +1,4 @@
-//! What holds of all gateways and datagrams. The functions here do nothing: their contracts are the theorems.
+//! Properties of all gateways and datagrams. The functions have empty bodies: their contracts are the theorems.
 
 ghost use Rattle.std.specs.Prelude.{◌≡◌, ◌≤◌, ℕ, List, Ok};
 ghost use Rattle.mg_words.specs.declared.limits.TheConstants.{LAST_TERMINATION};
@@ -22,7 +22,7 @@ ghost use Rattle.mg_engine.specs.Triples.{triple_limit};
 use crate::topology_triple::TRIPLES;
 use mg_rtp::theorems::one_reading;
 
-/// In each world an RTP datagram, at whatever port and from wherever, is taken in exactly one way.
+/// An RTP datagram has exactly one result in every gateway, at any port and from any source.
 pub fn one_arrival(bytes: &[u8])
     ensures some { (w : Gateway) (port : ℕ) (source : List ℕ) → (next : Gateway) × (result : Taken)
         × Takes w port source bytes.now next result }
@@ -32,34 +32,38 @@ pub fn one_arrival(bytes: &[u8])
     one_reading(bytes);
 }
 
-/// Nobody hears himself: a termination's own speech never goes to it, and what it says changes nothing of what it is
-/// sent, but in Loopback.
+/// Nobody hears himself: no termination's speech flows to itself.
+///
+/// Except in Loopback, what a termination says changes nothing in what it is sent.
 pub fn none_hears_itself()
     ensures flow { NoneHearsItself }
     ensures packets { OwnSpeechChangesNoPacket }
 {}
 
-/// An isolated participant isn't heard: after an Isolate on two, until one of them enters a context or another triple
-/// speaks of the two, the speech of neither goes to the other, and the packets to one are the same whatever the other
-/// says.
+/// An isolated participant is not heard.
+///
+/// After an Isolate on two, neither's speech flows to the other, until one of them enters a context or another triple
+/// mentions the two. The packets to one are the same, whatever the other says.
 pub fn isolated_are_not_heard()
     ensures flow { IsolatedAreNotHeard }
     ensures packets { UnheardChangesNoPacket }
 {}
 
-/// After its header a packet carries the encoding of each sample of what its listener is sent: the sum of all whose
-/// speech goes to it, limited once.
+/// The payload of a packet is the encoding of what its listener is sent.
+///
+/// Outside a loopback that is the sum of everyone whose speech flows to it, limited once.
 pub fn payloads_are_mixes()
     ensures theorem { PayloadsAreMixes }
 {}
 
-/// The most triples of one edit are as many as the definitions speak of.
+/// The limit of triples in the code is that of the definitions.
 pub fn triples_are_limited()
     ensures { TRIPLES ≡ triple_limit }
 {}
 
-/// At first the terminations and contexts are consistent, and what each edit and each RTP datagram leads to is, where
-/// what it came to was. So it holds of whatever these lead to, with no engine at hand.
+/// The terminations and contexts of a new gateway are consistent, and each edit and RTP datagram preserves that.
+///
+/// So it holds after any of these, without the engine at hand.
 pub fn worlds_are_consistent()
     ensures start { (config : Config) → IsValidConfig config → config.first_termination ≤ LAST_TERMINATION →
         IsConsistent (start_of config).rooms }
@@ -81,15 +85,18 @@ pub fn worlds_are_consistent()
     mg_rooms::theorems::outcomes_are_consistent();
 }
 
-/// Which of two RTP datagrams came first makes no difference where they came to two ports: the same becomes of each,
-/// and of the gateway.
+/// The order of two RTP datagrams at different ports does not matter.
+///
+/// Each has the same result, and the gateway ends in the same state.
 pub fn port_order_is_irrelevant()
     ensures theorem { ArrivalOrderIsIrrelevant }
 {}
 
-/// An edit leaves the other contexts alone, and so does an RTP datagram: the members and their order, the record and
-/// the media of each, who of them hears whom, what flows between them, and the total. An edit is about the action's
-/// context and that of the termination that it names, a datagram about that of the termination that has its port.
+/// An edit does not affect other contexts, and neither does an RTP datagram.
+///
+/// Their members and order are unchanged, and so are the members' records and media, who hears whom, the flows, and
+/// the total. An edit is about the action's context and that of the termination that it names. A datagram is about the
+/// context of the termination with its port.
 pub fn other_contexts_are_unaffected()
     ensures edits { EditsDoNotAffectOthers }
     ensures media { DatagramsDoNotAffectOthers }
@@ -97,9 +104,10 @@ pub fn other_contexts_are_unaffected()
     mg_rooms::theorems::consistent_registries_are_sound();
 }
 
-/// Two gateways that agree outside some terminations do so after the same edit, after the same RTP datagram, after an
-/// RTP datagram at a port of one of these terminations that came to one of the gateways alone, and after a tick. The
-/// counters of each termination are the same in both, but for what was received.
+/// Two gateways that agree outside some terminations keep doing so after the same edit, datagram or tick.
+///
+/// They also do if only one of them receives an RTP datagram at a port of one of these terminations. Counters are
+/// equal in both, except for received packets.
 pub fn agreement_lasts()
     ensures edits { SameEditsKeepAgreement }
     ensures media { SameArrivalKeepsAgreement }
@@ -111,8 +119,10 @@ pub fn agreement_lasts()
     one_reading(b"");
 }
 
-/// A packet is a function of what its listener hears and of where its packets stand. So in a tick two gateways that
-/// agree outside some terminations send the same packet, byte for byte, to each that hears none of these.
+/// A packet is a function of what its listener hears and of the progress of the listener's packets.
+///
+/// So two gateways that agree outside some terminations send each listener that hears none of these the same packet in
+/// a tick, byte for byte.
 pub fn packets_depend_on_heard()
     ensures theorem { PacketsDependOnHeard }
     ensures packets { SamePackets }

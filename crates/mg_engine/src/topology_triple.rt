@@ -2,21 +2,21 @@ use crate::triple_term::TripleTerm;
 use arrayvec::ArrayVec;
 use mg_words::Association;
 
-/// The most triples of one edit. A control datagram has room for fewer.
+/// The greatest number of triples in an edit. A control datagram cannot hold more.
 pub const TRIPLES: usize = 1200;
 
-/// Who hears whom between the members that two terms match (RFC 3525, section 7.1.18).
+/// Who hears whom among the members that two terms match (RFC 3525, section 7.1.18).
 #[derive(Clone, Copy, Debug, PartialEq, Eq)]
 pub struct TopologyTriple {
-    /// Where a Oneway flow comes from.
+    /// The talkers of a Oneway triple.
     pub first: TripleTerm,
-    /// Where a Oneway flow goes to.
+    /// The listeners of a Oneway triple.
     pub second: TripleTerm,
     /// Which of the two hears the other.
     pub association: Association,
 }
 
-/// One that refuses the edit that it stands in.
+/// Makes a triple that lets its edit fail.
 impl Default for TopologyTriple {
     ghost use Rattle.std.specs.Prelude.{◌≡◌};
     ghost use Rattle.mg_engine.specs.Triples.{barred_triple};

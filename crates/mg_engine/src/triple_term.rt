@@ -1,11 +1,11 @@
-/// One of the two terms of a topology's triple (RFC 3525, section 7.1.18).
+/// A term of a topology's triple (RFC 3525, section 7.1.18).
 #[derive(Clone, Copy, Debug, PartialEq, Eq)]
 pub enum TripleTerm {
     /// `*`: each member of the context.
     Every,
     /// A termination by its number.
     Number(u32),
-    /// `ROOT`, or a `$` that stands for no termination: neither may stand in a triple.
+    /// `ROOT`, or a `$` that stands for no termination: neither is allowed in a triple.
     Barred,
     /// A name that no termination has.
     Stranger,

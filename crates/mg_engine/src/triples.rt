@@ -1,4 +1,4 @@
-//! Triples of a topology by the seats of the members that their terms match.
+//! Converts triples of a topology to the seats of the members that their terms match.
 
 ghost use Rattle.std.specs.Prelude.{Any, ◌≡◌, ◌≤◌, [], ◌∷◌, length, Ok, Err, true, false, IfSome, IfNone, MatchResult, IsTrue, IsFalse};
 ghost use Rattle.mg_topology.specs.Triple.{Overlaps};
@@ -18,21 +18,21 @@ use mg_rooms::{ErrorNumber, Rooms};
 use mg_topology::Triple;
 use mg_topology::mask::{self, Mask};
 
-/// A context that is there, and the room of its topology.
+/// A context that exists, and the room of its topology.
 #[derive(Clone, Copy)]
 pub struct TopologyRoom {
     pub context: u32,
     pub room: u8,
 }
 
-/// Whether a term may not stand in a triple.
+/// Returns whether a term is not allowed in a triple.
 fn is_barred(term: TripleTerm) -> bool
     ensures value { result ≡ is_barred term }
 {
     matches!(term, TripleTerm::Barred)
 }
 
-/// The seat of a member by its number.
+/// Returns the seat of a member with this number.
 fn seat_of(rooms: &Rooms, context: u32, number: u32) -> Option<Mask>
     requires sound { IsSound rooms.now }
     ensures some { IfSome result (λ seats. IsTrue (has (members_at rooms.now context) number)
@@ -51,8 +51,8 @@ fn seat_of(rooms: &Rooms, context: u32, number: u32) -> Option<Mask>
     }
 }
 
-/// The seats of the members that a term matches, which may stand in a triple. There are none where it names something
-/// else.
+/// Returns the seats of the members that a term matches, or `None` if it names anything else. The term must be
+/// allowed.
 fn seats_of(rooms: &Rooms, flows: &FlowTable, at: TopologyRoom, term: TripleTerm) -> Option<Mask>
     requires allowed { is_barred term ≡ false }
     requires sound { IsSound rooms.now }
@@ -69,7 +69,7 @@ fn seats_of(rooms: &Rooms, flows: &FlowTable, at: TopologyRoom, term: TripleTerm
     }
 }
 
-/// A triple by seats, or its first fault.
+/// Converts a triple to seats, or returns its first error.
 fn triple_of(
     rooms: &Rooms,
     flows: &FlowTable,
@@ -106,7 +106,7 @@ fn triple_of(
     Ok(by_seats)
 }
 
-/// The triples of an edit by seats, in order, or the first fault.
+/// Converts the triples of an edit to seats, in order, or returns their first error.
 pub fn triples_of(
     rooms: &Rooms,
     flows: &FlowTable,

@@ -1,4 +1,4 @@
--- What is said of something that was looked for, by what was found: tools of proofs.
+-- Results of lookups, for proofs.
 use Rattle.std.specs.Prelude.{ℕ, ℤ, Bool, false, List, Option, is_some}
 use Rattle.std.specs.Option.{option_map, option_map_or}
 use Rattle.mg_words.specs.OptionSteps.{◌>>=◌}

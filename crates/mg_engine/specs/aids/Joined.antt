@@ -1,4 +1,4 @@
--- The rooms that the rows of terminations are joined to.
+-- The rooms that the terminations' rows are joined to.
 use Rattle.std.specs.Prelude.{◌≡◌, ℕ, ◌==◌, Option, Some, None, List, slice_index_or}
 use Rattle.std.specs.Prelude.{if◌then◌else◌}
 use Rattle.mg_words.specs.declared.mode.Mode.{Mode}
@@ -12,18 +12,18 @@ use Rattle.mg_engine.specs.Place.{IsOnPlace}
 abbrev pub room_of_row : List (Option ℕ) → ℕ → Option ℕ
 room_of_row joined row = slice_index_or joined row None
 
--- the room that the row of one who is in a room with a mode is joined to: that one, if it talks
+-- the room that a member's row is joined to: its own, if its mode talks
 abbrev pub room_for : Mode → ℕ → Option ℕ
 room_for mode room = if talks mode then Some room else None
 
--- the row of each member is joined where it talks, and no other row is joined
+-- a member's row is joined if the member talks; no other row is joined
 pub record AreJoined (w : Registry) (joined : List (Option ℕ)) : Type 0 where
   pub each : (n : ℕ) (r : Record) (p : Place) → IsOnPlace w n r p
       → room_of_row joined r.slot ≡ room_for r.mode p.room
   pub nobody : (row room : ℕ) → room_of_row joined row ≡ Some room
       → (n : ℕ) × (r : Record) × (p : Place) × IsOnPlace w n r p × (r.slot ≡ row)
 
--- one row is joined to a room from then on, or to none, and each other as before
+-- one row is now joined to a room, or to none; the others are unchanged
 abbrev pub SetsRow : List (Option ℕ) → List (Option ℕ) → ℕ → Option ℕ → Type 0
 SetsRow old new row room =
     (other : ℕ) → room_of_row new other ≡ (if other == row then room else room_of_row old other)

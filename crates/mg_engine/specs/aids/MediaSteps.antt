@@ -1,4 +1,4 @@
--- The steps that the media of one slot take (RFC 3550, section 5.1).
+-- Single steps of the media of one slot (RFC 3550, section 5.1).
 use Rattle.std.specs.Prelude.{ℕ, ℤ, ◌+◌, ◌%◌, ◌^◌, Bool, true, false, not, List, Option}
 use Rattle.mg_rtp.specs.declared.header.Header.{Header}
 use Rattle.mg_playout.specs.declared.placed.Placed.{Placed}
@@ -11,12 +11,12 @@ use Rattle.mg_engine.specs.Media.{SlotMedia, timestamp_before}
 use Rattle.mg_engine.specs.Steps.{play_after, received, transmitted}
 use Rattle.mg_sums.specs.Samples.{frame_or_silence}
 
--- 160 samples on
+-- the timestamp of the next tick: 160 samples later
 abbrev pub next_timestamp : ℕ → ℕ
 next_timestamp n = (n + 160) % 2 ^ 32
 
--- those of a termination as it is made, with the timestamp of its first tick and the number of its
--- first packet
+-- the media of a new termination, with the timestamp of its first tick and the sequence number of
+-- its first packet
 abbrev pub initial_media_at : ℕ → ℕ → SlotMedia
 initial_media_at timestamp sequence =
     record {
@@ -30,11 +30,11 @@ initial_media_at timestamp sequence =
 abbrev pub initial_media : Config → SlotMedia
 initial_media config = initial_media_at config.timestamp config.sequence
 
--- with the depth of the play list that a command names
+-- the media with the depth that a command names
 abbrev pub slot_tuned : Option ℕ → SlotMedia → SlotMedia
 slot_tuned depth m = record m { play = play_after depth m.play }
 
--- a packet came, and its frame was placed
+-- a packet was received, and its frame placed
 abbrev pub slot_placed : SlotMedia → Header → List ℤ → SlotMedia × Placed
 slot_placed m header frame =
     let after = play_lists.placed m.play header.ssrc header.sequence frame in
@@ -48,15 +48,15 @@ slot_played m =
       timestamp = next_timestamp m.timestamp;
     }
 
--- what it gives is the frame of this tick
+-- what the play list plays is the frame of this tick
 abbrev pub frame_played : SlotMedia → List ℤ
 frame_played m = frame_or_silence (sound_of ((play_lists.ticked m.play).1))
 
--- whether that stands in for a missing frame
+-- whether that frame conceals a missing one
 abbrev pub is_concealing : SlotMedia → Bool
 is_concealing m = is_concealed ((play_lists.ticked m.play).1)
 
--- the header of the next packet; the marker is set where the last tick sent none
+-- the header of the next packet; the marker is set if the last tick sent none
 abbrev pub header : SlotMedia → ℕ → ℕ → Header
 header m payload_type ssrc =
     record {

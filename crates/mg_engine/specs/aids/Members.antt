@@ -1,4 +1,4 @@
--- What the table of who hears whom has of members, and what one of them changes.
+-- What the table of flows stores of members, and how one member changes it.
 use Rattle.std.specs.Prelude.{◌≡◌, ℕ, ◌||◌, true, false, IsTrue, List, if◌then◌else◌}
 use Rattle.mg_words.specs.declared.mode.Mode.{Mode}
 use Rattle.mg_words.specs.Mode as mode
@@ -9,31 +9,31 @@ use Rattle.mg_flow.specs.Place.{is_same_place, are_together}
 use Rattle.mg_flow.specs.Table.{RoomFlows, holds, talks_at, listens_at, hears, SetsPlace}
 use Rattle.mg_engine.specs.Place.{IsOnPlace}
 
--- one enters on a place with a mode, and it and each other member of the room hear each other
+-- a member enters on a place with a mode; it and each other member of the room hear each other
 pub record Enters (old new : List RoomFlows) (at : Place) (m : Mode) : Type 0 where
   pub place : SetsPlace old new at true (mode.talks m) (mode.listens m)
   pub hears : (t l : Place) → hears new t l
       ≡ (if is_same_place t at || is_same_place l at then are_together (holds new) t l
       else hears old t l)
 
--- the one on a place leaves
+-- the member on a place leaves
 pub record Leaves (old new : List RoomFlows) (at : Place) : Type 0 where
   pub place : SetsPlace old new at false false false
   pub hears : (t l : Place) → hears new t l
       ≡ (if is_same_place t at || is_same_place l at then false else hears old t l)
 
--- the one on a place has a mode from now on
+-- the member on a place has a new mode
 pub record TakesMode (old new : List RoomFlows) (at : Place) (m : Mode) : Type 0 where
   pub place : SetsPlace old new at true (mode.talks m) (mode.listens m)
   pub hears : (t l : Place) → hears new t l ≡ hears old t l
 
--- what a table says of the place of one with this record
+-- what a table says of the place of a member with this record
 pub record SaysOf (table : List RoomFlows) (r : Record) (p : Place) : Type 0 where
   pub held : IsTrue (holds table p)
   pub talks : talks_at table p ≡ mode.talks r.mode
   pub listens : listens_at table p ≡ mode.listens r.mode
 
--- each termination's place is held by it, with its mode, and no other place is held
+-- each termination holds its place with its mode, and no other place is held
 pub record HasMembers (w : Registry) (table : List RoomFlows) : Type 0 where
   pub each : (n : ℕ) (r : Record) (p : Place) → IsOnPlace w n r p → SaysOf table r p
   pub nobody : (p : Place) → IsTrue (holds table p)

@@ -1,4 +1,4 @@
--- The slots of the members by their places.
+-- The slots of members, by their places.
 use Rattle.std.specs.Prelude.{◌≡◌, ℕ, ◌+◌, ◌*◌, List, slice_index_or}
 use Rattle.mg_words.specs.Limits.{context_limit}
 use Rattle.mg_topology.specs.Mask.{seat_limit}
@@ -7,11 +7,11 @@ use Rattle.mg_rooms.specs.Registry.{Registry}
 use Rattle.mg_flow.specs.declared.place.Place.{Place}
 use Rattle.mg_engine.specs.Place.{IsOnPlace}
 
--- how many places all rooms have
+-- the number of places in all rooms
 abbrev pub place_count : ℕ
 place_count = context_limit * seat_limit
 
--- where a place stands among those of all rooms
+-- the index of a place among those of all rooms
 abbrev pub index_of : Place → ℕ
 index_of place = place.room * seat_limit + place.seat
 

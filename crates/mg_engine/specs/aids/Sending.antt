@@ -1,4 +1,4 @@
--- What is sent in a tick, by what an engine keeps.
+-- What is sent in a tick, by the state of an engine.
 use Rattle.std.specs.Prelude.{◌≡◌, ℕ, ℤ, pos, ◌+◌, ◌%◌, ◌^◌, Bool, false, List, ◌++◌, map}
 use Rattle.std.specs.Prelude.{filter_map, Option, Some, None, slice_set, drop, Ok, Err}
 use Rattle.std.specs.Prelude.{if◌then◌else◌, is_some, count_by}
@@ -29,17 +29,17 @@ use Rattle.mg_engine.specs.Stands.{EngineState, media_at}
 use Rattle.mg_engine.specs.Tick.{type_of, sent_to}
 use Rattle.mg_engine.specs.aids.Found.{has_destination}
 
--- a sample of the frame in the row of a slot
+-- a sample of the frame in a slot's row
 abbrev pub sample_at : List (List ℤ) → ℕ → ℕ → ℤ
 sample_at frames slot i = sample_in frames i slot
 
--- whether the speech of one on a place goes to one on another; nowhere else does any
+-- whether speech flows from one place to another; none flows from or to no place
 abbrev pub flows_between : List flow.RoomFlows → Option Place → Option Place → Bool
 flows_between table (Some p) (Some q) = flow.flows table p q
 flows_between table (Some p) None = false
 flows_between table None q = false
 
--- whether one on a place is silenced for one on another
+-- whether the talker on one place is silenced for the listener on another
 abbrev pub is_silenced_between : List flow.RoomFlows → Option Place → Option Place → Bool
 is_silenced_between table (Some p) (Some q) = flow.is_silenced table p q
 is_silenced_between table (Some p) None = false
@@ -71,12 +71,12 @@ packet_now k r to = record {
       ++ map (byte_of to.law) (mixed_now k r);
 }
 
--- a packet with another header, and from and to other places
+-- a packet with another source port, destination and header
 abbrev pub addressed : ℕ → Peer → Header → Datagram → Datagram
 addressed from to header d =
     record { from = from; to = to; bytes = header_bytes plain header ++ drop 12 d.bytes }
 
--- what is sent costs one row, and one for each on the seats that are silenced for the listener
+-- what is sent costs one row, and one for each talker silenced for the listener
 abbrev pub silenced_now : EngineState → Record → ℕ
 silenced_now k l =
     count_by
@@ -92,20 +92,20 @@ sending_work_now k l = if is_some (sent_to l) then mix_work_now k l else 0
 abbrev pub packets_now : EngineState → List Datagram
 packets_now k = filter_map (λ r. option_map (packet_now k r) (sent_to r)) k.rooms.terminations
 
--- whether the termination that holds a slot sends
+-- whether the termination in a slot sends
 abbrev pub slot_sends : rooms.Registry → ℕ → Bool
 slot_sends w slot = has_destination (rooms.holder_of w slot)
 
--- the media of a slot are those after a tick in which who holds it has sent a packet if it sends
+-- the media of a slot after a tick in which its termination has sent a packet, if it sends
 abbrev pub IsEnded : rooms.Registry → List media.SlotMedia → List media.SlotMedia → ℕ → Type 0
 IsEnded w old new slot = media_at new slot
     ≡ media_steps.slot_ended (slot_sends w slot) (media_at old slot)
 
--- the same state after mixes, which count their rows, and after packets that lend their payloads
+-- the state after mixes, which count their rows, and after packets that share their payloads
 abbrev pub with_mixes : EngineState → ℕ → List (List Share) → EngineState
 with_mixes k work shares = record k { sums = record k.sums { work = work }; shares = shares }
 
--- what became of what came to a slot: a frame was placed, or the media stayed as they were
+-- the result of a datagram for a slot: a frame was placed, or the media are unchanged
 abbrev pub PlacedAt : List media.SlotMedia → List media.SlotMedia → ℕ → Arrived → Taken → Type 0
 PlacedAt old new slot (Ok p) result =
     (new ≡ slice_set old slot (media_steps.slot_placed (media_at old slot) p.0 p.1).0)

@@ -1,4 +1,4 @@
--- The packets of a tick that lend their payloads, by room.
+-- The packets of a tick that share their payloads, by room.
 use Rattle.std.specs.Prelude.{◌≡◌, ℕ, ℤ, pos, ◌<◌, ◌&&◌, ◌==◌, Bool, false, List, [], ◌∷◌, ◌++◌}
 use Rattle.std.specs.Prelude.{All, length, nat_lt, map, drop, slice_index_or, slice_set}
 use Rattle.std.specs.Prelude.{Option, Some, None, if◌then◌else◌}
@@ -22,11 +22,11 @@ use Rattle.mg_engine.specs.aids.Sending.{sample_at}
 abbrev pub first_share : Share
 first_share = record { talkers = 0; law = Mu; packet = 0 }
 
--- those of a room
+-- the shares of a room
 abbrev pub shares_in : List (List Share) → ℕ → List Share
 shares_in shares room = slice_index_or shares room []
 
--- one more in a room, if there is a place for it
+-- one more share in a room, if there is a place for it
 abbrev pub one_more : List Share → Share → List Share
 one_more shares share =
     if nat_lt (length shares) member_limit then shares ++ share ∷ [] else shares
@@ -34,13 +34,13 @@ one_more shares share =
 abbrev pub with_share : List (List Share) → ℕ → Share → List (List Share)
 with_share shares room share = slice_set shares room (one_more (shares_in shares room) share)
 
--- ## What those on some seats of a room say
+-- ## What the members on some seats of a room say
 
 abbrev pub is_seated_in : ℕ → ℕ → Option Place → Bool
 is_seated_in room mask None = false
 is_seated_in room mask (Some p) = (p.room == room) && has_seat mask p.seat
 
--- whether a termination is on one of the seats
+-- whether a termination is on one of these seats
 abbrev pub sits_among : rooms.Registry → ℕ → ℕ → Record → Bool
 sits_among w room mask t = is_seated_in room mask (place_of w t)
 
@@ -50,27 +50,27 @@ heard_on k room mask i =
     (λ t. if sits_among k.rooms room mask t then sample_at k.sums.frames t.slot i else pos 0)
     k.rooms.terminations
 
--- the payload for one who hears them
+-- the payload for a listener that hears them
 abbrev pub payload_on : EngineState → ℕ → ℕ → Law → List ℕ
 payload_on k room mask law =
     map (byte_of law) (map (λ i. nearest_sample (heard_on k room mask i)) (range_with_len 0 160))
 
--- ## Payloads that are lent
+-- ## Shared payloads
 
 abbrev pub packet_at : List Datagram → ℕ → Datagram
 packet_at outbox i = slice_index_or outbox i blank
 
--- what stands after the header of a packet
+-- the bytes after the header of a packet
 abbrev pub payload_of : Datagram → List ℕ
 payload_of datagram = drop 12 datagram.bytes
 
--- one packet more with a payload is in an outbox
+-- an outbox has one more packet, with this payload
 pub record IsPut (old new : List Datagram) (payload : List ℕ) : Type 0 where
   pub last : Datagram
   pub all : new ≡ old ++ last ∷ []
   pub same : payload_of last ≡ payload
 
--- a packet of the outbox has the payload that it lends
+-- a packet of the outbox has the payload of its share
 pub record IsShared (k : EngineState) (outbox : List Datagram) (room : ℕ) (share : Share)
     : Type 0 where
   pub sent : share.packet < length outbox

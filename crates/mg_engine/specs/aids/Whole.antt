@@ -1,4 +1,4 @@
--- What holds of the parts of an engine after any calls.
+-- The invariant of an engine's parts.
 use Rattle.std.specs.Prelude.{◌≡◌, ℕ, List, map, length, Option}
 use Rattle.mg_words.specs.Limits.{termination_limit}
 use Rattle.mg_rooms.specs.declared.limits.Limits.{Limits}
@@ -12,10 +12,10 @@ use Rattle.mg_engine.specs.aids.Members.{HasMembers}
 use Rattle.mg_engine.specs.aids.Joined.{AreJoined}
 use Rattle.mg_engine.specs.aids.Seating.{AreSeated, place_count}
 
--- what is looked up of terminations and contexts is sound, all parts are made by one configuration,
--- each slot has its media, the slots that are held are in the order of their terminations' numbers,
--- each member is on its place, there is a row for each termination that there can be, and the rows
--- of those who talk are joined to their rooms
+-- Lookups of terminations and contexts are sound, and all parts have the same configuration. Each
+-- slot has its media, and held slots are in order of their terminations' numbers. Each member is
+-- on its place. There is a row for each termination that there can be, and the rows of those who
+-- talk are joined to their rooms.
 pub record IsWholeEngine (config : Config) (rooms : rooms.Registry) (pool : Limits)
     (kept : List media.SlotMedia) (slots : List ℕ) (flows : List flow.RoomFlows)
     (seating : List ℕ) (rows : List (Option ℕ)) : Type 0 where

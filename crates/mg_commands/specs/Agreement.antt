@@ -1,4 +1,4 @@
--- A request in two gateways that differ in what some terminations received.
+-- A request that runs in two gateways which differ only in what some terminations received.
 use Rattle.std.specs.Prelude.{◌≡◌, ℕ, List, map}
 use Rattle.std.specs.Option.{option_map}
 use Rattle.mg_reply.specs.declared.item.Item.{Item}
@@ -19,15 +19,15 @@ abbrev pub outcome_but_received : Outcome → Outcome
 outcome_but_received (Failed e) = Failed e
 outcome_but_received (Done parts) = Done (parts_but_received parts)
 
--- an item of a reply, but for the packets received that its statistics tell
+-- an item of a reply, without the received packets in its statistics
 abbrev pub item_but_received : Item → Item
 item_but_received (Triple a b association) = Triple a b association
 item_but_received (Command word term outcome) = Command word term (outcome_but_received outcome)
 item_but_received (Fault e) = Fault e
 item_but_received (Action id) = Action id
 
--- A request that is run in gateways that agree outside some terminations leads to gateways that
--- do. The replies are the same, item by item, but for packets received that statistics tell.
+-- If two gateways agree outside some terminations, they also do after the same request. The
+-- replies are equal, item by item, except for the received packets in statistics.
 abbrev pub RequestsKeepAgreement : Type 0
 RequestsKeepAgreement =
     (some : List ℕ) (source : List ℕ) (request : Request) (a b : Gateway) → AgreeOutside some a b

@@ -1,4 +1,4 @@
--- What a command asks for, by its descriptors (RFC 3525, sections 7.1.4 to 7.1.8 and 7.1.12).
+-- What a command's descriptors ask for (RFC 3525, sections 7.1.4 to 7.1.8 and 7.1.12).
 use Rattle.std.specs.Prelude.{ℕ, ◌+◌, ◌/◌, Bool, true, false, List, Option, Some, None}
 use Rattle.std.specs.Prelude.{Result, Ok, Err, if◌then◌else◌}
 use Rattle.std.specs.List.{list_any}
@@ -22,13 +22,13 @@ use Rattle.mg_commands.specs.Part.{parts_of}
 use Rattle.mg_commands.specs.PropertyFault.{jitter_of}
 use Rattle.mg_commands.specs.Search.{first_of}
 
--- ## What a part says
+-- ## One part
 
 abbrev pub mode_in : Part → Option Mode
 mode_in (Control n (controls.Mode mode)) = Some mode
 mode_in _ = None
 
--- the depth in frames of 20 ms that holds so many milliseconds
+-- the depth in frames of 20 ms that holds this many milliseconds
 abbrev pub frames_for : ℕ → ℕ
 frames_for jitter = (jitter + 19) / 20
 
@@ -37,7 +37,7 @@ depth_in source (Control n (controls.Property name value)) =
     if is_jitter source name then option_map frames_for (jitter_of source value) else None
 depth_in source _ = None
 
--- the alternatives of a content, or that it has none that can be read
+-- the alternatives of a content, or that it is unreadable
 abbrev pub offer_setting : Result (List (Option Offer)) SdpFault → MediaSetting
 offer_setting (Ok alternatives) = settings.Offer alternatives
 offer_setting (Err fault) = settings.Unreadable
@@ -65,7 +65,7 @@ abbrev pub is_statistics_audit : Part → Bool
 is_statistics_audit (Audited words.Statistics) = true
 is_statistics_audit _ = false
 
--- ## What the command asks for
+-- ## All parts
 
 abbrev pub parameters_of : List ℕ → List Descriptor → CommandParameters
 parameters_of source xs =

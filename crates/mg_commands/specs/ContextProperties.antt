@@ -1,6 +1,6 @@
--- What an action asks of its context as a whole, besides its commands (RFC 3525, sections 7.1.18
--- and 8.2.1): a topology, and an audit of it. The numbers of errors and the order of the checks
--- are this project's own.
+-- What an action asks of its context, in addition to its commands (RFC 3525, sections 7.1.18 and
+-- 8.2.1): a topology, and an audit of it. The numbers of errors and the order of the checks are
+-- this project's own.
 use Rattle.std.specs.Prelude.{ℕ, nat_lt, Bool, true, false, not, List, [], ◌∷◌, ◌++◌, length}
 use Rattle.std.specs.Prelude.{map, Option, Some, None, Result, Ok, if◌then◌else◌}
 use Rattle.std.specs.List.{list_any}
@@ -48,12 +48,12 @@ abbrev pub is_context_audit : ContextProperty → Bool
 is_context_audit (properties.ContextAudit ws) = true
 is_context_audit _ = false
 
--- the topology alone is told of a context
+-- only the topology of a context is reported
 abbrev pub is_topology_word : ContextWord → Bool
 is_topology_word words.Topology = true
 is_topology_word _ = false
 
--- the fault of a property after those before it: a second of its word, or what isn't served
+-- the error of a property after those before it: it is repeated, or not supported
 abbrev pub context_property_fault : List ContextProperty → ContextProperty
     → Option ErrorNumber
 context_property_fault before (properties.Topology xs) =
@@ -69,15 +69,15 @@ abbrev pub is_all : ContextId → Bool
 is_all contexts.All = true
 is_all _ = false
 
--- why an action is refused as a whole, if it is: it is one of all contexts, or has a property at
--- fault, of which the first in the text counts
+-- The error of an action as a whole, if there is one: it names all contexts, or has a faulty
+-- property. The first faulty property in the text counts.
 abbrev pub action_fault : Action → Option ErrorNumber
 action_fault a =
     if is_all a.context then Some NotServed else first_after context_property_fault [] a.properties
 
 -- ## After the commands
 
--- What a name in a triple stands for: $ for the termination that the action's first Add made.
+-- The meaning of a name in a triple; $ is the termination that the action's first Add made.
 abbrev pub term_of : Option ℕ → Name → TripleTerm
 term_of made names.Root = terms.Barred
 term_of (Some n) names.Choose = terms.Number n
@@ -103,7 +103,7 @@ abbrev pub triples_of : List ℕ → Option ℕ → List ContextProperty → Lis
 triples_of source made ps =
     map (topology_triple_of source made) (unwrap_or (first_of triples_in ps) [])
 
--- how two members hear each other: whether a is heard by b, and whether b is heard by a
+-- how two members hear each other: whether b hears a, and whether a hears b
 abbrev pub pair_item : Bool → Bool → ℕ → ℕ → Item
 pair_item true true a b = replies.Triple (rtp_name a) (rtp_name b) Bothway
 pair_item true false a b = replies.Triple (rtp_name a) (rtp_name b) Oneway
@@ -113,18 +113,18 @@ pair_item false false a b = replies.Triple (rtp_name a) (rtp_name b) Isolate
 abbrev pub audit_pair : Gateway → ℕ → ℕ → Item
 audit_pair w a b = pair_item (hears w a b) (hears w b a) a b
 
--- each pair of members, in the order of their entry
+-- each pair of members, in order of entry
 unfoldable pub audit_pairs : Gateway → List ℕ → List Item
 audit_pairs w [] = []
 audit_pairs w (a ∷ members) = map (audit_pair w a) members ++ audit_pairs w members
 
--- what an audit tells of a context, if one is asked for
+-- what the audit reports of a context, if the action has one
 abbrev pub audit_items : List ContextProperty → Gateway → ℕ → List Item
 audit_items ps w c =
     if list_any is_context_audit ps then audit_pairs w (members_at w.rooms c) else []
 
--- what comes of the properties of an action, if it has any: its triples are applied, and then its
--- audit is answered
+-- the outcome of an action's properties, if it has any: its triples are applied, then its audit is
+-- answered
 abbrev pub context_outcome : List ℕ → Option ℕ → List ContextProperty → Gateway → Target
     → Result (Gateway × List Item) ErrorNumber
 context_outcome source made [] w target = Ok (w, [])

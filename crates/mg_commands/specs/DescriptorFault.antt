@@ -1,5 +1,5 @@
--- The first fault of the descriptors of a command, in the order of its text (RFC 3525, section 7.1;
--- which descriptors are served is this project's own).
+-- The first fault in a command's descriptors, in order of the text (RFC 3525, section 7.1). Which
+-- descriptors are supported is this project's choice.
 use Rattle.std.specs.Prelude.{ℕ, Bool, true, false, ◌&&◌, ◌==◌, List, [], Option, Some, None, codes}
 use Rattle.std.specs.Prelude.{if◌then◌else◌}
 use Rattle.std.specs.List.{list_any}
@@ -28,11 +28,11 @@ same_other_word others.DigitMap others.DigitMap = true
 same_other_word others.EventBuffer others.EventBuffer = true
 same_other_word _ _ = false
 
--- the one property that is served, in letters of any case
+-- the one supported property, compared without case
 unfoldable pub is_jitter : List ℕ → Span → Bool
 is_jitter source name = str_eq_ignore_ascii_case (text_of source name) (codes "nt/jit")
 
--- of the properties with a name, nt/jit alone may not stand twice
+-- of the named properties, only nt/jit must not be repeated
 abbrev pub same_control : List ℕ → ControlPart → ControlPart → Bool
 same_control source (controls.Mode a) (controls.Mode b) = true
 same_control source (controls.ReservedValue a) (controls.ReservedValue b) = true
@@ -41,7 +41,8 @@ same_control source (controls.Property a v) (controls.Property b w) =
     is_jitter source a && is_jitter source b
 same_control source _ _ = false
 
--- whether a word stands twice: within a stream alone, and a Stream may
+-- whether a word is repeated; a word of a stream counts only within its stream, and Stream may be
+-- repeated
 abbrev pub is_same_part : List ℕ → Part → Part → Bool
 is_same_part source parts.Media parts.Media = true
 is_same_part source parts.Audit parts.Audit = true
@@ -53,7 +54,7 @@ is_same_part source (parts.LocalControl n) (parts.LocalControl k) = n == k
 is_same_part source (parts.Control n a) (parts.Control k b) = n == k && same_control source a b
 is_same_part source _ _ = false
 
--- a descriptor that isn't served may stand alone or with empty braces
+-- a descriptor that is not supported may be bare or have empty braces
 abbrev pub is_unserved : Part → Bool
 is_unserved (parts.Other word has_content) = has_content
 is_unserved (parts.TerminationState has_content) = has_content

@@ -1,4 +1,4 @@
--- Names of terminations (RFC 3525, section 6.2; this gateway's own are RTP/1, RTP/2 and so on).
+-- Names of terminations (RFC 3525, section 6.2). This gateway names them RTP/1, RTP/2 and so on.
 use Rattle.std.specs.Prelude.{ℕ, nat_eq, List, codes, if◌then◌else◌}
 use Rattle.std.specs.List.{starts_with}
 use Rattle.std.specs.Option.{option_map_or}
@@ -24,7 +24,7 @@ name_of text =
     else (if bytes_eq text (codes "*") then All
     else option_map_or name_in_rtp (after_prefix (codes "RTP/") text) Other))
 
--- a name in a reply: in its own form where it reads as something, else as it stood
+-- the spelling of a name in a reply: the gateway's own if it has a meaning, otherwise as received
 abbrev pub written_as : List ℕ → Name → List ℕ
 written_as text Root = codes "ROOT"
 written_as text Choose = codes "$"

@@ -1,7 +1,6 @@
--- What a command comes to: an error by the first check that fails, or what is done (RFC 3525,
--- section 7.2). The numbers of errors and the order of the checks are this project's own: what
--- isn't served, the descriptors, the properties, the name, and then those of the terminations and
--- contexts.
+-- The outcome of a command: the error of the first check that fails, or what was done (RFC 3525,
+-- section 7.2). The numbers of errors and the order of the checks are this project's own. The
+-- order is: support, the descriptors, the properties, the name, then terminations and contexts.
 use Rattle.std.specs.Prelude.{ℕ, ◌&&◌, not, Bool, true, false, List, [], ◌∷◌, map, Option, Some}
 use Rattle.std.specs.Prelude.{None, is_some, Result, Ok, Err, codes, if◌then◌else◌}
 use Rattle.std.specs.Option.{option_and_then, option_map}
@@ -52,8 +51,8 @@ is_served_word words.Subtract = true
 is_served_word words.AuditValue = true
 is_served_word _ = false
 
--- What a command asks for, if its text is served. One reply for all that match isn't (RFC 3525,
--- section 8.2.2, W-).
+-- What a command asks for, if its text is supported. W-, one reply for all that match (RFC 3525,
+-- section 8.2.2), is not.
 abbrev pub check_command : List ℕ → Command → Result CommandParameters ErrorNumber
 check_command source c = do
   _ ← passes (is_served_word c.word && not c.wants_wildcard) errors.NotServed
@@ -61,27 +60,27 @@ check_command source c = do
   _ ← unless (properties_fault source c.descriptors)
   Ok (parameters_of source c.descriptors)
 
--- ## What a command is tried on
+-- ## The names that a command is tried on
 
--- a Modify, Subtract or AuditValue may be for all members of its context
+-- a Modify, Subtract or AuditValue may name all members of its context
 abbrev pub takes_all : CommandWord → Bool
 takes_all words.Modify = true
 takes_all words.Subtract = true
 takes_all words.AuditValue = true
 takes_all _ = false
 
--- the members of an action's context, in the order of their entry; one that isn't there has none
+-- the members of an action's context, in order of entry; none if it does not exist
 abbrev pub members_in : Gateway → Target → List ℕ
 members_in w (targets.Number c) = members_at w.rooms c
 members_in w _ = []
 
--- at least one has to match
+-- at least one must match
 abbrev pub unless_empty : List Name → Result (List Name) ErrorNumber
 unless_empty [] = Err errors.WildcardMatchedNone
 unless_empty (x ∷ xs) = Ok (x ∷ xs)
 
--- The names that a command is tried on, one after another: its own, or with * those of the members
--- that are there when it begins (RFC 3525, section 6.2.2).
+-- The names that a command is tried on, in order: its own or, for *, those of the current members
+-- when the command starts (RFC 3525, section 6.2.2).
 abbrev pub names_for : Gateway → Target → CommandWord → Name → Result (List Name) ErrorNumber
 names_for w target word names.All =
     if takes_all word then unless_empty (map names.Number (members_in w target))
@@ -90,7 +89,7 @@ names_for w target word name = Ok (name ∷ [])
 
 -- ## Checks of the name
 
--- an Add makes a termination, and names none
+-- an Add makes a new termination, so it names none
 abbrev pub check_new_name : Gateway → Name → Result (Unit {0}) ErrorNumber
 check_new_name w names.Choose = Ok tt
 check_new_name w (names.Number n) =
@@ -105,12 +104,12 @@ number_in (names.Number n) = Ok n
 number_in names.Other = Err errors.UnknownTermination
 number_in _ = Err errors.IdentifierNotAllowed
 
--- ## What is told
+-- ## What is reported
 
 abbrev pub media_of_record : Record → Media
 media_of_record r = Whole (record { mode = r.mode; depth = r.depth }) r.local r.remote
 
--- the whole media of a termination, or else its Local alone
+-- the whole media of a termination, or only its Local
 abbrev pub reply_media : ReplyDescriptors → Gateway → ℕ → Option Media
 reply_media descriptors w n =
     if descriptors.media then option_map media_of_record (record_at w.rooms n)
@@ -133,7 +132,7 @@ abbrev pub served_at : Target → List ℕ → Parts → Served
 served_at target term parts =
     record { target = target; made = None; term = term; parts = parts }
 
--- the same of a termination that was made
+-- the same for a termination that was made
 abbrev pub made_at : Target → ℕ → Parts → Served
 made_at target n parts = record (served_at target (rtp_name n) parts) { made = Some n }
 
@@ -169,7 +168,7 @@ subtract_outcome w target name parameters = do
   p ← engine.subtract w target n
   Ok (p.0, served_at target (rtp_name n) (reply_parts (descriptors_before parameters) w n))
 
--- ROOT may be audited in the null context, and tells nothing
+-- ROOT can be audited in the null context, and nothing is reported of it
 abbrev pub audit_root : Target → Result Served ErrorNumber
 audit_root targets.Null =
     Ok (served_at targets.Null (codes "ROOT") (record { media = None; statistics = None }))
@@ -182,11 +181,11 @@ audit_outcome w target name parameters = do
   _ ← member w.rooms target n
   Ok (served_at target (rtp_name n) (reply_parts (descriptors_by_audit parameters) w n))
 
--- the world is as it was
+-- the gateway is unchanged
 abbrev pub in_same_world : Gateway → Result Served ErrorNumber → CommandOutcome
 in_same_world w r = r >>= (λ s. Ok (w, s))
 
--- what a command comes to for one name, its text having been checked
+-- the outcome of a command for one name, after its text was checked
 unfoldable pub outcome : CommandWord → Gateway → Target → Name → CommandParameters
     → CommandOutcome
 outcome words.Add w target name parameters = add_outcome w target name parameters
@@ -197,13 +196,13 @@ outcome words.AuditValue w target name parameters =
     in_same_world w (audit_outcome w target name parameters)
 outcome _ w target name parameters = Err errors.NotServed
 
--- what a command asks for, and on which names it is tried
+-- what a command asks for, and the names that it is tried on
 pub record Trial : Type 0 where
   pub parameters : CommandParameters
   pub names : List Name
 
--- The checks that come before any name is tried: what isn't served, the descriptors, the
--- properties, and for * the identifier.
+-- The checks before any name is tried: support, the descriptors, the properties, and for * the
+-- identifier.
 abbrev pub trial_of : List ℕ → Gateway → Target → Command → Result Trial ErrorNumber
 trial_of source w target c = do
   parameters ← check_command source c

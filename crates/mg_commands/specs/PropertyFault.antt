@@ -1,5 +1,5 @@
--- The first property at fault in the descriptors of a command, in the order of its text. Which are
--- served is this project's own.
+-- The first faulty property in a command's descriptors, in order of the text. Which properties are
+-- supported is this project's choice.
 use Rattle.std.specs.Prelude.{ℕ, ◌==◌, ◌&&◌, List, Option, Some, None, is_some}
 use Rattle.std.specs.Prelude.{if◌then◌else◌}
 use Rattle.mg_scan.specs.Span.{text_of}
@@ -23,7 +23,7 @@ abbrev pub jitter_of : List ℕ → Option PropertyValue → Option ℕ
 jitter_of source (Some (values.Word word)) = uint16_of (text_of source word)
 jitter_of source _ = None
 
--- a reservation, a property that isn't served, or one with another value than it may have
+-- a reservation, a property that is not supported, or a value that is not allowed
 abbrev pub control_fault : List ℕ → ControlPart → Option ErrorNumber
 control_fault source (controls.Mode mode) = None
 control_fault source (controls.ReservedValue is_on) = if is_on then Some NotServed else None
@@ -32,7 +32,7 @@ control_fault source (controls.Property name value) =
     if is_jitter source name && is_some (jitter_of source value) then None
     else Some PropertyNotServed
 
--- or a stream other than 1
+-- the same, or a stream other than 1
 abbrev pub property_fault : List ℕ → Part → Option ErrorNumber
 property_fault source (Stream n) = if n == 1 then None else Some NotServed
 property_fault source (Control n x) = control_fault source x

@@ -1,5 +1,4 @@
--- What holds of each transaction: what is refused changes nothing, and what it leads to is
--- consistent.
+-- Properties of every transaction: rejected commands change nothing, and consistency is preserved.
 use Rattle.std.specs.Prelude.{◌≡◌, ℕ, Bool, true, false, not, ◌||◌, List, [], ◌∷◌, ◌++◌, Some}
 use Rattle.std.specs.Prelude.{None, Err}
 use Rattle.std.specs.List.{list_all, list_any}
@@ -24,15 +23,15 @@ use Rattle.mg_commands.specs.Transaction.{end_of_action}
 use Rattle.mg_commands.specs.Transaction.{with_name, with_names, with_command, with_commands}
 use Rattle.mg_commands.specs.Transaction.{with_action, replied}
 
--- ## Refusals
+-- ## Rejections
 
--- an action with one item more, which tells the error of a command: its gateway, its context and
--- what $ names are as they were
+-- an action with one more item, the error of a command; its gateway, its context and the meaning
+-- of $ are unchanged
 abbrev pub with_error : ActionState → CommandWord → List ℕ → ErrorNumber → ActionState
 with_error run word name e =
     record run { items = run.items ++ replies.Command word name (Failed e) ∷ [] }
 
--- a command that is refused for a name adds the item that tells its error, and changes nothing
+-- a command that is rejected for a name adds the item with its error, and changes nothing
 abbrev pub RefusedNamesChangeNothing : Type 0
 RefusedNamesChangeNothing =
     (source : List ℕ) (c : Command) (parameters : CommandParameters) (name : Name)
@@ -41,7 +40,7 @@ RefusedNamesChangeNothing =
     → with_name source c parameters name run
     ≡ (with_error run c.word (written_as (text_of source c.term) name) e, false)
 
--- so does one that may not be tried at all
+-- so does a command that is not tried at all
 abbrev pub RefusedCommandsChangeNothing : Type 0
 RefusedCommandsChangeNothing =
     (source : List ℕ) (c : Command) (run : ActionState) (e : ErrorNumber)
@@ -49,7 +48,7 @@ RefusedCommandsChangeNothing =
     → with_command source c run
     ≡ (with_error run c.word (written_name (text_of source c.term)) e, false)
 
--- an action that is refused as a whole before its commands changes nothing
+-- an action that is rejected as a whole, before its commands, changes nothing
 abbrev pub RefusedActionsChangeNothing : Type 0
 RefusedActionsChangeNothing =
     (source : List ℕ) (a : Action) (s : TransactionState) (e : ErrorNumber)
@@ -57,7 +56,8 @@ RefusedActionsChangeNothing =
     → with_action source a s
     ≡ (record s { items = s.items ++ replies.Fault e ∷ replies.Action a.context ∷ [] }, false)
 
--- an action whose topology is refused after its commands leaves the gateway that they left
+-- an action whose topology is rejected after its commands changes nothing but what the commands
+-- did
 abbrev pub RefusedTopologiesChangeNothing : Type 0
 RefusedTopologiesChangeNothing =
     (source : List ℕ) (a : Action) (s : TransactionState) (run : ActionState) (e : ErrorNumber)
@@ -65,8 +65,8 @@ RefusedTopologiesChangeNothing =
     → context_outcome source run.made a.properties run.gateway run.target ≡ Err e
     → with_action source a s ≡ (end_of_action run run.gateway (replies.Fault e ∷ []), false)
 
--- Of the names that a command is tried on, one that is refused doesn't keep the others from being
--- tried, on the same gateway, and the command isn't done.
+-- If a command is rejected for one of its names, the others are still tried on the same gateway,
+-- and the command counts as failed.
 abbrev pub OthersAreTried : Type 0
 OthersAreTried =
     (source : List ℕ) (c : Command) (parameters : CommandParameters) (x : Name) (xs : List Name)
@@ -76,18 +76,19 @@ OthersAreTried =
     with_names source c parameters (x ∷ xs) run
     ≡ ((with_names source c parameters xs reported).0, false)
 
--- whether an item tells of a command that was done
+-- whether an item reports a command that was done
 abbrev pub reports_success : Item → Bool
 reports_success (replies.Command word term (Done parts)) = true
 reports_success _ = false
 
--- an action asks for no topology, or has a command that isn't optional, without which its topology
--- isn't tried
+-- an action has no topology, or has a command that is not optional, whose failure prevents the
+-- topology
 abbrev pub depends_on_commands : Action → Bool
 depends_on_commands a =
     not (list_any is_topology a.properties) || list_any (λ c. not c.is_optional) a.commands
 
--- a request of which each command that was tried was refused leaves the gateway as it was
+-- a request whose commands were all rejected, as far as they were tried, leaves the gateway
+-- unchanged
 abbrev pub RefusedRequestsChangeNothing : Type 0
 RefusedRequestsChangeNothing =
     (source : List ℕ) (request : Request) (w : Gateway)
@@ -97,7 +98,7 @@ RefusedRequestsChangeNothing =
 
 -- ## Consistency
 
--- whatever a request asks, what it leads to is consistent where what it was run on was
+-- every request preserves consistency
 abbrev pub RequestsAreConsistent : Type 0
 RequestsAreConsistent =
     (source : List ℕ) (request : Request) (w : Gateway)

@@ -1,5 +1,4 @@
--- A transaction: what comes of the commands of a request, action by action (RFC 3525, section
--- 8.2.2).
+-- A transaction: the outcome of a request's commands, action by action (RFC 3525, section 8.2.2).
 use Rattle.std.specs.Prelude.{ℕ, Bool, ◌&&◌, ◌||◌, true, false, List, [], ◌∷◌, ◌++◌, Option}
 use Rattle.std.specs.Prelude.{None, Result, Ok, Err}
 use Rattle.std.specs.Option.{option_map_or}
@@ -27,15 +26,16 @@ use Rattle.mg_commands.specs.Outcome.{CommandOutcome, Trial, outcome, trial_of}
 
 -- ## Commands
 
--- an action under way: the gateway, the action's context, the termination that its first Add made,
--- and the items of the reply so far
+-- The state of an action: the gateway, the action's context, the termination that its first Add
+-- made, and the items of the reply so far.
 pub record ActionState : Type 0 where
   pub gateway : Gateway
   pub target : Target
   pub made : Option ℕ
   pub items : List Item
 
--- an action after a command for one name, which the reply writes so, and whether it was done
+-- the action after a command for one name, with that name's spelling in the reply, and whether the
+-- command was done
 abbrev pub after_outcome : CommandWord → List ℕ → ActionState → CommandOutcome → ActionState × Bool
 after_outcome word name run (Ok p) = (
   record {
@@ -55,19 +55,19 @@ with_name source c parameters name run =
     after_outcome c.word (written_as (text_of source c.term) name) run
     (outcome c.word run.gateway run.target name parameters)
 
--- what was done of the first and of the rest, whether or not the first was done
+-- the rest is tried whether or not the first was done; all were done if both were
 abbrev pub and_then : (ActionState → ActionState × Bool) → ActionState × Bool → ActionState × Bool
 and_then rest (run, is_done) = ((rest run).0, is_done && (rest run).1)
 
--- an action after a command for each of some names, and whether it was done for all: one for which
--- it fails doesn't keep the others from being tried
+-- The action after a command for each name, and whether all were done. A failure for one name does
+-- not stop the others.
 unfoldable pub with_names : List ℕ → Command → CommandParameters → List Name → ActionState
     → ActionState × Bool
 with_names source c parameters [] run = (run, true)
 with_names source c parameters (x ∷ xs) run =
     and_then (with_names source c parameters xs) (with_name source c parameters x run)
 
--- an action after a command, if it may be tried at all
+-- the action after a command, if it may be tried at all
 abbrev pub with_trial : List ℕ → Command → ActionState → Result Trial ErrorNumber
     → ActionState × Bool
 with_trial source c run (Ok trial) = with_names source c trial.parameters trial.names run
@@ -77,18 +77,18 @@ with_trial source c run (Err e) =
 abbrev pub with_command : List ℕ → Command → ActionState → ActionState × Bool
 with_command source c run = with_trial source c run (trial_of source run.gateway run.target c)
 
--- an optional command (O-) ends nothing, whatever it comes to
+-- the failure of an optional command (O-) ends nothing
 abbrev pub unless_optional : Command → ActionState × Bool → ActionState × Bool
 unless_optional c (run, is_done) = (run, c.is_optional || is_done)
 
--- what comes of the rest, unless a command failed
+-- the rest, unless a command failed
 abbrev pub continue_with : (ActionState → ActionState × Bool) → ActionState × Bool
     → ActionState × Bool
 continue_with rest (run, true) = rest run
 continue_with rest (run, false) = (run, false)
 
--- an action after commands, up to the first that fails and isn't optional, and whether there was
--- none
+-- the action after commands, up to the first failure of one that is not optional, and whether
+-- there was none
 unfoldable pub with_commands : List ℕ → List Command → ActionState → ActionState × Bool
 with_commands source [] run = (run, true)
 with_commands source (c ∷ cs) run =
@@ -96,7 +96,7 @@ with_commands source (c ∷ cs) run =
 
 -- ## Actions
 
--- the context that an action begins in; one of all contexts isn't run
+-- the context that an action starts in; an action on all contexts is not run
 abbrev pub target_of : ContextId → Target
 target_of contexts.Null = targets.Null
 target_of contexts.Choose = targets.New
@@ -109,7 +109,7 @@ id_of targets.Null = contexts.Null
 id_of targets.New = contexts.Choose
 id_of (targets.Number n) = contexts.Number n
 
--- a transaction under way: the gateway, and the items of the reply so far
+-- the state of a transaction: the gateway, and the items of the reply so far
 pub record TransactionState : Type 0 where
   pub gateway : Gateway
   pub items : List Item
@@ -118,19 +118,19 @@ abbrev pub action_start : Action → TransactionState → ActionState
 action_start a s =
     record { gateway = s.gateway; target = target_of a.context; made = None; items = s.items }
 
--- the end of an action: what is told of its context, and the context's number
+-- the end of an action: what is reported of its context, and the context's number
 abbrev pub end_of_action : ActionState → Gateway → List Item → TransactionState
 end_of_action run w items =
     record { gateway = w; items = run.items ++ items ++ replies.Action (id_of run.target) ∷ [] }
 
--- an action after what came of its properties, and whether they were done
+-- the action after its properties, and whether they were done
 abbrev pub after_properties : ActionState → Result (Gateway × List Item) ErrorNumber
     → TransactionState × Bool
 after_properties run (Ok p) = (end_of_action run p.0 p.1, true)
 after_properties run (Err e) = (end_of_action run run.gateway (replies.Fault e ∷ []), false)
 
--- An action after its commands, and whether it was done whole. Properties come after them, unless
--- one failed.
+-- The action after its commands, and whether it was completed. Properties follow the commands,
+-- unless one failed.
 abbrev pub after_commands : List ℕ → List ContextProperty → ActionState × Bool
     → TransactionState × Bool
 after_commands source ps (run, false) = (end_of_action run run.gateway [], false)
@@ -141,13 +141,13 @@ abbrev pub refusal : Action → TransactionState → ErrorNumber → Transaction
 refusal a s e =
     (record s { items = s.items ++ replies.Fault e ∷ replies.Action a.context ∷ [] }, false)
 
--- an action, unless it is refused as a whole
+-- an action, unless it is rejected as a whole
 unfoldable pub with_action : List ℕ → Action → TransactionState → TransactionState × Bool
 with_action source a s =
     option_map_or (refusal a s) (action_fault a)
     (after_commands source a.properties (with_commands source a.commands (action_start a s)))
 
--- what comes of the rest, unless an action was not done whole
+-- the rest, unless an action was not completed
 abbrev pub continue_after_action : (TransactionState → TransactionState) → TransactionState × Bool
     → TransactionState
 continue_after_action rest (s, true) = rest s
@@ -158,7 +158,7 @@ with_actions source [] s = s
 with_actions source (a ∷ actions) s =
     continue_after_action (with_actions source actions) (with_action source a s)
 
--- the gateway after a request, and the items of the reply to it
+-- the gateway after a request, and the items of its reply
 abbrev pub replied : List ℕ → Request → Gateway → TransactionState
 replied source request w =
     with_actions source request.actions (record { gateway = w; items = [] })

@@ -1,4 +1,4 @@
-//! Why an action is refused as a whole, before its commands.
+//! Why an action is rejected as a whole, before its commands.
 
 ghost use Rattle.std.specs.Prelude.{◌≡◌, ◌≤◌, [], None, not, length, unwrap_or};
 ghost use Rattle.std.specs.List.{list_any};
@@ -10,21 +10,21 @@ ghost use Rattle.mg_commands.specs.aids.Properties.{topology_fault, audit_fault}
 use mg_engine::TRIPLES;
 use mg_text::{Action, ContextId, ContextProperty, ContextWord, ErrorNumber, NamedTriple};
 
-/// Whether a Topology stands among properties.
+/// Returns whether the properties include a Topology.
 fn has_topology(properties: &[ContextProperty]) -> bool
     ensures value { result ≡ list_any is_topology properties.now }
 {
     properties.iter().any(|property| matches!(property, ContextProperty::Topology(_)))
 }
 
-/// Whether a ContextAudit stands among properties.
+/// Returns whether the properties include a ContextAudit.
 pub fn has_context_audit(properties: &[ContextProperty]) -> bool
     ensures value { result ≡ list_any is_context_audit properties.now }
 {
     properties.iter().any(|property| matches!(property, ContextProperty::ContextAudit(_)))
 }
 
-/// The fault of a Topology after other properties.
+/// Returns the error of a Topology after other properties.
 fn topology_fault(before: &[ContextProperty], triples: &[NamedTriple]) -> Option<ErrorNumber>
     ensures value { result ≡ topology_fault before.now triples.now }
 {
@@ -34,7 +34,7 @@ fn topology_fault(before: &[ContextProperty], triples: &[NamedTriple]) -> Option
     (triples.len() > TRIPLES).then_some(ErrorNumber::NotServed)
 }
 
-/// Whether an audit asks for more than the topology.
+/// Returns whether an audit asks for more than the topology.
 fn audits_more(words: &[ContextWord]) -> bool
     ensures value { result ≡ list_any (λ w. not (is_topology_word w)) words.now }
 {
@@ -43,7 +43,7 @@ fn audits_more(words: &[ContextWord]) -> bool
         .any(|word| !matches!(word, ContextWord::Topology))
 }
 
-/// The fault of a ContextAudit after other properties.
+/// Returns the error of a ContextAudit after other properties.
 fn audit_fault(before: &[ContextProperty], words: &[ContextWord]) -> Option<ErrorNumber>
     ensures value { result ≡ audit_fault before.now words.now }
 {
@@ -53,7 +53,7 @@ fn audit_fault(before: &[ContextProperty], words: &[ContextWord]) -> Option<Erro
     audits_more(words).then_some(ErrorNumber::DescriptorNotServed)
 }
 
-/// The fault of a property after those before it: a second of its word, or what isn't served.
+/// Returns the error of a property after those before it: it is repeated, or not supported.
 fn context_property_fault(
     before: &[ContextProperty],
     property: &ContextProperty,
@@ -69,7 +69,7 @@ fn context_property_fault(
     }
 }
 
-/// The first fault of properties, in the order of the text.
+/// Returns the first error of the properties, in order of the text.
 #[tactic(auto, using(crate::proofs::FaultSteps::walking))]
 fn context_properties_fault(properties: &[ContextProperty]) -> Option<ErrorNumber>
     ensures value { result ≡ first_after context_property_fault [] properties.now }
@@ -83,8 +83,9 @@ fn context_properties_fault(properties: &[ContextProperty]) -> Option<ErrorNumbe
     None
 }
 
-/// Why an action is refused as a whole, if it is. One that isn't has a topology of as many triples as the engine takes
-/// at once, or fewer.
+/// Returns why an action is rejected as a whole, if it is.
+///
+/// If it is not, its topology has no more triples than the engine accepts.
 #[tactic(auto, using(crate::proofs::PropertySteps::few_triples))]
 pub fn action_fault(action: &Action) -> Option<ErrorNumber>
     ensures value { result ≡ action_fault action.now }

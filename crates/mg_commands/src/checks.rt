@@ -1,4 +1,4 @@
-//! What is looked at before a command is done. Nothing is changed here.
+//! The checks before a command is done. They change nothing.
 
 ghost use Rattle.std.specs.Prelude.{◌≡◌};
 ghost use Rattle.mg_words.specs.declared.error_number.ErrorNumber.TheVariants.{NotServed};
@@ -28,7 +28,7 @@ fn is_served_word(word: CommandWord) -> bool
     }
 }
 
-/// Whether a command is served at all. One reply for all that match (`W-`) isn't.
+/// Returns whether a command is supported. One reply for all that match (`W-`) is not.
 fn is_served(command: &Command) -> bool
     ensures value { result ≡ is_served command.now }
 {
@@ -54,7 +54,7 @@ fn unless(fault: Option<ErrorNumber>) -> Result<(), ErrorNumber>
     }
 }
 
-/// What descriptors ask for, if they are served.
+/// Returns what descriptors ask for, if they are supported.
 fn check_descriptors(
     source: &[u8],
     descriptors: &[Descriptor],
@@ -66,7 +66,7 @@ fn check_descriptors(
     Ok(parameters_of(source, descriptors))
 }
 
-/// What a command asks for, if its text is served.
+/// Returns what a command asks for, if its text is supported.
 #[tactic(auto, using(crate::proofs::CheckLemmas::by_descriptors))]
 pub fn check_command(source: &[u8], command: &Command) -> Result<CommandParameters, ErrorNumber>
     ensures value { result ≡ check_command source.now command.now }
@@ -75,7 +75,7 @@ pub fn check_command(source: &[u8], command: &Command) -> Result<CommandParamete
     check_descriptors(source, command.descriptors.as_slice())
 }
 
-/// That an Add names a termination to be made, and none by its name.
+/// Checks that an Add asks for a new termination, and does not name one.
 pub fn check_new_name(engine: &Engine, name: Name) -> Result<(), ErrorNumber>
     ensures value { (w : Gateway) → StandsFor engine.now w → result ≡ check_new_name w name }
 {
@@ -90,7 +90,7 @@ pub fn check_new_name(engine: &Engine, name: Name) -> Result<(), ErrorNumber>
     }
 }
 
-/// The number of the termination that a command names.
+/// Returns the number of the termination that a command names.
 pub fn number_in(name: Name) -> Result<u32, ErrorNumber>
     ensures value { result ≡ number_in name }
 {

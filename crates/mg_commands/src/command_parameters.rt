@@ -12,20 +12,20 @@ use mg_scan::Span;
 use mg_sdp::read_sessions;
 use mg_text::{AuditWord, ControlPart, Descriptor};
 
-/// What a command asks for, by its descriptors.
+/// What a command's descriptors ask for.
 #[derive(Debug, Drop)]
 pub struct CommandParameters {
-    /// What it sets.
+    /// The settings that it changes.
     pub settings: Settings,
     /// Whether it has an Audit descriptor.
     pub has_audit: bool,
-    /// Whether it asks for the media.
+    /// Whether it audits the media.
     pub audits_media: bool,
-    /// Whether it asks for the statistics.
+    /// Whether it audits the statistics.
     pub audits_statistics: bool,
 }
 
-/// The depth of a play list, in frames of 20 ms, that holds so many milliseconds.
+/// Returns the depth of a play list, in frames of 20 ms, that holds this many milliseconds.
 fn frames_for(jitter: u16) -> u16
     ensures value { result ≡ frames_for jitter }
 {
@@ -33,7 +33,7 @@ fn frames_for(jitter: u16) -> u16
     frames as u16
 }
 
-/// What the content of a Local or Remote sets.
+/// Returns the setting that the content of a Local or Remote makes.
 fn setting_of(source: &[u8], text: Span) -> MediaSetting
     ensures value { result ≡ setting_of source.now text }
 {
@@ -81,7 +81,7 @@ fn remote_in(source: &[u8], part: Part) -> Option<MediaSetting>
     }
 }
 
-/// Keeps what was found, where nothing was found before.
+/// Keeps the first value that was found.
 fn keep_first<T: Drop>(kept: &mut Option<T>, found: Option<T>)
     ensures value { kept.new ≡ option_or kept.old found }
 {
@@ -91,7 +91,7 @@ fn keep_first<T: Drop>(kept: &mut Option<T>, found: Option<T>)
 }
 
 impl CommandParameters {
-    /// Nothing is asked for.
+    /// Returns the parameters of a command without descriptors.
     fn no_parameters() -> CommandParameters
         ensures value { result ≡ no_parameters }
     {
@@ -103,7 +103,7 @@ impl CommandParameters {
         }
     }
 
-    /// Takes what a part says, where none of its kind was there before.
+    /// Takes the value of a part, if no part of its kind came before.
     fn take(&mut self, source: &[u8], part: Part)
         ensures value { self.new ≡ with_part source.now self.old part }
     {
@@ -120,7 +120,7 @@ impl CommandParameters {
     }
 }
 
-/// What descriptors ask for.
+/// Returns what descriptors ask for.
 pub fn parameters_of(source: &[u8], descriptors: &[Descriptor]) -> CommandParameters
     ensures value { result ≡ parameters_of source.now descriptors.now }
 {

@@ -1,4 +1,4 @@
-//! What an audit of a context tells: for each pair of its members, who hears whom.
+//! The audit of a context, which reports who hears whom for each pair of members.
 
 ghost use Rattle.std.specs.Prelude.{◌≡◌, All, map};
 ghost use Rattle.mg_reply.specs.Reply.{after_all};
@@ -11,7 +11,7 @@ use crate::named_member::NamedMember;
 use mg_engine::{Association, Engine};
 use mg_text::{Item, Reply};
 
-/// How two members hear each other.
+/// Returns the item that reports how two members hear each other.
 fn pair_item(
     second_hears: bool,
     first_hears: bool,
@@ -40,7 +40,7 @@ fn audit_pair(engine: &Engine, first: &NamedMember, second: &NamedMember) -> Ite
     pair_item(second_hears, first_hears, first, second)
 }
 
-/// Tells of a member and each that entered after it.
+/// Reports each pair of a member and one that entered after it.
 fn put_pairs_of(engine: &Engine, first: &NamedMember, later: &[NamedMember], reply: &mut Reply)
     requires first { IsOnSeat engine.now.rooms first.now }
     requires later { All (IsOnSeat engine.now.rooms) later.now }
@@ -52,7 +52,7 @@ fn put_pairs_of(engine: &Engine, first: &NamedMember, later: &[NamedMember], rep
     }
 }
 
-/// Tells of each pair of members, in the order of their entry.
+/// Reports each pair of members, in order of entry.
 pub fn put_pairs(engine: &Engine, members: &[NamedMember], reply: &mut Reply)
     requires members { All (IsOnSeat engine.now.rooms) members.now }
     ensures value { (w : Gateway) → StandsFor engine.now w →

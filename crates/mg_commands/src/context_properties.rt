@@ -1,4 +1,4 @@
-//! What comes of the properties of an action, after its commands.
+//! The properties of an action, which follow its commands.
 
 ghost use Rattle.std.specs.Prelude.{◌≡◌, ◌≤◌, [], OnErr, length, map, unwrap_or};
 ghost use Rattle.mg_reply.specs.Reply.{after_all};
@@ -18,7 +18,7 @@ use crate::progress::Progress;
 use mg_engine::{Engine, TopologyTriple, TopologyTriples, TripleTerm};
 use mg_text::{ContextProperty, ErrorNumber, Item, NamedTriple, Reply};
 
-/// What a name in a triple stands for.
+/// Returns the meaning of a name in a triple.
 fn term_of(made: Option<u32>, name: Name) -> TripleTerm
     ensures value { result ≡ term_of made name }
 {
@@ -51,7 +51,7 @@ fn triples_of(source: &[u8], made: Option<u32>, triples: &[NamedTriple]) -> Topo
     topology
 }
 
-/// The triples of the first Topology among properties, if there is one.
+/// Returns the triples of the first Topology among properties, if there is one.
 fn topology_in(properties: &[ContextProperty]) -> &[NamedTriple]
     ensures value { result.now ≡ unwrap_or (first_of triples_in properties.now) [] }
 {
@@ -63,7 +63,7 @@ fn topology_in(properties: &[ContextProperty]) -> &[NamedTriple]
     &[]
 }
 
-/// Applies the triples of an action's topology to its context, of which the answer is the number.
+/// Applies the triples of an action's topology to its context. Returns the context's number.
 fn apply_topology(
     engine: &mut Engine,
     source: &[u8],
@@ -85,7 +85,7 @@ fn apply_topology(
     engine.apply_triples(progress.target, &by_number)
 }
 
-/// Answers the audit of a context, if one is asked for.
+/// Answers the audit of a context, if the action has one.
 fn answer_audit(engine: &Engine, properties: &[ContextProperty], context: u32, reply: &mut Reply)
     ensures value { (w : Gateway) → StandsFor engine.now w →
         reply.new ≡ after_all reply.old (audit_items properties.now w context) }
@@ -96,7 +96,7 @@ fn answer_audit(engine: &Engine, properties: &[ContextProperty], context: u32, r
     }
 }
 
-/// Does what the properties of an action ask of its context. The answer is whether it was done.
+/// Does what the properties of an action ask. Returns whether it was done.
 pub fn try_properties(
     engine: &mut Engine,
     source: &[u8],

@@ -9,7 +9,7 @@ use crate::part::Part;
 use mg_scan::Span;
 use mg_text::{ControlPart, Descriptor, ErrorNumber, MediaPart, OtherWord, StreamPart};
 
-/// Whether a property is `nt/jit`, the one that is served, in letters of any case.
+/// Returns whether a property is `nt/jit`, the supported one, ignoring case.
 #[tactic(auto, unfolding(crate::specs::DescriptorFault::is_jitter))]
 pub fn is_jitter(source: &[u8], name: Span) -> bool
     ensures value { result ≡ is_jitter source.now name }
@@ -45,7 +45,7 @@ fn same_control(source: &[u8], a: &ControlPart, b: &ControlPart) -> bool
     }
 }
 
-/// Whether two parts are the same word of the same stream, of which one may stand.
+/// Returns whether two parts are the same word of the same stream, which must not be repeated.
 fn is_same_part(source: &[u8], a: Part, b: Part) -> bool
     ensures value { result ≡ is_same_part source.now a b }
 {
@@ -60,7 +60,7 @@ fn is_same_part(source: &[u8], a: Part, b: Part) -> bool
     }
 }
 
-/// The fault of a part: that its word stood before, or else that it has content and isn't served.
+/// Returns the fault of a part: its word is repeated, or it has content and is not supported.
 fn fault_of(appeared: bool, part: Part) -> Option<ErrorNumber>
     ensures value { result ≡ fault_of appeared part }
 {
@@ -73,8 +73,7 @@ fn fault_of(appeared: bool, part: Part) -> Option<ErrorNumber>
     }
 }
 
-/// Whether a part of a LocalControl is one that may stand once alone. Any number of the others may stand there, and
-/// none of them looks back.
+/// Returns whether a part of a LocalControl must not be repeated. Other parts may be, so they need no look back.
 fn is_single(source: &[u8], part: &ControlPart) -> bool
     ensures value { result ≡ is_single source.now part.now }
 {
@@ -85,14 +84,14 @@ fn is_single(source: &[u8], part: &ControlPart) -> bool
     }
 }
 
-/// Whether a part of a LocalControl stood before.
+/// Returns whether a part of a LocalControl occurred before.
 fn appeared_in_control(source: &[u8], part: &ControlPart, before: &[ControlPart]) -> bool
     ensures value { result ≡ list_any (same_control source.now part.now) before.now }
 {
     is_single(source, part) && before.iter().any(|other| same_control(source, part, other))
 }
 
-/// The first fault within a LocalControl of a stream.
+/// Returns the first fault in a LocalControl of a stream.
 #[tactic(auto, using(crate::proofs::FaultSteps::walking))]
 fn controls_fault(source: &[u8], stream: u32, parts: &[ControlPart]) -> Option<ErrorNumber>
     ensures value { result ≡ first_after (control_level source.now stream) [] parts.now }
@@ -114,7 +113,7 @@ fn is_same_word(source: &[u8], part: &Part, stream: u32, other: &StreamPart) -> 
     is_same_part(source, *part, word)
 }
 
-/// Whether a part stands among the parts of a stream.
+/// Returns whether a part occurs among the parts of a stream.
 fn appears_among(source: &[u8], part: &Part, stream: u32, parts: &[StreamPart]) -> bool
     ensures value { result ≡ list_any (is_same_word source.now part.now stream) parts.now }
 {
@@ -123,8 +122,9 @@ fn appears_among(source: &[u8], part: &Part, stream: u32, parts: &[StreamPart]) 
         .any(|other| is_same_word(source, part, stream, other))
 }
 
-/// Whether a part of a stream stands in a part of a Media descriptor. The streams' numbers are compared first: a
-/// message has room for some 700 streams.
+/// Returns whether a part of a stream occurs in a part of a Media descriptor.
+///
+/// It compares the streams' numbers first, since a message has room for some 700 streams.
 fn appears_in(source: &[u8], part: &Part, stream: u32, other: &MediaPart) -> bool
     ensures value { result ≡ appears_in source.now part.now stream other.now }
 {
@@ -137,7 +137,7 @@ fn appears_in(source: &[u8], part: &Part, stream: u32, other: &MediaPart) -> boo
     }
 }
 
-/// Whether a part of a stream stands in the parts of a Media descriptor.
+/// Returns whether a part of a stream occurs in the parts of a Media descriptor.
 fn appears_in_media(source: &[u8], part: &Part, stream: u32, media: &[MediaPart]) -> bool
     ensures value { result ≡ list_any (appears_in source.now part.now stream) media.now }
 {
@@ -146,7 +146,7 @@ fn appears_in_media(source: &[u8], part: &Part, stream: u32, media: &[MediaPart]
         .any(|other| appears_in(source, part, stream, other))
 }
 
-/// The first fault of a part of a stream.
+/// Returns the first fault of a part of a stream.
 fn stream_part_fault(
     source: &[u8],
     media: &[MediaPart],
@@ -165,7 +165,7 @@ fn stream_part_fault(
     }
 }
 
-/// The first fault within a Stream after parts of its Media descriptor.
+/// Returns the first fault in a Stream after parts of its Media descriptor.
 #[tactic(auto, using(crate::proofs::FaultSteps::walking))]
 fn stream_fault(
     source: &[u8],
@@ -184,7 +184,7 @@ fn stream_fault(
     None
 }
 
-/// Whether a TerminationState stands among parts of a Media descriptor.
+/// Returns whether a TerminationState occurs among parts of a Media descriptor.
 fn has_state(parts: &[MediaPart]) -> bool
     ensures value { result ≡ list_any is_state parts.now }
 {
@@ -193,7 +193,7 @@ fn has_state(parts: &[MediaPart]) -> bool
         .any(|part| matches!(part, MediaPart::TerminationState(_)))
 }
 
-/// The first fault of a part of a Media descriptor.
+/// Returns the first fault of a part of a Media descriptor.
 fn media_part_fault(source: &[u8], before: &[MediaPart], part: &MediaPart) -> Option<ErrorNumber>
     ensures value { result ≡ media_level source.now before.now part.now }
 {
@@ -206,7 +206,7 @@ fn media_part_fault(source: &[u8], before: &[MediaPart], part: &MediaPart) -> Op
     }
 }
 
-/// The number of the stream that a part of a Media descriptor belongs to, or 0 where it belongs to none.
+/// Returns the number of the stream that a part of a Media descriptor belongs to, or 0 if it belongs to none.
 fn stream_of(part: &MediaPart) -> u32
     ensures value { result ≡ stream_of part.now }
 {
@@ -217,8 +217,9 @@ fn stream_of(part: &MediaPart) -> u32
     }
 }
 
-/// The parts before a part of a Media descriptor among which it may stand already: none where its stream has a
-/// greater number than each of those before, so that streams by rising numbers look back at nothing.
+/// Returns the earlier parts of a Media descriptor that a part may repeat.
+///
+/// There are none if its stream's number exceeds all before it, so streams in rising order need no look back.
 fn lookback<'a>(greatest: u32, before: &'a [MediaPart], part: &MediaPart) -> &'a [MediaPart]
     requires greatest { greatest ≡ greatest_stream before.now }
     ensures level { (source : List ℕ) → media_level source result.now part.now ≡
@@ -231,7 +232,7 @@ fn lookback<'a>(greatest: u32, before: &'a [MediaPart], part: &MediaPart) -> &'a
     }
 }
 
-/// The first fault within a Media descriptor.
+/// Returns the first fault in a Media descriptor.
 #[tactic(auto, using(crate::proofs::FaultSteps::walking))]
 fn media_fault(source: &[u8], parts: &[MediaPart]) -> Option<ErrorNumber>
     ensures value { result ≡ first_after (media_level source.now) [] parts.now }
@@ -248,14 +249,14 @@ fn media_fault(source: &[u8], parts: &[MediaPart]) -> Option<ErrorNumber>
     None
 }
 
-/// Whether a descriptor's word stood before.
+/// Returns whether a descriptor's keyword occurred before.
 fn appeared_in_command(source: &[u8], word: Part, before: &[Descriptor]) -> bool
     ensures value { result ≡ list_any (is_same_descriptor source.now word) before.now }
 {
     before.iter().any(|other| is_same_part(source, word, open_descriptor(other).0))
 }
 
-/// The first fault of a descriptor.
+/// Returns the first fault of a descriptor.
 fn descriptor_fault(
     source: &[u8],
     before: &[Descriptor],
@@ -270,8 +271,8 @@ fn descriptor_fault(
     }
 }
 
-/// The first fault in the descriptors of a command: a word that stood there already, or a descriptor with content
-/// that isn't served.
+/// Returns the first fault in a command's descriptors: a repeated word, or content of a descriptor that is not
+/// supported.
 #[tactic(auto, using(crate::proofs::FaultSteps::walking))]
 pub fn descriptors_fault(source: &[u8], descriptors: &[Descriptor]) -> Option<ErrorNumber>
     ensures value { result ≡ descriptors_fault source.now descriptors.now }

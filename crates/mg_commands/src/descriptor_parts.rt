@@ -7,7 +7,7 @@ use crate::part::Part;
 use mg_text::{AuditWord, ControlPart, Descriptor, MediaPart, StreamPart};
 use std::marker::Model;
 
-/// A part of a stream: its word, and what its LocalControl holds.
+/// Splits a part of a stream into its keyword and the content of its LocalControl.
 pub fn open_stream_part(stream: u32, part: &StreamPart) -> (Part, &[ControlPart])
     ensures word { result.0 ≡ stream_word stream part.now }
     ensures controls { result.1.now ≡ controls_within part.now }
@@ -19,7 +19,7 @@ pub fn open_stream_part(stream: u32, part: &StreamPart) -> (Part, &[ControlPart]
     }
 }
 
-/// A descriptor: its word, and what its Media or its Audit holds.
+/// Splits a descriptor into its keyword and the content of its Media or Audit.
 pub fn open_descriptor(descriptor: &Descriptor) -> (Part, &[MediaPart], &[AuditWord])
     ensures word { result.0 ≡ descriptor_word descriptor.now }
     ensures media { result.1.now ≡ media_within descriptor.now }
@@ -32,7 +32,7 @@ pub fn open_descriptor(descriptor: &Descriptor) -> (Part, &[MediaPart], &[AuditW
     }
 }
 
-/// The parts of descriptors in the order of their text. Contracts see the list of those that are still to come.
+/// An iterator over the parts of descriptors, in order of the text. Contracts see the list of those that are left.
 #[derive(Drop)]
 pub struct DescriptorParts<'a> {
     descriptors: &'a [Descriptor],
@@ -40,11 +40,11 @@ pub struct DescriptorParts<'a> {
     words: &'a [AuditWord],
     /// The rest of a Media descriptor.
     media: &'a [MediaPart],
-    /// The number of the stream that is being read.
+    /// The number of the current stream.
     stream: u32,
-    /// Its rest.
+    /// The rest of the current stream.
     parts: &'a [StreamPart],
-    /// The rest of its LocalControl.
+    /// The rest of the stream's LocalControl.
     controls: &'a [ControlPart],
 }
 

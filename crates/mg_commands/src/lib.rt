@@ -1,27 +1,29 @@
-//! Transactions of a controller (RFC 3525, section 8): what each command of a request comes to, and the reply.
+//! Runs the transactions of a controller and collects their replies.
 //!
-//! A [`Request`](mg_text::Request) names its terminations by places in its message, so [`transaction`] is handed
-//! the message too. It does what the commands ask on an [`Engine`](mg_engine::Engine), puts what came of each into a
-//! [`Reply`](mg_text::Reply), and takes no memory:
+//! See RFC 3525, section 8.
+//!
+//! A [`Request`](mg_text::Request) refers to parts of its message by spans, so [`transaction`] takes the message too.
+//! It runs the commands on an [`Engine`](mg_engine::Engine), puts their outcomes into a [`Reply`](mg_text::Reply), and
+//! does not allocate:
 //!
 //! ```rust
 //! transaction(&mut engine, source, &request, &mut reply);
 //! assert!(rt; write_reply(&reply, &mut text).is_ok());
 //! ```
 //!
-//! The commands of a request are tried in their order, action by action, up to the first that fails. What was not
-//! tried isn't told. A command that is refused leaves the engine as it was. What an action asks of its context as a
-//! whole, a topology and an audit of it, is done after its commands, if none ended it.
+//! Commands are tried in order, action by action, up to the first that fails. Commands that were not tried are not
+//! reported. A rejected command leaves the engine unchanged. What an action asks of its context, a topology and an
+//! audit of it, is done after its commands, unless one of them ended it.
 //!
-//! A Modify, Subtract or AuditValue of `*` (RFC 3525, section 6.2.2) is for each member that the action's context has
-//! when the command begins, in the order of their entry. The reply has an item for each. An error at one doesn't keep
-//! the others from being tried, but afterwards the command counts as failed. Where it may not be tried at all, as with
-//! a descriptor at fault or in a context without members, the reply has one item, named `*`.
+//! A Modify, Subtract or AuditValue of `*` (RFC 3525, section 6.2.2) is tried on each current member of the action's
+//! context, in order of entry. The reply has an item for each. An error for one does not stop the others, but the
+//! command then counts as failed. If it may not be tried at all, the reply has one item, named `*`: a descriptor is
+//! faulty, or the context has no members, for example.
 //!
-//! A command marked `O-` (section 8.2.2) is optional: where it fails, the reply tells its error, and the commands after
-//! it are still tried. It doesn't save an action that is refused as a whole, which always ends the request.
+//! A command marked `O-` (section 8.2.2) is optional: if it fails, the reply reports its error, and the next commands
+//! are still tried. It does not save an action that is rejected as a whole, which always ends the request.
 //!
-//! [`Kept`] keeps the replies for requests that come again.
+//! [`Kept`] keeps the replies that answer retransmissions.
 #![tactic(auto)]
 
 mod action_fault;

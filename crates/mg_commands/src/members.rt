@@ -11,7 +11,7 @@ use mg_engine::{Engine, Target};
 use mg_text::{CommandWord, ErrorNumber};
 use mg_words::MEMBERS;
 
-/// Whether a command may be for all members of its context.
+/// Returns whether a command may name all members of its context.
 fn takes_all(word: CommandWord) -> bool
     ensures value { result ≡ takes_all word }
 {
@@ -25,7 +25,7 @@ fn takes_all(word: CommandWord) -> bool
     }
 }
 
-/// The members of an action's context, in the order of their entry. A context that isn't there has none.
+/// Returns the members of an action's context, in order of entry: none if the context does not exist.
 fn members_in(engine: &Engine, target: Target) -> &[u32]
     ensures value { (w : Gateway) → StandsFor engine.now w → result.now ≡ members_in w target }
     ensures few { length result.now ≤ MEMBERS }
@@ -36,7 +36,7 @@ fn members_in(engine: &Engine, target: Target) -> &[u32]
     }
 }
 
-/// The members that a command for all of them is tried on (RFC 3525, section 6.2.2), of which there is at least one.
+/// Returns the members that a command for all of them is tried on (RFC 3525, section 6.2.2): at least one.
 pub fn all_members(
     engine: &Engine,
     target: Target,
@@ -57,7 +57,7 @@ pub fn all_members(
     Ok(members)
 }
 
-/// A copy of the members, at its front: a Subtract changes those of the context.
+/// Copies the members to the front of an array, since a Subtract changes those of the context.
 pub fn copy_of(members: &[u32]) -> [u32; MEMBERS]
     requires few { length members.now ≤ MEMBERS }
     ensures front { take (length members.now) result ≡ members.now }

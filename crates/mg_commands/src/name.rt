@@ -5,7 +5,7 @@ ghost use Rattle.mg_commands.specs.Name.{name_in_rtp, name_of, written_as, writt
 use mg_text::Term;
 use mg_words::{after_prefix, number_of};
 
-/// What the name of a termination reads as (RFC 3525, section 6.2), whatever the case of its letters.
+/// The meaning of a termination's name (RFC 3525, section 6.2), ignoring case.
 #[derive(Clone, Copy, Debug, PartialEq, Eq)]
 pub enum Name {
     /// `ROOT`: the gateway as a whole.
@@ -14,13 +14,13 @@ pub enum Name {
     Choose,
     /// `*` or `RTP/*`: all terminations of the context.
     All,
-    /// `RTP/` and a number of at least 1 without a leading zero: a termination by its number.
+    /// `RTP/` and a number of at least 1 without a leading zero: the termination with this number.
     Number(u32),
     /// Any other name. No termination has it.
     Other,
 }
 
-/// What a name reads as by what stands after its `RTP/`.
+/// Parses the part of a name after `RTP/`.
 #[tactic(auto, unfolding(crate::specs::Name::name_in_rtp))]
 fn name_in_rtp(text: &[u8]) -> Name
     ensures value { result ≡ name_in_rtp text.now }
@@ -36,7 +36,7 @@ fn name_in_rtp(text: &[u8]) -> Name
     }
 }
 
-/// What the name of a termination reads as.
+/// Parses the name of a termination.
 #[tactic(auto, unfolding(crate::specs::Name::name_of))]
 pub fn name_of(text: &[u8]) -> Name
     ensures value { result ≡ name_of text.now }
@@ -54,7 +54,7 @@ pub fn name_of(text: &[u8]) -> Name
     }
 }
 
-/// A name as a reply has it: in its own form where it reads as something, any other as it stands in the request.
+/// Returns the spelling of a name in a reply: the gateway's own if it has a meaning, otherwise as received.
 pub fn written_as(text: &[u8], name: Name) -> Term
     requires term { is_term text.now ≡ true }
     ensures value { result ≡ written_as text.now name }
@@ -68,8 +68,9 @@ pub fn written_as(text: &[u8], name: Name) -> Term
     }
 }
 
-/// The name as a reply has it: one that reads as `RTP/n`, `ROOT`, `$` or `*` is written so, any other as it
-/// stands in the request.
+/// Returns the spelling of a name in a reply.
+///
+/// A name that means `RTP/n`, `ROOT`, `$` or `*` is written so, any other as received.
 #[tactic(auto, unfolding(crate::specs::Name::written_name))]
 pub fn written_name(text: &[u8]) -> Term
     requires term { is_term text.now ≡ true }

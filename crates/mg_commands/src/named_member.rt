@@ -27,7 +27,7 @@ impl Model for NamedMember {
 }
 
 impl NamedMember {
-    /// A member with its name.
+    /// Makes the name of a member.
     pub fn new(seated: SeatedMember) -> Self
         ensures value { result ≡ seated }
     {
@@ -37,14 +37,14 @@ impl NamedMember {
         }
     }
 
-    /// The member.
+    /// Returns the member.
     pub fn seated(&self) -> SeatedMember
         ensures value { result ≡ self.now }
     {
         self.seated
     }
 
-    /// The name of its termination.
+    /// Returns the name of the member's termination.
     pub fn name(&self) -> RtpName
         ensures value { result ≡ rtp_name self.now.number }
     {
@@ -62,7 +62,7 @@ impl Default for NamedMember {
     }
 }
 
-/// Members with their names.
+/// Makes the names of members.
 pub fn named_members(members: &[SeatedMember]) -> ArrayVec<NamedMember, MEMBERS>
     requires few { length members.now ≤ MEMBERS }
     ensures value { result.items ≡ members.now }

@@ -1,4 +1,4 @@
-//! What commands come to.
+//! The commands on one termination, and what a reply reports of them.
 
 ghost use Rattle.std.specs.Prelude.{◌≡◌, OnErr, if◌then◌else◌};
 ghost use Rattle.mg_words.specs.Term.{rtp_name};
@@ -18,7 +18,7 @@ use crate::served::Served;
 use mg_engine::{Engine, Target};
 use mg_text::{CommandWord, ErrorNumber, Parts, Term};
 
-/// What is told of the termination with a number.
+/// Returns what is reported of the termination with this number.
 fn served_at(target: Target, number: u32, parts: Parts) -> Served
     ensures value { result ≡ served_at target (rtp_name number) parts }
 {
@@ -30,7 +30,7 @@ fn served_at(target: Target, number: u32, parts: Parts) -> Served
     }
 }
 
-/// The same of one that was made.
+/// Returns what is reported of a termination that was made.
 fn made_at(target: Target, number: u32, parts: Parts) -> Served
     ensures value { result ≡ made_at target number parts }
 {
@@ -42,7 +42,7 @@ fn made_at(target: Target, number: u32, parts: Parts) -> Served
     }
 }
 
-/// An Add (RFC 3525, section 7.2.1).
+/// Runs an Add (RFC 3525, section 7.2.1).
 fn add_outcome(
     engine: &mut Engine,
     target: Target,
@@ -61,7 +61,7 @@ fn add_outcome(
     Ok(made_at(Target::Number(added.context), added.number, parts))
 }
 
-/// A Modify (RFC 3525, section 7.2.2).
+/// Runs a Modify (RFC 3525, section 7.2.2).
 fn modify_outcome(
     engine: &mut Engine,
     target: Target,
@@ -80,7 +80,7 @@ fn modify_outcome(
     Ok(served_at(target, number, parts))
 }
 
-/// A Move (RFC 3525, section 7.2.4).
+/// Runs a Move (RFC 3525, section 7.2.4).
 fn move_outcome(
     engine: &mut Engine,
     target: Target,
@@ -99,7 +99,7 @@ fn move_outcome(
     Ok(served_at(Target::Number(moved.context), number, parts))
 }
 
-/// A Subtract (RFC 3525, section 7.2.3). What it tells is as it was before.
+/// Runs a Subtract (RFC 3525, section 7.2.3). It reports the state before the command.
 fn subtract_outcome(
     engine: &mut Engine,
     target: Target,
@@ -117,7 +117,7 @@ fn subtract_outcome(
     Ok(served_at(target, number, before))
 }
 
-/// An AuditValue of a termination (RFC 3525, section 7.2.5).
+/// Runs an AuditValue of a termination (RFC 3525, section 7.2.5).
 fn audit_termination(
     engine: &Engine,
     target: Target,
@@ -132,7 +132,7 @@ fn audit_termination(
     Ok(served_at(target, number, parts))
 }
 
-/// An AuditValue of the gateway as a whole, which tells that it is there.
+/// Runs an AuditValue of the gateway as a whole, which reports only that it exists.
 fn audit_root(target: Target) -> Result<Served, ErrorNumber>
     ensures value { result ≡ audit_root target }
 {
@@ -150,7 +150,7 @@ fn audit_root(target: Target) -> Result<Served, ErrorNumber>
     }
 }
 
-/// An AuditValue.
+/// Runs an AuditValue.
 fn audit_outcome(
     engine: &Engine,
     target: Target,
@@ -167,7 +167,7 @@ fn audit_outcome(
     }
 }
 
-/// What a command comes to for one name, its text having been checked. A refused one changes nothing.
+/// Runs a command for one name, after its text was checked. A rejected command changes nothing.
 #[tactic(auto, unfolding(crate::specs::Outcome::outcome))]
 pub fn outcome(
     engine: &mut Engine,

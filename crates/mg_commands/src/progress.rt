@@ -1,10 +1,10 @@
 use mg_engine::Target;
 
-/// How far an action has come.
+/// The progress of an action.
 #[derive(Clone, Copy, Debug, PartialEq, Eq)]
 pub struct Progress {
-    /// Its context.
+    /// The action's context so far.
     pub target: Target,
-    /// The termination that its first Add made.
+    /// The termination that its first Add made, if any.
     pub made: Option<u32>,
 }

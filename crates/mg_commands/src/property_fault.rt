@@ -7,7 +7,7 @@ use crate::part::Part;
 use mg_text::{ControlPart, Descriptor, ErrorNumber, PropertyValue};
 use mg_words::uint16_of;
 
-/// The value of `nt/jit` in milliseconds: a word of one to five digits, at most 65535.
+/// Parses the value of `nt/jit` in milliseconds: one to five digits, at most 65535.
 pub fn jitter_of(source: &[u8], value: Option<PropertyValue>) -> Option<u16>
     ensures value { result ≡ jitter_of source.now value }
 {
@@ -17,8 +17,8 @@ pub fn jitter_of(source: &[u8], value: Option<PropertyValue>) -> Option<u16>
     }
 }
 
-/// The fault of a part of a LocalControl: a reservation, or a property that isn't served or has another value than it
-/// may have.
+/// Returns the fault of a part of a LocalControl: a reservation, an unsupported property, or a value that is not
+/// allowed.
 fn control_fault(source: &[u8], part: &ControlPart) -> Option<ErrorNumber>
     ensures value { result ≡ control_fault source.now part.now }
 {
@@ -37,7 +37,7 @@ fn control_fault(source: &[u8], part: &ControlPart) -> Option<ErrorNumber>
     }
 }
 
-/// The fault of a part. A stream other than 1 is one.
+/// Returns the fault of a part. A stream other than 1 is a fault.
 fn property_fault(source: &[u8], part: Part) -> Option<ErrorNumber>
     ensures value { result ≡ property_fault source.now part }
 {
@@ -49,7 +49,7 @@ fn property_fault(source: &[u8], part: Part) -> Option<ErrorNumber>
     }
 }
 
-/// The first property at fault in the descriptors of a command.
+/// Returns the first faulty property in a command's descriptors.
 pub fn properties_fault(source: &[u8], descriptors: &[Descriptor]) -> Option<ErrorNumber>
     ensures value { result ≡ properties_fault source.now descriptors.now }
 {

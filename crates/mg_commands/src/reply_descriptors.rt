@@ -4,18 +4,18 @@ ghost use Rattle.mg_commands.specs.ReplyDescriptors.{is_offer, descriptors_after
 use crate::command_parameters::CommandParameters;
 use mg_engine::MediaSetting;
 
-/// What a reply is to tell of a termination.
+/// What a reply reports of a termination.
 #[derive(Clone, Copy, Debug, PartialEq, Eq)]
 pub struct ReplyDescriptors {
-    /// All that is set of its media.
+    /// All settings of its media.
     pub media: bool,
-    /// Its Local, where not all of its media are told.
+    /// Only its Local, unless all settings are reported.
     pub local: bool,
     /// Its counters.
     pub statistics: bool,
 }
 
-/// Whether a Local that isn't blank was set.
+/// Returns whether a Local that is not blank was set.
 fn is_offer(setting: &Option<MediaSetting>) -> bool
     ensures value { result ≡ is_offer setting.now }
 {
@@ -26,7 +26,7 @@ fn is_offer(setting: &Option<MediaSetting>) -> bool
 }
 
 impl ReplyDescriptors {
-    /// After an Add, Modify or Move: what is audited, and the Local that was set.
+    /// Returns what is reported after an Add, Modify or Move: what is audited, and the Local that was set.
     pub fn after(parameters: &CommandParameters) -> ReplyDescriptors
         ensures value { result ≡ descriptors_after parameters.now }
     {
@@ -37,7 +37,7 @@ impl ReplyDescriptors {
         }
     }
 
-    /// By an AuditValue: what is audited.
+    /// Returns what is reported for an AuditValue: what is audited.
     pub fn by_audit(parameters: &CommandParameters) -> ReplyDescriptors
         ensures value { result ≡ descriptors_by_audit parameters.now }
     {
@@ -48,7 +48,7 @@ impl ReplyDescriptors {
         }
     }
 
-    /// Before a Subtract: what is audited, and without an audit the counters.
+    /// Returns what is reported before a Subtract: what is audited or, without an audit, the counters.
     pub fn before(parameters: &CommandParameters) -> ReplyDescriptors
         ensures value { result ≡ descriptors_before parameters.now }
     {

@@ -8,7 +8,7 @@ use crate::reply_descriptors::ReplyDescriptors;
 use mg_engine::{Engine, Record, Stats};
 use mg_text::{Control, Media, Parts};
 
-/// All that is set of a termination's media.
+/// Returns all settings of a termination's media, by its record.
 fn media_of_record(termination: Record) -> Media
     ensures value { result ≡ media_of_record termination }
 {
@@ -22,7 +22,7 @@ fn media_of_record(termination: Record) -> Media
     }
 }
 
-/// All that is set of a termination's media.
+/// Returns all settings of a termination's media.
 fn whole_media(engine: &Engine, number: u32) -> Option<Media>
     ensures value { (w : Gateway) → StandsFor engine.now w → result ≡ whole_media w number }
 {
@@ -32,7 +32,7 @@ fn whole_media(engine: &Engine, number: u32) -> Option<Media>
     }
 }
 
-/// The Local of a termination, alone.
+/// Returns only the Local of a termination.
 fn local_media(engine: &Engine, number: u32) -> Option<Media>
     ensures value { (w : Gateway) → StandsFor engine.now w → result ≡ local_media w number }
 {
@@ -43,7 +43,7 @@ fn local_media(engine: &Engine, number: u32) -> Option<Media>
     }
 }
 
-/// The whole media, or else the Local alone.
+/// Returns all settings, or only the Local.
 fn reply_media(engine: &Engine, number: u32, descriptors: ReplyDescriptors) -> Option<Media>
     ensures value { (w : Gateway) → StandsFor engine.now w → result ≡ reply_media descriptors w number }
 {
@@ -56,7 +56,7 @@ fn reply_media(engine: &Engine, number: u32, descriptors: ReplyDescriptors) -> O
     }
 }
 
-/// The counters, if they are wanted.
+/// Returns the counters, if they are wanted.
 fn reply_statistics(engine: &Engine, number: u32, is_wanted: bool) -> Option<Stats>
     ensures value { (w : Gateway) → StandsFor engine.now w → result ≡ (if is_wanted then stats_of w number else None) }
 {
@@ -67,7 +67,7 @@ fn reply_statistics(engine: &Engine, number: u32, is_wanted: bool) -> Option<Sta
     }
 }
 
-/// What a reply tells of a termination.
+/// Returns what a reply reports of a termination.
 pub fn reply_parts(engine: &Engine, number: u32, descriptors: ReplyDescriptors) -> Parts
     ensures value { (w : Gateway) → StandsFor engine.now w → result ≡ reply_parts descriptors w number }
 {

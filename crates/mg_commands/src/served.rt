@@ -1,15 +1,15 @@
 use mg_engine::Target;
 use mg_text::{Parts, Term};
 
-/// What a command that was done comes to.
+/// The result of a command that was done.
 #[derive(Drop)]
 pub struct Served {
-    /// The action's context after it.
+    /// The action's context after the command.
     pub target: Target,
-    /// The termination that it made.
+    /// The termination that the command made, if any.
     pub made: Option<u32>,
-    /// The termination's name, as the reply has it.
+    /// The termination's name, as spelled in the reply.
     pub term: Term,
-    /// What the reply tells of it.
+    /// What the reply reports of the termination.
     pub parts: Parts,
 }

@@ -24,8 +24,7 @@ use crate::progress::Progress;
 use mg_engine::{Engine, Target};
 use mg_text::{Action, Command, ContextId, ErrorNumber, Item, Outcome, Reply, Request};
 
-/// Tries a command for one name, in an action that has come so far. The answer is how far it comes, and whether the
-/// command was done.
+/// Tries a command for one name. Returns the progress of the action, and whether the command was done.
 fn try_name(
     engine: &mut Engine,
     source: &[u8],
@@ -58,8 +57,9 @@ fn try_name(
     }
 }
 
-/// Tries a command for each of some members, one after another. One for which it fails doesn't keep the others from
-/// being tried. The answer is how far the action comes, and whether the command was done for all.
+/// Tries a command for several members, one after another. A failure for one does not stop the others.
+///
+/// Returns the progress of the action, and whether the command was done for all.
 fn try_members(
     engine: &mut Engine,
     source: &[u8],
@@ -86,7 +86,7 @@ fn try_members(
     (progress, were_done)
 }
 
-/// Tells that a command may not be tried at all.
+/// Reports that a command may not be tried at all.
 fn put_refusal(source: &[u8], command: &Command, number: ErrorNumber, reply: &mut Reply)
     requires proper { command_is_proper source.now command.now ≡ true }
     ensures value { reply.new ≡ after_put reply.old
@@ -96,7 +96,7 @@ fn put_refusal(source: &[u8], command: &Command, number: ErrorNumber, reply: &mu
     reply.put(Item::Command(command.word, term, Outcome::Failed(number)));
 }
 
-/// Tries a command for all members that its context has when it begins, in the order of their entry.
+/// Tries a command for all members that its context has when it starts, in order of entry.
 fn try_all(
     engine: &mut Engine,
     source: &[u8],
@@ -125,8 +125,9 @@ fn try_all(
     }
 }
 
-/// Tries a command of an action that has come so far: for the name that it has, or with `*` for all members. The answer
-/// is how far it comes, and whether the command was done.
+/// Tries a command of an action, for its name or, with `*`, for all members.
+///
+/// Returns the progress of the action, and whether the command was done.
 fn try_command(
     engine: &mut Engine,
     source: &[u8],
@@ -151,8 +152,9 @@ fn try_command(
     }
 }
 
-/// Tries the commands of an action up to the first that fails and isn't optional. The answer is how far they come, and
-/// whether there was none such.
+/// Tries the commands of an action up to the first failure of one that is not optional.
+///
+/// Returns the progress of the action, and whether there was no such failure.
 #[tactic(auto, using(crate::proofs::RunLemmas::propers))]
 fn try_commands(
     engine: &mut Engine,
@@ -178,7 +180,7 @@ fn try_commands(
     (progress, true)
 }
 
-/// The context that an action begins in.
+/// Returns the context that an action starts in.
 fn target_of(context: ContextId) -> Target
     ensures value { result ≡ target_of context }
 {
@@ -189,7 +191,7 @@ fn target_of(context: ContextId) -> Target
     }
 }
 
-/// The context that the reply names.
+/// Returns the context that the reply names.
 fn id_of(target: Target) -> ContextId
     ensures value { result ≡ id_of target }
 {
@@ -200,8 +202,9 @@ fn id_of(target: Target) -> ContextId
     }
 }
 
-/// Tries an action: its commands, and then, unless one failed, what it asks of its context. The answer is whether it
-/// was done whole.
+/// Tries an action: its commands, and then its properties, unless a command failed.
+///
+/// Returns whether it was completed.
 #[tactic(auto, unfolding(crate::specs::Transaction::with_action))]
 fn try_action(engine: &mut Engine, source: &[u8], action: &Action, reply: &mut Reply) -> bool
     requires proper { action_is_proper source.now action.now ≡ true }
@@ -226,7 +229,7 @@ fn try_action(engine: &mut Engine, source: &[u8], action: &Action, reply: &mut R
     is_done
 }
 
-/// Tries actions up to the first that isn't done whole.
+/// Tries actions up to the first that is not completed.
 #[tactic(auto, using(crate::proofs::RunLemmas::propers))]
 fn try_actions(engine: &mut Engine, source: &[u8], actions: &[Action], reply: &mut Reply)
     requires proper { list_all (action_is_proper source.now) actions.now ≡ true }
@@ -241,25 +244,26 @@ fn try_actions(engine: &mut Engine, source: &[u8], actions: &[Action], reply: &m
     }
 }
 
-/// Runs a request of the message that stands in `source`: tries its commands in their order up to the first
-/// that fails, and puts what came of them into the reply, which is emptied before. A command for all members (`*`)
-/// fails where it fails for one of them, after all were tried. An optional one (`O-`) may fail: it ends nothing. After
-/// the commands of an action come its triples, all or none, and then its audit. An action that is refused as a whole,
-/// before its commands or after them, ends the request too, whatever its commands are marked with.
+/// Runs a request of the message `source`, and puts the outcomes of its commands into the reply, which it empties
+/// first.
+///
+/// Commands are tried in order, up to the first that fails. A command for all members (`*`) fails if it fails for any
+/// of them; all are tried. The failure of an optional command (`O-`) ends nothing. An action's triples follow its
+/// commands, all or none, and then its audit. An action that is rejected as a whole, before or after its commands,
+/// ends the request even if its commands are optional.
 pub fn transaction(engine: &mut Engine, source: &[u8], request: &Request, reply: &mut Reply)
     requires proper { request_is_proper source.now request.now ≡ true }
     ensures ran { Leads StandsFor engine.old engine.new (λ w next. ((replied source.now request.now w).gateway ≡ next)
         × (reply.new ≡ after_all (new_reply request.now.number) (replied source.now request.now w).items)) }
     ensures whole { IsWhole reply.new }
 
-    // Each item has at least 10 bytes with its comma, and the last ends an action. So a reply is too long by the
-    // length of its text alone, whether or not each item found room.
+    // Each item has at least 10 bytes with its comma, and the last one ends an action. So whether a reply is too long
+    // depends only on the length of its text.
     ensures wide { (w : Gateway) → list_all is_wide (replied source.now request.now w).items ≡ true }
     ensures ended { (w : Gateway) → (is_refusal (replied source.now request.now w).items
         || last_is_action false (replied source.now request.now w).items) ≡ true }
 
-    // At most four rows for each edit that was done: none for a command that is refused or that audits, and none for
-    // triples.
+    // At most four rows for each edit that was done. Rejected commands, audits and triples cost none.
     ensures work { (w : Gateway) → StandsFor engine.old w →
         RisesAtMost (4 * edits_reported (replied source.now request.now w).items) engine.old.sums.work
         engine.new.sums.work }

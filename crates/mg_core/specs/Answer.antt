@@ -1,4 +1,4 @@
--- What a gateway answers to a control datagram, and what becomes of the world by it.
+-- The answer to a control datagram, and how the datagram changes the world.
 use Rattle.std.specs.Prelude.{◌≡◌, ℕ, nat_lt, Bool, true, false, List, [], ◌∷◌, ◌++◌, length}
 use Rattle.std.specs.Prelude.{Option, Some, None, if◌then◌else◌}
 use Rattle.std.specs.Option.{option_map_or}
@@ -26,7 +26,8 @@ use Rattle.mg_core.specs.World.{World}
 
 -- ## A reply
 
--- a reply is sent whole if it has at most 16,000 bytes, and else the error in its place
+-- the text of a reply that is sent: the whole reply if it has at most 16,000 bytes, otherwise an
+-- error
 abbrev pub sent_text : ℕ → List Item → List ℕ
 sent_text n items =
     if nat_lt reply_limit (length (reply_text n items))
@@ -44,8 +45,8 @@ has_requests xs = list_any is_request xs
 
 -- ## A request
 
--- the reply to a request that is run, and the world after it: what its commands left of the
--- gateway, and the reply kept
+-- The reply to a request that is run, and the world after it: the gateway after its commands, and
+-- the reply is kept.
 abbrev pub run_and_kept : List ℕ → ℕ → World → TransactionState → List ℕ × World
 run_and_kept sender n w s =
     let text = sent_text n s.items in (
@@ -56,8 +57,8 @@ run_and_kept sender n w s =
       },
     )
 
--- The reply to a request of a sender, and the world after it (RFC 3525, section 8.2). Where a
--- request comes again while its reply is kept, that is sent, and the world stays as it was.
+-- The reply to a sender's request, and the world after it (RFC 3525, section 8.2). If its reply is
+-- kept, that is sent, and the world is unchanged.
 abbrev pub request_replied : List ℕ → List ℕ → Request → World → List ℕ × World
 request_replied source sender request w =
     option_map_or (λ text. (text, w)) (kept_text w.replies sender request.number)
@@ -65,35 +66,35 @@ request_replied source sender request w =
 
 -- ## An item of a message
 
--- what is left of kept replies when a sender tells that those with numbers in these ranges came
+-- the kept replies that are left after a sender acknowledged these ranges of numbers
 abbrev pub without_ranges : List ℕ → List Range → List KeptReply → List KeptReply
 without_ranges sender [] replies = replies
 without_ranges sender (x ∷ xs) replies =
     without_ranges sender xs (without_range sender x.first x.last replies)
 
--- what is written, with a text in front of it
+-- what is written, after a text in front
 abbrev pub with_front : List ℕ → List ℕ × World → List ℕ × World
 with_front text p = (text ++ p.0, p.1)
 
--- What is written for an item that came from a sender, and the world after it: a mark and the
--- reply, if it is a request; nothing, if it acknowledges replies.
+-- What is written for an item of a sender, and the world after it. For a request: a mark and its
+-- reply. For an acknowledgement: nothing.
 abbrev pub item_replied : List ℕ → List ℕ → List ℕ → MessageItem → World → List ℕ × World
 item_replied source sender mark (items.Request request) w =
     with_front mark (request_replied source sender request w)
 item_replied source sender mark (items.Acknowledgement ranges) w =
     ([], record w { replies = without_ranges sender ranges w.replies })
 
--- the mark of the next reply: a line feed after the first
+-- the mark before the next reply: a line feed after the first reply
 abbrev pub mark_after : List ℕ → MessageItem → List ℕ
 mark_after mark (items.Request request) = 10 ∷ []
 mark_after mark (items.Acknowledgement ranges) = mark
 
--- what is written after what was, in the world that it came to
+-- what is written next, in the world that the first part left
 abbrev pub followed : (World → List ℕ × World) → List ℕ × World → List ℕ × World
 followed rest p = with_front p.0 (rest p.1)
 
--- The replies to the requests among items, the first with this mark before it, and the world after
--- all of them: each is run in the world that the one before it left.
+-- The replies to the requests among the items, with this mark before the first, and the world
+-- after all of them. Each item is handled in the world that the previous one left.
 unfoldable pub replied_to : List ℕ → List ℕ → List ℕ → List MessageItem → World → List ℕ × World
 replied_to source sender mark [] w = ([], w)
 replied_to source sender mark (x ∷ xs) w =
@@ -101,11 +102,11 @@ replied_to source sender mark (x ∷ xs) w =
 
 -- ## A datagram
 
--- what an answer begins with
+-- the head of an answer
 abbrev pub answer_head : World → List ℕ
 answer_head w = head_text w.gateway.config.control_address w.gateway.config.control_port
 
--- an answer with what was written for requests; where there is none, silence
+-- an answer with what was written for requests; without a request, no answer
 abbrev pub if_asked : Bool → List ℕ → List ℕ × World → Option (List ℕ) × World
 if_asked true head p = (Some (head ++ p.0), p.1)
 if_asked false head p = (None, p.1)
@@ -116,7 +117,7 @@ to_message source m w =
     if_asked (has_requests (items_of m.body)) (answer_head w)
     (replied_to source (text_of source m.sender) [] (items_of m.body) w)
 
--- a datagram that is refused as a whole leaves the world as it was
+-- a datagram that is rejected as a whole does not change the world
 abbrev pub refused : ErrorNumber → World → Option (List ℕ) × World
 refused number w = (Some (answer_head w ++ error_text number), w)
 
@@ -126,7 +127,7 @@ answered source TooMany w = refused NotServed w
 answered source (OtherVersion n) w = refused Version w
 answered source NoMessage w = refused Syntax w
 
--- the answer to a datagram, if there is one, and the world after it, by what it reads as
+-- the answer to a datagram, if there is one, and the world after it, by how the datagram is read
 abbrev pub Answers : List ℕ → World → Option (List ℕ) → World → Type 0
 Answers source w answer next =
     (reading : MessageReading) × IsMessageReading source reading

@@ -1,4 +1,5 @@
--- Whatever some terminations send, whoever doesn't hear them is sent the same, over any time.
+-- Whatever some terminations send, what others are sent is the same unless they hear it, over any
+-- time.
 use Rattle.std.specs.Prelude.{◌≡◌, ℕ, ◌==◌, Bool, false, List, [], ◌∷◌, filter, map, Option}
 use Rattle.std.specs.List.{AllByRecursion}
 use Rattle.mg_kept.specs.KeptReplies.{KeptReply}
@@ -20,24 +21,24 @@ use Rattle.mg_core.specs.World.{World, start_of}
 
 -- ## Agreement
 
--- what a kept reply answers
+-- the request that a kept reply answers
 abbrev pub key_of : KeptReply → List ℕ × ℕ
 key_of reply = (reply.sender, reply.number)
 
--- Two worlds agree outside some terminations where their gateways do, and the same requests are
--- answered by kept replies. Nothing is said of the texts of these, which may tell packets received,
--- nor of how many events came.
+-- Two worlds agree outside some terminations if their gateways do, and kept replies answer the
+-- same requests. The texts of these replies may differ, since they may report received packets.
+-- The numbers of events may differ too.
 pub record AgreeOutside (some : List ℕ) (a b : World) : Type 0 where
   pub gateway : engine.AgreeOutside some a.gateway b.gateway
   pub replies : map key_of a.replies ≡ map key_of b.replies
 
--- the same event, whatever it is, keeps it
+-- the same event preserves agreement
 abbrev pub SameEventKeepsAgreement : Type 0
 SameEventKeepsAgreement =
     (some : List ℕ) (a b x y : World) (event : Event) (s t : List Sent)
     → AgreeOutside some a b → Step a event s x → Step b event t y → AgreeOutside some x y
 
--- so does an RTP datagram to one of these terminations that comes to one of the worlds alone
+-- so does an RTP datagram to one of these terminations that arrives in only one of the worlds
 abbrev pub OneArrivalKeepsAgreement : Type 0
 OneArrivalKeepsAgreement =
     (some : List ℕ) (a b x : World) (port : ℕ) (source : Peer) (bytes : List ℕ) (s : List Sent)

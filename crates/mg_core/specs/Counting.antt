@@ -1,5 +1,5 @@
--- What is counted are the events that came, what became of each RTP datagram among them, and the
--- frames that stood in for missing ones.
+-- The counts are the numbers of events, of the results of RTP datagrams, and of frames that
+-- concealed missing ones.
 use Rattle.std.specs.Prelude.{◌≡◌, ℕ, ◌+◌, ◌==◌, Bool, true, false, List, [], ◌∷◌, map, count_by}
 use Rattle.mg_engine.specs.declared.config.Config.{Config}
 use Rattle.mg_engine.specs.declared.taken.Taken.{Taken}
@@ -10,7 +10,7 @@ use Rattle.mg_core.specs.declared.event.Event.TheVariants.{Control, Media, Tick}
 use Rattle.mg_core.specs.Step.{Sent, Step, Run}
 use Rattle.mg_core.specs.World.{World, Tally, TakesMedia, cause_of, placed_counter, start_of}
 
--- ## Events, and what became of RTP datagrams
+-- ## Events, and the results of RTP datagrams
 
 abbrev pub is_control : Event → Bool
 is_control (Control source bytes) = true
@@ -24,8 +24,8 @@ abbrev pub is_tick : Event → Bool
 is_tick Tick = true
 is_tick _ = false
 
--- Events are run one after another. This becomes of the RTP datagrams among them, in order, and so
--- many frames are concealed in the ticks among them.
+-- Events run one after another. The RTP datagrams among them have these results, in order, and the
+-- ticks conceal this many frames.
 abbrev pub RunTaking : World → List Event → List Taken → ℕ → World → Type 0
 RunTaking w [] taken concealed last = (taken ≡ []) × (concealed ≡ 0) × (last ≡ w)
 RunTaking w (Control source bytes ∷ events) taken concealed last =
@@ -42,18 +42,18 @@ RunTaking w (Tick ∷ events) taken concealed last =
 
 -- ## Numbers of each
 
--- a play list answered in the way that the counter with this place counts
+-- the result is the one of a play list that counter k counts
 abbrev pub is_placed_as : ℕ → Taken → Bool
 is_placed_as k (Placed p) = placed_counter p == k
 is_placed_as k (Dropped cause) = false
 
--- the datagram was dropped for the cause that the counter with this place counts
+-- the result is a drop for the cause that counter k counts
 abbrev pub is_dropped_for : ℕ → Taken → Bool
 is_dropped_for k (Placed p) = false
 is_dropped_for k (Dropped cause) = cause_of cause == k
 
--- how many came of each kind of event, how many were placed in each way, how many were dropped for
--- each cause, and how many frames were concealed
+-- the number of events of each kind, of each result of placing, of each cause of a drop, and of
+-- concealed frames
 abbrev pub tally_of : List Event → List Taken → ℕ → Tally
 tally_of events taken concealed =
     record {
@@ -65,14 +65,14 @@ tally_of events taken concealed =
       concealed = concealed;
     }
 
--- After any list of events the tally is those numbers.
+-- After any events the tally has these numbers.
 abbrev pub EventsAreCounted : Type 0
 EventsAreCounted =
     (config : Config) (events : List Event) (taken : List Taken) (concealed : ℕ) (last : World)
     → RunTaking (start_of config) events taken concealed last
     → last.tally ≡ tally_of events taken concealed
 
--- In each run something became of each RTP datagram, and some number of frames was concealed.
+-- In each run every RTP datagram has a result, and some number of frames is concealed.
 abbrev pub RunsTake : Type 0
 RunsTake =
     (w last : World) (events : List Event) (sent : List Sent) → Run w events sent last

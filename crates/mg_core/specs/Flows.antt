@@ -1,5 +1,5 @@
--- What an event changed of the terminations and of who hears whom, as comment lines of a script's
--- output. The lines are this gateway's own.
+-- How an event changes the terminations and who hears whom, as comment lines in a script's output.
+-- The format of the lines is this gateway's own.
 use Rattle.std.specs.Prelude.{◌≡◌, ℕ, ◌==◌, Bool, true, false, List, [], ◌++◌, length, filter}
 use Rattle.std.specs.Prelude.{find, flat_map, map, Option, Some, None, is_some, codes, decimal}
 use Rattle.std.specs.Prelude.{if◌then◌else◌}
@@ -18,7 +18,7 @@ use Rattle.mg_core.specs.World.{World, capped}
 -- ## Listeners
 
 -- a termination with its context, its UDP port and its mode, and the numbers of all whose speech
--- goes to it, in rising order
+-- flows to it, in rising order
 pub record Listener : Type 0 where
   pub number : ℕ
   pub context : ℕ
@@ -35,7 +35,7 @@ listener_of w r = record {
   talkers = filter (λ n. flow w n r.number) (numbers_of w);
 }
 
--- all terminations, by rising numbers
+-- all terminations, in order of their numbers
 abbrev pub listeners_of : Gateway → List Listener
 listeners_of w = map (listener_of w) w.rooms.terminations
 
@@ -52,7 +52,7 @@ is_same_mode a b = false
 
 -- ## Lines
 
--- each line tells something of a termination after so many ticks
+-- each line reports something about a termination after this many ticks
 abbrev pub line_head : ℕ → ℕ → List ℕ
 line_head ticks n = codes "# " ++ (decimal ticks ++ (codes " ticks: RTP/" ++ decimal n))
 
@@ -84,12 +84,12 @@ hearing ticks x = change_line ticks x (codes " hears" ++ names_in_line x.talkers
 
 -- ## Changes
 
--- one that was there is there no more
+-- the line of a termination that no longer exists
 abbrev pub lines_of_old : ℕ → List Listener → Listener → List ℕ
 lines_of_old ticks after x = if is_some (listener_at after x.number) then [] else ended_line ticks x
 
--- Of one that wasn't there all is told. Of one that was, what is another now: its context, its
--- mode, and whose speech goes to it.
+-- A new termination is reported completely. For an existing one, only what changed: its context,
+-- its mode, and whose speech flows to it.
 abbrev pub lines_of_new : ℕ → Option Listener → Listener → List ℕ
 lines_of_new ticks None x =
     made_line ticks x ++ (in_mode ticks x ++
@@ -99,13 +99,13 @@ lines_of_new ticks (Some old) x =
     ((if is_same_mode old.mode x.mode then [] else in_mode ticks x) ++
     (if bytes_eq old.talkers x.talkers then [] else hearing ticks x))
 
--- all that changed, from who was there before to who is there after
+-- all changes between the terminations before and those after
 abbrev pub changes : ℕ → List Listener → List Listener → List ℕ
 changes ticks before after =
     flat_map (lines_of_old ticks after) before
     ++ flat_map (λ x. lines_of_new ticks (listener_at before x.number) x) after
 
--- what an event changed that led from one world to the next
+-- the changes that an event made between two worlds
 abbrev pub changes_by : World → World → List ℕ
 changes_by w next =
     changes (capped next.tally.ticks) (listeners_of w.gateway) (listeners_of next.gateway)

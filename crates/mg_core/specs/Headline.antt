@@ -1,5 +1,5 @@
--- What carries the project: the flows, totals and packets of a gateway after any list of events,
--- and what follows for those who aren't to be heard.
+-- The headline theorem: the flows, totals and packets of a gateway after any events, and what
+-- follows for those who must not be heard.
 use Rattle.std.specs.Prelude.{◌≡◌, ℕ, ◌<◌, ◌^◌, ℤ, Bool, true, false, List, [], ◌∷◌, ◌++◌, Option}
 use Rattle.std.specs.List.{list_all}
 use Rattle.mg_rooms.specs.Consistent.{IsConsistent}
@@ -14,52 +14,52 @@ use Rattle.mg_core.specs.declared.state.CoreState.{CoreState}
 use Rattle.mg_core.specs.World.{World, StandsFor, packets_of, start_of}
 use Rattle.mg_core.specs.Step.{Sent, Run}
 
--- A gateway was started with this configuration, these events came to it, one after another, and
--- these datagrams were sent. That led to the world w, and the state stands for it.
+-- A gateway was started with this configuration, these events arrived, one after another, and
+-- these datagrams were sent. The result is the world w, and the state represents it.
 abbrev pub HasHistory : Config → List Event → List Sent → World → CoreState → Type 0
 HasHistory config events sent w state = Run (start_of config) events sent w × StandsFor state w
 
--- Such a list of events leads to one world, and has one list of datagrams sent.
+-- Such a list of events determines the world and the datagrams that are sent.
 abbrev pub EventsDetermineOutcome : Type 0
 EventsDetermineOutcome =
     (config : Config) (events : List Event) (s t : List Sent) (v w : World) (state : CoreState)
     → HasHistory config events s v state → HasHistory config events t w state → (s ≡ t) × (v ≡ w)
 
--- one event more came, and these datagrams more were sent, whatever happened before
+-- one more event arrived, and these datagrams were sent for it, whatever happened before
 abbrev pub ExtendsHistory : CoreState → CoreState → Event → List Sent → Type 0
 ExtendsHistory old new event sent =
     (config : Config) (events : List Event) (before : List Sent) (w : World)
     → HasHistory config events before w old
     → (next : World) × HasHistory config (events ++ event ∷ []) (before ++ sent) next new
 
--- After any list of events the flow that is answered is the one computed anew: from the context,
--- the modes, and all edits of contexts.
+-- After any events, the flow that is returned equals the one recomputed from the context, the
+-- modes, and all edits of contexts.
 abbrev pub FlowIsRecomputed : CoreState → ℕ → ℕ → Bool → Type 0
 FlowIsRecomputed state talker listener answer =
     (config : Config) (events : List Event) (sent : List Sent) (w : World)
     → HasHistory config events sent w state → answer ≡ flow w.gateway talker listener
 
--- After any list of events the total that is answered is the one computed anew: from the members
--- of the context, their modes and their current frames.
+-- After any events, the total that is returned equals the one recomputed from the members of the
+-- context, their modes and their current frames.
 abbrev pub TotalIsRecomputed : CoreState → ℕ → ℕ → Option ℤ → Type 0
 TotalIsRecomputed state context i answer =
     (config : Config) (events : List Event) (sent : List Sent) (w : World)
     → HasHistory config events sent w state → answer ≡ total_at w.gateway context i
 
--- After any list of events the packets of a tick are those computed anew, no more and no fewer, in
--- the order of their terminations' numbers: each payload byte is the encoding of the sum, limited
--- once, over all whose flow to the listener is open.
+-- After any events, the packets of a tick are exactly the recomputed ones, in order of the
+-- terminations' numbers. Each byte of a payload encodes the sum, limited once, of everyone whose
+-- flow to the listener is open.
 abbrev pub PacketsAreRecomputed : CoreState → List Datagram → Type 0
 PacketsAreRecomputed state outbox =
     (config : Config) (events : List Event) (sent : List Sent) (w : World)
     → HasHistory config events sent w state → outbox ≡ packets_of w
 
--- ## After a refused command
+-- ## After a rejected command
 
--- A refused command leaves the gateway as it was, and adds a reply to those that are kept. Flows,
--- totals and the packets of a tick are of the gateway alone; and of two worlds with one gateway,
--- whatever replies they keep, the same RTP datagrams and ticks have the same packets sent and lead
--- to one gateway.
+-- A rejected command leaves the gateway unchanged, and adds a kept reply. Flows, totals and the
+-- packets of a tick depend only on the gateway. So two worlds with the same gateway do the same for
+-- the same RTP datagrams and ticks, whatever replies they keep: they send the same packets and end
+-- with the same gateway.
 abbrev pub is_of_media : Event → Bool
 is_of_media (Control source bytes) = false
 is_of_media _ = true
@@ -72,12 +72,12 @@ GatewayDeterminesFuture =
 
 -- ## The order of terminations
 
--- a gateway can be started with the configuration, whose first number is one of 32 bits
+-- a gateway can start with this configuration, and its first number fits 32 bits
 abbrev pub IsStart : Config → Type 0
 IsStart config = IsValidConfig config × (config.first_termination < 2 ^ 32)
 
--- After any events terminations and contexts are consistent. So the numbers of terminations rise in
--- their list, and the packets of a tick, which are in its order, are sent by rising numbers.
+-- After any events terminations and contexts are consistent. So the terminations are in order of
+-- their numbers, and a tick sends its packets in that order.
 abbrev pub WorldsAreConsistent : Type 0
 WorldsAreConsistent =
     (config : Config) (events : List Event) (sent : List Sent) (w : World)

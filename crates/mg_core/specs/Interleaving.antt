@@ -1,4 +1,4 @@
--- In which order the packets of different callers came makes no difference.
+-- The order of packets from different callers does not matter.
 use Rattle.std.specs.Prelude.{◌≡◌, ◌==◌, not, ℕ, Bool, false, List, Option, filter}
 use Rattle.mg_engine.specs.declared.config.Config.{Config}
 use Rattle.mg_core.specs.declared.counts.Counts.{Counts}
@@ -16,32 +16,32 @@ abbrev pub is_elsewhere : ℕ → Event → Bool
 is_elsewhere port (Media other source bytes) = not (other == port)
 is_elsewhere port _ = false
 
--- what a port sees of events: all but the RTP datagrams at other ports
+-- the events that a port sees: all except RTP datagrams at other ports
 abbrev pub seen_at : ℕ → List Event → List Event
 seen_at port events = filter (λ e. not (is_elsewhere port e)) events
 
--- The same control datagrams and ticks in the same order, and between any two of these, before the
--- first and after the last, each port has the same RTP datagrams in the same order.
+-- The control datagrams and ticks are the same, in the same order. Between any two of them, before
+-- the first and after the last, each port has the same RTP datagrams in the same order.
 abbrev pub AreSameToEachPort : List Event → List Event → Type 0
 AreSameToEachPort a b = (port : ℕ) → seen_at port a ≡ seen_at port b
 
--- Two lists of events that are the same to each port have the same datagrams sent, byte for byte
--- and in the same order, and lead to one world.
+-- Two lists of events that are the same to each port send the same datagrams in the same order,
+-- and end in the same world.
 abbrev pub PortOrderIsIrrelevant : Type 0
 PortOrderIsIrrelevant =
     (config : Config) (a b : List Event) (s t : List Sent) (v w : World)
     → IsStart config → AreSameToEachPort a b
     → Run (start_of config) a s v → Run (start_of config) b t w → (s ≡ t) × (v ≡ w)
 
--- So it is of what came to two gateways that were started alike ..
+-- The same for two gateways that were started alike ..
 abbrev pub PortOrderInHistories : Type 0
 PortOrderInHistories =
     (config : Config) (a b : List Event) (s t : List Sent) (v w : World) (one other : CoreState)
     → IsStart config → AreSameToEachPort a b
     → HasHistory config a s v one → HasHistory config b t w other → (s ≡ t) × (v ≡ w)
 
--- .. and of two scripts that were run whole, in either form: they have had the same datagrams
--- written.
+-- .. and for two scripts that were run to their end, in either form: they write the same
+-- datagrams.
 abbrev pub PortOrderInScripts : Type 0
 PortOrderInScripts =
     (config : Config) (first second : Shown) (one other : List ℕ) (counts more : Counts)

@@ -1,4 +1,4 @@
--- Peers by their texts.
+-- The text of peers.
 use Rattle.std.specs.Prelude.{ℕ, List, ◌++◌, Option, Some, codes, decimal}
 use Rattle.mg_words.specs.Numbers.{port_of}
 use Rattle.mg_words.specs.OptionSteps.{◌>>=◌}
@@ -18,6 +18,6 @@ peer_of text = do
   port ← port_of parts.1
   Some (peer address port)
 
--- the text of a peer, in plain decimal
+-- the text of a peer, in decimal without leading zeros
 abbrev pub peer_text : Peer → List ℕ
 peer_text p = address_text p.address ++ (codes ":" ++ decimal p.port)

@@ -1,4 +1,4 @@
--- Recordings: scripts that are written of a gateway as its events happen.
+-- Recordings: scripts that are written while a gateway handles events.
 use Rattle.std.specs.Prelude.{◌≡◌, ◌≢◌, ℕ, ◌<◌, ◌≤◌, List, [], ◌∷◌, ◌++◌, length, flat_map}
 use Rattle.std.specs.Prelude.{All, Some, true, false, codes, decimal}
 use Rattle.hex.specs.Hex.{encode_lower}
@@ -11,19 +11,19 @@ use Rattle.mg_lines.specs.Lines.{lines_of}
 
 -- ## Lines
 
--- a peer, a space, the bytes of a datagram as hexadecimal digits in lower case, and a line feed
+-- a peer, a space, a datagram's bytes in lower-case hexadecimal, and a line feed
 abbrev pub datagram_text : Peer → List ℕ → List ℕ
 datagram_text source bytes =
     peer_text source ++ (codes " " ++ (encode_lower bytes ++ codes "\n"))
 
--- the line for an event
+-- the line of an event
 abbrev pub event_line : Event → List ℕ
 event_line (Control source bytes) = codes "control " ++ datagram_text source bytes
 event_line (Media port source bytes) =
     codes "rtp " ++ (decimal port ++ (codes " " ++ datagram_text source bytes))
 event_line Tick = codes "tick\n"
 
--- what stands in a recording: an event that happened, or a comment
+-- an entry of a recording: an event, or a comment
 pub data Entry : Type 0 where
   Happened : (event : Event) → Entry
   Noted : (text : List ℕ) → Entry
@@ -36,7 +36,7 @@ entry_line (Noted text) = codes "# " ++ (text ++ codes "\n")
 abbrev pub recording_of : List Entry → List ℕ
 recording_of entries = flat_map entry_line entries
 
--- its events
+-- the events of a recording
 abbrev pub events_in : List Entry → List Event
 events_in [] = []
 events_in (Happened event ∷ entries) = event ∷ events_in entries
@@ -44,8 +44,8 @@ events_in (Noted text ∷ entries) = events_in entries
 
 -- ## What can be read back
 
--- a datagram as it can come: from an address of four bytes and a port of 16 bits, with at most
--- 65,535 bytes
+-- a datagram as it can arrive: from an IPv4 address and a port of 16 bits, with at most 65,535
+-- bytes
 pub record IsDatagram (source : Peer) (bytes : List ℕ) : Type 0 where
   pub four : length source.address ≡ 4
   pub parts : All (λ b. b < 256) source.address
@@ -53,7 +53,7 @@ pub record IsDatagram (source : Peer) (bytes : List ℕ) : Type 0 where
   pub length_is : length bytes ≤ 65535
   pub bytes_are : All (λ b. b < 256) bytes
 
--- a comment is one line, which isn't too long
+-- an event that can arrive, or a comment of one line that is not too long
 abbrev pub IsRecorded : Entry → Type 0
 IsRecorded (Happened (Control source bytes)) = IsDatagram source bytes
 IsRecorded (Happened (Media port source bytes)) = (port < 65536) × IsDatagram source bytes
@@ -66,8 +66,7 @@ RecordingsAreRead =
     (entries : List Entry) → All IsRecorded entries
     → events_of (lines_of true (recording_of entries)) ≡ Some (events_in entries)
 
--- Where a recording was cut, whatever the byte, the lines that are whole are a script of its first
--- events.
+-- If a recording is cut after any byte, its complete lines are a script of its first events.
 abbrev pub CutRecordingsAreRead : Type 0
 CutRecordingsAreRead =
     (entries : List Entry) (front rest : List ℕ) → All IsRecorded entries

@@ -1,5 +1,5 @@
--- Requests that come again (RFC 3525, section 8.2 and annex D.1): a controller that doesn't see an
--- answer asks again, and must not make a second call by it.
+-- Retransmitted requests (RFC 3525, section 8.2 and annex D.1). A controller that receives no
+-- answer sends its request again, and that must not run it twice.
 use Rattle.std.specs.Prelude.{◌≡◌, ℕ, ◌+◌, ◌<◌, ◌≤◌, ◌==◌, nat_le, Bool, true, false, ◌&&◌}
 use Rattle.std.specs.Prelude.{if◌then◌else◌, List, [], ◌∷◌, length, Some, None, is_none}
 use Rattle.std.specs.List.{AllByRecursion, list_any}
@@ -20,15 +20,16 @@ use Rattle.mg_core.specs.Answer.{item_replied, request_replied, run_and_kept}
 use Rattle.mg_core.specs.Step.{Sent, Step, Run}
 use Rattle.mg_core.specs.World.{World, start_of, with_control}
 
--- While its reply is kept a request is answered by it, whatever it asks, and nothing is done.
+-- While the reply to a request is kept, it answers the request, whatever the request asks, and
+-- nothing is done.
 abbrev pub KeptRepliesAreSent : Type 0
 KeptRepliesAreSent =
     (source sender : List ℕ) (request : Request) (w : World) (text : List ℕ)
     → kept_text w.replies sender request.number ≡ Some text
     → request_replied source sender request w ≡ (text, w)
 
--- What a request was answered is what its repetition is answered, in a datagram of any form, with
--- the sender's name in letters of any case, and nothing is done a second time.
+-- A retransmission is answered like the request: in a datagram of any form, with the sender's name
+-- in any case. Nothing is done a second time.
 abbrev pub RetransmissionsAreAnsweredAlike : Type 0
 RetransmissionsAreAnsweredAlike =
     (source other sender same : List ℕ) (request again : Request) (w : World)
@@ -37,7 +38,7 @@ RetransmissionsAreAnsweredAlike =
     → request_replied other same again (request_replied source sender request w).1
     ≡ request_replied source sender request w
 
--- A request for which no reply is kept, any more or yet, is run, and its reply is kept.
+-- A request without a kept reply is run, and its reply is kept.
 abbrev pub OthersAreRun : Type 0
 OthersAreRun =
     (source sender : List ℕ) (request : Request) (w : World)
@@ -47,15 +48,14 @@ OthersAreRun =
 
 -- ## Over time
 
--- whether an item, from a sender, acknowledges the reply to the request with this number of this
--- sender
+-- whether an item from a sender acknowledges the reply to this sender's request with this number
 abbrev pub acknowledges : List ℕ → ℕ → List ℕ → MessageItem → Bool
 acknowledges sender number from (items.Request request) = false
 acknowledges sender number from (items.Acknowledgement ranges) =
     list_any (λ x. nat_le x.first number && nat_le number x.last
     && str_eq_ignore_ascii_case sender from) ranges
 
--- whether it is this request
+-- whether an item is this request
 abbrev pub is_request_for : List ℕ → ℕ → List ℕ → MessageItem → Bool
 is_request_for sender number from (items.Request request) =
     (request.number == number) && str_eq_ignore_ascii_case sender from
@@ -67,13 +67,14 @@ kept_for from (items.Request request) w =
     if is_none (kept_text w.replies from request.number) then 1 else 0
 kept_for from (items.Acknowledgement ranges) w = 0
 
--- how many for items of a message, one after another
+-- how many replies are kept for the items of a message, in order
 abbrev pub kept_for_all : List ℕ → List ℕ → List MessageItem → World → ℕ
 kept_for_all source from [] w = 0
 kept_for_all source from (x ∷ xs) w =
     kept_for from x w + kept_for_all source from xs (item_replied source from [] x w).1
 
--- An event spares a reply: it doesn't acknowledge it, and at most n other replies are kept for it.
+-- An event preserves a reply: it does not acknowledge it, and at most n other replies are kept for
+-- it.
 abbrev pub PreservesReply : List ℕ → ℕ → World → Event → ℕ → Type 0
 PreservesReply sender number w (Control source bytes) n =
     (m : Message) → IsMessage bytes m
@@ -81,7 +82,7 @@ PreservesReply sender number w (Control source bytes) n =
     × (kept_for_all bytes (text_of bytes m.sender) (items_of m.body) (with_control w) ≤ n)
 PreservesReply sender number w _ n = Unit {0}
 
--- So do events one after another, with at most n other replies kept for all of them.
+-- Events preserve a reply one after another, with at most n other replies kept for all of them.
 abbrev pub AllPreserveReply : List ℕ → ℕ → World → List Event → ℕ → Type 0
 AllPreserveReply sender number w [] n = Unit {0}
 AllPreserveReply sender number w (event ∷ events) n =
@@ -89,8 +90,8 @@ AllPreserveReply sender number w (event ∷ events) n =
     × ((sent : List Sent) (next : World) → Step w event sent next
     → AllPreserveReply sender number next events others)
 
--- However much time goes by, a request is answered by the text that it was answered, and nothing is
--- done again, until an acknowledgement names its reply or 32 other replies were kept.
+-- A request is answered with the same text, and nothing is done again, until an acknowledgement
+-- names its reply or 32 other replies were kept. Time does not matter.
 abbrev pub RepliesPersist : Type 0
 RepliesPersist =
     (sender text : List ℕ) (number : ℕ) (w last : World) (events : List Event) (sent : List Sent)
@@ -101,21 +102,21 @@ RepliesPersist =
     → again.number ≡ number → str_eq_ignore_ascii_case sender same ≡ true
     → request_replied source same again last ≡ (text, last)
 
--- When it was run no other reply was kept since.
+-- When a request was run, its reply is the newest.
 abbrev pub NewReplyIsNewest : Type 0
 NewReplyIsNewest =
     (source sender : List ℕ) (request : Request) (w : World)
     → kept_text w.replies sender request.number ≡ None
     → newer_than (request_replied source sender request w).1.replies sender request.number ≡ []
 
--- An acknowledgement that names a reply ends it ..
+-- An acknowledgement that names a reply drops it ..
 abbrev pub AcknowledgedAreDropped : Type 0
 AcknowledgedAreDropped =
     (source sender from mark : List ℕ) (number : ℕ) (item : MessageItem) (w : World)
     → acknowledges sender number from item ≡ true
     → kept_text (item_replied source from mark item w).1.replies sender number ≡ None
 
--- .. and so does another request that is run where 31 replies are newer.
+-- .. and so does another request that is run while 31 replies are newer.
 abbrev pub EvictedAreDropped : Type 0
 EvictedAreDropped =
     (source sender from : List ℕ) (number : ℕ) (request : Request) (w : World)
@@ -124,14 +125,14 @@ EvictedAreDropped =
     → is_request_for sender number from (items.Request request) ≡ false
     → kept_text (request_replied source from request w).1.replies sender number ≡ None
 
--- no message among events asks for it
+-- no message among the events contains the request
 abbrev pub IsNotRequested : List ℕ → ℕ → Event → Type 0
 IsNotRequested sender number (Control source bytes) =
     (m : Message) → IsMessage bytes m
     → list_any (is_request_for sender number (text_of bytes m.sender)) (items_of m.body) ≡ false
 IsNotRequested sender number _ = Unit {0}
 
--- After that a request is run again when it comes again, its answer included.
+-- After that the request is run again if it is retransmitted, including its answer.
 abbrev pub DroppedRequestsAreRerun : Type 0
 DroppedRequestsAreRerun =
     (sender : List ℕ) (number : ℕ) (w last : World) (events : List Event) (sent : List Sent)
@@ -142,8 +143,8 @@ DroppedRequestsAreRerun =
     → request_replied source same again last
     ≡ run_and_kept same again.number last (replied source again last.gateway)
 
--- What holds of kept replies, that there are at most 32 and each answers another request, holds
--- after any events.
+-- After any events the kept replies satisfy their invariant: there are at most 32, and they answer
+-- different requests.
 abbrev pub RepliesAreKept : Type 0
 RepliesAreKept =
     (config : Config) (events : List Event) (sent : List Sent) (w : World)

@@ -1,4 +1,4 @@
--- What a run of a script writes.
+-- What running a script writes.
 use Rattle.std.specs.Prelude.{◌≡◌, ◌⊎◌, ℕ, ◌+◌, ◌≤◌, Bool, true, false, List, [], ◌∷◌, ◌++◌}
 use Rattle.std.specs.Prelude.{length, flat_map, Option, Some, None, Result, Ok, Err, codes}
 use Rattle.std.specs.Prelude.{decimal}
@@ -20,14 +20,14 @@ use Rattle.mg_core.specs.Flows.{changes_by}
 use Rattle.mg_lines.specs.Lines.{lines_of}
 use Rattle.mg_core.specs.Script.{event_of, events_of, escaped}
 
--- ## Lines out
+-- ## Lines of the output
 
--- the line for an answer to a peer
+-- the line of an answer to a peer
 abbrev pub answer_line : Peer → List ℕ → List ℕ
 answer_line peer text =
     codes "say " ++ (peer_text peer ++ (codes " " ++ (escaped text ++ codes "\n")))
 
--- the line for a packet, its bytes as hexadecimal digits in lower case
+-- the line of a packet, its bytes in lower-case hexadecimal
 abbrev pub packet_line : Datagram → List ℕ
 packet_line d =
     codes "rtp " ++ (decimal d.from ++
@@ -40,8 +40,8 @@ line_of (Packet d) = packet_line d
 abbrev pub lines_for : List Sent → List ℕ
 lines_for sent = flat_map line_of sent
 
--- Events one after another, each in the world that the one before it left. Of each the lines for
--- what it sends are written, and after them those that tell what it changed.
+-- Events run one after another, each in the world that the previous one left. For each, the lines
+-- of what it sends are written, followed by those of what it changed.
 abbrev pub ReportsChanges : World → List Event → List ℕ → World → Type 0
 ReportsChanges w [] text last = (text ≡ []) × (last ≡ w)
 ReportsChanges w (event ∷ events) text last =
@@ -49,22 +49,22 @@ ReportsChanges w (event ∷ events) text last =
     × Step w event sent next × ReportsChanges next events others last
     × (text ≡ lines_for sent ++ (changes_by w next ++ others))
 
--- what is written of events, one after another, that have these datagrams sent
+-- the text that is written for events that send these datagrams
 abbrev pub IsShownText : Shown → World → List Event → List Sent → List ℕ → World → Type 0
 IsShownText shows.Sent w events sent text last = text ≡ lines_for sent
 IsShownText shows.SentAndFlows w events sent text last = ReportsChanges w events text last
 
--- events that run in a world have one text, in each form
+-- the text of events that run in a world is determined, in each form
 abbrev pub TextIsDetermined : Type 0
 TextIsDetermined =
     (shown : Shown) (w x y : World) (events : List Event) (s t : List Sent) (a b : List ℕ)
     → Run w events s x → Run w events t y
     → IsShownText shown w events s a x → IsShownText shown w events t b y → a ≡ b
 
--- ## Lines in
+-- ## Lines of the input
 
--- Lines were run from the world w: they are these events, one after another these have these
--- datagrams sent and lead to the last world, and a writer holds the text of them.
+-- Lines were run from the world w. They are these events, which send these datagrams and lead to
+-- the last world, and a writer has received their text.
 pub record Ran (shown : Shown) (w : World) (lines : List (List ℕ)) (last : World)
     (old new : Option (List ℕ)) : Type 0 where
   pub events : List Event
@@ -75,7 +75,7 @@ pub record Ran (shown : Shown) (w : World) (lines : List (List ℕ)) (last : Wor
   pub is_text : IsShownText shown w events sent text last
   pub written : Appends old new text
 
--- the same, but that a writer holds the front of that text alone
+-- the same, but the writer has received only the front of that text
 pub record RanInPart (shown : Shown) (w : World) (lines : List (List ℕ)) (last : World)
     (old new : Option (List ℕ)) : Type 0 where
   pub events : List Event
@@ -91,13 +91,14 @@ pub record RanInPart (shown : Shown) (w : World) (lines : List (List ℕ)) (last
 
 -- ## How far a script was read
 
--- This text was read of an input, and the end after it where it has ended.
+-- this text was read from an input, and the end after it if it has ended
 pub record HasRead (input rest : Option (List ℕ)) (text : List ℕ) (ended : Bool) : Type 0 where
   pub consumed : Consumes input rest text
   pub at_end : ended ≡ true → IsAtEnd rest
 
--- These lines of a text were run before more of it was read: they are all that end before what the
--- last read gave, which is 4,096 bytes at most, or the end alone, and perhaps some that end in it.
+-- These lines of a text were run before more of it was read. They are all lines that end before
+-- the last piece that was read, and perhaps some that end in it. That piece is at most 4096 bytes,
+-- or only the end.
 pub record RanBeforeMore (text : List ℕ) (ended : Bool) (lines : List (List ℕ)) : Type 0 where
   pub before : List ℕ
   pub given : List ℕ
@@ -107,9 +108,9 @@ pub record RanBeforeMore (text : List ℕ) (ended : Bool) (lines : List (List �
   pub later : List (List ℕ)
   pub lines_are : lines ≡ lines_of false before ++ later
 
--- ## The outcome of a run over a script on a new gateway
+-- ## The result of running a script on a new gateway
 
--- all of the script was run, and its lines, its events and what they have sent were counted
+-- the whole script was run, and its lines, its events and the datagrams sent were counted
 pub record RanToEnd (config : Config) (shown : Shown) (script : List ℕ) (counts : Counts)
     (old new : Option (List ℕ)) : Type 0 where
   pub last : World
@@ -118,15 +119,15 @@ pub record RanToEnd (config : Config) (shown : Shown) (script : List ℕ) (count
   pub sent : counts.sent ≡ capped (length ran.sent)
   pub counted : record counts { lines = 0; sent = 0; failed = 0 } ≡ counts_of last.tally
 
--- after these lines stands a bad one
+-- a bad line follows these lines
 pub record HasBadAfter (lines all : List (List ℕ)) : Type 0 where
   pub bad : List ℕ
   pub others : List (List ℕ)
   pub parts : all ≡ lines ++ bad ∷ others
   pub is_bad : event_of bad ≡ None
 
--- The lines before the first bad one were run, which has this number. It is bad whatever may
--- follow what was read: after the end nothing does.
+-- The lines before the first bad one, which has this number, were run. It is bad whatever may
+-- follow the text that was read; nothing follows the end.
 pub record RanToBadLine (config : Config) (shown : Shown) (input rest : Option (List ℕ))
     (number : ℕ) (old new : Option (List ℕ)) : Type 0 where
   pub text : List ℕ
@@ -140,7 +141,7 @@ pub record RanToBadLine (config : Config) (shown : Shown) (input rest : Option (
   pub last : World
   pub ran : Ran shown (start_of config) lines last old new
 
--- all lines that end in what was read were run, no more and no fewer
+-- exactly the lines that end in the text that was read were run
 pub record RanAllRead (config : Config) (shown : Shown) (input rest old new : Option (List ℕ))
     : Type 0 where
   pub text : List ℕ
@@ -148,7 +149,7 @@ pub record RanAllRead (config : Config) (shown : Shown) (input rest old new : Op
   pub last : World
   pub ran : Ran shown (start_of config) (lines_of false text) last old new
 
--- Of the lines of what was read, those before this one were run and led to this world.
+-- Of the lines of the text that was read, those before this one were run and led to this world.
 pub record RanUpTo (config : Config) (shown : Shown) (input rest : Option (List ℕ))
     (line : List ℕ) (now : World) (old new : Option (List ℕ)) : Type 0 where
   pub text : List ℕ
@@ -160,7 +161,7 @@ pub record RanUpTo (config : Config) (shown : Shown) (input rest : Option (List 
   pub line_is : lines_of ended text ≡ lines ++ line ∷ others
   pub ran : Ran shown (start_of config) lines now old new
 
--- the lines before one were run, and that one too, but for what was not written of it
+-- the lines before this one were run, and this one too, but its text was written only in part
 pub record RanToCutLine (config : Config) (shown : Shown) (input rest old new : Option (List ℕ))
     : Type 0 where
   pub line : List ℕ
@@ -170,19 +171,19 @@ pub record RanToCutLine (config : Config) (shown : Shown) (input rest old new : 
   pub last : World
   pub cut : RanInPart shown now (line ∷ []) last held new
 
--- the lines before one were run, and that one had no effect
+-- the lines before this one were run, and this one had no effect
 pub record RanToUnrunLine (config : Config) (shown : Shown) (input rest old new : Option (List ℕ))
     : Type 0 where
   pub line : List ℕ
   pub now : World
   pub up_to : RanUpTo config shown input rest line now old new
 
--- nothing was read, and nothing was written
+-- nothing was read or written
 abbrev pub NothingRan : (input rest old new : Option (List ℕ)) → Type 0
 NothingRan input rest old new = Keeps input rest × Keeps old new
 
--- what a run came to, by its result: how far it has read, which lines of that it has run, and what
--- was written of them
+-- The result of a run: how far it has read, which lines it has run, and what it has written for
+-- them.
 abbrev pub ScriptRan : Config → Shown → (input rest old new : Option (List ℕ))
     → Result Counts RunFault → Type 0
 ScriptRan config shown input rest old new (Ok counts) =

@@ -1,4 +1,4 @@
--- Scripts: text lines that stand for the events of a gateway. The format is this gateway's own.
+-- Scripts: lines of text for the events of a gateway. The format is this gateway's own.
 use Rattle.std.specs.Prelude.{ℕ, Bool, true, false, ◌&&◌, ◌==◌, nat_le, nat_lt, List, []}
 use Rattle.std.specs.Prelude.{◌∷◌, length, flat_map, Option, Some, None, Result, Ok}
 use Rattle.std.specs.Prelude.{Err, codes, if◌then◌else◌}
@@ -19,14 +19,14 @@ use Rattle.mg_core.specs.Peer.{peer_of}
 abbrev pub is_plain : ℕ → Bool
 is_plain b = nat_le 32 b && nat_le b 126
 
--- what a byte after a backslash stands for
+-- the byte that a backslash and this byte stand for
 abbrev pub escaped_byte : ℕ → Option ℕ
 escaped_byte b =
     if b == 110 then Some 10 else (if b == 114 then Some 13
     else (if b == 92 then Some 92 else None))
 
--- The bytes of a text in which \n, \r and \\ stand for a line feed, a carriage return and a
--- backslash. A backslash may stand before it.
+-- The bytes of a text with escapes: \n, \r and \\ are a line feed, a carriage return and a
+-- backslash. The flag says that a backslash precedes the text.
 unfoldable pub unescaped : Bool → List ℕ → Option (List ℕ)
 unescaped true [] = None
 unescaped false [] = Some []
@@ -36,7 +36,7 @@ unescaped false (b ∷ bs) =
     if b == 92 then unescaped true bs
     else (if is_plain b then option_map (λ rest. b ∷ rest) (unescaped false bs) else None)
 
--- the same bytes as such a text
+-- the escaped form of a byte
 abbrev pub escape_of : ℕ → List ℕ
 escape_of b =
     if b == 10 then codes "\\n" else
@@ -45,7 +45,7 @@ escape_of b =
 abbrev pub escaped : List ℕ → List ℕ
 escaped bytes = flat_map escape_of bytes
 
--- a value, if there is one
+-- the value, if there is one
 abbrev pub ok_of : Result (List ℕ) FromHexError → Option (List ℕ)
 ok_of (Ok bytes) = Some bytes
 ok_of (Err e) = None
@@ -54,13 +54,13 @@ ok_of (Err e) = None
 abbrev pub datagram : List ℕ → Option (List ℕ)
 datagram bytes = if nat_le (length bytes) 65535 then Some bytes else None
 
--- how a key word says that bytes are spelled
+-- how the first word of a line spells a datagram's bytes
 unfoldable pub spelling_of : List ℕ → Option Spelling
 spelling_of key =
     if bytes_eq key (codes "say") then Some Text
     else (if bytes_eq key (codes "control") then Some Digits else None)
 
--- what the last part of a line spells: a text, or hexadecimal digits in either case
+-- the bytes of a line's last part: a text with escapes, or hexadecimal digits in either case
 abbrev pub spelled_bytes : Option Spelling → List ℕ → Option (List ℕ)
 spelled_bytes (Some Text) spelled = unescaped false spelled
 spelled_bytes (Some Digits) spelled = ok_of (decode_of spelled)
@@ -72,7 +72,7 @@ bytes_of key spelled = spelled_bytes (spelling_of key) spelled
 abbrev pub an_event : Event → Option (Option Event)
 an_event e = Some (Some e)
 
--- three parts with one space between each two: a media port, a peer, and hexadecimal digits
+-- three parts with one space between them: a media port, a peer, and hexadecimal digits
 unfoldable pub rtp_of : List ℕ → Option (Option Event)
 rtp_of parts = do
   first ← cut 32 parts
@@ -83,7 +83,8 @@ rtp_of parts = do
   bytes ← datagram bytes
   an_event (Media port source bytes)
 
--- two parts after a key word, with one space between: a peer, and the bytes of a datagram
+-- two parts after a line's first word, with one space between them: a peer, and the bytes of a
+-- datagram
 unfoldable pub control_of : List ℕ → List ℕ → Option (Option Event)
 control_of key rest = do
   parts ← cut 32 rest
@@ -95,19 +96,19 @@ control_of key rest = do
 abbrev pub datagram_by : List ℕ → List ℕ → Option (Option Event)
 datagram_by key rest = if bytes_eq key (codes "rtp") then rtp_of rest else control_of key rest
 
--- a key word, a space, and what the key word asks for
+-- a first word, a space, and the parts that belong to it
 unfoldable pub datagram_of : List ℕ → Option (Option Event)
 datagram_of line = do
   parts ← cut 32 line
   datagram_by parts.0 parts.1
 
--- an empty line, or one that begins with #
+-- an empty line, or one that starts with #
 abbrev pub is_comment : List ℕ → Bool
 is_comment [] = true
 is_comment (b ∷ bs) = b == 35
 
--- The event that a line stands for, `Some None` for a line that stands for none, and `None` for a
--- bad line. A line has at most 140,000 bytes.
+-- The event of a line: `Some None` if the line has no event, and `None` if it is bad. A line has
+-- at most 140,000 bytes.
 unfoldable pub event_of : List ℕ → Option (Option Event)
 event_of line =
     if nat_lt 140000 (length line) then None
@@ -115,12 +116,12 @@ event_of line =
     else (if bytes_eq line (codes "tick") then an_event Tick
     else datagram_of line))
 
--- a value before others
+-- the events with one more at the front, if there is one
 abbrev pub then_all : Option Event → List Event → List Event
 then_all None events = events
 then_all (Some event) events = event ∷ events
 
--- the events that lines stand for, in their order, unless one of them is bad
+-- the events of lines, in order, unless a line is bad
 unfoldable pub events_of : List (List ℕ) → Option (List Event)
 events_of [] = Some []
 events_of (line ∷ lines) = do

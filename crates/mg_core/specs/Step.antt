@@ -1,5 +1,5 @@
--- What a gateway does at each event, and at events one after another: the datagrams that it sends,
--- and the world that it comes to.
+-- What a gateway does at each event and at a list of events: the datagrams that it sends, and the
+-- world that results.
 use Rattle.std.specs.Prelude.{◌≡◌, ℕ, List, [], ◌∷◌, ◌++◌, map, Option, Some, None}
 use Rattle.std.specs.Option.{option_map_or}
 use Rattle.mg_engine.specs.declared.datagram.Datagram.{Datagram}
@@ -17,17 +17,17 @@ pub data Sent : Type 0 where
   Reply : (to : Peer) (text : List ℕ) → Sent
   Packet : (datagram : Datagram) → Sent
 
--- an answer goes to where the datagram came from
+-- an answer goes to the source of the datagram
 abbrev pub answer_to : Peer → Option (List ℕ) → List Sent
 answer_to source answer = option_map_or (λ text. Reply source text ∷ []) answer []
 
--- the answer that a core tells, with its text
+-- the answer that a core reports, with its text
 abbrev pub reported : Answer → List ℕ → Option (List ℕ)
 reported Send text = Some text
 reported Silent text = None
 
--- In the world w an event has these datagrams sent, in this order, and the world comes to be the
--- next: a control datagram is answered, an RTP datagram is taken, and a tick sends its packets.
+-- In the world w an event sends these datagrams, in this order, and results in the next world. A
+-- control datagram is answered, an RTP datagram is handled, and a tick sends its packets.
 abbrev pub Step : World → Event → List Sent → World → Type 0
 Step w (Control source bytes) sent next =
     (answer : Option (List ℕ)) × Answers bytes (with_control w) answer next
@@ -36,7 +36,7 @@ Step w (Media port source bytes) sent next =
     (taken : Taken) × TakesMedia w port source bytes next taken × (sent ≡ [])
 Step w Tick sent next = (sent ≡ map Packet (packets_of w)) × (next ≡ world_after_tick w)
 
--- events one after another, each in the world that the one before it left
+-- events one after another, each in the world that the previous one left
 abbrev pub Run : World → List Event → List Sent → World → Type 0
 Run w [] sent last = (sent ≡ []) × (last ≡ w)
 Run w (event ∷ events) sent last =

@@ -1,4 +1,4 @@
--- What a gateway is, seen from outside, and which worlds the state of a core stands for.
+-- A gateway as seen from outside, and which worlds the state of a core represents.
 use Rattle.std.specs.Prelude.{◌≡◌, ℕ, ◌+◌, ◌-◌, ◌^◌, min, List, [], map, replicate, slice_index}
 use Rattle.std.specs.Prelude.{slice_set}
 use Rattle.mg_kept.specs.KeptReplies.{KeptReply}
@@ -18,10 +18,9 @@ use Rattle.mg_engine.specs.Stands as engine_stands
 use Rattle.mg_core.specs.declared.counts.Counts.{Counts}
 use Rattle.mg_core.specs.declared.state.CoreState.{CoreState}
 
--- How many control datagrams, RTP datagrams and ticks came. Of the RTP datagrams, how many a play
--- list answered Started, Placed, Pushed, Again and Late; and how many were dropped for
--- NoTermination, Stray, NoLocal, Rtp, PayloadType and Length. And how many frames stood in for a
--- missing one.
+-- The numbers of control datagrams, RTP datagrams and ticks. Then the results of RTP datagrams:
+-- Started, Placed, Pushed, Again and Late, and drops for NoTermination, Stray, NoLocal, Rtp,
+-- PayloadType and Length. Last, the number of frames that concealed a missing one.
 pub record Tally : Type 0 where
   pub control : ℕ
   pub media : ℕ
@@ -30,8 +29,8 @@ pub record Tally : Type 0 where
   pub dropped : List ℕ
   pub concealed : ℕ
 
--- the gateway with its terminations and contexts; the replies that are kept, oldest first; and how
--- many events came
+-- the gateway with its terminations and contexts; the kept replies, oldest first; and the counts
+-- of events
 pub record World : Type 0 where
   pub gateway : engine.Gateway
   pub replies : List KeptReply
@@ -48,7 +47,7 @@ no_events =
       concealed = 0;
     }
 
--- the world that no event came to
+-- the world before any event
 abbrev pub start_of : Config → World
 start_of config = record { gateway = engine.start_of config; replies = []; tally = no_events }
 
@@ -78,15 +77,15 @@ with_taken (takens.Placed p) t =
 with_taken (takens.Dropped cause) t =
     record t { media = t.media + 1; dropped = one_more_at (cause_of cause) t.dropped }
 
--- a tick in which so many frames are concealed
+-- a tick that conceals this many frames
 abbrev pub with_tick : ℕ → Tally → Tally
 with_tick concealed t = record t { ticks = t.ticks + 1; concealed = t.concealed + concealed }
 
--- a count stays at the greatest value of 64 bits
+-- a count that reaches the greatest value of 64 bits stays there
 abbrev pub capped : ℕ → ℕ
 capped n = min n (2 ^ 64 - 1)
 
--- the counts of events, with nothing of what a run counts
+-- the counts of events, without what the runner counts
 abbrev pub counts_of : Tally → Counts
 counts_of t = record {
   lines = 0;
@@ -102,17 +101,17 @@ counts_of t = record {
 
 -- ## Events
 
--- the world to which one more control datagram came
+-- the world with one more control datagram counted
 abbrev pub with_control : World → World
 with_control w = record w { tally = record w.tally { control = w.tally.control + 1 } }
 
--- what became of an RTP datagram at a port, and the world after it
+-- the result of an RTP datagram at a port, and the world after it
 abbrev pub TakesMedia : World → ℕ → Peer → List ℕ → World → Taken → Type 0
 TakesMedia w port source bytes after result =
     (g : engine.Gateway) × Takes w.gateway port source.address bytes g result
     × (after ≡ record w { gateway = g; tally = with_taken result w.tally })
 
--- the world after a tick, and the packets that are sent in it
+-- the world after a tick
 abbrev pub world_after_tick : World → World
 world_after_tick w =
     record w {
@@ -123,10 +122,10 @@ world_after_tick w =
 abbrev pub packets_of : World → List Datagram
 packets_of w = sent_in_tick w.gateway
 
--- ## Which worlds a state stands for
+-- ## Which worlds a state represents
 
--- The engine stands for the gateway, the replies that it keeps are the world's, and its counts are
--- those of the events that came.
+-- The engine represents the gateway, the kept replies are the world's, and the counts are those of
+-- the events.
 pub record StandsFor (state : CoreState) (w : World) : Type 0 where
   pub gateway : engine_stands.StandsFor state.engine w.gateway
   pub replies : w.replies ≡ state.kept

@@ -1,8 +1,8 @@
 /// Whether a control datagram is answered.
 #[derive(Clone, Copy, Debug, PartialEq, Eq)]
 pub enum Answer {
-    /// The answer is to be sent to where the datagram came from.
+    /// The answer goes to the source of the datagram.
     Send,
-    /// There is none.
+    /// There is no answer.
     Silent,
 }

@@ -24,7 +24,7 @@ use mg_text::{
 };
 use mg_words::SENDER_LIMIT;
 
-/// The error that a message is refused with, where it was not want of memory that kept it from being read.
+/// Returns the error that rejects a message, or `None` if memory ran out.
 pub fn refusal_of(fault: ReadFault) -> Option<ErrorNumber>
     ensures value { result ≡ refusal_of fault }
 {
@@ -36,7 +36,7 @@ pub fn refusal_of(fault: ReadFault) -> Option<ErrorNumber>
     }
 }
 
-/// Writes the refusal of a message as a whole.
+/// Writes the error of a message that is rejected as a whole.
 #[tactic(auto, using(crate::proofs::AnswerLemmas::totals))]
 pub fn put_error(config: &Config, number: ErrorNumber, answer: &mut Bytes)
     requires room { 97 ≤ answer.old.room }
@@ -48,7 +48,7 @@ pub fn put_error(config: &Config, number: ErrorNumber, answer: &mut Bytes)
     write_error(number, answer);
 }
 
-/// The items of a body, of which an ignored one has none.
+/// Returns the items of a body: none if it is ignored.
 pub fn items_of(body: &Body) -> &[MessageItem]
     ensures value { result.now ≡ items_of body.now }
 {
@@ -58,7 +58,7 @@ pub fn items_of(body: &Body) -> &[MessageItem]
     }
 }
 
-/// Whether there is a request among some items.
+/// Returns whether there is a request among the items.
 pub fn has_requests(items: &[MessageItem]) -> bool
     ensures value { result ≡ has_requests items.now }
 {
@@ -67,7 +67,7 @@ pub fn has_requests(items: &[MessageItem]) -> bool
         .any(|item| matches!(item, MessageItem::Request(_)))
 }
 
-/// Writes a reply, or an error in its place where it is too long: at most 16,000 bytes.
+/// Writes a reply, or an error in its place if it is too long: at most 16,000 bytes.
 #[tactic(auto, using(crate::proofs::ReplyLemmas::sending))]
 fn put_reply(reply: &mut Reply, answer: &mut Bytes)
     requires whole { IsWhole reply.old }
@@ -84,7 +84,7 @@ fn put_reply(reply: &mut Reply, answer: &mut Bytes)
     write_reply(reply, answer).unwrap();
 }
 
-/// Runs a request of a sender, and writes and keeps what it comes to. None may be kept for it.
+/// Runs a sender's request, and writes and keeps its reply. No reply to it may be kept yet.
 fn run_request(
     state: &mut CoreState,
     source: &[u8],
@@ -113,7 +113,7 @@ fn run_request(
     state.kept.keep(sender, request.number, text);
 }
 
-/// Writes the reply to a request of a sender: the one that is kept, if it comes again, or else what it comes to.
+/// Writes the reply to a sender's request: the kept one for a retransmission, otherwise that of running it.
 fn put_request(
     state: &mut CoreState,
     source: &[u8],
@@ -139,7 +139,7 @@ fn put_request(
     }
 }
 
-/// Takes the replies to a sender with these numbers out of those that are kept.
+/// Drops the kept replies to a sender with these numbers.
 fn acknowledge(kept: &mut Kept, sender: &[u8], ranges: &[Range])
     ensures value { kept.new ≡ without_ranges sender.now ranges.now kept.old }
 {
@@ -148,8 +148,9 @@ fn acknowledge(kept: &mut Kept, sender: &[u8], ranges: &[Range])
     }
 }
 
-/// Does what an item asks that came from a sender in the message that stands in `source`, and writes its reply with a
-/// mark before it, if it is a request. What is answered is the mark of the next reply.
+/// Handles an item of the message `source`. For a request, writes a mark and its reply.
+///
+/// Returns the mark of the next reply.
 #[tactic(auto, using(crate::proofs::ReplyLemmas::one_reply))]
 fn put_item<'m>(
     state: &mut CoreState,
@@ -186,8 +187,7 @@ fn put_item<'m>(
     }
 }
 
-/// Does what the items ask that came from a sender in the message that stands in `source`, and writes the replies to
-/// the requests among them, with a line feed between each two.
+/// Handles the items of the message `source`, and writes the replies to its requests with a line feed between them.
 #[tactic(auto, using(crate::proofs::ReplyLemmas::replying))]
 pub fn put_replies(
     state: &mut CoreState,

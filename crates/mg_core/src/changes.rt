@@ -1,4 +1,4 @@
-//! The comment lines that tell what changed of terminations, and of who hears whom.
+//! The comment lines that report changes of terminations and of who hears whom.
 
 ghost use Rattle.std.specs.Prelude.{◌≡◌, ◌≤◌, ◌+◌, ◌*◌, ◌++◌, length, codes, decimal, flat_map, MatchOption, None, Some};
 ghost use Rattle.mg_reply.specs.Bytes.{appended};
@@ -9,7 +9,7 @@ use itoa::Buffer;
 use mg_text::Bytes;
 use mg_words::{MEMBERS, Mode};
 
-/// Writes a number in plain decimal.
+/// Writes a number in decimal.
 #[tactic(auto, using(crate::proofs::ChangeLemmas::lengths))]
 fn push_number(n: u64, out: &mut Bytes)
     requires room { 20 ≤ out.old.room }
@@ -20,7 +20,7 @@ fn push_number(n: u64, out: &mut Bytes)
     out.push(buffer.format(n).as_bytes());
 }
 
-/// Writes what each line begins with: the number of ticks so far, and of whom it tells.
+/// Writes the start of a line: the number of ticks so far, and the termination.
 #[tactic(auto, using(crate::proofs::ChangeLemmas::steps))]
 fn push_head(ticks: u64, number: u32, out: &mut Bytes)
     requires room { 54 ≤ out.old.room }
@@ -44,7 +44,7 @@ fn push_ended(ticks: u64, old: &KeptListener, out: &mut Bytes)
     out.push(b" ended\n");
 }
 
-/// Writes where a termination was made.
+/// Writes the context and the port of a new termination.
 #[tactic(auto, using(crate::proofs::ChangeLemmas::steps))]
 fn push_place(context: u32, port: u16, out: &mut Bytes)
     requires room { 66 ≤ out.old.room }
@@ -71,7 +71,7 @@ fn push_made(ticks: u64, new: &KeptListener, out: &mut Bytes)
     out.push(b"\n");
 }
 
-/// Writes where a termination moved to.
+/// Writes the context that a termination moved to.
 #[tactic(auto, using(crate::proofs::ChangeLemmas::steps))]
 fn push_context(context: u32, out: &mut Bytes)
     requires room { 38 ≤ out.old.room }
@@ -107,7 +107,7 @@ fn push_mode(ticks: u64, new: &KeptListener, out: &mut Bytes)
     out.push(b"\n");
 }
 
-/// Writes the name of a termination after a space.
+/// Writes a space and the name of a termination.
 #[tactic(auto, using(crate::proofs::ChangeLemmas::steps))]
 fn push_name(number: u32, out: &mut Bytes)
     requires room { 25 ≤ out.old.room }
@@ -148,7 +148,7 @@ fn push_talkers(ticks: u64, new: &KeptListener, out: &mut Bytes)
     out.push(b"\n");
 }
 
-/// Writes all of a termination that wasn't there before.
+/// Writes everything about a new termination.
 #[tactic(auto, using(crate::proofs::ChangeLemmas::steps))]
 fn push_new(ticks: u64, new: &KeptListener, out: &mut Bytes)
     requires room { 1854 ≤ out.old.room }
@@ -162,14 +162,14 @@ fn push_new(ticks: u64, new: &KeptListener, out: &mut Bytes)
     }
 }
 
-/// Whether two modes are one.
+/// Returns whether two modes are equal.
 fn is_same_mode(a: Mode, b: Mode) -> bool
     ensures value { result ≡ is_same_mode a b }
 {
     a == b
 }
 
-/// Writes what is another of a termination that was there before.
+/// Writes what changed of an existing termination.
 #[tactic(auto, using(crate::proofs::ChangeLemmas::steps))]
 fn push_changed(ticks: u64, old: &KeptListener, new: &KeptListener, out: &mut Bytes)
     requires room { 1854 ≤ out.old.room }
@@ -187,7 +187,7 @@ fn push_changed(ticks: u64, old: &KeptListener, new: &KeptListener, out: &mut By
     }
 }
 
-/// The listener with this number.
+/// Returns the listener with this number.
 fn listener_at(listeners: &[KeptListener], number: u32) -> Option<&KeptListener>
     ensures value { MatchOption result (listener_at listeners.now number ≡ None)
         (λ x. listener_at listeners.now number ≡ Some x.now) }
@@ -200,7 +200,7 @@ fn listener_at(listeners: &[KeptListener], number: u32) -> Option<&KeptListener>
     None
 }
 
-/// Writes that a termination ended, unless it is there after the change.
+/// Writes that a termination ended, unless it still exists.
 #[tactic(auto, using(crate::proofs::ChangeLemmas::steps))]
 fn push_old(ticks: u64, after: &[KeptListener], old: &KeptListener, out: &mut Bytes)
     requires room { 61 ≤ out.old.room }
@@ -252,7 +252,7 @@ fn push_all_new(ticks: u64, before: &[KeptListener], after: &[KeptListener], out
     }
 }
 
-/// Writes all that changed, from the terminations before to those after.
+/// Writes all changes between the terminations before and those after.
 #[tactic(auto, using(crate::proofs::ChangeLemmas::steps))]
 pub fn push_changes(ticks: u64, before: &[KeptListener], after: &[KeptListener], out: &mut Bytes)
     requires room { 61 * length before.now + 1854 * length after.now ≤ out.old.room }

@@ -4,7 +4,7 @@ ghost use Rattle.mg_core.specs.World.{placed_counter, cause_of};
 use mg_engine::{DropCause, Taken};
 use mg_playout::Placed;
 
-/// What was counted. Each number stays at its greatest value.
+/// The counters of a run. A counter that reaches its greatest value stays there.
 #[derive(Clone, Copy, Debug, PartialEq, Eq)]
 pub struct Counts {
     /// Script lines that were read.
@@ -17,14 +17,13 @@ pub struct Counts {
     pub ticks: u64,
     /// Answers and packets that were written.
     pub sent: u64,
-    /// Sends and receives that failed, and control datagrams that found no memory.
+    /// Sends and receives that failed, and control datagrams that were dropped because memory ran out.
     pub failed: u64,
-    /// RTP datagrams that a play list took, by its answer: started, placed, pushed, again, late.
+    /// RTP datagrams by the result of placing: started, placed, pushed, again, late.
     pub placed: [u64; 5],
-    /// RTP datagrams that were dropped, by their cause: no termination, stray, no Local, no RTP, payload
-    /// type, length.
+    /// Dropped RTP datagrams by cause: no termination, stray, no Local, no RTP, payload type, length.
     pub dropped: [u64; 6],
-    /// Frames that stood in for a missing one.
+    /// Frames that concealed a missing one.
     pub concealed: u64,
 }
 
@@ -43,7 +42,7 @@ impl Counts {
     ghost use Rattle.std.specs.Prelude.{◌≡◌, ◌+◌};
     ghost use Rattle.mg_core.specs.World.{Tally, counts_of, no_events, with_taken, with_tick};
 
-    /// Nothing was counted yet.
+    /// Returns counters that are all 0.
     pub fn new() -> Counts
         ensures value { result ≡ counts_of no_events }
     {
@@ -68,7 +67,7 @@ impl Counts {
         self.control = self.control.saturating_add(1);
     }
 
-    /// Counts what became of an RTP datagram.
+    /// Counts the result of an RTP datagram.
     pub fn count_media(&mut self, taken: Taken)
         ensures counted { (t : Tally) → self.old ≡ counts_of t → self.new ≡ counts_of (with_taken taken t) }
     {
@@ -85,7 +84,7 @@ impl Counts {
         }
     }
 
-    /// Counts a tick in which so many frames were concealed.
+    /// Counts a tick and the frames concealed in it.
     pub fn count_tick(&mut self, concealed: usize)
         ensures counted { (t : Tally) → self.old ≡ counts_of t → self.new ≡ counts_of (with_tick concealed t) }
     {
@@ -94,7 +93,7 @@ impl Counts {
     }
 }
 
-/// The place of a play list's answer among the counts.
+/// Returns the index of the counter for a result of placing.
 fn placed_counter(placed: Placed) -> usize
     ensures value { result ≡ placed_counter placed }
     ensures below { result < 5 }
@@ -108,7 +107,7 @@ fn placed_counter(placed: Placed) -> usize
     }
 }
 
-/// The place of a cause among the counts.
+/// Returns the index of the counter for a cause of a drop.
 fn cause_of(cause: DropCause) -> usize
     ensures value { result ≡ cause_of cause }
     ensures below { result < 6 }

@@ -1,12 +1,12 @@
 use mg_engine::Peer;
 use mg_text::TreeList;
 
-/// What a line of a script stands for.
+/// An event of a gateway, as a line of a script has it.
 #[derive(Drop)]
 pub enum Event {
-    /// A control datagram, with where it came from.
+    /// A control datagram: its source and its bytes.
     Control(Peer, TreeList<u8>),
-    /// An RTP datagram at a media port, with where it came from.
+    /// An RTP datagram at a media port: the port, the source and the bytes.
     Media(u16, Peer, TreeList<u8>),
     /// A tick of 20 ms.
     Tick,

@@ -11,10 +11,10 @@ use mg_text::{Bytes, write_port};
 use std::alloc::{AllocError, Global};
 use std::marker::Model;
 
-/// The bytes of the longest line: a key word, a port, a peer, and the digits of a datagram.
+/// The greatest length in bytes of a line: a first word, a port, a peer, and the digits of a datagram.
 const LINE_ROOM: usize = 33 + 2 * DATAGRAM_LIMIT;
 
-/// The line of a script for an event, as it is made up before it is written at once. Contracts see its text.
+/// The script line of an event, which is built here and then written at once. Contracts see its text.
 #[derive(Drop)]
 pub struct EventLine {
     line: Bytes,
@@ -31,7 +31,7 @@ impl Model for EventLine {
     ghost invariant = { λ l. (l.line.room + length l.line.text ≡ 131103) × (length l.digits.items ≡ 131070) };
 }
 
-/// Writes a peer and the bytes of a datagram, and ends the line. The digits are made up in a place of their own.
+/// Writes a peer and the bytes of a datagram, and ends the line. The digits are built in `digits`.
 #[tactic(auto, using(crate::proofs::OutputLemmas::steps))]
 fn push_datagram(source: Peer, bytes: &[u8], digits: &mut [u8], out: &mut Bytes)
     requires digits { 2 * length bytes.now ≤ length digits.old }
@@ -49,7 +49,7 @@ fn push_datagram(source: Peer, bytes: &[u8], digits: &mut [u8], out: &mut Bytes)
 }
 
 impl EventLine {
-    /// An empty line. This takes all the memory.
+    /// Makes an empty line. Fails only if the allocation does. No other call allocates.
     pub fn new(alloc: Global) -> Result<Self, AllocError>
         ensures value { IfOk result (λ line. line ≡ []) }
     {
@@ -59,7 +59,7 @@ impl EventLine {
         })
     }
 
-    /// Makes up the line for a control datagram.
+    /// Builds the line of a control datagram.
     #[tactic(auto, using(crate::proofs::OutputLemmas::steps))]
     pub fn control(&mut self, source: Peer, bytes: &[u8])
         requires short { length bytes.now ≤ 65535 }
@@ -70,7 +70,7 @@ impl EventLine {
         push_datagram(source, bytes, &mut self.digits, &mut self.line);
     }
 
-    /// Makes up the line for an RTP datagram that came to a media port.
+    /// Builds the line of an RTP datagram at a media port.
     #[tactic(auto, using(crate::proofs::OutputLemmas::steps))]
     pub fn media(&mut self, port: u16, source: Peer, bytes: &[u8])
         requires short { length bytes.now ≤ 65535 }
@@ -83,7 +83,7 @@ impl EventLine {
         push_datagram(source, bytes, &mut self.digits, &mut self.line);
     }
 
-    /// The line, with its line feed.
+    /// Returns the line with its line feed.
     pub fn as_slice(&self) -> &[u8]
         ensures value { result.now ≡ self.now }
     {

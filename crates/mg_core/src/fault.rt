@@ -2,42 +2,42 @@ use mg_engine::StartFault;
 use mg_lines::{ReadFailed, WriteFailed};
 use thiserror::Error;
 
-/// Memory ran out in reading a control datagram. Nothing has changed but the last answer, which is empty.
+/// Memory ran out while a control datagram was read. Nothing has changed but the last answer, which is now empty.
 #[derive(Clone, Copy, Debug, PartialEq, Eq, Error)]
 #[error("no memory")]
 pub struct NoMemory;
 
-/// Why the lines for an event were not written whole.
+/// Why the lines of an event were not written completely.
 #[derive(Clone, Copy, Debug, PartialEq, Eq)]
 pub enum EventFault {
     Write,
-    /// A control datagram found no memory, and the event didn't happen.
+    /// Memory ran out for a control datagram, and the event had no effect.
     NoMemory,
 }
 
-/// Why a line was not run, or not all that it sends was written.
+/// Why a line was not run, or why not everything that it sends was written.
 #[derive(Clone, Copy, Debug, PartialEq, Eq)]
 pub enum LineFault {
-    /// The line with this number, counted from 1, is no script line.
+    /// The line with this number, counted from 1, is not a script line.
     Bad(u64),
     Write,
     NoMemory,
 }
 
-/// Why a script was not run to its end, on a gateway that was started.
+/// Why a script did not run to its end on a gateway that was started.
 #[derive(Clone, Copy, Debug, PartialEq, Eq)]
 pub enum ScriptFault {
-    /// The line with this number, counted from 1, is no script line.
+    /// The line with this number, counted from 1, is not a script line.
     Bad(u64),
     Read,
     Write,
     NoMemory,
 }
 
-/// Why a script was not run to its end.
+/// Why a script did not run to its end.
 #[derive(Clone, Copy, Debug, PartialEq, Eq, Error)]
 pub enum RunFault {
-    /// The line with this number, counted from 1, is no script line.
+    /// The line with this number, counted from 1, is not a script line.
     #[error("line {0}: bad script line")]
     Script(u64),
     #[error("read failed")]

@@ -1,5 +1,7 @@
-//! The core of a conference media gateway: control datagrams, RTP datagrams and ticks in, answers and packets out. What
-//! a controller asks for is done on the terminations and contexts of an [`Engine`](mg_engine::Engine).
+//! The core of a conference media gateway: a state machine without IO.
+//!
+//! Control datagrams, RTP datagrams and ticks go in; answers and packets come out. The commands of a controller act on
+//! the terminations and contexts of an [`Engine`](mg_engine::Engine).
 //!
 //! ```rust
 //! let mut core = Core::new(alloc, Config::default())?;
@@ -8,10 +10,10 @@
 //! }
 //! ```
 //!
-//! [`run`] does so for each line of a script. Contracts speak of the worlds that a core's state stands for (`StandsFor`
-//! in `specs/World.antt`): each call that hands it an event is a step from each of them to the next (`Step` in
-//! `specs/Step.antt`). So after any list of events its flows, totals and packets are those computed anew
-//! (`specs/Headline.antt`). A request that comes again is answered by the reply that was kept for it, and not run twice
+//! [`run`] does this for each line of a script. Contracts speak of the worlds that a core's state represents
+//! (`StandsFor` in `specs/World.antt`). A call with an event is a step from each of these worlds to the next (`Step`
+//! in `specs/Step.antt`). So after any list of events, its flows, totals and packets equal the recomputed ones
+//! (`specs/Headline.antt`). A retransmitted request is answered by its kept reply, and not run twice
 //! (`specs/Retransmissions.antt`).
 #![tactic(auto)]
 
@@ -46,7 +48,7 @@ pub use crate::peer::peer_of;
 pub use crate::running::run;
 pub use crate::script::DATAGRAM_LIMIT;
 pub use crate::shown::Shown;
-// A crate can name a core in a contract only if the type of its state is exported.
+// A contract of another crate can name a core only if the type of its state is exported.
 #[doc(hidden)]
 pub use crate::state::CoreState;
 pub use mg_engine::{Config, Datagram, DropCause, Peer, Record, Rooms, StartFault, Stats, Taken};

@@ -21,11 +21,11 @@ use mg_text::Bytes;
 use std::alloc::{AllocError, Global};
 use std::io::Write;
 
-/// The bytes of the longest line that is written: a key word, a peer, and an answer whose bytes may all
-/// take an escape.
+/// The greatest length in bytes of a line that is written: a first word, a peer, and an answer whose bytes may all
+/// need an escape.
 const OUTPUT_LIMIT: usize = 27 + 2 * ANSWER_LIMIT;
 
-/// What is kept of terminations for a form of a run, on a gateway without terminations.
+/// Makes the store of terminations that a form of a run needs, for a gateway without terminations.
 fn watched_for(alloc: Global, shown: Shown) -> Result<Option<Watched>, AllocError>
     ensures value { (config : Config) → IfOk result (λ watched. AreKeptListeners shown watched (start_of config)) }
 {
@@ -38,8 +38,9 @@ fn watched_for(alloc: Global, shown: Shown) -> Result<Option<Watched>, AllocErro
     }
 }
 
-/// What a runner writes its lines with: room for the longest, and what is kept of terminations. This takes all their
-/// memory.
+/// Makes the buffers of a runner: for the longest line, and for the terminations.
+///
+/// Fails only if the allocation does.
 fn outputs(alloc: Global, shown: Shown) -> Result<(Bytes, Option<Watched>), AllocError>
     ensures output { IfOk result (λ (output, watched). output ≡ record { text = []; room = 128099 }) }
     ensures watched { (config : Config) →
@@ -49,20 +50,20 @@ fn outputs(alloc: Global, shown: Shown) -> Result<(Bytes, Option<Watched>), Allo
     Ok((output, watched_for(alloc, shown)?))
 }
 
-/// Runs lines of a script on a gateway.
+/// Runs the lines of a script on a gateway.
 #[derive(Drop)]
 pub struct LineRunner {
     pub core: Core,
     pub output: Bytes,
-    /// Answers and packets whose lines were written.
+    /// How many answers and packets were written.
     pub sent: u64,
-    /// The terminations as the last event left them, where changes are shown.
+    /// The terminations after the last event, if changes are shown.
     pub watched: Option<Watched>,
     ghost output_size: { output.room + length output.text ≡ 128099 },
 }
 
 impl LineRunner {
-    /// A runner on a new gateway.
+    /// Makes a runner with a new gateway.
     pub fn new(alloc: Global, config: Config, shown: Shown) -> Result<Self, StartFault>
         ensures bad { (result ≡ Err StartFault.BadConfig) ↔ ¬ IsValidConfig config }
         ensures sound { OnOk result (IsValidConfig config) }
@@ -79,7 +80,7 @@ impl LineRunner {
         })
     }
 
-    /// Takes a control datagram, and writes the line of its answer.
+    /// Handles a control datagram, and writes the line of its answer.
     #[tactic(auto, using(crate::proofs::AnswerLemmas::totals))]
     fn take_control<W: Write>(
         &mut self,
@@ -108,7 +109,7 @@ impl LineRunner {
         }
     }
 
-    /// Takes an RTP datagram at a media port.
+    /// Handles an RTP datagram at a media port.
     fn take_media(&mut self, port: u16, source: Peer, bytes: &[u8])
         ensures value { Leads StandsFor self.old.core.state self.new.core.state (λ w next.
             Step w (Event.Media port source bytes.now) [] next) }
@@ -118,7 +119,7 @@ impl LineRunner {
         let _ = self.core.media(port, source, bytes);
     }
 
-    /// Passes on by 20 ms, and writes the lines of the packets that are sent.
+    /// Advances by 20 ms, and writes the lines of the packets that are sent.
     #[tactic(auto, using(crate::proofs::AnswerLemmas::totals))]
     fn take_tick<W: Write>(&mut self, writer: &mut W) -> Result<(), EventFault>
         ensures value { Leads StandsFor self.old.core.state self.new.core.state (λ w next.
@@ -135,7 +136,7 @@ impl LineRunner {
         Ok(())
     }
 
-    /// Writes what a control datagram changed, where that is shown.
+    /// Writes what a control datagram changed, if changes are shown.
     fn show_changes<W: Write>(&mut self, writer: &mut W) -> Result<(), EventFault>
         ensures core { self.new.core ≡ self.old.core }
         ensures sent { self.new.sent ≡ self.old.sent }
@@ -179,7 +180,7 @@ impl LineRunner {
         }
     }
 
-    /// Takes a whole line, which has this number.
+    /// Runs a complete line with this number.
     pub fn take_line<W: Write>(
         &mut self,
         alloc: Global,

@@ -11,7 +11,7 @@ use mg_rooms::MEMBERS;
 use mg_words::Mode;
 use std::marker::Model;
 
-/// A termination as it was at some time, with those whose speech went to it.
+/// A termination at some time, with the talkers whose speech flows to it.
 #[derive(Drop)]
 pub struct KeptListener {
     pub number: u32,
@@ -19,7 +19,7 @@ pub struct KeptListener {
     /// The UDP port that it receives at.
     pub port: u16,
     pub mode: Mode,
-    /// By rising numbers.
+    /// In order of their numbers.
     pub talkers: ArrayVec<u32, MEMBERS>,
 }
 
@@ -38,7 +38,7 @@ impl Model for KeptListener {
 }
 
 impl KeptListener {
-    /// A listener that nobody is.
+    /// Returns a listener for no termination.
     pub fn new() -> Self
         ensures value { result ≡ record { number = 0; context = 0; port = 0; mode = Mode.Inactive; talkers = [] } }
     {
@@ -51,7 +51,7 @@ impl KeptListener {
         }
     }
 
-    /// Puts a termination of a core here, as it is.
+    /// Stores the current state of a core's termination.
     pub fn set(&mut self, core: &Core, termination: &Record)
         requires slot { termination.now.slot < core.now.state.engine.rooms.limits.slots }
         ensures value { (w : World) → StandsFor core.now.state w → self.new ≡ listener_of w.gateway termination.now }
@@ -64,7 +64,7 @@ impl KeptListener {
     }
 }
 
-/// Those whose speech goes to a listener. They are members of its context, so there is a place for each.
+/// Returns those whose speech flows to a listener. They are members of its context, so there is room for all.
 fn talkers_of(core: &Core, listener: u32) -> ArrayVec<u32, MEMBERS>
     ensures value { (w : World) → StandsFor core.now.state w →
         result.items ≡ filter (λ n. flow w.gateway n listener) (numbers_of w.gateway) }

@@ -8,10 +8,10 @@ use mg_rooms::TERMINATIONS;
 use std::alloc::{AllocError, Global};
 use std::marker::Model;
 
-/// The terminations of a gateway as they were at some time, by rising numbers.
+/// The terminations of a gateway at some time, in order of their numbers.
 #[derive(Drop)]
 pub struct KeptListeners {
-    /// As many places as there may be terminations, of which the first are held.
+    /// A place for each termination that there can be. The first `len` are in use.
     places: Vec<KeptListener>,
     len: usize,
 }
@@ -29,7 +29,7 @@ impl Model for KeptListeners {
 }
 
 impl KeptListeners {
-    /// Those of a gateway without terminations. This takes the memory for all that there can be.
+    /// Makes an empty store. Fails only if the allocation does. No other call allocates.
     pub fn new(alloc: Global) -> Result<Self, AllocError>
         ensures value { IfOk result (λ x. x ≡ []) }
     {
@@ -40,7 +40,7 @@ impl KeptListeners {
         Ok(KeptListeners { places, len: 0 })
     }
 
-    /// Takes the terminations of a core, as they are, in the place of those that were here.
+    /// Stores the current terminations of a core, in place of the earlier ones.
     pub fn fill(&mut self, core: &Core)
         ensures value { (w : World) → StandsFor core.now.state w → self.new ≡ listeners_of w.gateway }
     {
@@ -55,7 +55,7 @@ impl KeptListeners {
     }
 }
 
-/// Fills the first places with the terminations of a core, and answers how many they are.
+/// Stores the terminations of a core in the first places. Returns how many there are.
 fn fill_places(places: &mut [KeptListener], core: &Core) -> usize
     requires places { length places.old ≡ TERMINATIONS }
     ensures front { (w : World) → StandsFor core.now.state w → take result places.new ≡ listeners_of w.gateway }

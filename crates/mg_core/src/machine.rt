@@ -31,14 +31,13 @@ use mg_text::{Bytes, ErrorNumber, Message, Reply, read, write_head};
 use std::alloc::{AllocError, Global};
 use std::marker::Model;
 
-/// The bytes of the longest answer: a head, four replies, and a line feed between each two of them.
+/// The greatest length in bytes of an answer: a head, four replies, and a line feed between two replies.
 pub const ANSWER_LIMIT: usize = 64036;
 
-/// The gateway as a machine of events: it is handed datagrams and ticks, and tells the answers and packets. It opens
-/// nothing, waits for nothing and knows no clock.
+/// The gateway as a state machine: datagrams and ticks go in, answers and packets come out.
 ///
-/// It keeps no history. So contracts speak of each world that its state stood for before a call, and of the world that
-/// it stands for afterwards.
+/// It opens nothing, waits for nothing and knows no clock. It keeps no history. So contracts speak of every world that
+/// its state represents, before and after a call.
 #[derive(Drop)]
 pub struct Core {
     state: CoreState,
@@ -58,8 +57,9 @@ impl Model for Core {
     ghost invariant = { λ c. c.answer.room + length c.answer.text ≡ 64036 };
 }
 
-/// What a core has of replies before the first: none is kept, none is put together, and there is no answer. This takes
-/// all their memory.
+/// Makes the store of kept replies, the reply under construction, and the buffer of answers.
+///
+/// Fails only if the allocation does.
 fn no_replies(alloc: Global) -> Result<(Kept, Reply, Bytes), AllocError>
     ensures kept { IfOk result (λ (kept, reply, answer). kept ≡ []) }
     ensures answer { IfOk result (λ (kept, reply, answer). answer ≡ record { text = []; room = ANSWER_LIMIT }) }
@@ -70,7 +70,9 @@ fn no_replies(alloc: Global) -> Result<(Kept, Reply, Bytes), AllocError>
 }
 
 impl Core {
-    /// A gateway with this configuration. This takes all the memory that it holds.
+    /// Starts a gateway with this configuration.
+    ///
+    /// It allocates all the memory that it keeps. Fails if the configuration is invalid or the allocation fails.
     pub fn new(alloc: Global, config: Config) -> Result<Self, StartFault>
         ensures bad { (result ≡ Err StartFault.BadConfig) ↔ ¬ IsValidConfig config }
         ensures started { IfOk result (λ core. (core.answer ≡ []) × (core.outbox ≡ []) ×
@@ -92,8 +94,9 @@ impl Core {
         })
     }
 
-    /// Takes a control datagram. Its answer is told by [`Core::answer`]. Memory is taken in reading alone,
-    /// and where it runs out nothing has changed but the last answer, which is empty.
+    /// Handles a control datagram; [`Core::answer`] returns its answer.
+    ///
+    /// Only reading allocates. If memory runs out, nothing has changed but the last answer, which is then empty.
     pub fn control(&mut self, alloc: Global, source: Peer, bytes: &[u8]) -> Result<Answer, NoMemory>
         ensures answered { IfOk result (λ answer. Leads StandsFor self.old.state self.new.state (λ w next.
             Step w (events.Control source bytes.now) (answer_to source (reported answer self.new.answer)) next)) }
@@ -125,7 +128,7 @@ impl Core {
         }
     }
 
-    /// Does what a message asks, item by item, and answers its requests.
+    /// Handles a message item by item, and answers its requests.
     fn reply_to(&mut self, source: &[u8], message: &Message) -> Answer
         requires message { IsMessage source.now message.now }
         requires proper { are_proper source.now (items_of message.now.body) ≡ true }
@@ -163,7 +166,7 @@ impl Core {
         Answer::Silent
     }
 
-    /// Answers a datagram that is no message to be served.
+    /// Answers a datagram that is not a valid message with an error.
     fn refuse(&mut self, number: ErrorNumber)
         requires empty { self.old.answer ≡ [] }
         ensures refused { (w : World) → StandsFor self.old.state w →
@@ -176,14 +179,14 @@ impl Core {
         put_error(&config, number, &mut self.answer);
     }
 
-    /// The text of the last answer. It is empty after one that was silent, and where memory ran out.
+    /// Returns the text of the last answer: empty if there was none, or if memory ran out.
     pub fn answer(&self) -> &[u8]
         ensures value { result.now ≡ self.now.answer }
     {
         self.answer.as_slice()
     }
 
-    /// Takes an RTP datagram that came to one of the media ports.
+    /// Handles an RTP datagram that arrived at a media port.
     pub fn media(&mut self, port: u16, source: Peer, bytes: &[u8]) -> Taken
         ensures taken { Leads StandsFor self.old.state self.new.state (λ w next.
             TakesMedia w port source bytes.now next result) }
@@ -197,7 +200,7 @@ impl Core {
         taken
     }
 
-    /// Passes on by 20 ms. The packets that are to be sent are told by [`Core::outbox`].
+    /// Advances by 20 ms; [`Core::outbox`] returns the packets to send.
     pub fn tick(&mut self)
         ensures sent { (w : World) → StandsFor self.old.state w → self.new.outbox ≡ packets_of w }
         ensures next { (w : World) → StandsFor self.old.state w → StandsFor self.new.state (world_after_tick w) }
@@ -211,7 +214,7 @@ impl Core {
         self.state.count_tick(concealed);
     }
 
-    /// The packets of the last tick, by rising numbers of their terminations.
+    /// Returns the packets of the last tick, in order of their terminations' numbers.
     pub fn outbox(&self) -> &[Datagram]
         ensures value { result.now ≡ self.now.outbox }
         ensures few { length result.now ≤ TERMINATIONS }
@@ -219,7 +222,7 @@ impl Core {
         self.outbox.as_slice()
     }
 
-    /// Whether a talker's speech goes to a listener. It is false for a number that names no termination.
+    /// Returns whether a talker's speech flows to a listener. It is false if a number names no termination.
     pub fn flow(&self, talker: u32, listener: u32) -> bool
         ensures value { (w : World) → StandsFor self.now.state w → result ≡ flow w.gateway talker listener }
         ensures headline { FlowIsRecomputed self.now.state talker listener result }
@@ -227,8 +230,9 @@ impl Core {
         self.state.engine.flow(talker, listener)
     }
 
-    /// The plain sum of a sample of this tick, the i-th of 160, over the members of a context that talk. There is none
-    /// where the context isn't there, or where a frame has no such sample.
+    /// Returns the plain sum of sample `i` in this tick over the members of a context that talk.
+    ///
+    /// Returns `None` if the context does not exist, or if `i` is not below 160.
     pub fn total(&self, context: u32, i: usize) -> Option<i32>
         ensures value { (w : World) → StandsFor self.now.state w → result ≡ total_at w.gateway context i }
         ensures headline { TotalIsRecomputed self.now.state context i result }
@@ -236,14 +240,14 @@ impl Core {
         self.state.engine.total(context, i)
     }
 
-    /// The terminations and contexts.
+    /// Returns the terminations and contexts.
     pub fn rooms(&self) -> &Rooms
         ensures value { (w : World) → StandsFor self.now.state w → result.now ≡ w.gateway.rooms }
     {
         self.state.engine.rooms()
     }
 
-    /// How many terminations there are.
+    /// Returns the number of terminations.
     pub fn terminations(&self) -> usize
         ensures value { result ≡ length self.now.state.engine.rooms.terminations }
         ensures few { result ≤ TERMINATIONS }
@@ -252,7 +256,7 @@ impl Core {
         self.state.engine.terminations()
     }
 
-    /// The termination on a place among all, counted from 0 by rising numbers.
+    /// Returns the termination at an index, counted from 0 in order of their numbers.
     pub fn termination(&self, place: usize) -> Record
         requires there { place < length self.now.state.engine.rooms.terminations }
         ensures value { slice_get self.now.state.engine.rooms.terminations place ≡ Some result }
@@ -261,14 +265,14 @@ impl Core {
         self.state.engine.termination(place)
     }
 
-    /// Shows what holds of the terminations, and does nothing.
+    /// Shows a proof the invariant of the terminations. Has no effect.
     pub(crate) fn assert_invariant(&self)
         ensures sound { IsSound self.now.state.engine.rooms }
     {
         let _count = self.state.engine.terminations();
     }
 
-    /// The UDP port of a slot.
+    /// Returns the UDP port of a slot.
     pub fn port(&self, slot: u8) -> u16
         requires slot { slot < self.now.state.engine.rooms.limits.slots }
         ensures value { result ≡ slot_port self.now.state.engine.rooms.limits slot }
@@ -276,22 +280,23 @@ impl Core {
         self.state.engine.port(slot)
     }
 
-    /// The counters of a termination.
+    /// Returns the counters of a termination.
     pub fn stats(&self, number: u32) -> Option<Stats>
         ensures value { (w : World) → StandsFor self.now.state w → result ≡ stats_of w.gateway number }
     {
         self.state.engine.stats(number)
     }
 
-    /// How many rows of 160 samples were added up, taken away or written since the start, modulo 2^32.
+    /// Returns how many rows of 160 samples were added, subtracted or written since the start, modulo 2^32.
     pub fn work(&self) -> u32
         ensures value { result ≡ self.now.state.engine.sums.work }
     {
         self.state.engine.work()
     }
 
-    /// How many events came: control datagrams, RTP datagrams by what became of them, and ticks. Lines, sent and failed
-    /// are 0, for they are counted by whoever runs the core.
+    /// Returns the counts of events: control datagrams, RTP datagrams by their result, and ticks.
+    ///
+    /// `lines`, `sent` and `failed` are 0, since the runner of the core counts them.
     pub fn counts(&self) -> Counts
         ensures value { (w : World) → StandsFor self.now.state w → result ≡ counts_of w.tally }
     {

@@ -9,7 +9,7 @@ ghost use Rattle.mg_core.specs.Step.{Packet};
 use mg_engine::{Datagram, Peer};
 use mg_text::{Bytes, write_address, write_port};
 
-/// Writes a byte of a text, with its escape.
+/// Writes a byte of a text, escaped if necessary.
 fn push_escape(b: u8, out: &mut Bytes)
     requires room { 2 ≤ out.old.room }
     ensures value { out.new ≡ appended out.old (escape_of b) }
@@ -46,7 +46,7 @@ pub fn push_peer(peer: Peer, out: &mut Bytes)
     write_port(peer.port, out);
 }
 
-/// Writes the line for an answer to a peer.
+/// Writes the line of an answer to a peer.
 #[tactic(auto, using(crate::proofs::OutputLemmas::steps))]
 pub fn push_answer(peer: Peer, text: &[u8], out: &mut Bytes)
     requires room { 27 + 2 * length text.now ≤ out.old.room }
@@ -60,7 +60,7 @@ pub fn push_answer(peer: Peer, text: &[u8], out: &mut Bytes)
     out.push(b"\n");
 }
 
-/// Writes bytes as hexadecimal digits in lower case.
+/// Writes bytes in lower-case hexadecimal.
 fn push_digits(bytes: &[u8; 172], out: &mut Bytes)
     requires room { 344 ≤ out.old.room }
     ensures value { out.new ≡ appended out.old (encode_lower bytes.now) }
@@ -71,7 +71,7 @@ fn push_digits(bytes: &[u8; 172], out: &mut Bytes)
     out.push(&digits);
 }
 
-/// Writes the line for a packet that is sent.
+/// Writes the line of a packet.
 #[tactic(auto, using(crate::proofs::OutputLemmas::steps))]
 fn push_packet(packet: &Datagram, out: &mut Bytes)
     requires room { 377 ≤ out.old.room }
@@ -87,7 +87,7 @@ fn push_packet(packet: &Datagram, out: &mut Bytes)
     out.push(b"\n");
 }
 
-/// Writes the lines for the packets of a tick.
+/// Writes the lines of a tick's packets.
 #[tactic(auto, using(crate::proofs::OutputLemmas::steps))]
 pub fn push_packets(packets: &[Datagram], out: &mut Bytes)
     requires room { 377 * length packets.now ≤ out.old.room }

@@ -14,18 +14,18 @@ use mg_engine::Config;
 use std::alloc::Global;
 use std::io::{Read, Write};
 
-/// Runs a script on a new gateway: reads it to its end, and writes a line for each answer and each packet. The lines of
-/// an event are written before more is read. After 4,294,967,295 reads without an end of input it answers
-/// `Read`.
+/// Runs a whole script on a new gateway, and writes a line for each answer and each packet.
 ///
-/// `Ok` says that all of the input is a script, that what was written is the lines of the datagrams that its events
-/// have sent and nothing else, and that its lines, these events and these datagrams were counted. A fault speaks of
-/// what was read so far, which is the input without what the reader still has. At `Read` all lines that end in it were
-/// run, no more and no fewer. At the others all lines before one of it were run: before the first bad one, which has
-/// its number, at `Script`; before the one for which there was no memory, and which had no effect, at `NoMemory`,
-/// unless nothing was read; before the one whose own answers were written in part at `Write`. What the lines before it
-/// write was written whole, and they were run before more was read. `BadConfig` comes exactly where the configuration
-/// isn't sound, and nothing is read then.
+/// The lines of an event are written before more is read. `Ok` means that all of the input is a script, and that
+/// exactly the datagrams of its events were written. Its lines, events and datagrams are counted.
+///
+/// A fault says how far the script was run, of the text that was read; what the reader still holds does not count. The
+/// lines before the named line were run, and their output was written completely, before more was read:
+/// - `Script`: the first bad line has this number, and the lines before it were run.
+/// - `Read`: exactly the lines that end in the text that was read were run. It also ends a run after 4,294,967,295 reads.
+/// - `Write`: the lines before one were run, and the output of that line was written in part.
+/// - `NoMemory`: the lines before one were run, and that line had no effect; or nothing was read.
+/// - `BadConfig`: returned exactly if the configuration is invalid. Nothing was read.
 pub fn run<R: Read, W: Write>(
     alloc: Global,
     config: Config,

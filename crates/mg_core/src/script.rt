@@ -10,16 +10,16 @@ use mg_text::TreeList;
 use mg_words::{cut, port_of};
 use std::alloc::{AllocError, AllocFailed, Global};
 
-/// The bytes of the longest line of a script.
+/// The greatest length in bytes of a script line.
 pub const LINE_LIMIT: usize = 140000;
 
-/// The bytes of the longest datagram, one of UDP.
+/// The greatest length in bytes of a datagram: that of UDP.
 pub const DATAGRAM_LIMIT: usize = 65535;
 
-/// Why a line was not read.
+/// Why a line was not parsed.
 #[derive(Clone, Copy, Debug, PartialEq, Eq)]
 pub enum ParseFault {
-    /// It is no line of a script.
+    /// It is not a script line.
     Bad,
     NoMemory,
 }
@@ -46,14 +46,14 @@ impl<T: Drop> From<AllocFailed<T>> for ParseFault {
     }
 }
 
-/// Whether a byte stands for itself in a text: visible ASCII or a space.
+/// Returns whether a byte needs no escape in a text: visible ASCII or a space.
 fn is_plain(b: u8) -> bool
     ensures value { result ≡ is_plain b }
 {
     matches!(b, 0x20..=0x7E)
 }
 
-/// What a byte after a backslash stands for.
+/// Returns the byte that a backslash and this byte stand for.
 fn escaped_byte(b: u8) -> Option<u8>
     ensures value { result ≡ escaped_byte b }
 {
@@ -65,7 +65,7 @@ fn escaped_byte(b: u8) -> Option<u8>
     }
 }
 
-/// The bytes of a text with escapes.
+/// Parses a text with escapes.
 #[tactic(auto, using(crate::proofs::EscapeSteps::steps))]
 fn unescape(alloc: Global, text: &[u8]) -> Result<Vec<u8>, ParseFault>
     ensures { Reads (λ bytes. bytes.items) result (unescaped false text.now) }
@@ -93,7 +93,7 @@ fn unescape(alloc: Global, text: &[u8]) -> Result<Vec<u8>, ParseFault>
     Ok(bytes)
 }
 
-/// The bytes of hexadecimal digits.
+/// Parses hexadecimal digits.
 fn unhex(alloc: Global, digits: &[u8]) -> Result<Vec<u8>, ParseFault>
     ensures { Reads (λ bytes. bytes.items) result (ok_of (decode_of digits.now)) }
 {
@@ -104,16 +104,16 @@ fn unhex(alloc: Global, digits: &[u8]) -> Result<Vec<u8>, ParseFault>
     }
 }
 
-/// How a line spells a datagram, by its first part.
+/// How a line spells a datagram, by its first word.
 #[derive(Clone, Copy, Debug, PartialEq, Eq)]
 enum Spelling {
-    /// As a text with escapes.
+    /// A text with escapes.
     Text,
-    /// As hexadecimal digits.
+    /// Hexadecimal digits.
     Digits,
 }
 
-/// The spelling that a key word stands for.
+/// Returns the spelling that belongs to the first word of a line.
 #[tactic(auto, unfolding(crate::specs::Script::spelling_of))]
 fn spelling_of(key: &[u8]) -> Option<Spelling>
     ensures value { result ≡ spelling_of key.now }
@@ -127,7 +127,7 @@ fn spelling_of(key: &[u8]) -> Option<Spelling>
     }
 }
 
-/// The bytes that the last part of a line spells after its key word.
+/// Parses the last part of a line, by the first word of the line.
 fn bytes_of(alloc: Global, key: &[u8], spelled: &[u8]) -> Result<Vec<u8>, ParseFault>
     ensures { Reads (λ bytes. bytes.items) result (bytes_of key.now spelled.now) }
 {
@@ -138,7 +138,7 @@ fn bytes_of(alloc: Global, key: &[u8], spelled: &[u8]) -> Result<Vec<u8>, ParseF
     }
 }
 
-/// An RTP datagram: a port, a peer and hexadecimal digits, with one space between each two.
+/// Parses an RTP datagram: a port, a peer and hexadecimal digits, with one space between them.
 #[tactic(auto, unfolding(crate::specs::Script::rtp_of))]
 fn rtp_of(alloc: Global, parts: &[u8]) -> Result<Option<Event>, ParseFault>
     ensures { Reads (λ event. event) result (rtp_of parts.now) }
@@ -162,7 +162,7 @@ fn rtp_of(alloc: Global, parts: &[u8]) -> Result<Option<Event>, ParseFault>
     Ok(Some(Event::Media(port, source, TreeList::new(bytes))))
 }
 
-/// A control datagram after its key word: a peer and bytes, with one space between.
+/// Parses a control datagram after its first word: a peer and bytes, with one space between them.
 #[tactic(auto, unfolding(crate::specs::Script::control_of))]
 fn control_of(alloc: Global, key: &[u8], rest: &[u8]) -> Result<Option<Event>, ParseFault>
     ensures { Reads (λ event. event) result (control_of key.now rest.now) }
@@ -180,7 +180,7 @@ fn control_of(alloc: Global, key: &[u8], rest: &[u8]) -> Result<Option<Event>, P
     Ok(Some(Event::Control(source, TreeList::new(bytes))))
 }
 
-/// A datagram: a key word, a space, and what the key word asks for.
+/// Parses a datagram: a first word, a space, and the parts that belong to it.
 #[tactic(auto, unfolding(crate::specs::Script::datagram_of))]
 fn datagram_of(alloc: Global, line: &[u8]) -> Result<Option<Event>, ParseFault>
     ensures { Reads (λ event. event) result (datagram_of line.now) }
@@ -194,7 +194,7 @@ fn datagram_of(alloc: Global, line: &[u8]) -> Result<Option<Event>, ParseFault>
     control_of(alloc, key, rest)
 }
 
-/// Whether a line stands for no event: an empty one, or a comment.
+/// Returns whether a line has no event: it is empty or a comment.
 fn is_comment(line: &[u8]) -> bool
     ensures value { result ≡ is_comment line.now }
 {
@@ -204,7 +204,7 @@ fn is_comment(line: &[u8]) -> bool
     }
 }
 
-/// The event that a line stands for, without the end of the line.
+/// Parses a line, without its end. Returns `None` if it has no event.
 #[tactic(auto, unfolding(crate::specs::Script::event_of))]
 pub fn event_of(alloc: Global, line: &[u8]) -> Result<Option<Event>, ParseFault>
     ensures { Reads (λ event. event) result (event_of line.now) }

@@ -16,21 +16,21 @@ use mg_text::Bytes;
 use std::alloc::Global;
 use std::io::{Read, Write};
 
-/// The bytes of the longest line that is begun: one that is not too long, and a carriage return.
+/// The greatest length in bytes of a partial line: the longest line and a carriage return.
 const PARTIAL_LIMIT: usize = 140001;
 
-/// Runs a script on a gateway, in whatever pieces it comes.
+/// Runs a script on a gateway, in whatever pieces it arrives.
 #[derive(Drop)]
 pub struct ScriptRunner {
     pub runner: LineRunner,
-    /// Lines that were run.
+    /// How many lines were run.
     pub lines: u64,
     pub partial: Bytes,
     ghost partial_size: { partial.room + length partial.text ≡ 140001 },
 }
 
 impl ScriptRunner {
-    /// A runner on a new gateway, at the start of a script.
+    /// Makes a runner with a new gateway, at the start of a script.
     pub fn new(alloc: Global, config: Config, shown: Shown) -> Result<Self, StartFault>
         ensures bad { (result ≡ Err StartFault.BadConfig) ↔ ¬ IsValidConfig config }
         ensures sound { OnOk result (IsValidConfig config) }
@@ -48,7 +48,7 @@ impl ScriptRunner {
         })
     }
 
-    /// Takes the line that was begun, which ends here.
+    /// Runs the partial line, which ends here.
     fn end_line<W: Write>(&mut self, alloc: Global, writer: &mut W) -> Result<(), LineFault>
         requires few { self.old.lines + 1 < 2 ^ 64 }
         ensures partial { OnOk result (self.new.partial.text ≡ []) }
@@ -66,7 +66,7 @@ impl ScriptRunner {
         Ok(())
     }
 
-    /// Takes the next bytes of a script.
+    /// Handles the next bytes of a script.
     fn take_bytes<W: Write>(
         &mut self,
         alloc: Global,
@@ -93,7 +93,7 @@ impl ScriptRunner {
         Ok(())
     }
 
-    /// Takes the last line, if one was begun: it has no line feed.
+    /// Runs the last line, if there is one without a line feed.
     fn finish<W: Write>(&mut self, alloc: Global, writer: &mut W) -> Result<(), LineFault>
         requires few { self.old.lines + 1 < 2 ^ 64 }
         ensures value { (shown : Shown) → LeadsOn (Follows shown self.old.runner.core.state self.old.runner.watched)
@@ -111,7 +111,7 @@ impl ScriptRunner {
         Ok(())
     }
 
-    /// Reads a whole script and runs it on a gateway where nothing was done.
+    /// Reads a whole script, and runs it on a new gateway.
     pub fn take_all<R: Read, W: Write>(
         &mut self,
         alloc: Global,
@@ -137,7 +137,7 @@ impl ScriptRunner {
         Err(ScriptFault::Read)
     }
 
-    /// What was counted.
+    /// Returns the counts.
     pub fn counts(&self) -> Counts
         ensures lines { result.lines ≡ self.now.lines }
         ensures sent { result.sent ≡ self.now.runner.sent }

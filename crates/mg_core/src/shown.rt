@@ -1,8 +1,8 @@
-/// What a run of a script writes of each event.
+/// What running a script writes for each event.
 #[derive(Clone, Copy, Debug, PartialEq, Eq)]
 pub enum Shown {
-    /// The datagrams that are sent because of it.
+    /// The datagrams that it sends.
     Sent,
-    /// These, and after them, in comment lines, what it changed of the terminations and of who hears whom.
+    /// The same, followed by comment lines that report changes of the terminations and of who hears whom.
     SentAndFlows,
 }

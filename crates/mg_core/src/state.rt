@@ -5,13 +5,12 @@ use crate::counts::Counts;
 use mg_commands::Kept;
 use mg_engine::{Engine, Taken};
 
-/// What a gateway keeps from one event to the next: its terminations and contexts, the replies that it may have to send
-/// again, and how many events came.
+/// What a gateway keeps between events: terminations and contexts, kept replies, and the counts of events.
 #[derive(Drop)]
 pub struct CoreState {
     pub engine: Engine,
     pub kept: Kept,
-    /// Of events alone: lines, sent and failed stay 0.
+    /// The counts of events; `lines`, `sent` and `failed` stay 0.
     pub counts: Counts,
 }
 
@@ -25,7 +24,7 @@ impl CoreState {
         self.counts.count_control();
     }
 
-    /// Counts what became of an RTP datagram.
+    /// Counts the result of an RTP datagram.
     pub fn count_media(&mut self, taken: Taken)
         ensures engine { self.new.engine ≡ self.old.engine }
         ensures kept { self.new.kept ≡ self.old.kept }
@@ -35,7 +34,7 @@ impl CoreState {
         self.counts.count_media(taken);
     }
 
-    /// Counts a tick in which so many frames were concealed.
+    /// Counts a tick and the frames concealed in it.
     pub fn count_tick(&mut self, concealed: usize)
         ensures engine { self.new.engine ≡ self.old.engine }
         ensures kept { self.new.kept ≡ self.old.kept }

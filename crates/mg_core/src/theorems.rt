@@ -1,4 +1,4 @@
-//! What holds of all events. The functions here do nothing: their contracts are the theorems.
+//! Properties of all events. The functions have empty bodies: their contracts are the theorems.
 
 ghost use Rattle.std.specs.Prelude.{◌≡◌, List};
 ghost use Rattle.mg_core.specs.declared.event.Event.{Event};
@@ -17,7 +17,7 @@ ghost use Rattle.mg_core.specs.World.{World};
 
 use crate::event::Event;
 
-/// In each world each event has an outcome: datagrams that are sent, and a world that comes to be.
+/// Every event has an outcome in every world: the datagrams that are sent, and the next world.
 pub fn each_event_has_an_outcome(event: &Event)
     ensures some { (w : World) → (sent : List Sent) × (next : World) × Step w event.now sent next }
 {
@@ -28,8 +28,9 @@ pub fn each_event_has_an_outcome(event: &Event)
     }
 }
 
-/// In each world each event has at most one outcome, and so have events one after another: one world, the same
-/// datagrams sent, and the same text written.
+/// Every event, and every list of events, has at most one outcome in a world.
+///
+/// The outcome is the next world, the datagrams sent, and the text written.
 pub fn outcomes_are_unique()
     ensures event { (w : World) (event : Event) (a b : List Sent) (x y : World) →
         Step w event a x → Step w event b y → (a ≡ b) × (x ≡ y) }
@@ -41,16 +42,18 @@ pub fn outcomes_are_unique()
     mg_engine::theorems::one_arrival(b"");
 }
 
-/// What a refused command leaves is the gateway as it was, so no flow, total or later packet differs by it: these are
-/// of the gateway alone, whatever replies are kept.
+/// A rejected command changes no flow, total or later packet.
+///
+/// It leaves the gateway unchanged, and these depend only on the gateway, not on kept replies.
 pub fn refused_commands_change_no_packet()
     ensures theorem { GatewayDeterminesFuture }
 {
     mg_engine::theorems::one_arrival(b"");
 }
 
-/// A request that comes again while its reply is kept is answered alike, and nothing is done a second time; any other
-/// is run.
+/// A retransmitted request is answered like the request while its reply is kept, and nothing is done twice.
+///
+/// Any other request is run.
 pub fn retransmissions_are_answered_alike()
     ensures kept { KeptRepliesAreSent }
     ensures again { RetransmissionsAreAnsweredAlike }
@@ -59,8 +62,9 @@ pub fn retransmissions_are_answered_alike()
     mg_kept::theorems::kept_reply_is_found();
 }
 
-/// How long a request that comes again is answered alike: until an acknowledgement names its reply, or 32 other replies
-/// were kept. After that it is run again. The replies that are kept answer different requests.
+/// How long a retransmitted request is answered alike: until its reply is acknowledged, or 32 other replies were kept.
+///
+/// After that it is run again. Kept replies answer different requests.
 pub fn replies_persist()
     ensures last { RepliesPersist }
     ensures newest { NewReplyIsNewest }
@@ -74,9 +78,10 @@ pub fn replies_persist()
     mg_kept::theorems::replies_stay_while_few_are_newer();
 }
 
-/// After any events the terminations and contexts are consistent: within the limits, none with the number, slot or seat
-/// of another, members and records that agree. Their numbers rise in their lists, so a tick sends its packets by rising
-/// numbers.
+/// The terminations and contexts are consistent after any events.
+///
+/// They are within the limits; no two have the same number, slot or seat; members and records agree. Terminations are
+/// in order of their numbers, so a tick sends its packets in that order.
 pub fn worlds_are_consistent()
     ensures theorem { WorldsAreConsistent }
 {
@@ -84,9 +89,10 @@ pub fn worlds_are_consistent()
     mg_commands::theorems::requests_are_consistent();
 }
 
-/// In which order the packets of different callers came makes no difference: two lists of events with the same control
-/// datagrams and ticks, between any two of which each port has the same RTP datagrams in the same order, have the same
-/// datagrams sent, byte for byte, and lead to one world.
+/// The order of packets from different callers does not matter.
+///
+/// Take two lists of events with the same control datagrams and ticks. Between any two of these, each port has the same
+/// RTP datagrams in the same order. Then both lists send the same datagrams and end in the same world.
 pub fn port_order_is_irrelevant()
     ensures events { PortOrderIsIrrelevant }
     ensures histories { PortOrderInHistories }
@@ -122,24 +128,30 @@ pub fn changes_are_reported()
     ensures exact { OnlyChangesAreReported }
 {}
 
-/// The counts are the numbers of the events that came: control datagrams, RTP datagrams, those of them that were placed
-/// in each way and dropped for each cause, ticks, and the frames that stood in for missing ones in them.
+/// The counts are the numbers of events.
+///
+/// They are control datagrams, RTP datagrams by result and by cause of a drop, ticks, and frames that concealed a
+/// missing one.
 pub fn events_are_counted()
     ensures theorem { EventsAreCounted }
     ensures runs { RunsTake }
 {}
 
-/// A recording is a script of its events: each line of an event is read as that event, any other line as a comment.
-/// Where it was cut, whatever the byte, the lines that are whole are a script of its first events.
+/// A recording is a script of its events.
+///
+/// The line of an event is read as that event, any other line as a comment. If a recording is cut after any byte, its
+/// complete lines are a script of its first events.
 pub fn recordings_are_read()
     ensures theorem { RecordingsAreRead }
     ensures cut { CutRecordingsAreRead }
 {}
 
-/// The headline, joined. By its clauses `headline` and `packets` a [`Core`](crate::Core) answers and sends, after any
-/// list of events, what is computed anew from the world that they led to. This says the rest: that it is one world,
-/// what each packet of it carries, that what is refused changes nothing and no later packet, that nobody hears himself,
-/// and that who was isolated isn't heard.
+/// The headline theorem, joined.
+///
+/// The clauses `headline` and `packets` of a [`Core`](crate::Core) say that after any events it returns and sends what
+/// is recomputed from the resulting world. This theorem says the rest. That world is determined, and so is the content
+/// of each packet. What is rejected changes nothing and no later packet. Nobody hears himself, and an isolated
+/// participant is not heard.
 pub fn headline()
     ensures world { EventsDetermineOutcome }
     ensures packets { PayloadsAreMixes }

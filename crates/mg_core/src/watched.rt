@@ -13,14 +13,14 @@ use std::io::Write;
 use std::marker::Model;
 use std::mem;
 
-/// The bytes of the longest text of changes: 256 terminations end, and 256 are new, each in three lines.
+/// The greatest length in bytes of the reported changes: 256 terminations end and 256 are new, each with three lines.
 const CHANGES_LIMIT: usize = 490240;
 
-/// The terminations of a gateway as its last changes left them. Contracts see the list of them.
+/// The terminations of a gateway after its last changes. Contracts see them as a list.
 #[derive(Drop)]
 pub struct Watched {
     listeners: KeptListeners,
-    /// Those after a change, while it is written.
+    /// The terminations after a change, while it is written.
     next: KeptListeners,
     text: Bytes,
 }
@@ -37,7 +37,7 @@ impl Model for Watched {
 }
 
 impl Watched {
-    /// Those of a gateway without terminations. This takes all the memory.
+    /// Makes the store for a gateway without terminations. Fails only if the allocation does. No other call allocates.
     pub fn new(alloc: Global) -> Result<Self, AllocError>
         ensures value { IfOk result (λ x. x ≡ []) }
     {
@@ -48,7 +48,7 @@ impl Watched {
         })
     }
 
-    /// Writes what changed of a core since, and takes its terminations as they are.
+    /// Writes what changed of a core since the last call, and stores its current terminations.
     #[tactic(auto, using(crate::proofs::AnswerLemmas::totals))]
     pub fn write_changes<W: Write>(
         &mut self,

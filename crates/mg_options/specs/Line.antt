@@ -1,13 +1,13 @@
--- Command lines, as the parser of words knows them.
+-- Command lines, as their parser sees them.
 use Rattle.std.specs.Prelude.{true, Some}
 use Rattle.clap.specs.Walk.{Rule, Text}
 use Rattle.clap.specs.Simple.{App, new_app, new_rule, on_top}
 
--- that of a program with this name, which words reach without the name; it has a version
+-- the command line of a program with this name and a version; arguments come without the name
 abbrev pub program_line : Text → App
 program_line name =
     on_top (λ top. record top { no_binary_name = true; has_version = true }) (new_app name)
 
--- an option with this name that takes one text
+-- an option that takes one text
 abbrev pub text_rule : Text → Rule
 text_rule name = record (new_rule name) { long = Some name; value_names = 1 }

@@ -8,8 +8,9 @@ use std::alloc::Global;
 /// The version of the programs.
 pub const VERSION: &str = "0.1.0";
 
-/// The command line of a program, to which options and subcommands are added. Its words come without the program's
-/// name, and `--version` prints the name and the version.
+/// Makes the command line of a program, to which options and subcommands are added.
+///
+/// Its arguments come without the program's name. `--version` prints the name and the version.
 pub fn program_command<'a>(alloc: Global, name: &'a str, about: &'a str) -> Command<'a>
     ensures app { app_of result ≡ program_line name.now }
 {

@@ -1,18 +1,19 @@
-//! What the programs' command lines have in common, over `clap`: options that take one number, the version, what is
-//! told of words that are refused, and how a program ends.
+//! The common parts of the programs' command lines, over `clap`.
+//!
+//! They are options that take one number, the version, error reports, and exit statuses.
 //!
 //! ```rust
 //! let command = program_command(alloc, "gateway", "Joins calls").arg(short_number(alloc, "port"))?;
 //! let status = match command.try_get_matches_from(&["--port", "2944"]) {
 //!     Ok(matches) => serve(short_value(&matches, "port")),
-//!     Err(error) => tell(&error, Status::Failed, &mut output, &mut errors),
+//!     Err(error) => report_error(&error, Status::Failed, &mut output, &mut errors),
 //! };
 //! ExitCode::from(status.code())
 //! ```
 //!
-//! A number is decimal, with a plus before it or none. The parser of the command line refuses any other text and a
-//! number that is too great, so that a value is missing where the option wasn't given. `specs/Numbers.antt` says this,
-//! and `specs/Ends.antt` how a program ends on its words.
+//! A number is decimal, with an optional plus sign. The parser rejects any other text, and a number that is too great.
+//! So a value is missing only if the option was not given. `specs/Numbers.antt` defines this, and `specs/Ends.antt`
+//! how a program ends.
 #![tactic(auto)]
 
 mod arguments;

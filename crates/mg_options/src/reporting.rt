@@ -7,7 +7,7 @@ use clap::Error;
 use clap::error::ErrorKind;
 use std::io::Write;
 
-/// Tells that a text couldn't be printed, unless a program is done for all that.
+/// Reports that a text could not be printed, unless the program counts as done anyway.
 fn report_unprinted<E: Write>(unprinted: Status, errors: &mut E)
     ensures quiet { unprinted ≡ Status.Done → errors.new ≡ errors.old }
 {
@@ -16,10 +16,10 @@ fn report_unprinted<E: Write>(unprinted: Status, errors: &mut E)
     }
 }
 
-/// Tells what the parser of a command line has to tell, and answers how the program ends: help and the version go to
-/// the output, a usage fault and want of memory to `errors`.
+/// Reports the result of parsing a command line, and returns how the program ends.
 ///
-/// `unprinted` is how it ends where the text that was called for can't be printed.
+/// Help and the version go to the output, usage errors and lack of memory to `errors`. `unprinted` is how the program
+/// ends if help or the version cannot be printed.
 pub fn report_error<W: Write, E: Write>(
     error: &Error,
     unprinted: Status,

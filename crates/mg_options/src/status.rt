@@ -5,19 +5,19 @@ ghost use Rattle.mg_options.specs.Status.{code_of};
 #[derive(Clone, Copy, Debug, PartialEq, Eq)]
 pub enum Status {
     Done,
-    /// A line of a script is none.
+    /// A line of a script is bad.
     BadLine,
-    /// The arguments or a configuration can't be used.
+    /// The arguments or a configuration are invalid.
     Usage,
-    /// A read or a write failed, or the clock.
+    /// A read, a write or the clock failed.
     Failed,
     NoMemory,
-    /// A port can't be bound.
+    /// A port cannot be bound.
     NoPort,
 }
 
 impl Status {
-    /// The exit status, from 0, where all went well, to 5.
+    /// Returns the exit status, from 0 (success) to 5.
     #[tactic(auto, unfolding(crate::specs::Status::code_of))]
     pub fn code(self) -> u8
         ensures value { result ≡ code_of self }

@@ -1,4 +1,4 @@
--- The command line, as the parser of its words knows it, and what words ask of the program.
+-- The command line, as its parser sees it, and what arguments ask of the program.
 use Rattle.std.specs.Prelude.{max, min, List, codes, Result, Ok}
 use Rattle.clap.specs.Walk.{Row, Text}
 use Rattle.clap.specs.Simple.{App, matches_of, with_rule}
@@ -15,15 +15,15 @@ command_line =
     with_rule (with_rule (program_line (codes "mg_pace"))
     (number_rule (codes "ticks") 0 4294967295)) (number_rule (codes "polls") 1 1000)
 
--- What the options name: 2^64 - 1 ticks where they name none, more than will ever come, and 4
--- polls where they name none. A number of polls outside 1 to 1000 is a fault of the words.
+-- The options with their defaults: 2^64 - 1 ticks, which is never reached, and 4 polls. A number
+-- of polls outside 1 to 1000 is a usage error.
 unfoldable pub options_in : List Row → Options
 options_in found = record {
   ticks = number_or 4294967296 (codes "ticks") 18446744073709551615 found;
   polls = max 1 (min 1000 (number_or 65536 (codes "polls") 4 found));
 }
 
--- What words ask of the program: a run with options, or none.
+-- What arguments ask of the program: a run with options, or none.
 unfoldable pub requested : List Text → Result Options Kinds
 requested words =
     requested_by (fault_of command_line words) (Ok (options_in (matches_of command_line words)))

@@ -1,11 +1,11 @@
--- Which polls and ticks are written, of those that are due, and how long the waits are. Times are
--- nanoseconds since the start.
+-- Which of the due polls and ticks are written, and how long the waits are. Times are nanoseconds
+-- since the start.
 use Rattle.std.specs.Prelude.{◌≡◌, ℕ, ◌+◌, ◌*◌, ◌/◌, ◌<◌, ◌≤◌, max, List, [], ◌∷◌}
 use Rattle.mg_clock.specs.Due.{IsTimeTo, steps_due}
 
--- how far a run has come
+-- the progress of a run
 pub record Pace : Type 0 where
-  -- the polls in 20 ms
+  -- the polls in each 20 ms
   pub polls : ℕ
   -- the steps that were written
   pub steps : ℕ
@@ -23,23 +23,23 @@ steps_past p = p.steps + p.polls * p.left
 abbrev pub ticks : Pace → ℕ
 ticks p = p.steps / p.polls
 
--- What is done at a reading t of the clock.
+-- what happens at a reading t of the clock
 pub record Advances (old : Pace) (t : ℕ) (new : Pace) : Type 0 where
   pub polls : new.polls ≡ old.polls
-  -- all that is due was written or left out
+  -- everything due was written or left out
   pub all : steps_past new ≡ max (steps_past old) (steps_due old.polls t)
   pub more : (old.steps ≤ new.steps) × (old.left ≤ new.left)
   -- at most 50 ticks are written at once, with their polls
   pub few : new.steps ≤ old.steps + 50 * old.polls
-  -- and more than 49 where a tick was left out
+  -- more than 49 are written if a tick was left out
   pub needed : old.left < new.left → old.steps + 49 * old.polls < new.steps
 
--- The wait d after a reading t: at its end the next step is due, and before it none is.
+-- the wait d after a reading t: the next step is due at its end, and none before
 abbrev pub Waits : Pace → ℕ → ℕ → Type 0
 Waits p t d = IsTimeTo p.polls (steps_past p) t d
 
--- What is done at these readings, the first of them first, with these waits: one after each
--- reading, and none after a last one at which the run ends.
+-- What happens at these readings, in order, with these waits: one after each reading, and none
+-- after a last one at which the run ends.
 abbrev pub Paces : Pace → List ℕ → List ℕ → Pace → Type 0
 Paces p [] [] q = q ≡ p
 Paces p [] (d ∷ ds) q = ⊥
@@ -47,7 +47,7 @@ Paces p (t ∷ []) [] q = Advances p t q
 Paces p (t ∷ u ∷ ts) [] q = ⊥
 Paces p (t ∷ ts) (d ∷ ds) q = (m : Pace) × Advances p t m × Waits m t d × Paces m ts ds q
 
--- the latest of these readings
+-- the latest of the readings
 abbrev pub latest : List ℕ → ℕ
 latest [] = 0
 latest (t ∷ ts) = max t (latest ts)

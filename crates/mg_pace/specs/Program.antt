@@ -1,4 +1,4 @@
--- What a run of the program does (`EndsWith` of `mg_options` says how it ends on its words).
+-- What a run of the program does; `EndsWith` of `mg_options` says how it ends on its arguments.
 use Rattle.std.specs.Prelude.{◌≡◌, Result}
 use Rattle.mg_options.specs.declared.status.Status.{Status}
 use Rattle.mg_pace.specs.declared.fault.PaceFault.{PaceFault}
@@ -6,7 +6,7 @@ use Rattle.mg_pace.specs.declared.options.Options.{Options}
 use Rattle.mg_pace.specs.Status.{status_of}
 use Rattle.mg_pace.specs.Run.{Paced, Seen}
 
--- a run was made as far as the status says
+-- a run was made, as far as the status says
 pub record Runs (options : Options) (failed silent : Type 0) (old new : Seen)
     (status : Status) : Type 0 where
   pub outcome : Result (Unit {0}) PaceFault

@@ -10,7 +10,7 @@ use Rattle.mg_pace.specs.Pace.{Pace, Paces, start}
 use Rattle.mg_clock.specs.Text.{text}
 use Rattle.mg_pace.specs.Text.{text_by}
 
--- what is known of a clock's readings and waits, and of what its run has written
+-- the clock's readings and waits, and the text written, as far as they are known
 pub record Seen : Type 0 where
   pub readings : Option (List ℕ)
   pub waits : Option (List ℕ)
@@ -20,10 +20,9 @@ abbrev pub seen : Option (List ℕ) → Option (List ℕ) → Option (List ℕ) 
 seen readings waits written =
     record { readings = readings; waits = waits; written = written }
 
--- How a run ends that got as far as a pace: all lines up to it were written, with the last tick
--- that is wanted, or before that tick where the clock failed (or told 2^64 - 1 times, after which
--- no run goes on). Where the output was closed, a front of those lines was written. A run that
--- left out no tick is silent, unless the clock failed.
+-- How a run ends at a pace. All lines up to it were written, with the last wanted tick, or before
+-- it if the clock failed or was read 2^64 - 1 times. If the output was closed, a front of these
+-- lines was written. A run that left out no tick reports nothing, unless the clock failed.
 abbrev pub RunEnds : ℕ → Pace → (readings waits : ℕ) → (failed silent : Type 0) → Option (List ℕ)
     → Option (List ℕ) → Result (Unit {0}) PaceFault → Type 0
 RunEnds wanted p readings waits failed silent old new (Ok done) =
@@ -35,9 +34,9 @@ RunEnds wanted p readings waits failed silent old new (Err faults.Clock) =
 RunEnds wanted p readings waits failed silent old new (Err faults.Closed) =
     (readings ≡ waits + 1) × (p.left ≡ 0 → silent) × WritesFront (text_by wanted p) old new
 
--- A run: the clock told some readings, some waits were made, and these waits and what was written
--- are as the readings ask. A run may end at each of its readings, so nothing is written before the
--- reading that makes it due, and no wait is made out of turn.
+-- A run: the clock's readings determine the waits and what was written. Since a run may end at
+-- each of its readings, nothing is written before the reading that makes it due, and no wait is
+-- out of turn.
 pub record Paced (options : Options) (failed silent : Type 0) (old new : Seen)
     (result : Result (Unit {0}) PaceFault) : Type 0 where
   pub readings : List ℕ

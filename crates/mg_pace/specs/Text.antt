@@ -7,8 +7,8 @@ use Rattle.mg_pace.specs.Pace.{Pace}
 abbrev pub quit_line : List ℕ
 quit_line = codes "quit\n"
 
--- The lines that are written up to a pace: no tick follows the last that is wanted, but the line
--- that ends the run.
+-- The lines that are written up to a pace. The line that ends the run follows the last wanted
+-- tick.
 abbrev pub text_by : ℕ → Pace → List ℕ
 text_by wanted p =
     if nat_le (wanted * p.polls) p.steps then text p.polls (wanted * p.polls) ++ quit_line

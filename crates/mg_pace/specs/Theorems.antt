@@ -1,4 +1,4 @@
--- What holds of each pace, whatever the clock tells.
+-- Properties of every pace, whatever the clock reads.
 use Rattle.std.specs.Prelude.{◌≡◌, ℕ, ◌+◌, ◌*◌, ◌<◌, ◌≤◌, length, List}
 use Rattle.mg_clock.specs.Due.{period, ticks_due}
 use Rattle.mg_pace.specs.Pace.{Pace, Advances, Paces, start, ticks, latest}
@@ -8,7 +8,7 @@ abbrev pub NeverEarly : Type 0
 NeverEarly = (polls : ℕ) (readings waits : List ℕ) (p : Pace) → 0 < polls
     → Paces (start polls) readings waits p → (k : ℕ) → k ≤ ticks p → k * period ≤ latest readings
 
--- The ticks that were written and the ticks that were left out are together those that are due.
+-- The ticks that were written and those that were left out are together those that are due.
 abbrev pub Accounted : Type 0
 Accounted = (polls : ℕ) (readings waits : List ℕ) (p : Pace) → 0 < polls
     → Paces (start polls) readings waits p → ticks p + p.left ≡ ticks_due (latest readings)
@@ -17,7 +17,7 @@ Accounted = (polls : ℕ) (readings waits : List ℕ) (p : Pace) → 0 < polls
 abbrev pub Bounded : Type 0
 Bounded = (p q : Pace) (t : ℕ) → 0 < p.polls → Advances p t q → ticks q ≤ ticks p + 50
 
--- Readings lead from a pace to one other, and leave one way to wait.
+-- The readings determine the pace and the waits.
 abbrev pub PaceIsDeterministic : Type 0
 PaceIsDeterministic = (p : Pace) (readings waits others : List ℕ) (q r : Pace)
     → length waits ≡ length others → Paces p readings waits q → Paces p readings others r

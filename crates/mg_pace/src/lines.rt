@@ -19,7 +19,7 @@ fn write_step<W: Write>(polls: u64, step: u64, output: &mut W) -> Result<(), Wri
     }
 }
 
-/// Writes the lines of the steps from one to another.
+/// Writes the lines of the steps after `from`, up to `to`.
 pub fn write_steps<W: Write>(
     polls: u64,
     from: u64,

@@ -11,23 +11,25 @@ use mg_options::{long_number, long_value, program_command, short_value};
 use std::alloc::Global;
 use std::convert::AsStr;
 
-/// How a run goes.
+/// The options of a run.
 #[derive(Clone, Copy, Debug, PartialEq, Eq)]
 pub struct Options {
-    /// The ticks after which the run ends. `u64::MAX` where none were named: more than will ever come.
+    /// The ticks after which the run ends: `u64::MAX` if none were given, which is never reached.
     pub ticks: u64,
-    /// The polls in 20 ms, from 1 to 1000.
+    /// The polls in each 20 ms, from 1 to 1000.
     pub polls: u16,
 }
 
-/// The option that names the ticks.
+/// Makes the option for the number of ticks.
 fn ticks_option<'a>(alloc: Global) -> Arg<'a>
     ensures rule { rule_of result ≡ number_rule (codes "ticks") 0 4294967295 }
 {
-    long_number(alloc, "ticks").help("Ends after so many ticks, with the line quit")
+    long_number(alloc, "ticks").help(
+        "Ticks after which it ends, with the line quit [default: never]",
+    )
 }
 
-/// The option that names the polls in 20 ms.
+/// Makes the option for the polls in each 20 ms.
 fn polls_option<'a>(alloc: Global) -> Arg<'a>
     ensures rule { rule_of result ≡ number_rule (codes "polls") 1 1000 }
 {
@@ -35,36 +37,36 @@ fn polls_option<'a>(alloc: Global) -> Arg<'a>
         .long("polls")
         .value_name("NUMBER")
         .value_parser(value_parser!(u16).range(1..=1000))
-        .help("How many polls there are in 20 ms, from 1 to 1000; 4 where this isn't given")
+        .help("Polls in each 20 ms [1–1000, default: 4]")
 }
 
-/// The program's command line.
+/// Makes the program's command line.
 fn command<'a>(alloc: Global) -> Result<Command<'a>, Error>
     ensures app { IfOk result (λ command. app_of command ≡ command_line) }
     ensures memory { IfErr result (λ error. kind_of error ≡ ErrorKind.OutOfMemory) }
 {
-    let about = "Writes the line tick every 20 ms, and lines poll between";
+    let about = "Writes the line tick every 20 ms, and lines poll in between";
     let command = program_command(alloc, "mg_pace", about)
         .arg(ticks_option(alloc))?
         .arg(polls_option(alloc))?;
     Ok(command)
 }
 
-/// The ticks that are wanted where so many were named, or none.
+/// Returns the wanted number of ticks, or the default.
 fn ticks_wanted(named: Option<u32>) -> u64
     ensures value { result ≡ unwrap_or named 18446744073709551615 }
 {
     named.map_or(u64::MAX, u64::from)
 }
 
-/// A number of polls within its bounds.
+/// Brings a number of polls within its bounds.
 fn bounded_polls(polls: u16) -> u16
     ensures value { result ≡ max 1 (min 1000 polls) }
 {
     polls.clamp(1, MAX_POLLS)
 }
 
-/// The options that were given, and the standard ones for the others.
+/// Returns the options that were given, with defaults for the others.
 fn options_of(matches: &ArgMatches<'_>) -> Options
     ensures value { result ≡ options_in (rows_of (found_of matches.now)) }
 {
@@ -74,10 +76,10 @@ fn options_of(matches: &ArgMatches<'_>) -> Options
     }
 }
 
-/// The options of the run that the program's arguments ask for. The arguments stand without the program's name.
+/// Returns the options of the run that the arguments ask for. The arguments come without the program's name.
 ///
-/// Where they ask for no run the error says why, and is told to the caller: a fault of theirs, a call for help or the
-/// version, or want of memory.
+/// If they ask for no run, the caller must report the error: a usage error, a request for help or the version, or lack
+/// of memory.
 pub fn requested_options<'a, S: AsStr>(alloc: Global, words: &'a [S]) -> Result<Options, Error>
     ensures requested { IfOk result (λ options. requested (map S.text words.now) ≡ Ok options) }
     ensures some { IfOk result (λ options. 0 < options.polls) }

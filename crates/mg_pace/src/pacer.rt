@@ -11,7 +11,7 @@ use mg_clock::Watch;
 use mg_lines::WriteFailed;
 use std::io::Write;
 
-/// Tells how many ticks were left out.
+/// Reports how many ticks were left out.
 fn report_left_out<E: Write>(left: u64, errors: &mut E)
     ensures quiet { left ≡ 0 → errors.new ≡ errors.old }
 {
@@ -20,7 +20,7 @@ fn report_left_out<E: Write>(left: u64, errors: &mut E)
     }
 }
 
-/// Writes what is due at a reading of the clock, and answers whether the last tick that is wanted was written.
+/// Writes what is due at a reading of the clock. Returns whether the last wanted tick was written.
 fn turn<W: Write, E: Write>(
     schedule: &mut Schedule,
     wanted: u64,
@@ -47,9 +47,9 @@ fn turn<W: Write, E: Write>(
     Ok(true)
 }
 
-/// Writes polls and ticks as a clock goes, until as many ticks were written as are wanted.
+/// Writes polls and ticks by a clock, until the wanted number of ticks was written.
 ///
-/// `Clock`: the clock can't be read, or has told 18,446,744,073,709,551,615 times. `Closed`: the output is closed.
+/// `Clock`: the clock cannot be read, or was read 18,446,744,073,709,551,615 times. `Closed`: the output is closed.
 pub fn pace<K: Watch, W: Write, E: Write>(
     options: Options,
     watch: &mut K,

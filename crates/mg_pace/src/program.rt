@@ -14,7 +14,7 @@ use std::alloc::Global;
 use std::convert::AsStr;
 use std::io::Write;
 
-/// Makes a run, and tells a clock that failed.
+/// Makes a run, and reports a failure of the clock.
 fn run<K: Watch, W: Write, E: Write>(
     options: Options,
     watch: &mut K,
@@ -34,10 +34,11 @@ fn run<K: Watch, W: Write, E: Write>(
     status_of(&outcome)
 }
 
-/// Runs the program on its arguments, which stand without its name, and answers its exit status: 0 at the end, where
-/// the output is closed, and after a call for help or the version; 2 for arguments that can't be used; 3 where the
-/// clock failed; 4 where memory ran out. The text that belongs to a status other than 0 goes to `errors`, and so does a
-/// line where ticks are left out.
+/// Runs the program on its arguments, which come without its name. Returns its exit status.
+///
+/// 0 at the end, if the output is closed, and after help or the version; 2 for invalid arguments; 3 if the clock
+/// failed; 4 if memory ran out. The text for a status other than 0 goes to `errors`, and so does a line if ticks are
+/// left out.
 pub fn program<'a, S: AsStr, K: Watch, W: Write, E: Write>(
     alloc: Global,
     words: &'a [S],
@@ -46,7 +47,7 @@ pub fn program<'a, S: AsStr, K: Watch, W: Write, E: Write>(
     errors: &mut E,
 ) -> u8
     ensures status { result ≤ 4 }
-    // What the words ask for was done as far as the status says.
+    // What the arguments ask for was done, as far as the status says.
     ensures ends { EndsWith (λ options status. Runs options (K.Fails watch.new) (errors.new ≡ errors.old)
         (seen (K.readings watch.old) (K.waits watch.old) (W.contents output.old))
         (seen (K.readings watch.new) (K.waits watch.new) (W.contents output.new)) status)

@@ -6,10 +6,10 @@ use mg_clock::{steps_due, time_to_step};
 use std::marker::Model;
 use std::time::Duration;
 
-/// The most ticks that are written at once after a delay: a second of them. Older ones are left out.
+/// The greatest number of ticks that are written at once after a delay: one second. Older ones are left out.
 const CATCH_UP: u64 = 50;
 
-/// How far a run has come. A step is a poll, and a tick comes with the last poll of its 20 ms.
+/// The progress of a run. A step is a poll; the last poll of each 20 ms comes with a tick.
 #[derive(Drop)]
 pub struct Schedule {
     polls: u64,
@@ -30,7 +30,7 @@ impl Model for Schedule {
 }
 
 impl Schedule {
-    /// A schedule at its start, with so many polls in 20 ms.
+    /// Makes a schedule at its start, with this many polls in each 20 ms.
     pub fn new(polls: u16) -> Self
         requires some { 0 < polls }
         requires few { polls ≤ 1000 }
@@ -43,7 +43,7 @@ impl Schedule {
         }
     }
 
-    /// The polls in 20 ms.
+    /// Returns the polls in each 20 ms.
     pub fn polls(&self) -> u64
         ensures value { result ≡ self.now.polls }
         ensures some { 0 < result }
@@ -52,7 +52,7 @@ impl Schedule {
         self.polls
     }
 
-    /// The steps that were written.
+    /// Returns the number of steps that were written.
     pub fn steps(&self) -> u64
         ensures value { result ≡ self.now.steps }
         ensures small { result ≤ 922337203685478 }
@@ -60,15 +60,16 @@ impl Schedule {
         self.steps
     }
 
-    /// The ticks that were left out.
+    /// Returns the number of ticks that were left out.
     pub fn left(&self) -> u64
         ensures value { result ≡ self.now.left }
     {
         self.left
     }
 
-    /// Takes a reading of the clock, in nanoseconds since the start: the steps that are due count as written from now
-    /// on, or, in whole ticks, as left out.
+    /// Advances to a reading of the clock, in nanoseconds since the start.
+    ///
+    /// The steps that are due then count as written or, in whole ticks, as left out.
     pub fn advance(&mut self, now: u64)
         ensures value { Advances self.old now self.new }
     {
@@ -80,7 +81,7 @@ impl Schedule {
         self.left += left;
     }
 
-    /// How long after a reading of the clock the next step is due.
+    /// Returns how long after a reading of the clock the next step is due.
     pub fn wait(&self, now: u64) -> Duration
         ensures value { Waits self.now now (as_nanos result) }
     {

@@ -4,7 +4,7 @@ ghost use Rattle.mg_pace.specs.Status.{status_of};
 use crate::fault::PaceFault;
 use mg_options::Status;
 
-/// How the program ends after a run.
+/// Returns how the program ends after a run.
 #[tactic(auto, unfolding(crate::specs::Status::status_of))]
 pub fn status_of(outcome: &Result<(), PaceFault>) -> Status
     ensures value { result ≡ status_of outcome.now }

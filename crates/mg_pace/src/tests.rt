@@ -7,7 +7,7 @@ use mg_clock::{ClockFailed, Watch};
 use std::alloc::Global;
 use std::time::Duration;
 
-/// A clock that tells what it is given, and then fails.
+/// A clock that returns the given readings, and then fails.
 #[derive(Drop)]
 struct Script<'a> {
     times: &'a [u64],
@@ -33,7 +33,7 @@ impl<'a> Watch for Script<'a> {
     fn wait(&mut self, _time: Duration) {}
 }
 
-/// What a run writes, on both outputs, and how it ends.
+/// Returns the result of a run, and what it writes on both outputs.
 fn outcome(
     alloc: Global,
     options: Options,
@@ -49,7 +49,7 @@ fn outcome(
     (result, output, errors)
 }
 
-/// The exit status of the program, and what it writes on both outputs.
+/// Returns the exit status of the program, and what it writes on both outputs.
 fn answer(alloc: Global, words: &[&str], times: &[u64]) -> (u8, Vec<u8>, Vec<u8>) {
     let mut watch = Script { times, at: 0 };
     let mut output = Vec::new(alloc);
@@ -65,7 +65,7 @@ const ENDLESS: Options = Options {
     polls: 1,
 };
 
-/// How many lines are the line `tick`.
+/// Counts the lines `tick`.
 fn ticks(lines: &[u8]) -> usize {
     lines.iter().filter(|byte| **byte == b't').count()
 }

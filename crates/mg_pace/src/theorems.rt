@@ -1,13 +1,14 @@
-//! What holds of each pace, whatever the clock tells. The functions here do nothing: their contracts are the theorems.
+//! Properties of every pace, whatever the clock reads. The functions have empty bodies: their contracts are the
+//! theorems.
 
 ghost use Rattle.mg_pace.specs.Theorems.{Accounted, Bounded, NeverEarly, PaceIsDeterministic};
 
-/// No tick is written before its point of time.
+/// No tick is written early.
 pub fn never_early()
     ensures theorem { NeverEarly }
 {}
 
-/// The ticks that were written and those that were left out are the ticks that are due.
+/// The ticks that were written and those that were left out are exactly those that are due.
 pub fn all_ticks_are_accounted_for()
     ensures theorem { Accounted }
 {}
@@ -17,7 +18,7 @@ pub fn ticks_at_once_are_bounded()
     ensures theorem { Bounded }
 {}
 
-/// Readings of the clock lead to one pace, with one wait after each of them.
+/// The readings of the clock determine the pace and the wait after each of them.
 pub fn pace_is_deterministic()
     ensures theorem { PaceIsDeterministic }
 {}

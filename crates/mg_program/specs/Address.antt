@@ -8,7 +8,7 @@ use Rattle.mg_program.specs.declared.address.AddressFault.{AddressFault}
 use Rattle.mg_program.specs.declared.address.AddressFault.TheVariants.{Unreadable, Unspecified}
 use Rattle.mg_program.specs.declared.address.AddressFault.TheVariants.{Multicast}
 
--- addresses from 224.0.0.0 on are those of groups, of no use, or of all
+-- an address of 224.0.0.0 or above: multicast, reserved or broadcast
 abbrev pub is_multicast : List ℕ → Bool
 is_multicast address = nat_le 224 (slice_index address 0)
 

@@ -10,7 +10,7 @@ pub enum AddressFault {
     Unreadable,
     /// It is 0.0.0.0, which stands for all addresses of a machine: nobody can send to it.
     Unspecified,
-    /// It is from 224.0.0.0 on: an address of multicast or broadcast, or of no use.
+    /// It is 224.0.0.0 or above: a multicast, reserved or broadcast address.
     Multicast,
 }
 
@@ -46,7 +46,7 @@ impl AddressFault {
     }
 }
 
-/// Whether an address is one of multicast or broadcast, or of no use: those from 224.0.0.0 on.
+/// Returns whether an address is 224.0.0.0 or above: multicast, reserved or broadcast.
 pub fn is_multicast(address: [u8; 4]) -> bool
     ensures value { result ≡ is_multicast address }
 {

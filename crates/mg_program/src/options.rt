@@ -20,53 +20,49 @@ use mg_options::{long_number, long_value, program_command, short_number, short_v
 use std::alloc::Global;
 use std::convert::AsStr;
 
-/// An option that takes an IPv4 address. Its parser takes any text.
+/// Makes an option that takes an IPv4 address. Its parser accepts any text.
 fn address_option<'a>(alloc: Global, name: &'a str) -> Arg<'a>
     ensures rule { rule_of result ≡ text_rule name.now }
 {
     Arg::new(alloc, name).long(name).value_name("ADDRESS")
 }
 
-/// Adds the options of a gateway, which are those of each subcommand.
+/// Adds the options of a gateway, which every subcommand has.
 fn with_options<'a>(alloc: Global, command: Command<'a>) -> Result<Command<'a>, Error>
     ensures app { IfOk result (λ with. app_of with ≡ fold with_rule (app_of command.entry) options) }
     ensures memory { IfErr result (λ error. kind_of error ≡ ErrorKind.OutOfMemory) }
 {
     let command = command
-        .arg(address_option(alloc, "address").help(
-            "The IPv4 address of the gateway, which callers are told; 127.0.0.1 where this isn't given",
-        ))?
+        .arg(address_option(alloc, "address").help("IPv4 address for media [default: 127.0.0.1]"))?
         .arg(address_option(alloc, "control-address").help(
-            "The IPv4 address for control messages; the same as for callers where this isn't given",
+            "IPv4 address for control messages [default: the address for media]",
         ))?
         .arg(short_number(alloc, "control-port").help(
-            "The UDP port for control messages; 2944 where this isn't given",
+            "UDP port for control messages [default: 2944]",
         ))?
         .arg(short_number(alloc, "base-port").help(
-            "The first UDP port for media, an even one; 30000 where this isn't given",
+            "First UDP port for media [even, default: 30000]",
         ))?
-        .arg(short_number(alloc, "slots").help(
-            "How many media ports there are, from 1 to 256, which is also where this isn't given",
-        ))?
+        .arg(short_number(alloc, "slots").help("How many media ports [1–256, default: 256]"))?
         .arg(long_number(alloc, "first-termination").help(
-            "The number of the first termination, from 1; 1 where this isn't given",
+            "Number of the first termination [from 1, default: 1]",
         ))?
         .arg(long_number(alloc, "first-context").help(
-            "The number of the first context, from 1 to 4294967293; 1 where this isn't given",
+            "Number of the first context [1–4294967293, default: 1]",
         ))?
         .arg(long_number(alloc, "ssrc").help(
-            "The SSRC of termination n is this plus n; 0 where this isn't given",
+            "Base of SSRCs: termination n has this plus n [default: 0]",
         ))?
         .arg(short_number(alloc, "sequence").help(
-            "The sequence number of a first packet; 0 where this isn't given",
+            "Sequence number of a termination's first packet [default: 0]",
         ))?
         .arg(long_number(alloc, "timestamp").help(
-            "The timestamp of a first tick; 0 where this isn't given",
+            "RTP timestamp of a termination's first tick [default: 0]",
         ))?;
     Ok(command)
 }
 
-/// An option that takes an IPv4 address, and can be given several times.
+/// Makes the option for a controller's IPv4 address, which can be given several times.
 fn controller_option<'a>(alloc: Global) -> Arg<'a>
     ensures rule { rule_of result ≡ controller_rule }
 {
@@ -74,19 +70,17 @@ fn controller_option<'a>(alloc: Global) -> Arg<'a>
         .long("controller")
         .value_name("ADDRESS")
         .action(ArgAction::Append)
-        .help(
-            "The IPv4 address of a controller, up to eight times; where this isn't given, anybody may send messages",
-        )
+        .help("IPv4 address of a controller, up to 8 times [default: any sender]")
 }
 
-/// An option without a value, which is set where it is given.
+/// Makes an option without a value, which is set if it is given.
 fn flag<'a>(alloc: Global, name: &'a str) -> Arg<'a>
     ensures rule { rule_of result ≡ flag_rule name.now }
 {
     Arg::new(alloc, name).long(name).action(ArgAction::SetTrue)
 }
 
-/// A subcommand with the options of a gateway.
+/// Makes a subcommand with the options of a gateway.
 fn subcommand<'a>(alloc: Global, name: &'a str, about: &'a str) -> Result<Command<'a>, Error>
     ensures app { IfOk result (λ command. app_of command ≡ subcommand_line name.now) }
     ensures memory { IfErr result (λ error. kind_of error ≡ ErrorKind.OutOfMemory) }
@@ -94,7 +88,7 @@ fn subcommand<'a>(alloc: Global, name: &'a str, about: &'a str) -> Result<Comman
     with_options(alloc, Command::new(alloc, name).about(about))
 }
 
-/// A subcommand of a gateway on sockets.
+/// Makes a subcommand for a gateway on sockets.
 fn on_sockets<'a>(alloc: Global, name: &'a str, about: &'a str) -> Result<Command<'a>, Error>
     ensures app { IfOk result (λ command. app_of command ≡ sockets_line name.now) }
     ensures memory { IfErr result (λ error. kind_of error ≡ ErrorKind.OutOfMemory) }
@@ -102,40 +96,40 @@ fn on_sockets<'a>(alloc: Global, name: &'a str, about: &'a str) -> Result<Comman
     let command = subcommand(alloc, name, about)?
         .arg(controller_option(alloc))?
         .arg(short_number(alloc, "report").help(
-            "Reports on standard error every so many seconds; never where this isn't given, or 0",
+            "Seconds between reports on standard error; 0 is never [default: 0]",
         ))?
         .arg(flag(alloc, "record").help(
-            "Prints a script of the events that happen, for `mg_bridge replay`",
+            "Records all events on standard output, for `mg_bridge replay`",
         ))?;
     Ok(command)
 }
 
-/// The subcommand that runs a script.
+/// Makes the subcommand that runs a script.
 fn replay<'a>(alloc: Global) -> Result<Command<'a>, Error>
     ensures app { IfOk result (λ command. app_of command ≡ replay_line) }
     ensures memory { IfErr result (λ error. kind_of error ≡ ErrorKind.OutOfMemory) }
 {
-    let about = "Runs a script from standard input, and writes its answers to standard output";
+    let about = "Runs a script from standard input, and prints answers and packets";
     let command = subcommand(alloc, "replay", about)?.arg(flag(alloc, "flows").help(
-        "Writes too, as comments, what each event changes of the terminations and of who hears whom",
+        "Also prints how each event changes terminations and who hears whom, as comments",
     ))?;
     Ok(command)
 }
 
-/// The subcommand of a gateway that goes by the clock.
+/// Makes the subcommand for a gateway in real time.
 fn live<'a>(alloc: Global) -> Result<Command<'a>, Error>
     ensures app { IfOk result (λ command. app_of command ≡ live_line) }
     ensures memory { IfErr result (λ error. kind_of error ≡ ErrorKind.OutOfMemory) }
 {
     let command = on_sockets(alloc, "live", "Serves a gateway on UDP ports in real time")?.arg(
         short_number(alloc, "late").help(
-            "Packets aren't sent where their tick is late by more ticks of 20 ms than this; 5 where this isn't given",
+            "How late packets are still sent, in ticks of 20 ms [default: 5]",
         ),
     )?;
     Ok(command)
 }
 
-/// The program's command line.
+/// Makes the program's command line.
 fn command<'a>(alloc: Global) -> Result<Command<'a>, Error>
     ensures app { IfOk result (λ command. app_of command ≡ command_line) }
     ensures memory { IfErr result (λ error. kind_of error ≡ ErrorKind.OutOfMemory) }
@@ -144,9 +138,9 @@ fn command<'a>(alloc: Global) -> Result<Command<'a>, Error>
     let serve = on_sockets(
         alloc,
         "serve",
-        "Serves a gateway on UDP ports, driven by lines from standard input: poll, tick, stats, quit",
+        "Serves a gateway on UDP ports, driven by lines on standard input: poll, tick, stats, quit",
     )?;
-    let about = "A conference media gateway under a Megaco controller";
+    let about = "A conference media gateway controlled by Megaco/H.248";
     let command = program_command(alloc, "mg_bridge", about)
         .subcommand_required(true)
         .subcommand(replay)?
@@ -155,7 +149,7 @@ fn command<'a>(alloc: Global) -> Result<Command<'a>, Error>
     Ok(command)
 }
 
-/// The address that an option names, or another one where it isn't given.
+/// Returns the address of an option, or `otherwise` if it was not given.
 fn address_of(
     name: &str,
     otherwise: [u8; 4],
@@ -169,8 +163,9 @@ fn address_of(
     }
 }
 
-/// The configuration that the options name, at these addresses for media and for control messages. An option that isn't
-/// given leaves the default.
+/// Returns the configuration of the options, at these addresses for media and for control messages.
+///
+/// An option that was not given keeps its default.
 fn config_at(address: [u8; 4], control_address: [u8; 4], matches: &ArgMatches<'_>) -> Config
     ensures value { result ≡ config_at address control_address (rows_of (found_of matches.now)) }
 {
@@ -191,21 +186,21 @@ fn config_at(address: [u8; 4], control_address: [u8; 4], matches: &ArgMatches<'_
     }
 }
 
-/// How late a tick may be whose packets are sent, in ticks.
+/// Returns how many ticks late a tick may be for its packets to be sent.
 fn late_of(matches: &ArgMatches<'_>) -> u16
     ensures value { result ≡ number_or 65536 (codes "late") 5 (rows_of (found_of matches.now)) }
 {
     short_value(matches, "late").unwrap_or(5)
 }
 
-/// How often a report is due, in seconds.
+/// Returns the seconds between reports: 0 for none.
 fn report_of(matches: &ArgMatches<'_>) -> u16
     ensures value { result ≡ number_or 65536 (codes "report") 0 (rows_of (found_of matches.now)) }
 {
     short_value(matches, "report").unwrap_or(0)
 }
 
-/// Whether a flag is set.
+/// Returns whether a flag is set.
 fn is_set(name: &str, matches: &ArgMatches<'_>) -> bool
     ensures value { result ≡ is_set name.now (rows_of (found_of matches.now)) }
 {
@@ -215,7 +210,7 @@ fn is_set(name: &str, matches: &ArgMatches<'_>) -> bool
     }
 }
 
-/// What is written of a script.
+/// Returns what running a script writes.
 fn shown_of(matches: &ArgMatches<'_>) -> Shown
     ensures value { result ≡ (if is_set (codes "flows") (rows_of (found_of matches.now))
         then Shown.SentAndFlows else Shown.Sent) }
@@ -227,7 +222,7 @@ fn shown_of(matches: &ArgMatches<'_>) -> Shown
     }
 }
 
-/// The controllers that the options name.
+/// Returns the controllers of the options.
 fn controllers_of(matches: &ArgMatches<'_>) -> Result<Controllers, ControllerFault>
     ensures value { result ≡ controllers_in (rows_of (found_of matches.now)) }
 {
@@ -237,7 +232,7 @@ fn controllers_of(matches: &ArgMatches<'_>) -> Result<Controllers, ControllerFau
     }
 }
 
-/// What the options ask of a gateway on sockets, under these controllers.
+/// Returns the options of a gateway on sockets, with these controllers.
 fn service_of(controllers: Controllers, matches: &ArgMatches<'_>) -> Service
     ensures value { result ≡ service_of controllers (rows_of (found_of matches.now)) }
 {
@@ -248,7 +243,7 @@ fn service_of(controllers: Controllers, matches: &ArgMatches<'_>) -> Service
     }
 }
 
-/// The run of a subcommand.
+/// Returns the run of a subcommand.
 fn run_of(
     name: &str,
     config: Config,
@@ -266,7 +261,7 @@ fn run_of(
     }
 }
 
-/// The run that a subcommand with these options asks for, or the text that tells why there is none.
+/// Returns the run that a subcommand with these options asks for, or the text of the error.
 fn run_in(name: &str, matches: &ArgMatches<'_>) -> Result<Invocation, &'static str>
     ensures run { IfOk result (λ run. run_in name.now (rows_of (found_of matches.now)) ≡ Ok run) }
     ensures refused { IfErr result (λ _. run_in name.now (rows_of (found_of matches.now)) ≡
@@ -291,10 +286,10 @@ fn run_in(name: &str, matches: &ArgMatches<'_>) -> Result<Invocation, &'static s
     }
 }
 
-/// The run that the program's arguments ask for. The arguments stand without the program's name.
+/// Returns the run that the arguments ask for. The arguments come without the program's name.
 ///
-/// Where they ask for no run the error says why, and is told to the caller: a fault of theirs, a call for help or the
-/// version, or want of memory.
+/// If they ask for no run, the caller must report the error: a usage error, a request for help or the version, or lack
+/// of memory.
 pub fn requested_run<'a, S: AsStr>(alloc: Global, words: &'a [S]) -> Result<Invocation, Error>
     ensures run { IfOk result (λ run. requested (map S.text words.now) ≡ Ok run) }
     ensures refused { IfErr result (λ error. IsRefused (requested (map S.text words.now)) (kind_of error)) }

@@ -1,4 +1,4 @@
--- What a command asks for, part after part.
+-- What a command asks for, part by part.
 use Rattle.std.specs.Prelude.{ℕ, ◌||◌, false, List, [], ◌∷◌, None}
 use Rattle.mg_commands.specs.declared.command_parameters.CommandParameters.{CommandParameters}
 use Rattle.mg_commands.specs.declared.part.Part.{Part}

@@ -1,4 +1,4 @@
--- The faults of the two properties that are served, each by itself.
+-- The faults of the two supported properties, one by one.
 use Rattle.std.specs.Prelude.{nat_lt, not, List, length, Option, Some, if◌then◌else◌}
 use Rattle.std.specs.Bool.{then_some}
 use Rattle.std.specs.List.{list_any}

@@ -1,5 +1,5 @@
--- What the program has of an action and of a transaction under way, and which of those it stands
--- for: the engine for the gateway, the reply for the items, put into it one after another.
+-- The program's state in an action and in a transaction, and which states of the definitions it
+-- represents: the engine represents the gateway, and the reply the items that were put into it.
 use Rattle.std.specs.Prelude.{◌≡◌, ℕ, ◌*◌, Bool, true, false, List, Result, Ok, Err}
 use Rattle.mg_words.specs.ResultSteps.{◌>>=◌}
 use Rattle.mg_words.specs.declared.error_number.ErrorNumber.{ErrorNumber}
@@ -16,12 +16,12 @@ use Rattle.mg_commands.specs.aids.Steps.{all_names}
 use Rattle.mg_commands.specs.Transaction.{ActionState, TransactionState, with_trial}
 use Rattle.mg_commands.specs.Work.{edits_reported}
 
--- what there was before a request: the reply that was begun, and the engine's work
+-- the state before a request: the reply that was started, and the engine's counter of work
 pub record Base : Type 0 where
   pub reply : Answered
   pub work : ℕ
 
--- the work rose by at most four for each edit that the items tell of
+-- the counter of work rose by at most four for each edit that the items report
 abbrev pub IsPaid : Base → List Item → EngineState → Type 0
 IsPaid base items engine = RisesAtMost (4 * edits_reported items) base.work engine.sums.work
 
@@ -41,7 +41,7 @@ pub record IsActionRun (base : Base) (kept : ActionKept) (run : ActionState) : T
   pub reply : kept.reply ≡ after_all base.reply run.items
   pub work : IsPaid base run.items kept.engine
 
--- an action after a command for all members, its text having been checked
+-- an action after a command for all members, whose text was checked
 abbrev pub with_all : List ℕ → Command → CommandParameters → ActionState → ActionState × Bool
 with_all source c parameters run =
     with_trial source c run (do
@@ -61,8 +61,8 @@ pub record IsTransaction (base : Base) (kept : TransactionKept) (s : Transaction
   pub reply : kept.reply ≡ after_all base.reply s.items
   pub work : IsPaid base s.items kept.engine
 
--- what was told of the properties of an action, and the engine stands for the world after it, by
--- what came of them in a world
+-- The properties of an action were reported, and the engine represents the gateway after them, by
+-- their outcome.
 abbrev pub ReportsProperties : EngineState → Answered → Answered → Bool → Gateway
     → Result (Gateway × List Item) ErrorNumber → Type 0
 ReportsProperties kept before reported is_done w (Ok p) =

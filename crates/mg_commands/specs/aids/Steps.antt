@@ -1,4 +1,4 @@
--- Parts of what a command and an action come to, one for each function of the program.
+-- Parts of the outcome of commands and actions, one for each function of the program.
 use Rattle.std.specs.Prelude.{ℕ, ◌&&◌, not, Bool, List, map, Option, Result, Ok, Err, if◌then◌else◌}
 use Rattle.std.specs.Option.{option_and_then, option_map, option_map_or}
 use Rattle.mg_words.specs.Term.{rtp_name}
@@ -31,14 +31,14 @@ use Rattle.mg_commands.specs.Transaction.{with_commands}
 abbrev pub is_served : Command → Bool
 is_served c = is_served_word c.word && not c.wants_wildcard
 
--- what descriptors ask for, if they are served
+-- what descriptors ask for, if they are supported
 abbrev pub check_descriptors : List ℕ → List Descriptor → Result CommandParameters ErrorNumber
 check_descriptors source xs = do
   _ ← unless (descriptors_fault source xs)
   _ ← unless (properties_fault source xs)
   Ok (parameters_of source xs)
 
--- the members that * stands for
+-- the members that * names
 abbrev pub all_names : Gateway → Target → CommandWord → Result (List Name) ErrorNumber
 all_names w target word =
     if takes_all word then unless_empty (map names.Number (members_in w target))
@@ -47,7 +47,7 @@ all_names w target word =
 abbrev pub whole_media : Gateway → ℕ → Option Media
 whole_media w n = option_map media_of_record (record_at w.rooms n)
 
--- the Local of a termination, alone
+-- only the Local of a termination
 abbrev pub local_media : Gateway → ℕ → Option Media
 local_media w n = option_map Local (option_and_then (λ r. r.local) (record_at w.rooms n))
 
@@ -59,7 +59,7 @@ audit_termination w target name parameters = do
   _ ← member w.rooms target n
   Ok (served_at target (rtp_name n) (reply_parts (descriptors_by_audit parameters) w n))
 
--- an action, by whether it is refused as a whole
+-- an action, by whether it is rejected as a whole
 abbrev pub action_unless : Option ErrorNumber → List ℕ → Action → TransactionState
     → TransactionState × Bool
 action_unless fault source a s =

@@ -1,4 +1,4 @@
--- A part of descriptors as its word and what stands within it.
+-- A descriptor's part, split into its keyword and what is inside it.
 use Rattle.std.specs.Prelude.{ℕ, List, []}
 use Rattle.mg_text.specs.declared.descriptor.AuditWord.{AuditWord}
 use Rattle.mg_text.specs.declared.descriptor.Descriptor.{Descriptor}

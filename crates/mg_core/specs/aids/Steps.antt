@@ -35,36 +35,36 @@ use Rattle.mg_core.specs.Step.{Sent, Step}
 use Rattle.mg_core.specs.Run.{Ran, RanInPart, HasRead, HasBadAfter, RanToBadLine, RanAllRead}
 use Rattle.mg_core.specs.Run.{RanToCutLine, RanToUnrunLine, lines_for}
 
--- a text grew by what was written
+-- the text grew by what was written
 abbrev pub TextGrows : CoreState → CoreState → List ℕ → List ℕ → (World → List ℕ × World) → Type 0
 TextGrows old new before text f =
     Leads StandsFor old new (λ w next. (out : List ℕ) × (f w ≡ (out, next))
     × (text ≡ before ++ out))
 
--- what is written of a reply as it was put together: its text, or the error in its place
+-- the text that is written for a reply: its own, or an error in its place
 abbrev pub put_text : Answered → List ℕ
 put_text r =
     if is_too_long r then reply_text r.number (reported.Fault numbers.ReplyTooLong ∷ [])
     else reply_text r.number r.items
 
--- the error that a message is refused with, unless memory ran out
+-- the error that rejects a message, unless memory ran out
 abbrev pub refusal_of : ReadFault → Option ErrorNumber
 refusal_of (readings.Syntax place) = Some numbers.Syntax
 refusal_of (readings.Version n) = Some numbers.Version
 refusal_of readings.TooMany = Some numbers.NotServed
 refusal_of readings.NoMemory = None
 
--- a number after so many were sent, each counted up to the greatest value of 64 bits
+-- a counter after this many datagrams were sent, which stays at the greatest value of 64 bits
 unfoldable pub after_sent : ℕ → List Sent → ℕ
 after_sent n [] = n
 after_sent n (s ∷ sent) = after_sent (capped (n + 1)) sent
 
--- what is written of an event that leads to the next world
+-- what is written for an event that leads to the next world
 abbrev pub event_text : Shown → World → List Sent → World → List ℕ
 event_text shows.Sent w sent next = lines_for sent
 event_text shows.SentAndFlows w sent next = lines_for sent ++ changes_by w next
 
--- an event was run, its text was written, and what was sent was counted
+-- an event was run, its text was written, and what it sent was counted
 pub record EventDone (shown : Shown) (event : Event) (w next : World) (n m : ℕ)
     (old new : Option (List ℕ)) : Type 0 where
   pub sent : List Sent
@@ -85,8 +85,7 @@ EventRan shown event w next n m old new (Ok done) = EventDone shown event w next
 EventRan shown event w next n m old new (Err events.Write) = EventCut shown event w next old new
 EventRan shown event w next n m old new (Err events.NoMemory) = Keeps old new × (next ≡ w)
 
--- what an event changed that led to the next world was written, where changes are shown, or the
--- front of it was
+-- The changes of an event were written, if changes are shown, or the front of their text was.
 abbrev pub ChangesWritten : Shown → World → World → Option (List ℕ) → Option (List ℕ)
     → Result (Unit {0}) EventFault → Type 0
 ChangesWritten shows.Sent w next old new result = (result ≡ Ok tt) × Keeps old new
@@ -95,18 +94,18 @@ ChangesWritten shows.SentAndFlows w next old new (Err events.Write) =
     WritesFront (changes_by w next) old new
 ChangesWritten shows.SentAndFlows w next old new (Err events.NoMemory) = ⊥
 
--- the terminations that are kept, where changes are shown, are those of the world
+-- the stored terminations are those of the world, if changes are shown
 abbrev pub AreKeptListeners : Shown → Option (List Listener) → World → Type 0
 AreKeptListeners shows.Sent kept w = kept ≡ None
 AreKeptListeners shows.SentAndFlows kept w = kept ≡ Some (listeners_of w.gateway)
 
--- a state stands for the world, whose terminations are kept
+-- the state represents the world, and the stored terminations are the world's
 pub record Follows (shown : Shown) (state : CoreState) (kept : Option (List Listener)) (w : World)
     : Type 0 where
   pub stands : StandsFor state w
   pub same : AreKeptListeners shown kept w
 
--- from each world that was followed it led to one, and where all was done that one is followed
+-- Every world that was followed leads to a next one, which is followed if everything was done.
 abbrev pub LeadsOn : {E : Type 0} → (World → Type 0) → (World → Type 0) → Result (Unit {0}) E
     → (World → World → Type 0) → Type 0
 LeadsOn Old New result Comes =
@@ -118,7 +117,7 @@ pub record RanCounted (shown : Shown) (w : World) (lines : List (List ℕ)) (las
   pub ran : Ran shown w lines last old new
   pub counted : m ≡ after_sent n ran.sent
 
--- a line was run, or why it was not
+-- a line was run, or the reason why it was not
 abbrev pub LineRan : Shown → ℕ → List ℕ → World → World → ℕ → ℕ → Option (List ℕ)
     → Option (List ℕ) → Result (Unit {0}) LineFault → Type 0
 LineRan shown number line w next n m old new (Ok done) =
@@ -129,8 +128,8 @@ LineRan shown number line w next n m old new (Err stops.Write) =
     RanInPart shown w (line ∷ []) next old new
 LineRan shown number line w next n m old new (Err stops.NoMemory) = Keeps old new × (next ≡ w)
 
--- The lines that end in some bytes were run, and the line after them is begun, whatever stands
--- after the bytes; or why they were not.
+-- The lines that end in these bytes were run, and the next line was started, whatever follows the
+-- bytes; or the reason why they were not.
 abbrev pub BytesRan : Shown → ℕ → ℕ → List ℕ → List ℕ → List ℕ → World → World → ℕ → ℕ
     → Option (List ℕ) → Option (List ℕ) → Result (Unit {0}) LineFault → Type 0
 BytesRan shown count counted partial bytes left w next n m old new (Ok done) =
@@ -151,7 +150,7 @@ BytesRan shown count counted partial bytes left w next n m old new (Err stops.No
     (lines : List (List ℕ)) × (line : List ℕ) × (others : List (List ℕ))
     × (lines_after false partial bytes ≡ lines ++ line ∷ others) × Ran shown w lines next old new
 
--- the line that was begun is the last, if there is one, and is counted
+-- the partial line, if there is one, is the last line and is counted
 abbrev pub Finishes : Shown → ℕ → ℕ → List ℕ → World → World → ℕ → ℕ → Option (List ℕ)
     → Option (List ℕ) → Result (Unit {0}) LineFault → Type 0
 Finishes shown count counted [] w next n m old new result =
@@ -159,8 +158,8 @@ Finishes shown count counted [] w next n m old new result =
 Finishes shown count counted (b ∷ bs) w next n m old new result =
     LineRan shown (count + 1) (b ∷ bs) w next n m old new result × OnOk result (counted ≡ count + 1)
 
--- the whole of a script was run, the state stands for the world that it came to, and the lines
--- and what was sent were counted
+-- The whole script was run, the state represents the resulting world, and the lines and datagrams
+-- sent were counted.
 pub record AllRanCounted (config : Config) (shown : Shown) (script : List ℕ) (state : CoreState)
     (count n : ℕ) (old new : Option (List ℕ)) : Type 0 where
   pub last : World
@@ -168,7 +167,7 @@ pub record AllRanCounted (config : Config) (shown : Shown) (script : List ℕ) (
   pub stands : StandsFor state last
   pub lines : count ≡ length (lines_of true script)
 
--- so it was of all of an input, or how far it was run
+-- the same for all of an input, or how far it was run
 abbrev pub AllRan : Config → Shown → (input rest : Option (List ℕ)) → CoreState → ℕ → ℕ
     → (old new : Option (List ℕ)) → Result (Unit {0}) ScriptFault → Type 0
 AllRan config shown input rest state count n old new (Ok done) =
@@ -183,7 +182,7 @@ AllRan config shown input rest state count n old new (Err scripts.Write) =
 AllRan config shown input rest state count n old new (Err scripts.NoMemory) =
     RanToUnrunLine config shown input rest old new
 
--- ## Faults as others
+-- ## Conversions of faults
 
 abbrev pub run_fault_at_start : StartFault → RunFault
 run_fault_at_start starts.BadConfig = runs.BadConfig

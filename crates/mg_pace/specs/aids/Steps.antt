@@ -1,4 +1,4 @@
--- The steps of a run: what is written of some of them, and at one reading.
+-- The steps of a run: what is written for several steps, and at one reading.
 use Rattle.std.specs.Prelude.{◌≡◌, ℕ, ◌*◌, Bool, nat_le, List, ◌++◌}
 use Rattle.std.specs.Prelude.{Option, Result, Ok, Err}
 use Rattle.std.specs.Io.KnownBytes.{Appends}
@@ -8,8 +8,7 @@ use Rattle.mg_pace.specs.Pace.{Pace}
 use Rattle.mg_clock.specs.Text.{text}
 use Rattle.mg_pace.specs.Text.{text_by, quit_line}
 
--- The lines of the steps after `from` and up to `to` were written, whatever lines of earlier steps
--- stand before them.
+-- The lines of the steps after `from`, up to `to`, were written, whatever lines precede them.
 abbrev pub WritesSteps : ℕ → ℕ → ℕ → Option (List ℕ) → Option (List ℕ)
     → Result (Unit {0}) WriteFailed → Type 0
 WritesSteps polls from to old new result =
@@ -22,7 +21,7 @@ WritesLast polls from to old new result =
     (lines : List ℕ) × (text polls to ++ quit_line ≡ text polls from ++ lines)
     × Writes lines old new result
 
--- the lines of one reading were written, and it is said whether they end the run
+-- the lines of one reading were written, and the result says whether they end the run
 abbrev pub TurnEnds : ℕ → Pace → List ℕ → Option (List ℕ) → Option (List ℕ)
     → Result Bool WriteFailed → Type 0
 TurnEnds wanted q lines old new (Ok done) =

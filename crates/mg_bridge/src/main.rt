@@ -1,15 +1,14 @@
-//! The program `mg_bridge`: a conference media gateway under a controller.
+//! The program `mg_bridge`: a conference media gateway controlled by Megaco/H.248.
 //!
-//! `mg_bridge replay` runs a script of events on standard input, and writes a line for each answer and each packet on
-//! standard output.
+//! `mg_bridge replay` runs a script of events from standard input, and prints a line for each answer and each packet.
 //!
 //! `mg_bridge live` is a gateway on UDP ports in real time.
 //!
-//! `mg_bridge serve` is the same gateway, driven by lines on standard input: `poll` takes what came to the ports,
-//! `tick` passes on by 20 ms and sends the packets, `stats` prints what was counted, `quit` ends it. Another program,
+//! `mg_bridge serve` is the same gateway, driven by lines on standard input. `poll` receives what waits at the ports,
+//! `tick` advances by 20 ms and sends the packets, `stats` prints the counts, and `quit` ends it. Another program,
 //! `mg_pace`, writes `poll` and `tick` by the clock.
 //!
-//! With `--record`, what `live` and `serve` print is a recording: a script of the events that happened.
+//! With `--record`, `live` and `serve` print a recording: a script of all events.
 #![tactic(auto)]
 
 #[cfg(test)]

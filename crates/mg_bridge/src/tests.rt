@@ -17,7 +17,7 @@ struct Outcome {
     reports: Vec<u8>,
 }
 
-/// Runs the program on these arguments and this input.
+/// Runs the program with these arguments and this input.
 fn run_program(rt: &HostRuntime, words: &[&str], text: &[u8]) -> Outcome {
     let alloc = rt.alloc();
     let mut input = text;
@@ -42,7 +42,7 @@ fn run_program(rt: &HostRuntime, words: &[&str], text: &[u8]) -> Outcome {
     }
 }
 
-/// A port of 127.0.0.1.
+/// Returns a port of 127.0.0.1.
 fn local(port: u16) -> SocketAddr {
     SocketAddr::new(IpAddr::V4(Ipv4Addr::new(127, 0, 0, 1)), port)
 }

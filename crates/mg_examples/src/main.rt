@@ -1,5 +1,4 @@
-//! Runs each script of the examples and of the rules on a new gateway, and tells whether what it writes is the output
-//! that is stored beside it.
+//! Runs each example and each rule's script on a new gateway, and compares the output with the stored one.
 #![tactic(auto)]
 
 use anyhow::{Result, anyhow};
@@ -9,7 +8,7 @@ use std::fs;
 use std::io::Cursor;
 use std::rt::Files;
 
-/// The scripts, each by the name of its file and of the file with its output, without their ends.
+/// The scripts, each by the file names of the script and of its output, without their extensions.
 const SCRIPTS: [&str; 56] = [
     "conference",
     "speech",
@@ -69,10 +68,10 @@ const SCRIPTS: [&str; 56] = [
     "rules/a_mover_is_heard_elsewhere",
 ];
 
-/// Those of them whose output is stored with what each event changed, too.
+/// The scripts whose output is also stored with the changes of each event.
 const WITH_FLOWS: [&str; 2] = ["coaching", "recording"];
 
-/// What a script writes on a gateway with the standard configuration.
+/// Returns what a script writes on a gateway with the standard configuration.
 fn written(alloc: Global, shown: Shown, script: &[u8]) -> Result<Vec<u8>> {
     let mut reader = Cursor::new(script);
     let mut writer = Vec::new(alloc);
@@ -80,7 +79,7 @@ fn written(alloc: Global, shown: Shown, script: &[u8]) -> Result<Vec<u8>> {
     Ok(writer)
 }
 
-/// Whether a script writes what is stored under its name with this end.
+/// Returns whether a script writes what is stored under its name with this extension.
 fn is_as_stored<R: Files + AllocGlobal>(
     rt: &R,
     name: &str,

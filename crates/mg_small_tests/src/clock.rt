@@ -8,7 +8,7 @@ use std::time::{Duration, Instant};
 
 const MS: u64 = 1_000_000;
 
-/// A clock that tells what it is given, and then fails. It tells its waits.
+/// A clock that returns the given readings, and then fails. It records its waits.
 #[derive(Drop)]
 struct Script<'a> {
     times: &'a [u64],
@@ -41,7 +41,7 @@ fn gives_each_step_when_it_is_due(rt: HostRuntime) -> Result<(), Fail> {
     };
     let mut lines = ClockLines::new(watch, &ticks, 2);
     let mut buffer = [0; 16];
-    // What is read, how many ticks were begun, and how long was waited.
+    // The readings, how many ticks were started, and how long it waited.
     let wanted: [(&[u8], u64, u64); 4] = [
         (b"poll\n", 0, 10 * MS),
         (b"poll\ntick\n", 1, 10 * MS),
@@ -93,7 +93,7 @@ fn is_late_after_the_ticks_that_are_allowed(rt: HostRuntime) {
     assert!(rt; !is_late(u64::MAX, u16::MAX, u64::MAX));
 }
 
-/// By the system's clock three steps of 20 ms take 60 ms or more, and on no host as many as ten seconds.
+/// By the system's clock three steps of 20 ms take at least 60 ms, and on any host less than ten seconds.
 #[test]
 fn waits_by_the_system_clock(rt: HostRuntime) -> Result<(), Fail> {
     let ticks = Cell::new(0);

@@ -49,13 +49,13 @@ fn only_talkers_are_silenced(rt: HostRuntime) -> Result<(), Fail> {
     assert_eq!(rt; table.on_triples(0, &[isolate]), Ok(()));
     assert_masks(&rt, &table, FIRST, 0b010, 0b100);
 
-    // The third listens and doesn't talk.
+    // The third listens and does not talk.
     set_mode(&rt, &mut table, THIRD, false, true);
     assert_masks(&rt, &table, FIRST, 0b010, 0);
     assert_masks(&rt, &table, SECOND, 0b001, 0);
     assert_masks(&rt, &table, THIRD, 0b010, 0b001);
 
-    // The first goes into a context of its own, and comes back.
+    // The first moves to a context of its own, and comes back.
     leave(&rt, &mut table, FIRST);
     enter(&rt, &mut table, ELSEWHERE, true, true);
     assert_masks(&rt, &table, ELSEWHERE, 0, 0);
@@ -114,7 +114,7 @@ fn last_of_two_triples_wins(rt: HostRuntime) -> Result<(), Fail> {
     let oneway = triple(0b01, 0b10, Association::Oneway);
     let all_to_one = triple(mask::FULL, 0b01, Association::Oneway);
 
-    // An overlap applies nothing.
+    // An overlap applies no triple.
     assert_eq!(rt; table.on_triples(0, &[isolate, all_to_one]), Err(Overlap));
     assert_masks(&rt, &table, FIRST, 0b10, 0);
     assert_masks(&rt, &table, SECOND, 0b01, 0);

@@ -16,7 +16,7 @@ fn keep(rt: &impl Abort, kept: &mut Kept, sender: &[u8], number: u32, text: &[u8
     kept.keep(sender, number, text);
 }
 
-/// Whether this text is kept for the request.
+/// Returns whether this text is kept for the request.
 fn is_kept(kept: &Kept, sender: &[u8], number: u32, text: &[u8]) -> bool {
     match kept.find(sender, number) {
         Some(found) => found == text,
@@ -24,7 +24,7 @@ fn is_kept(kept: &Kept, sender: &[u8], number: u32, text: &[u8]) -> bool {
     }
 }
 
-/// Keeps a reply for each number, whose text is the number.
+/// Keeps a reply for each number, with the number as its text.
 fn keep_all(rt: &impl Abort, kept: &mut Kept, first: u8, last: u8) {
     for number in first..=last {
         keep(rt, kept, LOWER, u32::from(number), &[number]);
@@ -64,7 +64,7 @@ fn acknowledged_range_is_dropped(rt: HostRuntime) -> Result<(), Fail> {
     let mut kept = Kept::new(rt.alloc())?;
     keep_all(&rt, &mut kept, 1, 32);
 
-    // A range that goes down names none.
+    // A range whose first number exceeds its last names none.
     kept.ack(LOWER, 9, 7);
     assert!(rt; is_kept(&kept, LOWER, 8, &[8]));
     kept.ack(LOWER, 7, 9);
@@ -73,7 +73,7 @@ fn acknowledged_range_is_dropped(rt: HostRuntime) -> Result<(), Fail> {
     assert!(rt; kept.find(LOWER, 9).is_none());
     assert!(rt; is_kept(&kept, LOWER, 10, &[10]));
 
-    // Three more find room, and the order is as it was.
+    // Three more fit, and the order is unchanged.
     keep_all(&rt, &mut kept, 33, 35);
     assert!(rt; is_kept(&kept, LOWER, 1, &[1]));
     keep_all(&rt, &mut kept, 36, 41);

@@ -1,7 +1,7 @@
-//! Tests of the smaller libraries, by their public calls alone.
+//! Tests of the smaller libraries through their public calls.
 //!
-//! They stand apart for the reason that `mg_tests` does: a crate that has tests is proved twice. What is tried here is
-//! what no contract says, and public calls at a few arguments.
+//! They are in a crate of their own because a crate with tests is proved twice, as for `mg_tests`. They test what no
+//! contract says, and each public call at a few arguments.
 #![tactic(auto)]
 
 #[cfg(test)]

@@ -1,4 +1,4 @@
-//! Options, and what both programs tell of their words.
+//! Options, and what both programs report of their arguments.
 
 use clap::Command;
 use clap::error::ErrorKind;
@@ -9,7 +9,7 @@ use mg_options::{
 use std::alloc::Global;
 use std::test::Fail;
 
-/// What two options were given by these words, or the kind of the fault.
+/// Returns the values that these arguments give two options, or the kind of the error.
 fn given(alloc: Global, words: &[&str]) -> Result<(Option<u16>, Option<u32>), ErrorKind> {
     let command = Command::new(alloc, "gateway")
         .no_binary_name(true)
@@ -50,7 +50,7 @@ fn refuses_what_is_no_such_number(rt: HostRuntime) {
     }
 }
 
-/// How a program ends that is given this word and has no options, and what it writes on both outputs.
+/// Runs a program without options on this argument. Returns how it ends, and what it writes on both outputs.
 fn end_on(alloc: Global, word: &str, unprinted: Status) -> (Status, Vec<u8>, Vec<u8>) {
     let mut output = Vec::new(alloc);
     let mut errors = Vec::new(alloc);
@@ -80,7 +80,7 @@ fn reports_a_usage_fault(rt: HostRuntime) {
     assert!(rt; !errors.is_empty());
 }
 
-/// How a program ends that can't print its help, and what it tells of that.
+/// Returns how a program ends that cannot print its help, and what it reports.
 fn report_of_help(alloc: Global, unprinted: Status) -> (Status, Vec<u8>) {
     let mut full: [u8; 0] = [];
     let mut output: &mut [u8] = &mut full;

@@ -5,7 +5,7 @@ use mg_playout::{Placed, Played, Playout};
 use std::process::Abort;
 use std::test::Fail;
 
-/// A frame that can be told from others.
+/// Returns a frame that can be told apart from others.
 fn frame(sample: i16) -> Frame {
     [sample; 160]
 }
@@ -18,14 +18,14 @@ fn place_all(rt: &impl Abort, playout: &mut Playout, wanted: &[(u16, Placed)]) {
     }
 }
 
-/// Ticks once for each answer that is wanted.
+/// Ticks once for each expected result.
 fn tick_all(rt: &impl Abort, playout: &mut Playout, wanted: &[Played]) {
     for (tick, played) in wanted.iter().enumerate() {
         assert_eq!(rt; playout.tick(), *played, "in tick {tick}");
     }
 }
 
-/// A frame that came, of one sample 160 times.
+/// Returns the result for a received frame: one sample 160 times.
 fn given(sample: i16) -> Played {
     Played::Frame(frame(sample))
 }
@@ -56,7 +56,7 @@ fn frames_come_in_order_of_sequence(rt: HostRuntime) -> Result<(), Fail> {
         ],
     );
 
-    // The last tick found it empty, so the next frame starts it.
+    // The last tick found the list empty, so the next frame starts it.
     place_all(&rt, &mut playout, &[(1, Placed::Started)]);
     Ok(())
 }
@@ -70,14 +70,14 @@ fn distance_decides(rt: HostRuntime) -> Result<(), Fail> {
         &[
             (100, Placed::Started),
             (110, Placed::Pushed),
-            // The next one is 107.
+            // The next number is 107.
             (3107, Placed::Started),
             (3057, Placed::Late),
             // 100 behind, 101 behind, 2999 ahead.
             (3007, Placed::Late),
             (3006, Placed::Started),
             (6005, Placed::Pushed),
-            // The next one is 6002.
+            // The next number is 6002.
             (6002, Placed::Placed),
             (9002, Placed::Started),
         ],
@@ -146,7 +146,7 @@ fn lowered_depth_drops_frames(rt: HostRuntime) -> Result<(), Fail> {
         ],
     );
     playout.set_depth(2);
-    // It still waits for half of 16 ticks.
+    // It still waits for 8 ticks, half of its old depth.
     tick_all(&rt, &mut playout, &[Played::Silence; 8]);
     tick_all(&rt, &mut playout, &[given(0), given(1), Played::Silence]);
     Ok(())
@@ -163,7 +163,7 @@ fn another_source_restarts(rt: HostRuntime) -> Result<(), Fail> {
         &[Played::Silence, Played::Silence, given(2), Played::Silence],
     );
 
-    // The first state has four places and waits for two ticks.
+    // A new play list has four places and waits for two ticks.
     playout.set_depth(8);
     assert_eq!(rt; playout.place(2, 9, frame(3)), Placed::Started);
     playout.clear();
@@ -231,7 +231,7 @@ fn start_forgets_the_last_frame(rt: HostRuntime) -> Result<(), Fail> {
         &[Played::Silence, Played::Silence, given(1)],
     );
 
-    // The frame that starts is pushed out, so the first one of the source is missing.
+    // The frame that starts is pushed out, so the first frame of the source is missing.
     assert_eq!(rt; playout.place(2, 100, frame(100)), Placed::Started);
     assert_eq!(rt; playout.place(2, 110, frame(110)), Placed::Pushed);
     tick_all(&rt, &mut playout, &[Played::Silence; 3]);

@@ -9,7 +9,7 @@ const CALLER: Peer = Peer {
     port: 40000,
 };
 
-/// Ports where `one` and `two` wait at slot 0 and `three` at slot 2.
+/// Returns ports where `one` and `two` wait at socket 0 and `three` at socket 2.
 fn ports(alloc: Global, failing: &[u64]) -> Result<FakePorts, AllocError> {
     let waiting: [(usize, &[u8]); 3] = [(0, b"one"), (2, b"three"), (0, b"two")];
     let mut arrivals = Vec::new(alloc);
@@ -59,7 +59,7 @@ fn fails_on_request(rt: HostRuntime) -> Result<(), Fail> {
     Ok(())
 }
 
-/// Whether a call is a receive that gave these bytes at a slot.
+/// Returns whether a call is a receive that returned these bytes at a socket.
 fn is_datagram(call: &Call, at: usize, text: &[u8]) -> bool {
     match call {
         Call::Receive(slot, Receipt::Delivered(source, payload)) => {
@@ -69,7 +69,7 @@ fn is_datagram(call: &Call, at: usize, text: &[u8]) -> bool {
     }
 }
 
-/// Whether a call is a receive at a slot that gave `n`othing, or `f`ailed.
+/// Returns whether a call is a receive at a socket that returned `n`othing, or `f`ailed.
 fn is_receive(call: &Call, at: usize, letter: u8) -> bool {
     match call {
         Call::Receive(slot, Receipt::Nothing) => *slot == at && letter == b'n',
@@ -78,7 +78,7 @@ fn is_receive(call: &Call, at: usize, letter: u8) -> bool {
     }
 }
 
-/// Whether a call is a send of these bytes from a slot.
+/// Returns whether a call sends these bytes from a socket.
 fn is_send(call: &Call, from: usize, text: &[u8]) -> bool {
     match call {
         Call::Send(slot, to, payload) => {

@@ -3,7 +3,7 @@
 use mg_scan::{ScanFault, Scanner, TokenKind};
 use std::test::Fail;
 
-/// The kinds and texts of the tokens before a fault or the end.
+/// Returns the kinds and texts of the tokens before a fault or the end.
 const SHORT: &[u8] = b"!/1 [127.0.0.1]:2945 ; hello\n\tt = 1 { c = - { av = \"a b\", } }";
 
 #[test]

@@ -9,15 +9,15 @@ use mg_sums::ranges::assert_sample_range;
 use mg_sums::{Room, Row, Sums, TERMINATIONS, kernels};
 use std::test::Fail;
 
-/// The lengths from 0 to 161 of which each kernel is tried.
+/// The lengths from 0 to 161 that each kernel is tested with.
 const LENGTHS: [usize; 10] = [0, 1, 7, 8, 15, 16, 17, 159, 160, 161];
 
-/// A sum at a place, from -100000 to 99999.
+/// Returns a sum for an index, from -100000 to 99999.
 fn sum_at(i: usize) -> i32 {
     ((i as u64).wrapping_mul(7919) % 200_000) as i32 - 100_000
 }
 
-/// A sample at a place.
+/// Returns a sample for an index.
 fn sample_at(i: usize) -> i16 {
     (((i as u64).wrapping_mul(27_411) % 65_536) as i32 - 32_768) as i16
 }
@@ -38,14 +38,14 @@ fn samples() -> [i16; 161] {
     samples
 }
 
-/// Whether no sum with a sample more or less leaves 32 bits.
+/// Returns whether no sum leaves 32 bits when a sample is added or subtracted.
 fn are_near(sums: &[i32]) -> bool
     ensures { IsTrue result → EachIndex sums.now (λ i. unsigned_abs (sample sums.now i) ≤ 2 ^ 30) }
 {
     sums.iter().all(|sum| sum.unsigned_abs() <= 1 << 30)
 }
 
-/// What the three sums come to at a place: the sum, and the sample if the row reaches so far.
+/// Returns the sum and the sample at an index. The sample is 0 beyond the row.
 fn parts(i: usize, len: usize) -> (i64, i64) {
     let sample = if i < len { sample_at(i) } else { 0 };
     (i64::from(sum_at(i)), i64::from(sample))
@@ -118,7 +118,7 @@ fn kernels_limit_at_each_length(rt: HostRuntime) {
     }
 }
 
-/// Whether the row is joined to the room.
+/// Returns whether the row is joined to the room.
 fn is_joined(sums: &Sums, room: Room, row: Row) -> bool
     ensures { result ≡ is_joined sums.now.rooms room row }
 {
@@ -128,7 +128,7 @@ fn is_joined(sums: &Sums, room: Room, row: Row) -> bool
     }
 }
 
-/// Whether at most two rows are left out, which are joined and differ.
+/// Returns whether at most two rows are left out, which are joined and differ.
 fn can_mix(sums: &Sums, room: Room, base: Option<Row>, minus: &[Row]) -> bool
     ensures { IsTrue result → AreOfRoom sums.now.rooms room (left_out_by base minus.now) }
 {
@@ -161,7 +161,7 @@ fn leave(sums: &mut Sums, room: Room, row: Row) -> Result<(), Fail> {
     Ok(())
 }
 
-/// The first byte of a mix whose bytes are all the same.
+/// Returns the first byte of a mix whose bytes are all the same.
 fn mix(
     sums: &mut Sums,
     room: Room,
@@ -181,7 +181,7 @@ fn mix(
     Ok(first)
 }
 
-/// Three rows that are joined to a room: two of the greatest sample of mu-law, and one of the least.
+/// Makes three rows joined to a room: two of the greatest sample of mu-law, and one of the least.
 fn conference(rt: &HostRuntime, room: Room) -> Result<Sums, Fail> {
     let mut sums = Sums::new(rt.alloc())?;
     let frames: [Frame; 3] = [

@@ -3,7 +3,7 @@
 use mg_topology::mask::{self, Mask};
 use mg_topology::{Association, Overlap, SEATS, Topology, Triple};
 
-/// A triple of two sets of seats.
+/// Returns a triple of two sets of seats.
 pub fn triple(first: Mask, second: Mask, association: Association) -> Triple {
     Triple {
         first,
@@ -28,7 +28,7 @@ fn last_of_two_triples_wins(rt: HostRuntime) {
     assert!(rt; !topology.hears(1, 0));
     assert!(rt; !topology.hears(0, 1));
 
-    // All against all, which a seat in both sets doesn't hinder.
+    // All against all; a seat in both sets is allowed.
     assert_eq!(rt;
         topology.apply(&[triple(mask::FULL, mask::FULL, Association::Bothway)]),
         Ok(())

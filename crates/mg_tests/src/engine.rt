@@ -1,4 +1,4 @@
-//! The engine: causes of drops, totals, who hears whom by number, and the price of a tick.
+//! The engine: causes of drops, totals, who hears whom by number, and the cost of a tick.
 
 use mg_engine::{
     Association, Config, Done, DropCause, Edit, Engine, ErrorNumber, MediaSetting, Mode, Outbox,
@@ -17,7 +17,7 @@ const CALLER: Peer = Peer {
     port: 40000,
 };
 
-/// What an Add sets: a mode, a Local and a Remote.
+/// Returns the settings of an Add: a mode, a Local and a Remote.
 fn caller(mode: Mode, local: &[u8], remote: &[u8]) -> Result<Settings, Fail> {
     let local = read_sessions(local).map_err(|_| "a Local")?;
     let remote = read_sessions(remote).map_err(|_| "a Remote")?;
@@ -29,7 +29,7 @@ fn caller(mode: Mode, local: &[u8], remote: &[u8]) -> Result<Settings, Fail> {
     })
 }
 
-/// What a Modify sets that names a mode, a depth, or neither.
+/// Returns the settings of a Modify that names a mode, a depth, or neither.
 fn changed(mode: Option<Mode>, depth: Option<u16>) -> Settings {
     Settings {
         mode,
@@ -48,7 +48,7 @@ const REMOTES: [&[u8]; 4] = [
     b"v=0\nc=IN IP4 127.0.0.1\nm=audio 40006 RTP/AVP 0\n",
 ];
 
-/// A packet of 160 equal bytes, mu-law, from one source.
+/// Returns a packet of 160 equal bytes in mu-law, from one source.
 fn packet(byte: u8) -> [u8; 172] {
     let header = Header {
         marker: false,
@@ -76,7 +76,7 @@ fn add_callers(engine: &mut Engine, callers: usize) -> Result<(), Fail> {
     Ok(())
 }
 
-/// A conference of the first callers.
+/// Starts an engine with a conference of the first callers.
 fn conference(alloc: Global, callers: usize) -> Result<Engine, Fail> {
     let mut engine = Engine::new(alloc, Config::default()).map_err(|_| "sound")?;
     add_callers(&mut engine, callers)?;
@@ -95,14 +95,14 @@ fn set_mode(engine: &mut Engine, number: u32, mode: Mode) -> Result<(), Fail> {
     modify(engine, number, &changed(Some(mode), None))
 }
 
-/// Some ticks.
+/// Runs some ticks.
 fn tick(engine: &mut Engine, outbox: &mut Outbox, ticks: usize) {
     for _ in 0..ticks {
         engine.tick(outbox);
     }
 }
 
-/// The first byte of each payload of an outbox.
+/// Returns the first byte of each payload of an outbox.
 fn payloads(alloc: Global, outbox: &Outbox) -> Result<Vec<u8>, Fail> {
     let mut bytes = Vec::new(alloc);
     for datagram in outbox {
@@ -140,7 +140,7 @@ fn set_byte(packet: &mut [u8], at: usize, byte: u8) {
     }
 }
 
-/// The first of some datagrams at a port that isn't dropped for its cause.
+/// Returns the first of these datagrams at a port that is not dropped for its cause.
 fn first_wrong(
     engine: &mut Engine,
     port: u16,
@@ -155,7 +155,7 @@ fn first_wrong(
     None
 }
 
-/// What is no packet of the right type and length is dropped.
+/// A datagram that is not a packet of the right type and length is dropped.
 fn drop_malformed_packets(rt: &impl Abort, engine: &mut Engine) -> Result<(), Fail> {
     let bytes = packet(0x80);
     let mut padded = bytes;
@@ -187,7 +187,7 @@ fn drops_malformed_packets(rt: HostRuntime) -> Result<(), Fail> {
     drop_malformed_packets(&rt, &mut engine)
 }
 
-/// So is what comes from a stranger, or to a port that nobody listens at.
+/// So is one from another address, or at a port without a termination.
 fn drop_datagrams_without_termination(rt: &impl Abort, engine: &mut Engine) -> Result<(), Fail> {
     let bytes = packet(0x80);
     let stranger = Peer {
@@ -213,7 +213,7 @@ fn drops_datagrams_without_termination(rt: HostRuntime) -> Result<(), Fail> {
     drop_datagrams_without_termination(&rt, &mut engine)
 }
 
-/// A triple of two terms.
+/// Returns a triple of two terms.
 fn triple(first: TripleTerm, second: TripleTerm, association: Association) -> TopologyTriple {
     TopologyTriple {
         first,
@@ -222,7 +222,7 @@ fn triple(first: TripleTerm, second: TripleTerm, association: Association) -> To
     }
 }
 
-/// Triples as an edit has them.
+/// Returns triples as an edit has them.
 fn triples(list: &[TopologyTriple]) -> TopologyTriples {
     let mut triples = TopologyTriples::new();
     for triple in list {
@@ -231,12 +231,12 @@ fn triples(list: &[TopologyTriple]) -> TopologyTriples {
     triples
 }
 
-/// What becomes of triples in the first context.
+/// Applies triples in the first context. Returns the result.
 fn apply(engine: &mut Engine, list: &[TopologyTriple]) -> Result<u32, ErrorNumber> {
     engine.apply_triples(Target::Number(1), &triples(list))
 }
 
-/// The first bytes of the payloads in the third tick after the first caller spoke.
+/// Returns the first bytes of the payloads in the third tick after the first caller spoke.
 fn third_payloads(alloc: Global, engine: &mut Engine) -> Result<Vec<u8>, Fail> {
     let mut outbox = Outbox::new();
     engine.media(30000, CALLER, &packet(0x80));
@@ -248,7 +248,7 @@ const FIRST: TripleTerm = TripleTerm::Number(1);
 
 const THIRD: TripleTerm = TripleTerm::Number(3);
 
-/// An Isolate parts two of three callers.
+/// An Isolate separates two of three callers.
 fn isolate_by_an_edit(rt: &impl Abort, alloc: Global, engine: &mut Engine) -> Result<(), Fail> {
     let isolate = Edit::Triples {
         target: Target::Number(1),
@@ -268,7 +268,7 @@ fn isolates_by_an_edit(rt: HostRuntime) -> Result<(), Fail> {
     isolate_by_an_edit(&rt, rt.alloc(), &mut engine)
 }
 
-/// A Oneway leads from the first to the third.
+/// A Oneway lets the third hear the first.
 fn lead_one_way(rt: &impl Abort, alloc: Global, engine: &mut Engine) -> Result<(), Fail> {
     let oneway = triple(FIRST, THIRD, Association::Oneway);
     assert_eq!(rt; apply(engine, &[oneway]), Ok(1));
@@ -285,7 +285,7 @@ fn leads_one_way(rt: HostRuntime) -> Result<(), Fail> {
     lead_one_way(&rt, rt.alloc(), &mut engine)
 }
 
-/// Makes a conference of callers who all have one peer, each in a mode.
+/// Makes a conference of callers with the same peer, each in a mode.
 fn add_crowd(engine: &mut Engine, modes: &[Mode]) -> Result<(), Fail> {
     let mut target = Target::New;
     for mode in modes {
@@ -295,19 +295,19 @@ fn add_crowd(engine: &mut Engine, modes: &[Mode]) -> Result<(), Fail> {
     Ok(())
 }
 
-/// A conference of callers who all have one peer, each in a mode.
+/// Starts an engine with a conference of callers with the same peer, each in a mode.
 fn crowd(alloc: Global, modes: &[Mode]) -> Result<Engine, Fail> {
     let mut engine = Engine::new(alloc, Config::default()).map_err(|_| "sound")?;
     add_crowd(&mut engine, modes)?;
     Ok(engine)
 }
 
-/// How many rows a call took.
+/// Returns how many rows a call took.
 fn rows_since(engine: &Engine, before: u32) -> u32 {
     engine.work().wrapping_sub(before)
 }
 
-/// How many rows a tick takes.
+/// Returns how many rows a tick takes.
 fn tick_rows(engine: &mut Engine, outbox: &mut Outbox) -> u32 {
     let before = engine.work();
     engine.tick(outbox);
@@ -322,7 +322,7 @@ fn speak(engine: &mut Engine, outbox: &mut Outbox) {
     tick(engine, outbox, 3);
 }
 
-/// Totals follow the modes of members, and forget who left.
+/// Totals follow the modes of members, and no longer include members that have left.
 fn follow_modes(rt: &impl Abort, engine: &mut Engine, outbox: &mut Outbox) -> Result<(), Fail> {
     speak(engine, outbox);
     assert_eq!(rt; engine.total(1, 0), Some(32124));
@@ -344,7 +344,7 @@ fn totals_follow_modes(rt: HostRuntime) -> Result<(), Fail> {
     follow_modes(&rt, &mut engine, &mut Outbox::new())
 }
 
-/// The frames and totals that are kept are lent.
+/// The stored frames and totals can be read.
 fn lend_frames_and_totals(
     rt: &impl Abort,
     engine: &mut Engine,
@@ -364,7 +364,7 @@ fn lends_the_frames_and_totals(rt: HostRuntime) -> Result<(), Fail> {
     lend_frames_and_totals(&rt, &mut engine, &mut Outbox::new())
 }
 
-/// Ticks, packets and edits take as many rows as they may.
+/// Ticks, packets and edits take no more rows than their bounds.
 fn tick_at_a_price(rt: &impl Abort, engine: &mut Engine, outbox: &mut Outbox) -> Result<(), Fail> {
     speak(engine, outbox);
     assert!(rt; tick_rows(engine, outbox) <= 12);
@@ -385,15 +385,16 @@ fn ticks_at_the_price_of_a_few_rows(rt: HostRuntime) -> Result<(), Fail> {
     tick_at_a_price(&rt, &mut engine, &mut Outbox::new())
 }
 
-/// A packet of the loudest speech at each port of a full context.
+/// Sends a packet of the loudest speech to each port of a full context.
 fn speak_at_each_port(engine: &mut Engine) {
     for slot in 0..MEMBERS {
         engine.media(30000 + 2 * slot as u16, CALLER, &packet(0x80));
     }
 }
 
-/// A tick of a full context takes three rows for each who talks. The total is that of all, and each hears the loudest
-/// that there is.
+/// A tick of a full context takes three rows for each member that talks.
+///
+/// The total is that of all, and each hears the loudest sample there is.
 fn tick_with_many(
     rt: &impl Abort,
     alloc: Global,
@@ -416,14 +417,14 @@ fn ticks_of_many_talkers_cost_three_rows_each(rt: HostRuntime) -> Result<(), Fai
     tick_with_many(&rt, rt.alloc(), &mut engine, &mut Outbox::new())
 }
 
-/// One who talks, and all others of a full context, who listen.
+/// Returns the modes of a full context in which one talks and all others listen.
 fn lecture() -> [Mode; MEMBERS] {
     let mut modes = [Mode::SendOnly; MEMBERS];
     modes[0] = Mode::SendReceive;
     modes
 }
 
-/// Those who hear one talker share a payload.
+/// Those who hear the same talker share a payload.
 fn share_a_payload(
     rt: &impl Abort,
     alloc: Global,

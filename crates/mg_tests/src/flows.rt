@@ -1,12 +1,12 @@
-//! What a run tells of changes.
+//! What a run reports of changes.
 
 use crate::scripts::run_script;
 use mg_core::{RunFault, Shown};
 use std::alloc::Global;
 use std::io::Cursor;
 
-/// Three callers in a conference; the first and the third are isolated; the third moves to a context of its own; the
-/// second is subtracted.
+/// Three callers are in a conference; the first and the third are isolated; the third moves to a context of its own;
+/// the second is subtracted.
 const SCRIPT: &[u8] = b"tick\n\
     say 127.0.0.1:2945 !/1 [127.0.0.1]:2945 T=1{C=${A=${M{O{MO=SR}}},A=${M{O{MO=SR}}},A=${M{O{MO=SR}}}}}\n\
     tick\n\
@@ -16,8 +16,8 @@ const SCRIPT: &[u8] = b"tick\n\
     say 127.0.0.1:2945 !/1 [127.0.0.1]:2945 T=4{C=${MV=RTP/3}}\n\
     say 127.0.0.1:2945 !/1 [127.0.0.1]:2945 T=5{C=1{S=RTP/2{AT{}}}}\n";
 
-/// Worked out from the script by hand. The third hears the first no longer, nor the first the third; nobody hears the
-/// second once it only listens; and who moves away is heard by nobody.
+/// Worked out from the script by hand. The third and the first no longer hear each other. Nobody hears the second once
+/// it only listens. Nobody hears the one that moves away.
 const WRITTEN: &[u8] =
     b"say 127.0.0.1:2945 MEGACO/1 [127.0.0.1]:2944\\nReply=1{Context=1{Add=RTP/1,Add=RTP/2,Add=RTP/3}}\n\
     # 1 ticks: RTP/1 made in context 1 at port 30000\n\

@@ -1,8 +1,8 @@
-//! Tests of the larger crates, by their public calls alone.
+//! Tests of the larger crates through their public calls.
 //!
-//! They stand apart since a crate that has tests is proved twice, once with them: the larger a crate is, the more that
-//! costs. What a script can show is a script (`mg_examples`); here is what none shows, such as causes, counts, refusals
-//! of a start, readers and writers that fail, and each public call of a lower crate once.
+//! They are in a crate of their own because a crate with tests is proved twice, and the larger it is, the more that
+//! costs. What a script can show is a script (`mg_examples`). These tests show the rest: causes, counts, failed
+//! starts, readers and writers that fail, and each public call of a lower crate once.
 #![tactic(auto)]
 
 #[cfg(test)]

@@ -1,4 +1,4 @@
-//! The machine of events: what no line of a script shows.
+//! The core as a state machine: what no line of a script shows.
 
 use crate::failing_reader::FailingReader;
 use crate::failing_writer::FailingWriter;
@@ -27,24 +27,24 @@ const LINE: &[u8] =
 const REPLY_LINE: &[u8] =
     b"say 127.0.0.1:2945 MEGACO/1 [127.0.0.1]:2944\\nReply=1{Context=-{AuditValue=ROOT}}\n";
 
-/// Hands a message of the controller to a core.
+/// Passes a message of the controller to a core.
 fn hand(alloc: Global, core: &mut Core, message: &[u8]) -> Result<Answer, NoMemory> {
     core.control(alloc, CONTROLLER, message)
 }
 
-/// Whether a core has the first termination alone.
+/// Returns whether the first termination is a core's only one.
 fn has_one(core: &Core) -> bool {
     let is_alone = core.stats(1).is_some() && core.stats(2).is_none();
     is_alone && core.rooms().members(1) == [1].as_slice()
 }
 
-/// Whether a core answers a message of the controller by silence.
+/// Returns whether a core does not answer a message of the controller.
 fn is_silent(alloc: Global, core: &mut Core, message: &[u8]) -> Result<bool, NoMemory> {
     let answer = hand(alloc, core, message)?;
     Ok(answer == Answer::Silent && core.answer().is_empty())
 }
 
-/// Whether a core answers a datagram of the controller with a text.
+/// Returns whether a core answers a datagram of the controller with this text.
 fn is_answered(
     alloc: Global,
     core: &mut Core,
@@ -64,7 +64,7 @@ const FULL: &[u8] = b"!/1 [127.0.0.1]:2945 T=3{C=1{A=$}}";
 const FULL_REPLY: &[u8] = b"MEGACO/1 [127.0.0.1]:2944\n\
     Reply=3{Context=1{Add=${Error=432{\"no termination or port left\"}}}}";
 
-/// A heartbeat, silence, an Add, and one that finds no slot.
+/// A heartbeat, silence, an Add, and an Add that finds no slot.
 fn answer_in_turn(rt: &impl Abort, alloc: Global, core: &mut Core) -> Result<(), Fail> {
     assert!(rt; is_answered(alloc, core, HEARTBEAT, REPLY)?);
     assert!(rt; is_silent(alloc, core, b"MEGACO/1 mg K{7}")?);
@@ -84,7 +84,7 @@ fn answers_messages(rt: HostRuntime) -> Result<(), Fail> {
     answer_in_turn(&rt, rt.alloc(), &mut core)
 }
 
-/// Why a gateway doesn't start with a configuration.
+/// Returns why a gateway does not start with a configuration.
 fn start_fault(alloc: Global, config: Config) -> Option<StartFault> {
     Core::new(alloc, config).err()
 }
@@ -136,7 +136,7 @@ fn refuses_bad_configurations(rt: HostRuntime) {
     assert_eq!(rt; start_fault(rt.alloc(), last), None);
 }
 
-/// What a run of a script wrote, and how it ended.
+/// Returns what running a script wrote, and how it ended.
 fn played(alloc: Global, script: &[u8]) -> (Vec<u8>, Option<RunFault>) {
     let mut reader = Cursor::new(script);
     let mut written = Vec::new(alloc);
@@ -192,7 +192,7 @@ fn limits_a_line_and_its_datagram(rt: HostRuntime) -> Result<(), Fail> {
     Ok(())
 }
 
-/// Appends a line with the digits of 160 equal bytes at its end.
+/// Appends a line that ends with the digits of 160 equal bytes.
 fn push_line(line: &mut Vec<u8>, front: &[u8], digits: &[u8]) -> Result<(), Fail> {
     line.extend_from_slice(front)?;
     for _ in 0..160 {
@@ -207,7 +207,7 @@ const CALLERS: &[u8] = b"say 127.0.0.1:2945 !/1 [127.0.0.1]:2945 T=1{C=${\
     A=${M{O{MO=SR},L{v=0\\nc=IN IP4 $\\nm=audio $ RTP/AVP 0\\n},R{v=0\\nc=IN IP4 127.0.0.1\\nm=audio 40002 RTP/AVP 0\\n}}},\
     A=${M{O{MO=SR},L{v=0\\nc=IN IP4 $\\nm=audio $ RTP/AVP 8\\n},R{v=0\\nc=IN IP4 127.0.0.1\\nm=audio 40004 RTP/AVP 8\\n}}}}}\n";
 
-/// What a run of a script counted.
+/// Returns the counts of running a script.
 fn counted(alloc: Global, script: &[u8]) -> Result<Counts, Fail> {
     let mut reader = Cursor::new(script);
     let mut written = Vec::new(alloc);
@@ -241,7 +241,7 @@ fn counts_events(rt: HostRuntime) -> Result<(), Fail> {
     Ok(())
 }
 
-/// Lines of RTP datagrams that are dropped, one for each cause, in the order of the counts.
+/// Lines of RTP datagrams that are dropped, one for each cause, in the order of the counters.
 const DROPPED: [&[u8]; 6] = [
     b"rtp 30008 127.0.0.1:5004 80\n",
     b"rtp 30000 127.0.0.2:5004 80\n",
@@ -254,7 +254,7 @@ const DROPPED: [&[u8]; 6] = [
 /// Makes a termination without a Local, at port 30006.
 const NO_LOCAL: &[u8] = b"say 127.0.0.1:2945 !/1 [127.0.0.1]:2945 T=2{C=1{A=$}}\n";
 
-/// Appends a frame of the first caller with a sequence number, in hexadecimal, so many times.
+/// Appends a frame of the first caller, in hexadecimal, this many times.
 fn push_frames(script: &mut Vec<u8>, sequence: &[u8], times: usize) -> Result<(), Fail> {
     for _ in 0..times {
         script.extend_from_slice(b"rtp 30000 127.0.0.1:5004 8000")?;
@@ -322,7 +322,7 @@ fn names_a_long_line_within_a_script(rt: HostRuntime) -> Result<(), Fail> {
     Ok(())
 }
 
-/// A text so many times.
+/// Returns a text repeated `count` times.
 fn times(alloc: Global, text: &[u8], count: usize) -> Result<Vec<u8>, Fail> {
     let mut whole = Vec::new(alloc);
     for _ in 0..count {
@@ -331,7 +331,7 @@ fn times(alloc: Global, text: &[u8], count: usize) -> Result<Vec<u8>, Fail> {
     Ok(whole)
 }
 
-/// What a run wrote whose reader fails, and how it ended.
+/// Runs a script whose reader fails. Returns what it wrote, and how it ended.
 fn read_in_pieces(
     alloc: Global,
     script: &[u8],
@@ -348,7 +348,7 @@ fn read_in_pieces(
     (written, outcome)
 }
 
-/// What a run wrote whose writer takes 50 bytes a call and fails, and how it ended.
+/// Runs a script whose writer takes 50 bytes a call and fails. Returns what it wrote, and how it ended.
 fn write_in_pieces(alloc: Global, script: &[u8], calls: usize) -> (Vec<u8>, Option<RunFault>) {
     let mut reader = Cursor::new(script);
     let mut writer = FailingWriter::new(alloc, 50, calls);
@@ -403,7 +403,7 @@ const TWO_ADDS: &[u8] = b"!/1 [127.0.0.1]:2945 T=1{C=${A=$,A=$}}";
 const LAST_ADDED: &[u8] =
     b"MEGACO/1 [127.0.0.1]:2944\nReply=1{Context=1{Add=RTP/4294967295,Add=${Error=432{\"no termination or port left\"}}}}";
 
-/// Whether a core answers each message of the controller with its text.
+/// Returns whether a core answers each message of the controller with its text.
 fn answers_each(
     alloc: Global,
     core: &mut Core,
@@ -417,8 +417,9 @@ fn answers_each(
     Ok(true)
 }
 
-/// Whether a new core answers each message of the controller with its text. A configuration that isn't sound answers
-/// none.
+/// Returns whether a new core answers each message of the controller with its text.
+///
+/// It is false if the configuration is invalid.
 fn answers_all(
     alloc: Global,
     config: Config,
@@ -448,7 +449,7 @@ const ADD_AGAIN: &[u8] = b"!/1 [127.0.0.1]:2945 T=3{C=${A=$}}";
 const NO_CONTEXT: &[u8] =
     b"MEGACO/1 [127.0.0.1]:2944\nReply=3{Context=${Add=${Error=412{\"no context left\"}}}}";
 
-/// The last context has the number below that of all contexts and that of one to be made.
+/// The last context has the number below those of a new context and of all contexts.
 #[test]
 fn context_numbers_end(rt: HostRuntime) -> Result<(), Fail> {
     let config = Config {
@@ -463,7 +464,7 @@ fn context_numbers_end(rt: HostRuntime) -> Result<(), Fail> {
 const CALLER: &[u8] =
     b"!/1 [127.0.0.1]:2945 T=1{C=${A=${M{O{MO=SR},L{v=0\nc=IN IP4 $\nm=audio $ RTP/AVP 0\n},R{v=0\nc=IN IP4 127.0.0.1\nm=audio 40000 RTP/AVP 0\n}}}}}";
 
-/// The header of the one packet of a tick.
+/// Returns the header of the only packet of a tick.
 fn sent_header(core: &mut Core) -> Option<[u8; 12]> {
     core.tick();
     match core.outbox() {
@@ -472,7 +473,7 @@ fn sent_header(core: &mut Core) -> Option<[u8; 12]> {
     }
 }
 
-/// The headers of the first two packets to one caller, who is the first of a core.
+/// Returns the headers of the first two packets to the first caller of a core.
 fn two_headers(alloc: Global, core: &mut Core) -> Result<Option<([u8; 12], [u8; 12])>, NoMemory> {
     if hand(alloc, core, CALLER)? != Answer::Send {
         return Ok(None);
@@ -483,7 +484,7 @@ fn two_headers(alloc: Global, core: &mut Core) -> Result<Option<([u8; 12], [u8; 
     }
 }
 
-/// The headers of the first two packets to one caller of a new core.
+/// Returns the headers of the first two packets to the first caller of a new core.
 fn first_headers(alloc: Global, config: Config) -> Result<Option<([u8; 12], [u8; 12])>, NoMemory> {
     match Core::new(alloc, config) {
         Ok(mut core) => two_headers(alloc, &mut core),
@@ -491,7 +492,7 @@ fn first_headers(alloc: Global, config: Config) -> Result<Option<([u8; 12], [u8;
     }
 }
 
-/// Sequence numbers, timestamps and sources begin again at 0.
+/// Sequence numbers, timestamps and SSRCs wrap to 0.
 #[test]
 fn numbers_of_packets_wrap(rt: HostRuntime) -> Result<(), Fail> {
     let config = Config {

@@ -1,4 +1,4 @@
-//! Sessions over ports in memory that are recorded, and runs over what was recorded.
+//! Recorded sessions over ports in memory, and replays of their recordings.
 
 use crate::failing_writer::FailingWriter;
 use crate::serve::{HEARTBEAT, call_log, config, ports};
@@ -8,7 +8,7 @@ use std::alloc::{AllocError, Global};
 use std::io::Write;
 use std::test::Fail;
 
-/// A datagram that no play list takes.
+/// A datagram that no play list accepts.
 const STRAY: &[u8] = b"\x80x";
 
 /// How a recorded session ended, and its calls.
@@ -18,7 +18,7 @@ struct Outcome {
     call_log: String,
 }
 
-/// Records a session on a new gateway, at whose ports a control datagram and an RTP datagram wait.
+/// Records a session of a new gateway, for which a control datagram and an RTP datagram wait.
 fn record<W: Write>(
     alloc: Global,
     title: &[u8],

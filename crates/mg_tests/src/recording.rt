@@ -1,4 +1,4 @@
-//! The lines of a recording: their text, and what a run makes of them.
+//! The lines of a recording: their text, and how a run reads them.
 
 ghost use Rattle.std.specs.Prelude.{◌≤◌, length};
 
@@ -24,21 +24,21 @@ const LAST: Peer = Peer {
     port: 65535,
 };
 
-/// The first bytes of a datagram, as many as one can have.
+/// Returns the first bytes, as many as a datagram can have.
 fn sized(bytes: &[u8]) -> &[u8]
     ensures short { length result.now ≤ 65535 }
 {
     &bytes[..bytes.len().min(65535)]
 }
 
-/// The line of a control datagram.
+/// Returns the line of a control datagram.
 fn control(alloc: Global, source: Peer, bytes: &[u8]) -> Result<Vec<u8>, Fail> {
     let mut line = EventLine::new(alloc)?;
     line.control(source, sized(bytes));
     Ok(Vec::from_slice(alloc, line.as_slice())?)
 }
 
-/// The line of an RTP datagram, made up after another one.
+/// Returns the line of an RTP datagram, built after another line.
 fn media(alloc: Global, port: u16, source: Peer, bytes: &[u8]) -> Result<Vec<u8>, Fail> {
     let mut line = EventLine::new(alloc)?;
     line.control(source, b"another");
@@ -70,7 +70,7 @@ fn writes_rtp_datagrams(rt: HostRuntime) -> Result<(), Fail> {
     Ok(())
 }
 
-/// A text, the digits of so many exclamation marks, and a line feed.
+/// Returns a text, the digits of this many exclamation marks, and a line feed.
 fn line_of(alloc: Global, front: &[u8], marks: usize) -> Result<Vec<u8>, Fail> {
     let mut line = Vec::from_slice(alloc, front)?;
     for _ in 0..marks {
@@ -80,7 +80,7 @@ fn line_of(alloc: Global, front: &[u8], marks: usize) -> Result<Vec<u8>, Fail> {
     Ok(line)
 }
 
-/// So many exclamation marks.
+/// Returns this many exclamation marks.
 fn marks(alloc: Global, count: usize) -> Result<Vec<u8>, Fail> {
     Ok(vec![in alloc; b'!'; count]?)
 }
@@ -95,7 +95,7 @@ fn writes_the_longest(rt: HostRuntime) -> Result<(), Fail> {
     Ok(())
 }
 
-/// What a run of a script wrote and counted.
+/// Returns what running a script wrote and counted.
 fn played(alloc: Global, script: &[u8]) -> Result<(Vec<u8>, Counts), Fail> {
     let mut reader = Cursor::new(script);
     let mut written = Vec::new(alloc);
@@ -106,7 +106,7 @@ fn played(alloc: Global, script: &[u8]) -> Result<(Vec<u8>, Counts), Fail> {
     }
 }
 
-/// Whether the line of a control datagram is run as the line that says its text.
+/// Returns whether the line of a control datagram runs like the `say` line with its text.
 fn is_as_said(alloc: Global, text: &[u8]) -> Result<bool, Fail> {
     let line = control(alloc, CONTROLLER, text)?;
     let mut said = Vec::from_slice(alloc, b"say 127.0.0.1:2945 ")?;
@@ -129,18 +129,18 @@ fn runs_control_datagrams(rt: HostRuntime) -> Result<(), Fail> {
     Ok(())
 }
 
-/// Makes a termination at port 30000, which takes mu-law from anybody.
+/// Makes a termination at port 30000 that accepts mu-law from any address.
 const ADD: &[u8] = b"!/1 [127.0.0.1]:2945 T=1{C=${\
     A=${M{O{MO=SR},L{v=0\nc=IN IP4 $\nm=audio $ RTP/AVP 0\n}}}}}";
 
-/// The line of a frame of silence.
+/// Returns the line of a frame of silence.
 fn frame(alloc: Global) -> Result<Vec<u8>, Fail> {
     let mut packet = Vec::from_slice(alloc, b"\x80\0\0\x01\0\0\0\0\0\0\0\x63")?;
     packet.resize(172, 0xFF)?;
     media(alloc, 30000, CALLER, packet.as_slice())
 }
 
-/// A recording of a termination that is made, and of a frame that it takes.
+/// Returns a recording of a termination that is made, and of a frame that it accepts.
 fn recording(alloc: Global) -> Result<Vec<u8>, Fail> {
     let mut script = control(alloc, CONTROLLER, ADD)?;
     let frame = frame(alloc)?;

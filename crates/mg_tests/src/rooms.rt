@@ -19,14 +19,14 @@ const LIMITS: Limits = Limits {
     first_context: 1,
 };
 
-/// The context and the termination, each by its number.
+/// Returns the numbers of the context and the termination.
 fn numbers(member: Member) -> (u32, u32)
     ensures { result ≡ (member.record.context, member.record.number) }
 {
     (member.record.context, member.record.number)
 }
 
-/// As many slots as a full context and one with two members hold.
+/// The slots that a full context and one with two members need.
 const CROWDED: Limits = Limits {
     slots: MEMBERS as u16 + 2,
     ..LIMITS
@@ -79,7 +79,7 @@ fn slots_and_contexts_fill_up(rt: HostRuntime) -> Result<(), Fail> {
     Ok(())
 }
 
-/// The first termination as it is made.
+/// The first termination when it is made.
 const FRESH: Record = Record {
     number: 1,
     context: 1,
@@ -91,7 +91,7 @@ const FRESH: Record = Record {
     remote: None,
 };
 
-/// The same with settings that are served.
+/// The same with settings that can be served.
 const SET: Record = Record {
     mode: Mode::SendOnly,
     depth: 2,
@@ -108,19 +108,19 @@ const SET: Record = Record {
     ..FRESH
 };
 
-/// The same without media again.
+/// The same after its media were removed.
 const CLEARED: Record = Record {
     local: None,
     remote: None,
     ..SET
 };
 
-/// Why the first termination isn't changed.
+/// Returns why a change of the first termination is rejected.
 fn modify_fault(rooms: &mut Rooms, settings: &Settings) -> Option<ErrorNumber> {
     rooms.modify(Target::Number(1), 1, settings).err()
 }
 
-/// Media that isn't served changes nothing.
+/// Media that cannot be served changes nothing.
 fn refuse_settings(rt: &impl Abort, rooms: &mut Rooms) {
     let unserved = Settings {
         mode: Some(Mode::SendOnly),
@@ -132,7 +132,7 @@ fn refuse_settings(rt: &impl Abort, rooms: &mut Rooms) {
     assert_eq!(rt; rooms.record(1), Some(FRESH));
 }
 
-/// The first codec that is served is chosen, and a depth is taken within its limits.
+/// The first supported codec is chosen, and a depth is brought within its limits.
 fn set_settings(rt: &impl Abort, rooms: &mut Rooms) {
     let served = Settings {
         mode: Some(Mode::SendOnly),
@@ -144,7 +144,7 @@ fn set_settings(rt: &impl Abort, rooms: &mut Rooms) {
     assert_eq!(rt; rooms.find(Target::Number(1), 1).ok(), Some(SET));
 }
 
-/// What is blank takes media away, and what isn't named stays.
+/// Blank content removes media, and what is not named stays.
 fn clear_settings(rt: &impl Abort, rooms: &mut Rooms) {
     let cleared = Settings {
         mode: None,
@@ -202,7 +202,7 @@ fn terminations_move(rt: HostRuntime) -> Result<(), Fail> {
     Ok(())
 }
 
-/// Why one more termination isn't made.
+/// Returns why an Add is rejected.
 fn add_fault(rooms: &mut Rooms, target: Target) -> Option<ErrorNumber> {
     rooms.add(target, &Settings::default()).err()
 }

@@ -1,10 +1,10 @@
-//! Runs of scripts.
+//! Runs scripts.
 
 use mg_core::{Config, Counts, RunFault, Shown, run};
 use std::alloc::Global;
 use std::io::{Read, Write};
 
-/// A run whose configuration is handed in: beside one that is written out, what a run promises takes minutes to prove.
+/// Runs a script with a given configuration. With a literal one, the contract of a run takes minutes to prove.
 fn run_on<R: Read, W: Write>(
     alloc: Global,
     config: Config,
@@ -15,7 +15,7 @@ fn run_on<R: Read, W: Write>(
     run(alloc, config, shown, reader, writer)
 }
 
-/// A run of a script on a gateway with the standard configuration.
+/// Runs a script on a gateway with the standard configuration.
 pub fn run_script<R: Read, W: Write>(
     alloc: Global,
     shown: Shown,

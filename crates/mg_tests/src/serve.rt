@@ -29,7 +29,7 @@ pub fn config() -> Config {
     }
 }
 
-/// Ports at which these datagrams wait, and at which the calls of these numbers fail.
+/// Returns ports at which these datagrams wait, and at which the calls with these numbers fail.
 pub fn ports(
     alloc: Global,
     waiting: &[(usize, &[u8])],
@@ -58,7 +58,7 @@ fn letter(call: &Call) -> char {
     }
 }
 
-/// Each call with its slot.
+/// Returns each call with its socket.
 pub fn call_log(alloc: Global, ports: &FakePorts) -> Result<String, AllocError> {
     let mut text = String::new(alloc);
     for call in ports.calls().unwrap_or(&[]) {
@@ -107,13 +107,13 @@ fn session(
     })
 }
 
-/// Whether lines on a new gateway without datagrams print so, after `ready`.
+/// Returns whether these lines on a new gateway without datagrams print this text after `ready`.
 fn prints(alloc: Global, lines: &[u8], wanted: &[u8]) -> Result<bool, AllocError> {
     let outcome = session(alloc, &[], &[], lines)?;
     Ok(outcome.result.is_ok() && outcome.printed.as_slice() == wanted)
 }
 
-/// The first bytes of the last datagram that was sent.
+/// Returns the first bytes of the last datagram that was sent.
 fn last_head(ports: &FakePorts) -> Option<&[u8]> {
     match ports.calls()?.last()? {
         Call::Send(_, _, payload) => payload.as_slice().get(..12),
@@ -206,7 +206,7 @@ fn reads_a_megabyte_without_a_line_feed(rt: HostRuntime) -> Result<(), Fail> {
     Ok(())
 }
 
-/// How many lines, control datagrams and ticks a session counted, where it came to its end.
+/// Returns how many lines, control datagrams and ticks a session counted, if it ended without a fault.
 fn counted(outcome: &Outcome) -> Option<(u64, u64, u64)> {
     match &outcome.result {
         Ok(counts) => Some((counts.lines, counts.control, counts.ticks)),
@@ -221,12 +221,12 @@ fn counts_lines_up_to_the_end(rt: HostRuntime) -> Result<(), Fail> {
     Ok(())
 }
 
-/// How often a letter stands in a text.
+/// Returns how often a letter occurs in a text.
 fn count(text: &str, letter: u8) -> usize {
     text.as_bytes().iter().filter(|b| **b == letter).count()
 }
 
-/// Whether a session in which one call failed counted each datagram that came and each send that succeeded.
+/// Returns whether a session with one failed call counted each received datagram and each successful send.
 fn is_counted(outcome: &Outcome) -> bool {
     let Ok(counts) = &outcome.result else {
         return false;
@@ -240,7 +240,7 @@ fn is_counted(outcome: &Outcome) -> bool {
         && sends == counts.sent.saturating_add(lost)
 }
 
-/// The first of the calls up to `calls` whose failure isn't counted as it should be.
+/// Returns the first call, up to `calls`, whose failure is not counted as it should be.
 fn first_uncounted(alloc: Global, calls: u64) -> Result<Option<u64>, AllocError> {
     let waiting: [(usize, &[u8]); 4] = [(0, ADD), (0, HEARTBEAT), (1, b"x"), (2, b"x")];
     let lines: &[u8] = b"poll\ntick\npoll\ntick\ntick\n";
@@ -274,7 +274,7 @@ fn resends_a_lost_answer(rt: HostRuntime) -> Result<(), Fail> {
     Ok(())
 }
 
-/// The lines of so many ticks after a poll.
+/// Returns the lines of a poll and this many ticks.
 fn poll_and_ticks(alloc: Global, ticks: u64) -> Result<String, AllocError> {
     let mut lines = String::new(alloc);
     lines.push_str("poll\n")?;
@@ -284,7 +284,7 @@ fn poll_and_ticks(alloc: Global, ticks: u64) -> Result<String, AllocError> {
     Ok(lines)
 }
 
-/// The text of a report in a session of so many ticks, with one every second, or with none.
+/// Returns the reports of a session of this many ticks, with one every `seconds`, or none.
 fn reported(alloc: Global, seconds: u16, ticks: u64) -> Result<Vec<u8>, AllocError> {
     let mut ports = ports(alloc, &[(0, ADD), (1, b"x"), (2, b"x")], &[])?;
     let lines = poll_and_ticks(alloc, ticks)?;
@@ -379,7 +379,7 @@ fn ends_where_a_read_fails(rt: HostRuntime) -> Result<(), Fail> {
     Ok(())
 }
 
-/// The calls of a session whose writer fails after so many calls.
+/// Returns the calls of a session whose writer fails after this many calls.
 fn call_log_with_writer(alloc: Global, calls: usize, lines: &[u8]) -> Result<String, AllocError> {
     let mut ports = ports(alloc, &[(1, b"x")], &[])?;
     let mut input = lines;

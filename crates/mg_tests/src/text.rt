@@ -11,7 +11,7 @@ use std::test::Fail;
 
 const HEAD: &[u8] = b"MEGACO/1 [127.0.0.1]:2945 ";
 
-/// The head of a message, a text before so many equal ones, and a text after them.
+/// Returns a message: a head, `before`, `part` repeated `count` times, and `after`.
 fn repeated(
     alloc: Global,
     before: &[u8],
@@ -29,30 +29,30 @@ fn repeated(
     Ok(text)
 }
 
-/// Whether a place of a source has this text.
+/// Returns whether a span of a source has this text.
 fn is_text(span: Span, source: &[u8], text: &[u8]) -> bool {
     span.text(source) == text
 }
 
-/// Whether a text after the head is a syntax fault.
+/// Returns whether a text after the head is a syntax fault.
 fn is_fault(alloc: Global, text: &[u8]) -> Result<bool, AllocError> {
     let source = repeated(alloc, text, b"", 0, b"")?;
     Ok(matches!(read(alloc, source.as_slice()), Err(ReadFault::Syntax(_))))
 }
 
-/// An action with properties of its own, an Add with nearly all that there is, a Subtract and a Notify.
+/// An action with properties, an Add with nearly every descriptor, a Subtract and a Notify.
 const SOURCE: &[u8] =
     b"!/1 <gw.example>:2944 T=9 { C = $ { TP{$,*,BW,a,b,oneway}, CA{TP,EG}, PR=5, EG,\
     O-W-Add = $ { Media { Stream = 1 { LocalControl { Mode = SendReceive, rv=OFF, nt/jit=40, \
     a/b=\"x y\", c/d={{}} }, Local{v=0\nm=audio $ RTP/AVP 18\nv=0\nm=audio $ RTP/AVP 8\n}, \
     R{} }, TS{x} }, Signals{ }, DM={(0|xxx)}, AT{M,SA} }, S=ROOT{Audit{}}, N=x/1{y=z{}} } }";
 
-/// Whether a span has this text in it.
+/// Returns whether a span has this text.
 fn says(span: Span, text: &[u8]) -> bool {
     is_text(span, SOURCE, text)
 }
 
-/// Whether triples are the two, of which the second is a Oneway from a to b.
+/// Returns whether triples are the two expected ones, of which the second is a Oneway from a to b.
 fn are_triples(triples: &[NamedTriple]) -> bool {
     let [first, second] = triples else {
         return false;
@@ -63,7 +63,7 @@ fn are_triples(triples: &[NamedTriple]) -> bool {
         && says(second.second, b"b")
 }
 
-/// Whether an action's properties are those four.
+/// Returns whether an action's properties are the four expected ones.
 fn are_properties(properties: &[ContextProperty]) -> bool {
     let [
         ContextProperty::Topology(triples),
@@ -79,7 +79,7 @@ fn are_properties(properties: &[ContextProperty]) -> bool {
         && says(*priority, b"5")
 }
 
-/// Whether the parts of a LocalControl are those five.
+/// Returns whether the parts of a LocalControl are the five expected ones.
 fn are_controls(controls: &[ControlPart]) -> bool {
     let [
         ControlPart::Mode(Mode::SendReceive),
@@ -94,7 +94,7 @@ fn are_controls(controls: &[ControlPart]) -> bool {
     says(*jitter, b"nt/jit") && says(*depth, b"40") && says(*quoted, b"x y")
 }
 
-/// Whether a Media descriptor is that of one stream and a state.
+/// Returns whether a Media descriptor has the expected stream and TerminationState.
 fn is_media(media: &[MediaPart]) -> bool {
     let [
         MediaPart::Stream(1, parts),
@@ -119,7 +119,7 @@ fn is_media(media: &[MediaPart]) -> bool {
         && says(*remote, b"")
 }
 
-/// Whether the descriptors of the Add are those four.
+/// Returns whether the descriptors of the Add are the four expected ones.
 fn are_descriptors(descriptors: &[Descriptor]) -> bool {
     let [
         Descriptor::Media(media),
@@ -134,7 +134,7 @@ fn are_descriptors(descriptors: &[Descriptor]) -> bool {
         && audited.as_slice() == [AuditWord::Media, AuditWord::Statistics].as_slice()
 }
 
-/// Whether the descriptors of the Subtract are an audit of nothing.
+/// Returns whether the descriptors of the Subtract are an empty audit.
 fn is_empty_audit(descriptors: &[Descriptor]) -> bool {
     match descriptors {
         [Descriptor::Audit(words)] => words.as_slice().is_empty(),
@@ -142,7 +142,7 @@ fn is_empty_audit(descriptors: &[Descriptor]) -> bool {
     }
 }
 
-/// Whether commands are those three.
+/// Returns whether commands are the three expected ones.
 fn are_commands(commands: &[Command]) -> bool {
     let [add, subtract, notify] = commands else {
         return false;
@@ -162,7 +162,7 @@ fn are_commands(commands: &[Command]) -> bool {
         && notify.descriptors.as_slice().is_empty()
 }
 
-/// Whether a message is one request with that action.
+/// Returns whether a message is one request with that action.
 fn is_request_9(items: &[MessageItem]) -> bool {
     let [MessageItem::Request(request)] = items else {
         return false;

@@ -22,14 +22,14 @@ const ANSWER: &[u8] =
     c=IN IP4 127.0.0.1\r\nm=audio 29502 RTP/AVP 0\r\na=ptime:20\r\n}}}},Add=RTP/2{Media{Stream=1{Local{v=0\r\n\
     c=IN IP4 127.0.0.1\r\nm=audio 29504 RTP/AVP 0\r\na=ptime:20\r\n}}}}}}";
 
-/// Makes two terminations that send: the first to an address that isn't allowed, the second to 29612.
+/// Makes two terminations that send: the first to an address that is not allowed, the second to 29612.
 const ONE_UNREACHABLE: &[u8] = b"MEGACO/1 [127.0.0.1]:29612 Transaction=1{Context=${\
     Add=${Media{LocalControl{Mode=SendOnly},\
     Remote{v=0\nc=IN IP4 255.255.255.255\nm=audio 29610 RTP/AVP 0\n}}},\
     Add=${Media{LocalControl{Mode=SendOnly},\
     Remote{v=0\nc=IN IP4 127.0.0.1\nm=audio 29612 RTP/AVP 0\n}}}}}";
 
-/// A gateway with few media ports, from two after the control port on.
+/// Returns a gateway with few media ports, which start two after the control port.
 fn config(control_port: u16, slots: u16) -> Config {
     Config {
         control_port,
@@ -39,7 +39,7 @@ fn config(control_port: u16, slots: u16) -> Config {
     }
 }
 
-/// The ports of a gateway.
+/// Binds the ports of a gateway.
 fn bind(rt: &HostRuntime, config: &Config) -> Result<UdpPorts<NoDeadline>, Fail> {
     if !config.is_sound() {
         return Err(Fail::new("bad configuration"));
@@ -48,21 +48,21 @@ fn bind(rt: &HostRuntime, config: &Config) -> Result<UdpPorts<NoDeadline>, Fail>
     Ok(UdpPorts::new(Sockets::bind(rt, config, events)?, NoDeadline))
 }
 
-/// A socket of a caller's that doesn't wait.
+/// Returns a caller's non-blocking socket.
 fn caller(rt: &HostRuntime, port: u16) -> io::Result<UdpSocket> {
     let socket = UdpSocket::bind(rt, local(port))?;
     socket.set_nonblocking(true)?;
     Ok(socket)
 }
 
-/// A PCMU packet of the loudest samples.
+/// Returns a PCMU packet of the loudest samples.
 fn speech() -> [u8; 172] {
     let mut packet = [0x80; 172];
     packet[..12].copy_from_slice(b"\x80\0\0\x01\0\0\0\0\0\0\0c");
     packet
 }
 
-/// 200 polls, three ticks and `quit`.
+/// Returns 200 polls, three ticks and `quit`.
 fn lines(alloc: Global) -> Result<String, AllocError> {
     let mut lines = String::new(alloc);
     for _ in 0..200 {
@@ -72,7 +72,7 @@ fn lines(alloc: Global) -> Result<String, AllocError> {
     Ok(lines)
 }
 
-/// Serves a gateway on some ports by these lines: what was counted, and what was printed.
+/// Serves a gateway on these ports by these lines. Returns its counts, and what it printed.
 fn serve_lines<P: Ports>(
     alloc: Global,
     config: Config,
@@ -95,7 +95,7 @@ fn serve_lines<P: Ports>(
     (result, printed)
 }
 
-/// Whether the datagram that a socket gives after so many others is a packet with this payload.
+/// Returns whether the datagram that a socket receives after `before` others is a packet with this payload.
 fn carries(socket: &UdpSocket, before: usize, payload: &[u8]) -> io::Result<bool> {
     let mut buffer = [0; 200];
     for _ in 0..before {
@@ -141,7 +141,7 @@ fn carries_speech_from_one_caller_to_another(rt: HostRuntime) -> Result<(), Fail
     carry_speech(&rt, rt.alloc(), config, &mut ports, &first, &second)
 }
 
-/// Packets to an address that isn't allowed are lost, and no others.
+/// Only packets to an address that is not allowed are lost.
 fn lose_packets(
     rt: &impl Abort,
     alloc: Global,
@@ -167,13 +167,13 @@ fn loses_only_the_packets_that_cannot_be_sent(rt: HostRuntime) -> Result<(), Fai
     lose_packets(&rt, rt.alloc(), config, &mut ports, &caller)
 }
 
-/// Makes a termination that sends to 0.0.0.0, one that sends to a group, and one that sends to 28712.
+/// Makes terminations that send to 0.0.0.0, to a multicast address, and to 28712.
 const HELD: &[u8] = b"MEGACO/1 [127.0.0.1]:28712 Transaction=1{Context=${\
     Add=${Media{LocalControl{Mode=SendOnly},Remote{v=0\nc=IN IP4 0.0.0.0\nm=audio 28712 RTP/AVP 0\n}}},\
     Add=${Media{LocalControl{Mode=SendOnly},Remote{v=0\nc=IN IP4 224.0.0.1\nm=audio 28712 RTP/AVP 0\n}}},\
     Add=${Media{LocalControl{Mode=SendOnly},Remote{v=0\nc=IN IP4 127.0.0.1\nm=audio 28712 RTP/AVP 0\n}}}}}";
 
-/// Nothing is sent to 0.0.0.0 or to a group.
+/// Nothing is sent to 0.0.0.0 or to a multicast address.
 fn send_to_unicast_addresses(
     rt: &impl Abort,
     alloc: Global,
@@ -198,7 +198,7 @@ fn sends_to_unicast_addresses_only(rt: HostRuntime) -> Result<(), Fail> {
     send_to_unicast_addresses(&rt, rt.alloc(), config, &mut ports, &caller)
 }
 
-/// Control messages come to one address and media to another, at ports that others have at a third.
+/// Control messages arrive at one address and media at another, at ports that others use at a third.
 fn take_at_two_addresses(
     rt: &impl Abort,
     alloc: Global,
@@ -237,7 +237,7 @@ fn binds_only_its_addresses(rt: HostRuntime) -> Result<(), Fail> {
     take_at_two_addresses(&rt, rt.alloc(), config, &mut ports, &caller)
 }
 
-/// What waits is given, and where nothing waits none is.
+/// A waiting datagram is received; if none waits, none is.
 fn receive_what_waits(
     rt: &impl Abort,
     ports: &mut UdpPorts<NoDeadline>,
@@ -273,14 +273,14 @@ fn receives_without_waiting(rt: HostRuntime) -> Result<(), Fail> {
 const HEARTBEAT: &[u8] =
     b"MEGACO/1 [127.0.0.1]:29910 Transaction=1{Context=-{AuditValue=ROOT{Audit{}}}}";
 
-/// A heartbeat with spaces after it, of so many bytes in all.
+/// Returns a heartbeat with spaces after it, `length` bytes in all.
 fn padded(alloc: Global, length: usize) -> Result<Vec<u8>, AllocError> {
     let mut message = HEARTBEAT.to_vec(alloc)?;
     message.resize(length, b' ')?;
     Ok(message)
 }
 
-/// The longest message is read, and a longer one is refused, up to the longest that UDP carries.
+/// The longest message is read. A longer one is rejected, up to the longest that UDP carries.
 fn take_messages(
     rt: &impl Abort,
     alloc: Global,
@@ -312,7 +312,7 @@ fn takes_messages_whole(rt: HostRuntime) -> Result<(), Fail> {
     take_messages(&rt, rt.alloc(), config, &mut ports, &caller)
 }
 
-/// Of three messages that of the listed controller is taken alone.
+/// Of three messages, only that of the listed controller is accepted.
 fn take_from_the_controller<P: Ports>(
     rt: &impl Abort,
     alloc: Global,

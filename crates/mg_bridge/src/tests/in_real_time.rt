@@ -14,8 +14,8 @@ const MS: u64 = 1_000_000;
 const ONE_CALLER: &[u8] = b"MEGACO/1 [127.0.0.1]:28912 Transaction=1{Context=${\
     Add=${Media{LocalControl{Mode=SendOnly},Remote{v=0\nc=IN IP4 127.0.0.1\nm=audio 28912 RTP/AVP 0\n}}}}}";
 
-/// A clock that goes on by what is waited alone. At its first wait a caller asks for a termination, and the wait up to
-/// 100 ms takes two seconds more. It fails after 400 readings.
+/// A clock that advances only by its waits. At its first wait a caller asks for a termination, and the wait up to 100
+/// ms takes two seconds more. It fails after 400 readings.
 #[derive(Drop)]
 struct StallingClock<'a> {
     now: Cell<u64>,
@@ -46,7 +46,7 @@ impl<'a> Clock for StallingClock<'a> {
     }
 }
 
-/// A clock that tells a number of ticks of 20 ms.
+/// Returns a clock that reads a number of ticks of 20 ms.
 #[derive(Drop)]
 struct Dial<'a> {
     ticks: &'a Cell<u64>,
@@ -60,7 +60,7 @@ impl<'a> Watch for Dial<'a> {
     fn wait(&mut self, _time: Duration) {}
 }
 
-/// The sequence number and the timestamp of the next packet that waits at a socket.
+/// Returns the sequence number and the timestamp of the next packet that waits at a socket.
 fn next_packet(socket: &UdpSocket) -> io::Result<(u16, u32)> {
     let mut buffer = [0; 300];
     let (n, _) = socket.recv_from(&mut buffer)?;
@@ -72,7 +72,7 @@ fn next_packet(socket: &UdpSocket) -> io::Result<(u16, u32)> {
     Ok((sequence, timestamp))
 }
 
-/// Of the ticks that are due at 2,100 ms, those from the hundredth on are late by five or less.
+/// Of the ticks due at 2100 ms, those from the hundredth on are at most five ticks late.
 #[test]
 fn turns_a_stall_into_a_gap(rt: HostRuntime) -> Result<(), Fail> {
     let caller = UdpSocket::bind(&rt, local(28912))?;

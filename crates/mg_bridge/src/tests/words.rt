@@ -50,7 +50,7 @@ fn prints_help(rt: HostRuntime) {
     }
 }
 
-/// The words of the command that the title of a recording names.
+/// Returns the arguments of the command in the title of a recording.
 fn title_words(alloc: Global, config: &Config) -> Result<Vec<String>, AllocError> {
     let title = title_of(config);
     let mut words = Vec::new(alloc);
@@ -64,7 +64,7 @@ fn title_words(alloc: Global, config: &Config) -> Result<Vec<String>, AllocError
     Ok(words)
 }
 
-/// Whether the title of a recording asks for a replay with this configuration.
+/// Returns whether the title of a recording asks for a replay with this configuration.
 fn is_titled(alloc: Global, config: Config) -> Result<bool, Fail> {
     let words = title_words(alloc, &config)?;
     match requested_run(alloc, words.as_slice()) {

@@ -1,8 +1,8 @@
 #!/bin/sh
 # Proves, builds and runs the program FOLDER/main.rt.in over crates of this repository. Needs rt.
 # usage: program.sh FOLDER CRATE ..
-# What it builds stands in a folder of its own that is removed at the end. It is run TURNS times (1 by default), on one
-# processor, each time followed by the program BESIDE, if there is one.
+# It builds in a folder of its own, which it removes at the end. It runs TURNS times (default: 1) on one processor,
+# each time followed by the program BESIDE, if there is one.
 set -eu
 folder=$1
 shift

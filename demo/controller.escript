@@ -1,16 +1,19 @@
 #!/usr/bin/env escript
 %% -*- erlang -*-
 %%! +sbwt none
-%% A controller of several gateways, on Erlang's megaco as Debian has it: apt-get install erlang-base erlang-megaco
+%% A controller of several gateways, on Erlang's megaco as Debian packages it: apt-get install erlang-base
+%% erlang-megaco
 %%     controller.escript [--here HOST:PORT] [--conferences N] [--members N] [--callers HOST:PORT] [--room N] GATEWAY ..
-%% A gateway is HOST:PORT. It makes N conferences (1) of N members (3), each on the gateway that has most room, of room
-%% for `--room` callers (256). Caller k of all, from 0 on, listens at the port of `--callers` (127.0.0.1:40000) plus 2k.
-%% The controller itself is at `--here` (127.0.0.1:2945). It reads lines: `isolate C A B`, `oneway C A B` (B hears A)
-%% and `release C A B`, of members A and B of conference C, B may be `*`; `stats`; `quit`, which ends the conferences.
+%% A gateway is HOST:PORT. The controller makes N conferences (1) of N members (3), each on the gateway with the most
+%% room; a gateway has room for `--room` callers (256). Caller k, counted from 0, listens at the port of `--callers`
+%% (127.0.0.1:40000) plus 2k. The controller itself is at `--here` (127.0.0.1:2945). It reads lines: `isolate C A B`,
+%% `oneway C A B` (B hears A) and `release C A B`, of members A and B of conference C, where B may be `*`; `stats`; and
+%% `quit`, which ends the conferences.
 %%
-%% Once a second it audits a termination of its own on each gateway. Without an answer in 1.2 s the gateway is lost; by
-%% error 411 or 430 it began anew. Then its conferences are made again on others, isolated as they were. It tells that
-%% in lines, of which `member` is for callers: member 3 of conference 1 listens at port 40004, and sends to port 30004.
+%% Once a second it audits a termination of its own on each gateway. A gateway that does not answer in 1.2 s is lost;
+%% one that answers with error 411 or 430 has restarted. Its conferences are then made again on others, with the same
+%% isolations. It prints lines about that. The lines `member` are for callers: member 3 of conference 1 listens at port
+%% 40004, and sends to port 30004.
 %%     gateway 127.0.0.1:2944 up
 %%     gateway 127.0.0.1:2944 lost: no answer
 %%     conference 1 on 127.0.0.1:2944 context 1764079200
@@ -20,16 +23,16 @@
 -mode(compile).
 -export([main/1, handle_connect/3, handle_disconnect/4, handle_syntax_error/4, handle_message_error/4,
          handle_trans_request/4, handle_unexpected_trans/4]).
-%% Megaco's records are written as the tuples that they are, by megaco_message_v1.hrl, which is in another package.
+%% Megaco's records are written as tuples, by megaco_message_v1.hrl, which is in another package.
 -define(NONE, asn1_NOVALUE).
 -define(CHOOSE, 16#FFFFFFFE).
 -define(ALL, {megaco_term_id, true, ["*"]}).
 %% A conference: where its members listen, its gateway (`none` while it waits), and its topology, by members.
 -record(conference, {callers, gateway = none, topology = []}).
-%% The server: processes of the gateways by name, the names of those that serve, and conferences by number.
+%% The server: the processes of the gateways by name, the names of those that serve, and conferences by number.
 -record(server, {gateways, up = [], conferences, room}).
-%% A gateway: its connection; whether it serves; its conferences as {Number, Context, Terminations}, the oldest first;
-%% and contexts that it may still have from before it was lost.
+%% A gateway: its connection; whether it serves; its conferences as {Number, Context, Terminations}, oldest first; and
+%% contexts that it may still have from before it was lost.
 -record(gateway, {name, connection, up = false, own = [], stale = []}).
 
 main(Words) ->
@@ -43,7 +46,7 @@ options(["--" ++ _ | _], _) -> none;
 options(Names, Options) -> {Options, Names}.
 
 run(Options = #{"here" := Here, "callers" := FirstCaller}, Names) ->
-    %% Standard output is for what happens; what the libraries warn of goes to standard error.
+    %% Standard output is for events; warnings of libraries go to standard error.
     logger:remove_handler(default),
     logger:add_handler(default, logger_std_h, #{config => #{type => standard_error}}),
     register(server, self()),
@@ -63,9 +66,9 @@ address(Text) ->
     {Address, list_to_integer(Port)}.
 mid({Address, Port}) -> {ip4Address, {'IP4Address', tuple_to_list(Address), Port}}.
 
-%% Connections to the gateways, over one socket. Replies are acknowledged; a request is sent four times, 300 ms apart;
-%% transactions are numbered from the clock on, by hundredths of a second, so that a controller that began anew isn't
-%% given the replies of the one before; and there is room for answers, datagrams of up to 64,036 bytes.
+%% Connections to the gateways, over one socket. Replies are acknowledged. A request is sent four times, 300 ms apart.
+%% Transactions are numbered from the clock, in hundredths of a second, so that a restarted controller does not get the
+%% replies of the one before. There is room for answers, datagrams of up to 64,036 bytes.
 connect(Here, Names) ->
     Self = {Address, Port} = address(Here),
     Known = [{Name, address(Name)} || Name <- Names],
@@ -82,7 +85,7 @@ connect(Here, Names) ->
         megaco:connect(Handle, mid(To), megaco_udp:create_send_handle(Socket, ToAddress, ToPort), Control)
     end,
     [{Name, element(2, {ok, _} = Connect(To))} || {Name, To} <- Known].
-%% Called by megaco. Only the gateways may connect; what else comes, and what comes late, is passed over.
+%% Called by megaco. Only the gateways may connect; anything else, and anything late, is ignored.
 handle_connect({_, _, Mid}, _, Known) -> case lists:member(Mid, Known) of true -> ok; false -> error end.
 handle_disconnect(_, _, _, _) -> ok.
 handle_syntax_error(_, _, _, _) -> no_reply.
@@ -99,7 +102,7 @@ server(S = #server{up = Up, gateways = Gateways}) ->
     receive
         %% Once a second, not as soon as a gateway is up, so that the first conferences are spread over all of them.
         place -> erlang:send_after(1000, self(), place), server(place(none, [], S));
-        %% A gateway serves when it has seen `serve`: what it was sent before it told that it is up is passed over.
+        %% A gateway serves when it has received `serve`: what it was sent before it reported that it is up is ignored.
         {up, Name} -> tell(Name, serve, S), server(S#server{up = [Name | Up -- [Name]]});
         {lost, Name} -> server(place(Name, [Name], S#server{up = Up -- [Name]}));
         {refused, Name, C} -> server(place(C, [Name], S));
@@ -109,7 +112,7 @@ server(S = #server{up = Up, gateways = Gateways}) ->
         {line, Words} -> server(try line(Words, S) catch _:_ -> say("not understood", []), S end)
     end.
 tell(Name, Message, S) -> maps:get(Name, S#server.gateways) ! Message.
-%% Has conferences made, those of a gateway or one by its number, each on the gateway that has most room.
+%% Has conferences made, those of a gateway or one by its number, each on the gateway with the most room.
 place(Which, Except, S = #server{conferences = All}) ->
     Chosen = [C || {C, #conference{gateway = Name}} <- maps:to_list(All), lists:member(Which, [Name, C])],
     lists:foldl(fun(C, T) -> place_one(C, Except, T) end, S, Chosen).
@@ -131,12 +134,12 @@ line([Word, Conference, From, To], S = #server{conferences = All}) ->
     X = #conference{callers = Callers, gateway = Name, topology = Before} = maps:get(C, All),
     Pair = {A, B} = {list_to_integer(From), case To of "*" -> all; _ -> list_to_integer(To) end},
     true = A =/= B andalso {B, How} =/= {all, oneway} andalso [] =/= [lists:nth(M, Callers) || M <- [A, B], M =/= all],
-    %% It is kept, in order, for a gateway that the conference is made on again.
+    %% It is kept, in order, for a gateway that makes the conference again.
     Topology = [Triple || Triple = {A1, B1, _} <- Before, {A1, B1} =/= Pair] ++ [{A, B, How}],
     Name =:= none orelse tell(Name, {topology, C, {A, B, How}}, S),
     S#server{conferences = All#{C := X#conference{topology = Topology}}}.
 
-%% A process for each gateway, so that one that is gone delays no other. An answer that isn't understood is as none.
+%% A process for each gateway, so that a lost one delays no other. An answer that is not understood counts as none.
 gateway(G) ->
     receive
         quit -> leave(G), server ! ended;
@@ -156,13 +159,13 @@ stats(C, {ok, _, [{_, _, _, _, Audits}]}) ->
     [say("stats ~b ~b~s", [C, M, [[" ", Name, "=", Value] || {_, Name, [Value]} <- Told]])
      || {M, Told} <- lists:zip(lists:seq(1, length(Members)), Members)].
 
-%% A Topology alone is answered by `Context=1`, which megaco can't read. So an empty audit goes with it.
+%% A Topology alone is answered with `Context=1`, which megaco cannot read. So an empty audit goes with it.
 isolate({C, Context, Terminations = [T | _]}, Triple = {A, B, How}, G) ->
     {Outcome, Code, _} = ask([action(Context, topology([Triple], Terminations), [audit(T, [])])], G),
     say("conference ~b ~w ~w ~w: ~w~s", [C, How, A, B, Outcome, [[" ", integer_to_list(Code)] || Code > 0]]),
     case Outcome of gone -> lost(G, "no answer"); _ -> G end.
 
-%% Audits its oldest termination, in its context; where it has none, the gateway itself.
+%% Audits its oldest termination, in its context; without one, the gateway itself.
 check(G = #gateway{own = [{_, Context, [T | _]} | _]}) ->
     case ask([action(Context, ?NONE, [audit(T, [])])], G) of
         {ok, _, _} -> G;
@@ -175,17 +178,17 @@ check(G = #gateway{name = Name, up = Up}) ->
         {ok, _, _} -> leave(G), server ! {up, Name}, G#gateway{stale = []};
         _ -> lost(G, "no answer")
     end.
-%% Where the gateway was merely out of reach it still has the contexts, so they are remembered until it answers.
+%% If the gateway was only unreachable it still has the contexts, so they are remembered until it answers.
 lost(G = #gateway{name = Name, own = Own, stale = Stale, up = Up}, Why) ->
     Up andalso begin say("gateway ~s lost: ~s", [Name, Why]), server ! {lost, Name} end,
     G#gateway{up = false, own = [], stale = [Context || {_, Context, _} <- Own] ++ Stale}.
-%% Ends the contexts that it has, and those that it may have. That one isn't there any more is no fault.
+%% Ends the contexts that it has, and those that it may have. One that no longer exists is no error.
 leave(#gateway{own = Own, stale = Stale} = G) ->
     Subtract = {'CommandRequest', {subtractReq, {'SubtractRequest', [?ALL], {'AuditDescriptor', []}}}, 'NULL', ?NONE},
     Contexts = [Context || {_, Context, _} <- Own] ++ Stale,
     Contexts =:= [] orelse ask([action(Context, ?NONE, [Subtract]) || Context <- Contexts], G).
 
-%% Makes a conference, and tells where its members send to.
+%% Makes a conference, and prints where its members send to.
 make(C, Callers, Topology, G = #gateway{name = Name, own = Own, stale = Stale}) ->
     case add(?CHOOSE, Callers, [], Topology, G) of
         {ok, Context, Members} ->
@@ -200,8 +203,8 @@ make(C, Callers, Topology, G = #gateway{name = Name, own = Own, stale = Stale}) 
         {gone, _, Contexts} -> lost(G#gateway{stale = Contexts ++ Stale}, "no answer")
     end.
 
-%% Adds the members inactive, sixteen in a message of at most 8,192 bytes. When all are there and those are isolated who
-%% have to be, lets them speak and hear.
+%% Adds the members inactive, sixteen in a message of at most 8192 bytes. When all are there and the isolations are
+%% set, lets them speak and hear.
 add(Context, [], Members, Topology, G) ->
     Speak = amm(modReq, ?ALL, {'StreamParms', mode(sendRecv), ?NONE, ?NONE}),
     case ask([action(Context, topology(Topology, [T || {T, _} <- Members]), [Speak])], G) of
@@ -222,7 +225,7 @@ member({addReply, {_, [T], [{mediaDescriptor, {_, _, {multiStream, [{_, 1, {_, _
     ["IN IP4 " ++ Host] = [Value || {_, "c", [Value], _} <- Lines],
     ["audio " ++ Rest] = [Value || {_, "m", [Value], _} <- Lines],
     {T, [Host, ":", hd(string:lexemes(Rest, " "))]}.
-%% Asks, and waits for the answer, in which an error may stand anywhere.
+%% Sends a request, and waits for the answer, which may have an error anywhere.
 ask(Actions, #gateway{connection = Connection}) ->
     {_, {Kind, Answer}} = megaco:call(Connection, Actions, []),
     case errors(Answer) of

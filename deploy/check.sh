@@ -1,6 +1,5 @@
 #!/bin/sh
-# Has the tools that read them check the unit file and the firewall's rules, where these tools are there:
-# systemd-analyze and nft. The second needs root.
+# Checks the unit file and the firewall's rules with systemd-analyze and nft, if these are installed. nft needs root.
 set -eu
 here=$(CDPATH= cd -- "$(dirname -- "$0")" && pwd)
 work=$(mktemp -d)

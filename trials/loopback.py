@@ -4,7 +4,7 @@ import sys
 
 
 def udp(port=0):
-    """A UDP socket that doesn't wait."""
+    """Returns a non-blocking UDP socket."""
     s = socket.socket(socket.AF_INET, socket.SOCK_DGRAM)
     s.bind(("127.0.0.1", port))
     s.setblocking(False)
@@ -12,7 +12,7 @@ def udp(port=0):
 
 
 def free_ports(slots):
-    """A control port, and a base port with as many even ones from it on, that nobody has."""
+    """Returns a free control port, and a base port from which as many even ports are free."""
     for base in range(31000, 39000, 2 * slots + 2):
         try:
             for s in [udp(base + 2 * slot) for slot in range(slots + 1)]:

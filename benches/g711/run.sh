@@ -1,7 +1,7 @@
 #!/bin/sh
-# Measures mg_g711 against tables in C, and prints nanoseconds a sample. Needs rt and gcc.
-# Run it from anywhere. What it builds stands in a folder of its own that is removed at the end.
-# Words after the command go to `rt lib`, as in `run.sh --cpu=x86-64-v3`.
+# Compares mg_g711 with C tables, in nanoseconds a sample. Run it from anywhere. It needs rt and gcc. It builds in a
+# folder of its own, which it removes at the end.
+# Further arguments go to `rt lib`, as in `run.sh --cpu=x86-64-v3`.
 set -eu
 here=$(CDPATH= cd -- "$(dirname -- "$0")" && pwd)
 root=$here

@@ -1,6 +1,6 @@
-// A mixer written by hand, to compare a tick with: it takes packets of G.711, keeps the total of each
-// conference, and sends each caller the total without its own frame. It checks less than the gateway
-// does, keeps no counters, and knows one mode and no topology.
+// A mixer written by hand, to compare a tick with. It receives packets of G.711, keeps the total of each conference,
+// and sends each caller the total without its own frame. It checks less than the gateway, keeps no counters, and has
+// one mode and no topology.
 #define _POSIX_C_SOURCE 199309L
 #include <stdint.h>
 #include <stdio.h>
@@ -35,7 +35,7 @@ static void fill_tables(void) {
     }
 }
 
-// A table of 256 samples is as fast as what gcc makes of the formula by vectors, or faster.
+// A table of 256 samples is at least as fast as the vector code that gcc makes of the formula.
 __attribute__((noinline)) static void decode(int alaw, const uint8_t *restrict in, int16_t *restrict out) {
     const int16_t *table = alaw ? alaw_samples : ulaw_samples;
     for (int i = 0; i < FRAME; i++) out[i] = table[in[i]];
@@ -43,7 +43,7 @@ __attribute__((noinline)) static void decode(int alaw, const uint8_t *restrict i
 
 #define LEAST(a, b) ((a) < (b) ? (a) : (b))
 
-// The level is the least of some lines, of which gcc makes vectors: these seven, and one before them by mu-law.
+// The level is the least of several lines, which gcc vectorizes: these seven, and one before them in mu-law.
 static inline int16_t least_of_seven(int16_t x) {
     int16_t level = (int16_t)(x >> 4);
     level = LEAST(level, (int16_t)((x >> 5) + 16));
@@ -98,7 +98,7 @@ static void put16(uint8_t *at, uint16_t v) { at[0] = (uint8_t)(v >> 8); at[1] = 
 
 static void put32(uint8_t *at, uint32_t v) { put16(at, (uint16_t)(v >> 16)); put16(at + 2, (uint16_t)v); }
 
-// A packet of a caller waits for its tick.
+// A caller's packet waits for its tick.
 __attribute__((noinline)) static int arrive(uint16_t port, const uint8_t *bytes, size_t count) {
     unsigned slot = (unsigned)(port - 30000) / 2;
     if (slot >= CALLERS || count != PACKET || bytes[0] >> 6 != 2) return 0;
@@ -120,7 +120,7 @@ static void play(struct caller *c) {
     memcpy(c->frame, frame, sizeof c->frame);
 }
 
-// The first listener of a room who doesn't talk lends its payload to the others.
+// The first listener of a room who does not talk shares its payload with the others.
 static void send(struct caller *c, uint8_t *packet, const uint8_t **lent) {
     int32_t rest[FRAME];
     int16_t mix[FRAME];

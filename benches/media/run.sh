@@ -1,5 +1,5 @@
 #!/bin/sh
-# Measures a tick of a bridge and the arrival of a packet, beside the same by hand in C, and prints nanoseconds.
+# Measures a tick of the gateway and the arrival of a packet, and the same in hand-written C, in nanoseconds.
 # usage: run.sh [TURNS]
 # It needs rt and gcc.
 set -eu

@@ -1,6 +1,6 @@
-/* Receives and sends alone, as many as a gateway does: what its sockets cost without it.
+/* Only receives and sends, as many datagrams as a gateway: the cost of its sockets without it.
    usage: bare CALLERS SLOTS
-   It is driven by the same lines, takes what comes, and sends a packet of 172 bytes to each caller at each tick. */
+   It is driven by the same lines, receives what arrives, and sends each caller a packet of 172 bytes at each tick. */
 #define _GNU_SOURCE
 #include "loopback.h"
 #include <stdint.h>

@@ -1,7 +1,6 @@
-/* Callers in conferences, over a gateway's sockets: each sends a packet of 20 ms every 20 ms, and takes what it is
-   sent.
+/* Callers in conferences of a gateway: each sends a packet of 20 ms every 20 ms, and receives what it is sent.
    usage: load CALLERS A_CONFERENCE SECONDS
-   The gateway is on 127.0.0.1, its control port 2944, its media ports from 30000 on. */
+   The gateway is on 127.0.0.1, with control port 2944 and media ports from 30000 on. */
 #define _GNU_SOURCE
 #include "loopback.h"
 #include <stdint.h>

@@ -13,7 +13,7 @@ static inline struct sockaddr_in local(int port)
     return a;
 }
 
-/* A socket at a port that has room for `room` bytes, or what is usual where that is 0. */
+/* A socket bound to a port, with a buffer of `room` bytes, or of the usual size if `room` is 0. */
 static inline int bound(int port, int flags, int room)
 {
     struct sockaddr_in a = local(port);

@@ -1,8 +1,8 @@
 #!/bin/bash
-# Measures the gateway over loopback, and prints its processor time beside that of bare receives and sends.
+# Measures the gateway over loopback, and compares its processor time with that of plain receives and sends.
 # usage: run.sh CALLERS A_CONFERENCE SECONDS [SLOTS]
-# Without callers (0) it measures a gateway on which nothing comes.
-# It needs gcc, and the two programs as `rt run` leaves them in crates/mg_bridge/out and crates/mg_pace/out.
+# With 0 CALLERS it measures an idle gateway.
+# It needs gcc, and the two programs that `rt run` leaves in crates/mg_bridge/out and crates/mg_pace/out.
 set -eu
 callers=$1 members=$2 seconds=$3 slots=${4:-$1}
 here=$(CDPATH= cd -- "$(dirname -- "$0")" && pwd)
@@ -13,8 +13,8 @@ trap 'rm -rf "$work"; kill $(jobs -p) 2> /dev/null || true' EXIT
 for program in load bare; do
     gcc -O2 -Wall -o "$work/$program" "$here/$program.c"
 done
-# Calls, and tells what the program of this process took of the processor since it was ready, the memory that it has,
-# and how many packets were too late.
+# Makes calls. Prints the processor time of the program of this process since it was ready, its memory, and how many
+# packets were too late.
 measure() {
     name=$1 process=$2
     until grep -q ready "$work/out" 2> /dev/null; do sleep 0.1; done

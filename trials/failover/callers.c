@@ -1,9 +1,10 @@
 /* Callers who follow a controller: each listens at a port of its own, sends a packet of 20 ms every 20 ms to where the
-   controller's lines say, and takes what it is sent from there.
+   controller's lines say, and receives what it is sent from there.
    usage: callers CALLERS FIRST_PORT [noise]
-   Standard input has the controller's lines (demo/controller.escript). Others are `mark`, which begins a period;
-   `report`, which tells of it; and `quit`. Members 1 and 2 of a conference speak, each a level of its own, which differ
-   from conference to conference; the others are silent. With `noise` all speak, and what is heard isn't looked at. */
+   Standard input has the controller's lines (demo/controller.escript). Further lines are `mark`, which starts a period;
+   `report`, which reports on it; and `quit`. Members 1 and 2 of a conference speak, each at a level of its own, which
+   differs from conference to conference; the others are silent. With `noise` all speak, and what is heard is not
+   checked. */
 #define _GNU_SOURCE
 #include <arpa/inet.h>
 #include <fcntl.h>
@@ -20,12 +21,12 @@ enum { MOST = 1024, CONFERENCES = 64, HEAD = 12, PACKET = 172, SILENCE = 0xff };
 
 struct caller {
     int socket, said, expected, isolated, conference, member;
-    struct sockaddr_in to;        /* where it sends to; port 0 before it is told */
-    int came, sequence;           /* whether a packet came from there, and the number of the last one */
+    struct sockaddr_in to;        /* where it sends to; port 0 until it is known */
+    int came, sequence;           /* whether a packet arrived from there, and the number of the last one */
     double at;                    /* when that was */
     int moved;                    /* since the mark */
-    double heard;                 /* after the mark: when the others' speech came first from where it was moved to */
-    long missing, leaked;         /* numbers that didn't come; packets with speech to one who is isolated */
+    double heard;                 /* after the mark: when the others' speech first arrived from where it was moved to */
+    long missing, leaked;         /* missing numbers; packets with speech to an isolated caller */
     double gap;                   /* the longest time between two packets, in seconds */
 };
 
@@ -40,14 +41,14 @@ static double now(void)
     return t.tv_sec + t.tv_nsec * 1e-9;
 }
 
-/* The level of a code of mu-law (G.711), without its sign, which is positive for codes from 128 on. */
+/* The magnitude of a code of mu-law (G.711). Codes from 128 on are positive. */
 static int level(int code)
 {
     int bits = ~code & 0x7f;
     return (((bits & 15) * 2 + 33) << (bits >> 4)) - 33;
 }
 
-/* Finds pairs of codes whose sum has a code of its own: what members 1 and 2 of each conference say, and the sum. */
+/* Finds pairs of codes whose sum has its own code: what members 1 and 2 of each conference say, and the sum. */
 static void find_levels(void)
 {
     int n = 0;
@@ -82,7 +83,7 @@ static void begin(void)
         callers[i].moved = 0, callers[i].heard = callers[i].gap = 0, callers[i].missing = callers[i].leaked = 0;
 }
 
-/* Tells of the callers that were moved since the mark and of the others. */
+/* Reports on the callers that were moved since the mark, and on the others. */
 static void report(void)
 {
     int moved = 0, heard = 0, stayed = 0;
@@ -121,7 +122,7 @@ static void member(int conference, int number, int from, const char *host, int p
     inet_pton(AF_INET, host, &c->to.sin_addr);
 }
 
-/* Does a line of standard input; answers whether it was `quit`. */
+/* Handles a line of standard input; returns whether it was `quit`. */
 static int line(const char *text)
 {
     int conference, number, from, port;
@@ -139,7 +140,7 @@ static int line(const char *text)
     return strcmp(text, "quit") == 0;
 }
 
-/* Does the lines that are there; answers whether it is to end. */
+/* Handles the lines that wait; returns whether to end. */
 static int lines(void)
 {
     static char text[1 << 16];

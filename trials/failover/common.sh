@@ -1,6 +1,6 @@
-# Gateways on this host, callers who follow a controller, and the controller of `demo` over the gateways. Read by run.sh
-# and cost.sh. BRIDGE is the program, where it isn't the one that `rt run` leaves in crates/mg_bridge/out; that one is
-# proved and built first where it isn't there, which takes half an hour.
+# Starts gateways on this host, callers who follow a controller, and the controller of `demo`. run.sh and cost.sh
+# source it. BRIDGE is the program; by default it is the one that `rt run` leaves in crates/mg_bridge/out. If that is
+# missing, it is proved and built first, which takes half an hour.
 root=$here/../..
 bridge=${BRIDGE:-$root/crates/mg_bridge/out/mg_bridge}
 [ -x "$bridge" ] || (cd "$root/crates/mg_bridge" && rt run -- --help > /dev/null)
@@ -8,11 +8,11 @@ work=$(mktemp -d)
 trap 'kill $(jobs -p) 2> /dev/null || true; rm -rf "$work"' EXIT
 gcc -O2 -Wall -o "$work/callers" "$here/callers.c"
 
-# The policy of the unit file, where it is allowed.
+# The scheduling policy of the unit file, if it is allowed.
 policy=
 if chrt -f 10 true 2> /dev/null; then policy='chrt -f 10'; fi
 
-# Waits until a file has a line a number of times, for at most ten seconds: FILE PATTERN TIMES
+# Waits up to ten seconds until a file has a line a number of times: FILE PATTERN TIMES
 until_told() {
     for ((i = 0; i < 100; i++)); do
         if [ "$(cat "$work/$1" 2> /dev/null | grep -c -- "$2")" -ge "$3" ]; then return; fi
@@ -24,7 +24,7 @@ until_told() {
     exit 1
 }
 
-# Starts gateway N, whose numbers begin at the seconds of the clock.
+# Starts gateway N, whose numbers start at the seconds of the clock.
 declare -A process
 start() {
     numbers=$(date +%s)
@@ -34,8 +34,8 @@ start() {
     process[$1]=$!
 }
 
-# Starts gateways, 256 callers and the controller, which makes four conferences of 64; more words go to the callers.
-# Lines for the callers go to 8, and those for the controller to 9: HOW_MANY [WORD]..
+# Starts gateways, 256 callers and the controller, which makes four conferences of 64. Further arguments go to the
+# callers. Lines for the callers go to file descriptor 8, and those for the controller to 9: HOW_MANY [ARGUMENT]..
 call() {
     rm -f "$work/events" "$work/words"
     mkfifo "$work/events" "$work/words"
@@ -53,7 +53,7 @@ call() {
     until_told log '^member' 256
 }
 
-# What the gateways and the controller said on standard error.
+# Prints what the gateways and the controller wrote to standard error.
 errors() {
     for file in "$work"/*.errors; do
         sed "s/^/$(basename "$file" .errors): /" "$file"

@@ -1,6 +1,7 @@
 #!/bin/bash
-# What four gateways with 64 callers each take of the processor, beside one with 256 in as many conferences: the user
-# and system time of /proc/PID/stat while all callers speak. Turns of one and of four alternate; the least counts.
+# Compares the processor time of four gateways with 64 callers each and of one with 256 callers, in as many
+# conferences. It is the user and system time of /proc/PID/stat while all callers speak. Runs of one and of four
+# alternate; the least counts.
 # usage: cost.sh [SECONDS] [TURNS]
 # It needs what run.sh needs.
 set -eu
@@ -8,7 +9,7 @@ seconds=${1:-30} turns=${2:-3}
 here=$(CDPATH= cd -- "$(dirname -- "$0")" && pwd)
 . "$here/common.sh"
 
-# Prints the ticks of the processor's time that the gateways took.
+# Prints the clock ticks of processor time that the gateways used.
 taken() {
     for n in "${!process[@]}"; do
         cat "/proc/${process[$n]}/stat"

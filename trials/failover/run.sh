@@ -1,15 +1,15 @@
 #!/bin/bash
-# Four gateways on this host under the controller of `demo`, with 64 callers on each. One is killed; later another is
-# killed and begins anew at once. Each time its callers have to hear the others again within 3 s, on another gateway;
-# who is isolated has to hear nobody; and the callers of the other gateways may miss no packet.
+# Runs four gateways on this host under the controller of `demo`, with 64 callers on each. One is killed; later another
+# is killed and restarts at once. Each time its callers must hear the others again within 3 s, on another gateway.
+# Isolated callers must hear nobody, and the callers of the other gateways must not miss a packet.
 # usage: run.sh
-# It needs gcc and Erlang (erlang-base, erlang-megaco), and takes half a minute. Ends with 0 where all of it held.
+# It needs gcc and Erlang (erlang-base, erlang-megaco), and takes half a minute. Exits with 0 if all of this holds.
 set -eu
 here=$(CDPATH= cd -- "$(dirname -- "$0")" && pwd)
 . "$here/common.sh"
 
-# Does something, at any moment between two audits, gives the controller and the callers five seconds, and tells
-# of the callers: WHAT COMMAND ..
+# Runs a command at any moment between two audits, gives the controller and the callers five seconds, and prints what
+# happened to the callers: WHAT COMMAND ..
 failed=0 reports=0
 after() {
     sleep "0.$((RANDOM % 900 + 100))"
@@ -34,7 +34,7 @@ lose_and_start() {
     lose "$1"
     start "$1"
 }
-# The number of the gateway that has a conference.
+# Prints the number of the gateway that has a conference.
 holder() {
     port=$(sed -n "s/^conference $1 on 127.0.0.1:\([0-9]*\).*/\1/p" "$work/log" | tail -n 1)
     echo $(((port - 12944) / 2))

@@ -1,11 +1,10 @@
-"""Plays callers whose packets come too early, too late or from two sources through `mg_bridge replay`, and tells what
-is heard of them.
+"""Runs callers whose packets are early, late or from two sources through `mg_bridge replay`, and prints what is heard.
 
 usage: callers.py BRIDGE
 
-Two callers are in a conference. The first sends frames that tell their sequence numbers, at times that are reckoned and
-not waited for; a tick is every 20 ms, in the middle between two packets of a caller without fault. What the second is
-sent in each tick is the number of a frame, or silence.
+Two callers are in a conference. The first sends frames that name their sequence numbers, at computed times without
+waiting. A tick is every 20 ms, half way between two packets of a punctual caller. In each tick the second is sent the
+number of a frame, or silence.
 """
 import struct
 import subprocess
@@ -13,18 +12,18 @@ import sys
 
 ADD = ("Add=${Media{LocalControl{Mode=SendReceive%s},Local{v=0\\nc=IN IP4 $\\nm=audio $ RTP/AVP 0\\n},"
        "Remote{v=0\\nc=IN IP4 127.0.0.1\\nm=audio %d RTP/AVP 0\\n}}}")
-# Codes of mu-law from 128 on have a level each, and 255 is silence. A frame is a code for its number modulo this.
+# Codes of mu-law from 128 on have one level each, and 255 is silence. A frame is a code for its number modulo this.
 NUMBERS = 97
 
 
 def packet(at, number, source=7, size=160):
-    """A packet that comes at a time, in milliseconds."""
+    """Returns a packet that arrives at a time in milliseconds."""
     head = struct.pack("!BBHII", 0x80, 0, number % 65536, number * 160 % 2 ** 32, source)
     return at, "rtp 30000 127.0.0.1:40000 " + head.hex() + "%02x" % (128 + number % NUMBERS) * size
 
 
 def heard(packets, seconds, depth=80):
-    """What is sent in each tick: the number of a frame, modulo NUMBERS, or None."""
+    """Returns what is sent in each tick: the number of a frame, modulo NUMBERS, or None."""
     control = ",nt/jit=%d" % depth
     lines = ["say 127.0.0.1:2945 MEGACO/1 [127.0.0.1]:2945 Transaction=1{Context=${%s,%s}}"
              % (ADD % (control, 40000), ADD % (control, 40002))]
@@ -40,7 +39,7 @@ def heard(packets, seconds, depth=80):
 
 
 def gaps(frames):
-    """The runs of silent ticks between frames: where each begins, in seconds, and how many ticks it has."""
+    """Returns the runs of silent ticks between frames: the start of each in seconds, and its ticks."""
     found, silent, begun = [], 0, False
     for tick, frame in enumerate(frames):
         if frame is None:
@@ -53,7 +52,7 @@ def gaps(frames):
 
 
 def left_out(frames):
-    """How many frames were passed over between two that follow one another."""
+    """Returns how many frames were skipped between two consecutive ones."""
     pairs = [(a, b) for a, b in zip(frames, frames[1:]) if a is not None and b is not None]
     return sum((b - a - 1) % NUMBERS for a, b in pairs)
 

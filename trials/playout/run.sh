@@ -1,9 +1,9 @@
 #!/bin/sh
-# Tells what is heard of callers whose clocks are off, whose numbers jump, who send in bursts, or who are two at one
+# Prints what is heard of callers whose clocks drift, whose sequence numbers jump, who send in bursts, or who share a
 # port.
 # usage: run.sh
-# It needs python3 and rt. `mg_bridge` is the one that `rt run` leaves in crates/mg_bridge/out; what isn't built yet is
-# proved and built first, which takes half an hour. It takes some seconds.
+# It needs python3 and rt. `mg_bridge` is the one that `rt run` leaves in crates/mg_bridge/out. What is not built yet
+# is proved and built first, which takes half an hour. The trial takes some seconds.
 set -eu
 here=$(CDPATH= cd -- "$(dirname -- "$0")" && pwd)
 root=$here/../..

@@ -1,8 +1,8 @@
 #!/bin/sh
-# Sends random bursts of datagrams to the ports of gateways that poll in between, and looks whether each datagram comes
-# out. Prints how many schedules there were, and ends with 1 at the first that is wrong.
+# Sends random bursts of datagrams to the ports of gateways that poll in between, and checks that every datagram
+# arrives. Prints how many schedules it ran, and exits with 1 at the first failure.
 # usage: run.sh [SCHEDULES] [SEED]
-# It needs gcc, python3 and rt. `mg_bridge` is the one that `rt run` leaves in crates/mg_bridge/out; what isn't built
+# It needs gcc, python3 and rt. `mg_bridge` is the one that `rt run` leaves in crates/mg_bridge/out. What is not built
 # yet is proved and built first, which takes half an hour. 10,000 schedules take half a minute.
 set -eu
 here=$(CDPATH= cd -- "$(dirname -- "$0")" && pwd)

@@ -1,12 +1,13 @@
-"""Sends random bursts of datagrams to the ports of `mg_bridge serve`, and looks whether each comes out.
+"""Sends random bursts of datagrams to the ports of `mg_bridge serve`, and checks that every datagram is handled.
 
 usage: schedules.py BRIDGE LIBRARY SCHEDULES SEED
 
-A schedule is some bursts and polls in random order. A burst goes to one port; some are 64 datagrams, which are as many
-as a poll takes of a port, some one more or 64 more. The gateway isn't waited for, so that datagrams come while it
-polls. Then it is polled as often as the fullest port needs, and has to have counted each datagram once. Messages of the
-schedule are answered in the order in which they were sent. Each hundred schedules are a session; in two of three
-sessions a receive fails, or the question which sockets are ready. Ends with 1 at the first schedule that is wrong.
+A schedule is several bursts and polls in random order. A burst goes to one port; some have 64 datagrams, as many as a
+poll receives from a port, some one more or 64 more. The schedule does not wait for the gateway, so that datagrams
+arrive while it polls. Then it is polled as often as the fullest port needs, and must have counted each datagram once.
+Messages of the schedule must be answered in the order in which they were sent. A session has a hundred schedules. In
+two of three sessions a call fails: a receive, or the one that asks which sockets are ready. Exits with 1 at the first
+failure.
 """
 import os
 import random
@@ -20,7 +21,7 @@ BRIDGE, LIBRARY = sys.argv[1:3]
 SCHEDULES, SEED = int(sys.argv[3]), int(sys.argv[4])
 SLOTS = 8
 IN_A_SESSION = 100
-# What a socket's buffer holds of short datagrams is more than these.
+# The buffer of a socket holds more than this many short datagrams.
 MOST_AT_A_PORT = 200
 ASK = b"MEGACO/1 [127.0.0.1]:2945 Transaction=%d{Context=-{AuditValue=ROOT{Audit{}}}}"
 
@@ -57,7 +58,7 @@ class Session:
         return [int(n) for n in re.match(r"control=(\d+) media=(\d+) .* failed=(\d+) ", line).groups()]
 
     def answered(self):
-        """The numbers of the requests that were answered, in order."""
+        """Returns the numbers of the requests that were answered, in order."""
         numbers = []
         while True:
             try:
@@ -75,7 +76,7 @@ class Session:
                 self.say(b"poll")
             elif self.sent[slot] - before[slot] + count <= MOST_AT_A_PORT:
                 self.send(slot, count)
-        # One poll may be lost to a call that is refused.
+        # A failed call may lose one poll.
         fullest = max(now - then for now, then in zip(self.sent, before))
         for _ in range(fullest // 64 + 2):
             self.say(b"poll")

@@ -1,8 +1,8 @@
-/* Callers in conferences over a gateway's sockets, each of whom sends a packet of 20 ms every 20 ms, and a controller
-   who sends a change ten times a second. Writes to two files what they sent and what they were sent (streams.h), and
-   tells how much it was.
+/* Callers in conferences of a gateway, each of whom sends a packet of 20 ms every 20 ms, and a controller who sends a
+   change ten times a second. Writes what they sent and what they were sent to two files (streams.h), and prints how
+   much it was.
    usage: calls CALLERS SECONDS SENT CAME
-   The choices are by chance, and the same in each run. */
+   The choices are pseudo-random, the same in each run. */
 #define _GNU_SOURCE
 #include "../../benches/serve/loopback.h"
 #include "streams.h"
@@ -14,20 +14,20 @@ enum { MOST = 256, A_CONFERENCE = 32, FULL = 64, PACKET = 172, ANSWER = 65536, B
 
 struct caller {
     int socket, payload_type;
-    int conference, termination;  /* 0 where it has hung up */
-    int port;                     /* the gateway's, to which it sends */
+    int conference, termination;  /* 0 if it has hung up */
+    int port;                     /* the gateway's port that it sends to */
 };
 
 static struct stream to_gateway[STREAMS], from_gateway[STREAMS];
 static struct caller callers[MOST];
 static int count, conferences, contexts[MOST], members[MOST], control, poll;
 
-/* The last request: its number, the caller that it adds, how many answers are to come, and when it was sent. */
+/* The last request: its number, the caller that it adds, how many answers are expected, and when it was sent. */
 static int transaction, awaited, is_told;
 static struct caller *added;
 static double asked;
 
-/* Requests that were refused, packets that callers sent and got, and those that the gateway says it made. */
+/* Requests that were rejected, packets that callers sent and received, and those that the gateway says it sent. */
 static long refused, sent, received, made;
 
 static int chance(int n)
@@ -35,7 +35,7 @@ static int chance(int n)
     return random() % n;
 }
 
-/* Sends a datagram, and answers whether it was taken. */
+/* Sends a datagram; returns whether that succeeded. */
 static int send_off(int s, int gateway, int other, const void *bytes, int n)
 {
     take(to_gateway, gateway, other, bytes, n);
@@ -45,7 +45,7 @@ static int send_off(int s, int gateway, int other, const void *bytes, int n)
     return 0;
 }
 
-/* Sends a request on a context; one in eight twice, as if its answer were lost. */
+/* Sends a request on a context; one in eight twice, as if its answer had been lost. */
 __attribute__((format(printf, 1, 2))) static void ask(const char *format, ...)
 {
     static char text[8192];
@@ -71,7 +71,7 @@ static void add(struct caller *c, int conference)
         context, c->payload_type, (int)(CALLER + 2 * (c - callers)), c->payload_type);
 }
 
-/* The answer to the last request, the first time that it comes. */
+/* Handles the answer to the last request, the first time that it arrives. */
 static void told(const char *answer)
 {
     const char *media = strstr(answer, "m=audio ");
@@ -86,7 +86,7 @@ static void told(const char *answer)
     added = NULL;
 }
 
-/* Takes what waits at a socket, the controller's or a caller's. */
+/* Receives what waits at a socket, the controller's or a caller's. */
 static void hear(int i)
 {
     static uint8_t bytes[ANSWER];
@@ -174,7 +174,7 @@ static void set_mode(struct caller *a)
         modes[chance(8)], 40 + 20 * chance(5));
 }
 
-/* A change for a caller; one who has hung up calls again. */
+/* Makes a change for a caller; one who has hung up calls again. */
 static void change(void)
 {
     struct caller *a = &callers[chance(count)];
@@ -191,8 +191,8 @@ static void change(void)
         set_topology(a);
 }
 
-/* Sends each caller's packet of a period, noise of low level. Of 200 packets each one is lost, too short, of another
-   payload type, and sent twice. */
+/* Sends each caller's packet of a period, noise of low level. Of 200 packets, one is lost, one is too short, one has
+   another payload type, and one is sent twice. */
 static void say(long period)
 {
     static uint8_t packet[PACKET];
@@ -212,7 +212,7 @@ static void say(long period)
     }
 }
 
-/* What the kernel dropped at the ports from one on and before another. */
+/* What the kernel dropped at the ports from the first on, before the last. */
 static long dropped(int first, int end)
 {
     char text[512];

@@ -1,7 +1,7 @@
-# The gateway and the tools of this folder. Read by calls.sh and cost.sh, which say how many callers there are. BRIDGE
-# is the program, where it isn't the one that `rt run` leaves in crates/mg_bridge/out; that one is proved and built
-# first where it isn't there, which takes half an hour. What is recorded lies in a folder of its own in /tmp, or in
-# TMPDIR, and is removed at the end; an hour of a caller takes 70 MB there.
+# The gateway and the tools of this folder. calls.sh and cost.sh source it, and set how many callers there are. BRIDGE
+# is the program; by default it is the one that `rt run` leaves in crates/mg_bridge/out. If that is missing, it is
+# proved and built first, which takes half an hour. Recordings are in a folder of their own in TMPDIR or /tmp, which is
+# removed at the end. An hour of a caller takes 70 MB there.
 root=$here/../..
 bridge=${BRIDGE:-$root/crates/mg_bridge/out/mg_bridge}
 [ -x "$bridge" ] || (cd "$root/crates/mg_bridge" && rt run -- --help > /dev/null)
@@ -11,8 +11,8 @@ for program in calls lines; do
     gcc -O2 -Wall -Wextra -o "$work/$program" "$here/$program.c"
 done
 
-# Starts a gateway at the ports of streams.h, with more words. What it prints goes to a file. Its numbers begin so that
-# they pass their ends, and no packet is too late for it, for a recording doesn't tell of those that weren't sent.
+# Starts a gateway at the ports of streams.h, with further arguments. Its output goes to a file. Its numbers start so
+# that they wrap. No packet is too late for it, since a recording does not say which packets were not sent.
 start() {
     : > "$work/out"
     "$bridge" live --control-port 15944 --base-port 16000 --slots "$callers" --first-termination 1000 \
@@ -25,7 +25,7 @@ start() {
     done
 }
 
-# Ends the gateway, and shows what it said on standard error.
+# Ends the gateway, and shows what it wrote to standard error.
 stop() {
     kill "$gateway"
     wait "$gateway" 2> /dev/null || true

@@ -1,7 +1,7 @@
 #!/bin/bash
-# What a recording costs: the processor's time that a gateway takes with --record beside without, by turns, the user and
-# system time of /proc/PID/stat from its start to the end of the calls; the recording's bytes, and what gzip makes of
-# them.
+# Measures the cost of recording: the processor time of a gateway with --record and without, in turn, and the size of
+# the recording, also after gzip. The time is the user and system time of /proc/PID/stat from the start to the end of
+# the calls.
 # usage: cost.sh [SECONDS] [CALLERS] [TURNS]
 # It needs what calls.sh needs, and gzip.
 set -eu
@@ -10,7 +10,7 @@ here=$(CDPATH= cd -- "$(dirname -- "$0")" && pwd)
 . "$here/common.sh"
 hz=$(getconf CLK_TCK)
 
-# A turn, whose name comes first and the gateway's words after it.
+# Runs one turn: its name, and the gateway's arguments.
 turn() {
     start "${@:2}"
     "$work/calls" "$callers" "$seconds" "$work/sent" "$work/came" > "$work/told"

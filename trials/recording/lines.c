@@ -1,5 +1,5 @@
-/* Reads a recording on standard input, or what its replay wrote, and prints its datagrams as `calls` prints those that
-   it sent and was sent.
+/* Reads a recording or the output of its replay on standard input, and prints its datagrams as `calls` prints those
+   that it sent and was sent.
    usage: lines */
 #define _GNU_SOURCE
 #include "streams.h"
@@ -8,7 +8,7 @@
 static struct stream streams[STREAMS];
 static uint8_t digit_of[256], bytes[65536];
 
-/* The bytes of hexadecimal digits. */
+/* Parses hexadecimal digits. */
 static size_t read_digits(const char *at, const char *end)
 {
     size_t n = 0;
@@ -17,7 +17,7 @@ static size_t read_digits(const char *at, const char *end)
     return n;
 }
 
-/* The bytes of a text, in which \n, \r and \\ are written as two. */
+/* Parses a text with the escapes \n, \r and \\. */
 static size_t read_text(const char *at, const char *end)
 {
     size_t n = 0;
@@ -29,7 +29,7 @@ static size_t read_text(const char *at, const char *end)
     return n;
 }
 
-/* Takes the datagram of a line, if it has one, and answers whether it is a line of either. */
+/* Reads the datagram of a line, if it has one; returns whether it is a line of either kind. */
 static int line(char *at, const char *end)
 {
     const char *host = "127.0.0.1:";

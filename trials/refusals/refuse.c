@@ -1,11 +1,11 @@
-/* A library that is loaded before a program's own, and refuses one of its calls.
+/* Fault injection: a preloaded library that lets one of a program's calls fail.
  *
- * REFUSE       what is refused: memory, read, write, receive, send or wait, which is a question which sockets are ready
- * REFUSE_AT    the number of the call of that kind that is refused, from 1 on; 0 or absent refuses none
- * REFUSE_TOLD  a file that is made when a call is refused
- * REFUSE_PIECE the most bytes that a read or a write takes at once; 0 or absent sets no limit
+ * REFUSE       the kind of call: memory, read, write, receive, send or wait, which asks which sockets are ready
+ * REFUSE_AT    the number of the call of that kind that fails, from 1 on; 0 or absent: none
+ * REFUSE_TOLD  a file that is made when a call fails
+ * REFUSE_PIECE the greatest number of bytes of a read or a write; 0 or absent: no limit
  *
- * A request for memory that is refused is answered by none, every other call by EIO. */
+ * An allocation that fails returns NULL, every other call EIO. */
 #define _GNU_SOURCE
 #include <dlfcn.h>
 #include <errno.h>
@@ -43,7 +43,7 @@ __attribute__((constructor)) static void start(void)
     kind = getenv("REFUSE");
 }
 
-/* Whether this call, one of such a kind, is the one that is refused. */
+/* Whether this call of a kind is the one that fails. */
 static int is_refused(const char *of)
 {
     if (!kind || strcmp(kind, of) != 0 || ++calls != at)
@@ -85,7 +85,7 @@ int posix_memalign(void **p, size_t a, size_t n)
     return *p ? 0 : ENOMEM;
 }
 
-/* The call of this name in the libraries behind this one. */
+/* The function of this name in the next library. */
 #define NEXT(name) __typeof__(name) *next = (__typeof__(name) *)dlsym(RTLD_NEXT, #name)
 
 static size_t in_piece(int fd, size_t n) { return piece && fd <= 1 && n > piece ? piece : n; }

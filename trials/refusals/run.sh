@@ -1,10 +1,10 @@
 #!/bin/sh
-# Refuses each request for memory, each read, write, receive, send and wait of the gateway in turn, one in a run, up to
-# a run that has no such call any more, and looks at what follows each. Prints how many runs there were, and ends with 1
-# at the first that is wrong.
+# Makes each allocation, read, write, receive, send and wait of the gateway fail in turn, one in a run, until a run has
+# no such call left. Checks what follows each failure. Prints how many runs there were, and exits with 1 at the first
+# that is wrong.
 # usage: run.sh
-# It needs gcc, python3 and rt. `mg_bridge` is the one that `rt run` leaves in crates/mg_bridge/out; what isn't built
-# yet is proved and built first, which takes half an hour. The runs take less than one.
+# It needs gcc, python3 and rt. `mg_bridge` is the one that `rt run` leaves in crates/mg_bridge/out. What is not built
+# yet is proved and built first, which takes half an hour. The runs take less than a minute.
 set -eu
 here=$(CDPATH= cd -- "$(dirname -- "$0")" && pwd)
 root=$here/../..
@@ -16,7 +16,7 @@ trap 'rm -rf "$work"' EXIT
 [ -x "$bridge" ] || (cd "$root/crates/mg_bridge" && rt run -- --help > /dev/null)
 gcc -O2 -Wall -Wextra -shared -fPIC -o "$work/refuse.so" "$here/refuse.c"
 
-# Tells what was seen in this run, and ends the trial.
+# Prints what happened in this run, and ends the trial.
 wrong() {
     echo "wrong: $name, $kind $at refused: $1" >&2
     echo "status $status, on standard error:" >&2
@@ -26,7 +26,7 @@ wrong() {
     exit 1
 }
 
-# Runs a program while a call of a kind is refused, each read and write being of so many bytes at most.
+# Runs a program while a call of a kind fails, with reads and writes of at most so many bytes.
 # usage: refused KIND AT PIECE INPUT PROGRAM WORD ..
 refused() {
     kind=$1 at=$2 piece=$3 input=$4
@@ -41,24 +41,24 @@ was_refused() {
     [ -e "$work/told" ]
 }
 
-# A run that ended with a status and its text.
+# Checks that a run ended with this status and text.
 ended() {
     [ "$status" = "$1" ] || wrong "not status $1"
     [ "$(cat "$work/errors")" = "$2" ] || wrong "not '$2'"
 }
 
-# What was written is the front of what is stored.
+# Checks that the output is the front of the stored output.
 is_front() {
     head -c "$(wc -c < "$work/out")" "$output" | cmp -s - "$work/out" \
         || wrong 'what was written is no front of the output'
 }
 
-# What was written ends at the end of a line.
+# Checks that the output ends at the end of a line.
 is_whole_lines() {
     [ -z "$(tail -c 1 "$work/out")" ] || wrong 'what was written ends within a line'
 }
 
-# What was written is what the lines write that stand whole in so many bytes of the script.
+# Checks that the output is that of the complete lines in so many bytes of the script.
 is_of_bytes() {
     head -c "$1" "$script" > "$work/bytes"
     head -n "$(wc -l < "$work/bytes")" "$work/bytes" > "$work/lines"
@@ -66,20 +66,20 @@ is_of_bytes() {
     cmp -s "$work/out" "$work/wanted" || wrong 'what was written is not what the lines that were read write'
 }
 
-# A run in which nothing is missing.
+# Checks a run in which nothing is missing.
 is_whole() {
     ended 0 ''
     cmp -s "$work/out" "$1" || wrong 'the output is not as stored'
 }
 
-# The run in which nothing is refused any more, after at least one in which something was.
+# Checks the run in which no call fails any more, after at least one in which a call failed.
 is_last() {
     [ "$at" -gt 1 ] || wrong 'nothing was refused'
     is_whole "$1"
     echo "$name, each $kind refused: $((at - 1)) runs"
 }
 
-# A script of control messages and speech. Reads and writes take 40 bytes at most, so that there are many.
+# A script of control messages and speech. Reads and writes take at most 40 bytes, so that there are many.
 name=replay
 replay() {
     refused "$1" "$2" 40 "$script" "$bridge" replay
@@ -88,7 +88,7 @@ spared=0
 k=1
 while replay memory "$k"; was_refused; do
     if [ "$status" = 0 ]; then
-        # Room for all words at once is asked for first, and then room for one.
+        # It allocates for all arguments at once first, and then for one.
         spared=$((spared + 1))
         [ "$spared" = 1 ] || wrong 'not status 4'
         is_whole "$output"
@@ -122,8 +122,8 @@ for kind in memory read write receive send wait; do
     PYTHONPATH=$here/.. python3 "$here/serve.py" "$bridge" "$work/refuse.so" "$kind"
 done
 
-# A core alone: what it answers to whoever looks at it, before and after a message that found no memory. Its program is
-# built anew where it or the crates have changed.
+# A core alone: what it returns before and after a message for which memory ran out. Its program is rebuilt if it or
+# the crates have changed.
 name=control
 sources() {
     find "$root"/crates/*/src "$here/control.rt.in" -type f | LC_ALL=C sort \

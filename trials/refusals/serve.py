@@ -1,9 +1,9 @@
-"""Refuses each call of a kind in turn in sessions of `mg_bridge serve` over loopback, and looks at what follows.
+"""Makes each call of a kind fail in turn in sessions of `mg_bridge serve` over loopback, and checks what follows.
 
 usage: serve.py BRIDGE LIBRARY KIND
 
 Each session is a conversation of a controller and two callers: an Add of both, 20 ms of speech, three ticks and a
-heartbeat. What is not answered, or not counted, is sent again or polled for again. Ends with 1 at the first session
+heartbeat. What is not answered, or not counted, is sent again or polled for again. Exits with 1 at the first session
 that is wrong.
 """
 import os
@@ -26,16 +26,16 @@ TOLD = b"Add=RTP/%d{Media{Stream=1{Local{v=0\r\nc=IN IP4 127.0.0.1\r\nm=audio %d
 HEARTBEAT = b"MEGACO/1 [127.0.0.1]:2945 Transaction=2{Context=-{AuditValue=ROOT{Audit{}}}}"
 ALIVE = b"Reply=2{Context=-{AuditValue=ROOT}}"
 STATS = "control={control} media={media} ticks={ticks} sent={sent} failed={failed} dropped=0,0,0,0,0,0 concealed=0"
-# The text of a read or a write that is refused.
+# The text of a read or a write that fails.
 FAILED = {"read": "read failed\n", "write": "write failed\n"}
 
 
 class Wrong(Exception):
-    """What was seen isn't what has to follow."""
+    """What was seen is not what must follow."""
 
 
 class Ended(Exception):
-    """The program ended before it was told to."""
+    """The program ended early."""
 
 
 def expect(holds, what):
@@ -44,7 +44,7 @@ def expect(holds, what):
 
 
 def came(s):
-    """The datagrams that wait at a socket."""
+    """Returns the datagrams that wait at a socket."""
     datagrams = []
     while True:
         try:
@@ -72,9 +72,9 @@ class Session:
         self.mark = os.path.join(self.folder.name, "told")
         self.errors = open(os.path.join(self.folder.name, "errors"), "w+")
         self.printed = b""
-        # What the conversation has led to so far.
+        # What the conversation has achieved so far.
         self.counts = {"control": 0, "media": 0, "ticks": 0, "sent": 0, "failed": 0}
-        # Whether a request for memory was refused, and another one that was smaller made up for it.
+        # Whether an allocation failed, and a smaller one made up for it.
         self.is_spared = False
         words = ["serve", "--slots", "2", "--control-port", str(self.control_port), "--base-port", str(self.base_port)]
         self.program = subprocess.Popen(
@@ -85,7 +85,7 @@ class Session:
         return os.path.exists(self.mark)
 
     def line(self):
-        """The next line that is printed, whole."""
+        """Returns the next printed line, completely."""
         text = b""
         while not text.endswith(b"\n"):
             byte = self.program.stdout.read(1)
@@ -97,7 +97,7 @@ class Session:
         return text.decode()
 
     def do(self, line):
-        """Has a line done, and tells the counts after it."""
+        """Runs a line, and returns the counts after it."""
         try:
             self.program.stdin.write(f"{line}\nstats\n".encode())
         except BrokenPipeError:
@@ -108,7 +108,7 @@ class Session:
         return {name: int(told[name]) for name in self.counts}
 
     def after(self, counts, **risen):
-        """Looks whether the counts have risen by so much, and no failure was counted but the one."""
+        """Checks that the counts have risen by this much, and that only the one failure was counted."""
         failed = counts["failed"]
         expect(failed == 0 or (failed == 1 and self.is_refused()), f"failed={failed}")
         for name in ("control", "media", "ticks", "sent"):
@@ -134,11 +134,11 @@ class Session:
                 return
             expect(turn == 0 and counts["failed"] == failed + 1, "no answer")
             expect(KIND in ("memory", "send"), "no answer")
-            # Without memory the datagram is no event. Where its answer was lost it is one, and the reply is kept.
+            # Without memory the datagram is no event. If its answer was lost it is an event, and its reply is kept.
             self.after(counts, control=0 if KIND == "memory" else 1)
 
     def speak(self):
-        """Sends the first caller's speech, and polls until it was taken."""
+        """Sends the first caller's speech, and polls until it was accepted."""
         speech = bytes([0x80, 0, 0, 1, 0, 0, 0, 0, 0, 0, 0, 99]) + 160 * b"\x80"
         self.callers[0].sendto(speech, ("127.0.0.1", self.base_port))
         counts = self.do("poll")
@@ -171,7 +171,7 @@ class Session:
         self.program.stdin.write(b"quit\n")
 
     def run(self):
-        """Runs the session, and looks at how it ended."""
+        """Runs the session, and checks how it ended."""
         try:
             self.converse()
             ended = False
@@ -191,7 +191,7 @@ class Session:
             expect(not ended and (status, errors) == (0, ""), f"status {status}, {errors!r}")
             failed = self.counts["failed"]
             if KIND == "wait":
-                # All ports are asked then, and nothing is lost.
+                # Then all ports are polled, and nothing is lost.
                 expect(failed == 0, "a wait was counted")
             else:
                 self.is_spared = refused and failed == 0
@@ -214,13 +214,13 @@ def main():
         signal.alarm(20)
         try:
             if not session.run():
-                # Where a read or a write failed, the front of this was printed.
+                # If a read or a write failed, the front of this was printed.
                 if KIND in FAILED:
                     expect(all(session.printed.startswith(front) for front in fronts), "no front was printed")
                 break
             fronts.append(session.printed)
             spared += session.is_spared
-            # Room for all words at once is asked for first, and then room for some.
+            # It allocates for all arguments at once first, and then for some.
             expect(spared <= 1, "no failure was counted")
         except Wrong as wrong:
             sys.exit(f"serve, {KIND} {at} refused: {wrong}")

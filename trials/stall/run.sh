@@ -1,8 +1,8 @@
 #!/bin/sh
-# Stops a gateway in real time for some seconds while callers call, and looks at what they are sent when it goes on.
+# Stops a gateway in real time for some seconds during calls, and checks what callers are sent when it goes on.
 # usage: run.sh [CALLERS] [SECONDS]
-# It needs python3 and rt. `mg_bridge` is the one that `rt run` leaves in crates/mg_bridge/out; what isn't built yet is
-# proved and built first, which takes half an hour. The trial takes five seconds and the stall.
+# It needs python3 and rt. `mg_bridge` is the one that `rt run` leaves in crates/mg_bridge/out. What is not built yet
+# is proved and built first, which takes half an hour. The trial takes five seconds and the stall.
 set -eu
 here=$(CDPATH= cd -- "$(dirname -- "$0")" && pwd)
 root=$here/../..

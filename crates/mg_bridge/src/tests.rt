@@ -1,4 +1,5 @@
 mod addresses;
+mod commanding;
 mod conversation;
 mod in_real_time;
 mod replaying;

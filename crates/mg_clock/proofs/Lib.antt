@@ -1,3 +1,3 @@
 pub mod DueLemmas
-pub mod ReadingLemmas
 pub mod TextLemmas
+pub mod TickLemmas

@@ -1,5 +1,5 @@
 -- When polls and ticks are due. Times are nanoseconds since the start.
-use Rattle.std.specs.Prelude.{ℕ, ◌+◌, ◌*◌, ◌/◌, ◌<◌, ◌≤◌, Bool, nat_lt}
+use Rattle.std.specs.Prelude.{ℕ, ◌+◌, ◌*◌, ◌/◌, ◌<◌, ◌≤◌}
 
 -- from one tick to the next: 20 ms
 abbrev pub period : ℕ
@@ -13,10 +13,6 @@ ticks_due t = t / period
 -- j * 20 ms / polls, exactly. A step is a poll. The last step of each 20 ms is a poll and a tick.
 abbrev pub steps_due : ℕ → ℕ → ℕ
 steps_due polls t = t * polls / period
-
--- a tick is late by more ticks than are allowed
-abbrev pub is_tick_late : ℕ → ℕ → ℕ → Bool
-is_tick_late tick allowed t = nat_lt (tick + allowed) (ticks_due t)
 
 -- The time d from t to the step after so many: at its end that step is due, and before it not.
 pub record IsTimeTo (polls before t d : ℕ) : Type 0 where

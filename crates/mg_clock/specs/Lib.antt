@@ -1,3 +1,3 @@
 pub mod Due
 pub mod Text
-pub mod Reading
+pub mod Ticks

@@ -1,6 +1,6 @@
-ghost use Rattle.std.specs.Prelude.{◌≡◌, ◌<◌, ◌≤◌, min};
+ghost use Rattle.std.specs.Prelude.{◌≡◌, ◌+◌, ◌*◌, ◌<◌, ◌≤◌, min, IfNone, IfSome};
 ghost use Rattle.std.specs.Duration.{as_nanos};
-ghost use Rattle.mg_clock.specs.Due.{IsTimeTo, is_tick_late, steps_due};
+ghost use Rattle.mg_clock.specs.Due.{IsTimeTo, period, steps_due, ticks_due};
 
 use std::time::Duration;
 
@@ -31,9 +31,14 @@ pub fn time_to_step(polls: u64, before: u64, now: u64) -> Duration
     Duration::from_nanos_u128(point.saturating_sub(u128::from(now)))
 }
 
-/// Whether a tick is late by more than so many ticks.
-pub fn is_late(tick: u64, allowed: u16, now: u64) -> bool
-    ensures value { result ≡ is_tick_late tick allowed now }
+/// How long after a time a tick is due: `None` if it is due already.
+pub fn time_to_tick(tick: u64, now: u64) -> Option<Duration>
+    ensures later { IfSome result (λ time. (now < tick * period) × (now + as_nanos time ≡ tick * period)) }
+    ensures due { IfNone result (tick ≤ ticks_due now) }
 {
-    u128::from(tick) + u128::from(allowed) < u128::from(now) / PERIOD
+    let point = u128::from(tick) * PERIOD;
+    match point.checked_sub(u128::from(now)) {
+        None | Some(0) => None,
+        Some(time) => Some(Duration::from_nanos_u128(time)),
+    }
 }

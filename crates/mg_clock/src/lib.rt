@@ -1,15 +1,15 @@
-//! The time of a gateway: when its polls and ticks are due, and their lines as they fall due.
+//! The time of a gateway: when its ticks begin, and when polls and ticks of a pace are due.
 //!
-//! A tick comes every 20 ms, and a step, which is a poll, once in 20 ms or oftener; the last step of each 20 ms has the
-//! tick too. Each stands at its own point of time from the start, so that no delay adds up. [`ClockLines`] is a
-//! reader that gives the lines `poll` and `tick` when they are due, and never ends:
+//! A tick comes every 20 ms. Each is due at its own time from the start of the clock, so that no delay adds up.
+//! [`TickSchedule`] waits for them one after another:
 //!
 //! ```rust
-//! let ticks = Cell::new(0);
-//! let mut lines = ClockLines::new(SystemWatch::start_now(&rt)?, &ticks, 2);
-//! let mut buffer = [0; 4096];
-//! let n = lines.read(&mut buffer)?;
+//! let mut watch = SystemWatch::start_now(&rt)?;
+//! let mut schedule = TickSchedule::new(5);
+//! let timing = schedule.next_tick(&mut watch)?;
 //! ```
+//!
+//! A step is a poll, once in 20 ms or more often; the last step of each 20 ms is a tick too ([`steps_due`]).
 //!
 //! [`Watch`] is a clock that can wait, and [`SystemWatch`] the system's monotonic one. Times are nanoseconds since the
 //! start.
@@ -19,13 +19,15 @@
 #![tactic(auto)]
 
 mod clock_failed;
-mod clock_lines;
 mod due;
 mod system_watch;
+mod tick_schedule;
+mod timing;
 mod watch;
 
 pub use crate::clock_failed::ClockFailed;
-pub use crate::clock_lines::ClockLines;
-pub use crate::due::{MAX_POLLS, is_late, steps_due, time_to_step};
+pub use crate::due::{MAX_POLLS, steps_due, time_to_step, time_to_tick};
 pub use crate::system_watch::SystemWatch;
+pub use crate::tick_schedule::TickSchedule;
+pub use crate::timing::Timing;
 pub use crate::watch::Watch;

@@ -26,14 +26,6 @@ impl<'a, C: Clock> SystemWatch<'a, C> {
             Err(_) => Err(ClockFailed),
         }
     }
-
-    /// Another clock with the same start.
-    pub fn duplicate(&self) -> Self {
-        SystemWatch {
-            clock: self.clock,
-            start: self.start,
-        }
-    }
 }
 
 impl<'a, C: Clock> Watch for SystemWatch<'a, C> {

@@ -24,7 +24,7 @@ use Rattle.mg_core.specs.aids.Steps.{AreKeptListeners, ChangesWritten, EventRan,
 use Rattle.mg_core.specs.aids.Steps.{event_text, line_fault_of}
 use Rattle.mg_rooms.specs.Sound.{IsSound}
 use Rattle.mg_core.proofs.QuietLemmas.{KeepsQuiet}
-use Rattle.mg_lines.proofs.WriterLemmas.{appends_then, appends_keeps}
+use Rattle.mg_lines.proofs.WriterLemmas.{appends_then, appends_keeps, longer}
 use Rattle.mg_core.specs.World.{World, StandsFor, capped, packets_of, world_after_tick}
 
 pub same_appends : (a : Option (List ℕ)) → Appends a a []
@@ -172,6 +172,7 @@ cut_ran shows.SentAndFlows event w next n m a b events.Write h = record {
   written = record {
     front = h.written.front;
     rest = h.written.rest ++ changes_by w next;
+    cut = longer h.written.rest (changes_by w next) h.written.cut;
     parts = ap (λ (l : List ℕ). l ++ changes_by w next) h.written.parts ∙
         append_assoc h.written.front h.written.rest (changes_by w next);
     written = h.written.written;
@@ -201,6 +202,7 @@ changed_ran shows.SentAndFlows event w next n m a b l (Err events.Write) h put =
   written = record {
     front = lines_for h.sent ++ put.front;
     rest = put.rest;
+    cut = put.cut;
     parts = ap (λ (t : List ℕ). lines_for h.sent ++ t) put.parts ∙
         sym (append_assoc (lines_for h.sent) put.front put.rest);
     written = appends_then a b l (lines_for h.sent) put.front h.written put.written;
@@ -311,6 +313,7 @@ event_line shown number line event w next n m a b (Err events.Write) is h = reco
   text = event_text shown w h.sent next;
   front = h.written.front;
   rest = h.written.rest;
+  cut = h.written.cut;
   are = one_line line (Some event) is;
   run = (h.sent, [], next, h.step, (refl, refl), sym (append-nil h.sent));
   is_text = one_text shown event w next h.sent h.step;

@@ -1,5 +1,5 @@
 -- What running a script writes.
-use Rattle.std.specs.Prelude.{◌≡◌, ◌⊎◌, ℕ, ◌+◌, ◌≤◌, Bool, true, false, List, [], ◌∷◌, ◌++◌}
+use Rattle.std.specs.Prelude.{◌≡◌, ◌⊎◌, ℕ, ◌+◌, ◌<◌, ◌≤◌, Bool, true, false, List, [], ◌∷◌, ◌++◌}
 use Rattle.std.specs.Prelude.{length, flat_map, Option, Some, None, Result, Ok, Err, codes}
 use Rattle.std.specs.Prelude.{decimal}
 use Rattle.std.specs.Io.KnownBytes.{Keeps, Appends, Consumes, IsAtEnd}
@@ -75,7 +75,7 @@ pub record Ran (shown : Shown) (w : World) (lines : List (List ℕ)) (last : Wor
   pub is_text : IsShownText shown w events sent text last
   pub written : Appends old new text
 
--- the same, but the writer has received only the front of that text
+-- the same, but the writer has received only the front of that text, and not all of it
 pub record RanInPart (shown : Shown) (w : World) (lines : List (List ℕ)) (last : World)
     (old new : Option (List ℕ)) : Type 0 where
   pub events : List Event
@@ -87,6 +87,7 @@ pub record RanInPart (shown : Shown) (w : World) (lines : List (List ℕ)) (last
   pub run : Run w events sent last
   pub is_text : IsShownText shown w events sent text last
   pub parts : text ≡ front ++ rest
+  pub cut : 0 < length rest
   pub written : Appends old new front
 
 -- ## How far a script was read

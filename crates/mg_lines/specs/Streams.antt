@@ -1,5 +1,5 @@
 -- What was read and what was written.
-use Rattle.std.specs.Prelude.{◌≡◌, ℕ, ◌≤◌, List, ◌++◌, length, take, Option, Some, None, Result, Ok}
+use Rattle.std.specs.Prelude.{◌≡◌, ℕ, ◌<◌, ◌≤◌, List, ◌++◌, length, take, Option, Some, None, Result, Ok}
 use Rattle.std.specs.Prelude.{Err}
 use Rattle.std.specs.Io.KnownBytes.{Keeps, Appends, Consumes, IsAtEnd}
 use Rattle.mg_lines.specs.declared.read_failed.ReadFailed.{ReadFailed}
@@ -12,14 +12,15 @@ ReadsSome buffer old new (Ok None) = Keeps old new × IsAtEnd new
 ReadsSome buffer old new (Ok (Some n)) = (n ≤ length buffer) × Consumes old new (take n buffer)
 ReadsSome buffer old new (Err failed) = Keeps old new
 
--- the front of a text was written
+-- the front of a text was written, and not all of it
 pub record WritesFront (text : List ℕ) (old new : Option (List ℕ)) : Type 0 where
   pub front : List ℕ
   pub rest : List ℕ
   pub parts : text ≡ front ++ rest
+  pub cut : 0 < length rest
   pub written : Appends old new front
 
--- a text was written whole, or its front was
+-- a text was written whole, or its front alone
 abbrev pub Writes : List ℕ → Option (List ℕ) → Option (List ℕ) → Result (Unit {0}) WriteFailed
     → Type 0
 Writes text old new (Ok done) = Appends old new text

@@ -17,7 +17,7 @@ fn write_some<W: Write>(text: &[u8], writer: &mut W) -> Result<usize, WriteFaile
     }
 }
 
-/// Hands a whole text to a writer. Where a write fails, the writer holds the front of the text.
+/// Writes a whole text. If a write fails, the writer holds the front of the text, and not all of it.
 pub fn write_whole<W: Write>(text: &[u8], writer: &mut W) -> Result<(), WriteFailed>
     ensures value { Writes text.now (W.contents writer.old) (W.contents writer.new) result }
 {
@@ -28,5 +28,9 @@ pub fn write_whole<W: Write>(text: &[u8], writer: &mut W) -> Result<(), WriteFai
         }
         at += write_some(&text[at..], writer)?;
     }
-    Err(WriteFailed)
+    if at == text.len() {
+        Ok(())
+    } else {
+        Err(WriteFailed)
+    }
 }

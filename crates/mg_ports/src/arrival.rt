@@ -1,10 +1,10 @@
 use crate::payload::Payload;
 use mg_words::Peer;
 
-/// A datagram that waits at a slot.
+/// A datagram that waits at a socket.
 #[derive(Drop)]
 pub struct Arrival {
-    pub slot: usize,
+    pub socket: usize,
     pub source: Peer,
     pub payload: Payload,
 }

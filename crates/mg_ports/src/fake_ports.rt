@@ -8,6 +8,7 @@ use crate::payload::Payload;
 use crate::port_fault::PortFault;
 use crate::ports::Ports;
 use crate::receipt::Receipt;
+use mg_clock::Timing;
 use mg_words::Peer;
 use std::alloc::{AllocError, Global};
 
@@ -39,7 +40,7 @@ fn receipt_of(
 }
 
 impl FakePorts {
-    /// Ports at which these datagrams wait, in this order at each slot. The calls whose numbers, counted from 0 over
+    /// Ports at which these datagrams wait, in this order at each socket. The calls whose numbers, counted from 0 over
     /// all slots, are among `failing` fail.
     pub fn new(alloc: Global, waiting: Vec<Arrival>, failing: Vec<u64>) -> Self {
         FakePorts {
@@ -71,10 +72,10 @@ impl FakePorts {
         Ok(())
     }
 
-    /// Takes the first datagram that waits at a slot.
+    /// Takes the first datagram that waits at a socket.
     fn take_next(
         &mut self,
-        slot: usize,
+        socket: usize,
         buffer: &mut [u8],
     ) -> Result<Option<(usize, Peer)>, PortFault>
         ensures log { self.new.log ≡ self.old.log }
@@ -82,7 +83,11 @@ impl FakePorts {
         ensures fault { OnErr result (IsCounted self.old.failures self.new.failures) }
     {
         self.begin()?;
-        let Some(at) = self.waiting.iter().position(|arrival| arrival.slot == slot) else {
+        let Some(at) = self
+            .waiting
+            .iter()
+            .position(|arrival| arrival.socket == socket)
+        else {
             return Ok(None);
         };
         let arrival = self.waiting.remove(at);
@@ -100,33 +105,33 @@ impl Ports for FakePorts {
 
     fn receive(
         &mut self,
-        slot: usize,
+        socket: usize,
         buffer: &mut [u8],
     ) -> Result<Option<(usize, Peer)>, PortFault> {
-        let answer = self.take_next(slot, buffer);
+        let answer = self.take_next(socket, buffer);
         let call = match receipt_of(self.alloc, answer, buffer) {
-            Ok(receipt) => Some(Call::Receive(slot, receipt)),
+            Ok(receipt) => Some(Call::Receive(socket, receipt)),
             Err(_) => None,
         };
         self.log.add_call(call);
         answer
     }
 
-    fn send(&mut self, slot: usize, to: Peer, bytes: &[u8]) -> Result<(), PortFault> {
+    fn send(&mut self, socket: usize, to: Peer, bytes: &[u8]) -> Result<(), PortFault> {
         let answer = self.begin();
         let call = match Payload::new(self.alloc, bytes) {
-            Ok(bytes) => Some(Call::Send(slot, to, bytes)),
+            Ok(bytes) => Some(Call::Send(socket, to, bytes)),
             Err(_) => None,
         };
         self.log.add_call(call);
         answer
+    }
+
+    fn begin_tick(&mut self, timing: Timing) {
+        self.log.add_call(Some(Call::BeginTick(timing)));
     }
 
     fn failures(&self) -> u64 {
         self.failures
-    }
-
-    fn strangers(&self) -> u64 {
-        0
     }
 }

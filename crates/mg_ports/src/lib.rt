@@ -1,9 +1,9 @@
-//! The UDP ports of a gateway, by their slots: slot 0 is the control port, and slot s + 1 the media port of slot s of
-//! the pool.
+//! The UDP sockets of a gateway by their numbers: 0 is the control socket, and s + 1 the media socket of slot s of the
+//! pool.
 //!
-//! [`Ports`] is what a gateway needs of them: to receive a datagram without waiting, to send one, and to tell how many
-//! calls failed. [`FakePorts`] are ports in memory, for tests: datagrams wait at them, calls of chosen numbers fail,
-//! and each call is told. [`GuardedPorts`] give messages of some controllers alone.
+//! [`Ports`] is what a gateway needs of them: to receive a datagram without waiting, to send one, and to count the calls
+//! that failed. [`FakePorts`] are ports in memory, for tests: datagrams wait at them, calls of chosen numbers fail, and
+//! each call is logged.
 //!
 //! ```rust
 //! let mut ports = FakePorts::new(alloc, waiting, failing);
@@ -13,14 +13,13 @@
 //! }
 //! ```
 //!
-//! Contracts speak of ports by their calls (`specs/Calls.antt`): ports may tell each receive with what it gave, and
-//! each send with its arguments. Those of an operating system tell nothing.
+//! Contracts speak of ports by their calls (`specs/Calls.antt`): ports may log each receive with what it returned, and
+//! each send with its arguments. Those of an operating system log nothing.
 #![tactic(auto)]
 
 mod arrival;
 mod call;
 mod fake_ports;
-mod guarded_ports;
 mod log;
 mod payload;
 mod port_fault;
@@ -30,9 +29,9 @@ mod receipt;
 pub use crate::arrival::Arrival;
 pub use crate::call::Call;
 pub use crate::fake_ports::FakePorts;
-pub use crate::guarded_ports::GuardedPorts;
 pub use crate::payload::Payload;
 pub use crate::port_fault::PortFault;
 pub use crate::ports::Ports;
 pub use crate::receipt::Receipt;
+pub use mg_clock::Timing;
 pub use mg_words::Peer;

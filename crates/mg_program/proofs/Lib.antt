@@ -1,3 +1,4 @@
+pub mod TitleLemmas
 pub mod InvocationLemmas
 pub mod RequestedRows
 pub mod ControllerLemmas

@@ -4,5 +4,6 @@ pub mod Controllers
 pub mod Options
 pub mod Replay
 pub mod Readiness
+pub mod Title
 pub mod Serve
 pub mod Program

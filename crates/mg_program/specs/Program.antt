@@ -7,15 +7,15 @@ use Rattle.mg_program.specs.declared.invocation.Invocation.TheVariants.{Replay, 
 use Rattle.mg_program.specs.Replay.{Replays}
 use Rattle.mg_program.specs.Serve.{Serves, ServesByClock}
 
--- A run was made as far as the status says. One that is done is silent, but a gateway that goes by
--- the clock tells of its delays. By the clock no input is read.
+-- A run was made as far as the status says, and one that is done prints no error. By the clock no
+-- input is read.
 abbrev pub Runs : {R W : Type 0} → (R → Option (List ℕ)) → (W → Option (List ℕ))
     → (silent : Type 0) → R → R → W → W → Invocation → Status → Type 0
 Runs remaining contents silent input rest old new (Replay config shown) status =
     Replays config shown (remaining input) (remaining rest) (contents old) (contents new) status
     × (status ≡ Done → silent)
 Runs remaining contents silent input rest old new (Serve config service) status =
-    Serves remaining contents config service.records input rest old new status
+    Serves remaining contents config service input rest old new status
     × (status ≡ Done → silent)
 Runs remaining contents silent input rest old new (Live config service late) status =
-    (rest ≡ input) × ServesByClock contents config service.records old new status
+    (rest ≡ input) × ServesByClock contents config service late old new status

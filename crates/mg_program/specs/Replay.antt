@@ -1,5 +1,5 @@
 -- What the program does with a script.
-use Rattle.std.specs.Prelude.{◌≡◌, ◌⊎◌, ℕ, List, Option, Result, Err}
+use Rattle.std.specs.Prelude.{◌≡◌, ◌↔◌, ℕ, List, Option, Result, Err}
 use Rattle.mg_engine.specs.declared.config.Config.{Config}
 use Rattle.mg_core.specs.declared.counts.Counts.{Counts}
 use Rattle.mg_core.specs.declared.fault.RunFault.{RunFault}
@@ -16,6 +16,4 @@ pub record Replays (config : Config) (shown : Shown) (input rest old new : Optio
   pub outcome : Result Counts RunFault
   pub is : status ≡ status_of outcome
   pub ran : ScriptRan config shown input rest old new outcome
-  pub bad : outcome ≡ Err faults.BadConfig → IsValidConfig config → ⊥
-  pub unsound : (IsValidConfig config → ⊥) → (outcome ≡ Err faults.BadConfig)
-      ⊎ (outcome ≡ Err faults.NoMemory)
+  pub bad : (outcome ≡ Err faults.BadConfig) ↔ (IsValidConfig config → ⊥)

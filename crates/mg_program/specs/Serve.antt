@@ -1,12 +1,16 @@
 -- What the program does as a server.
-use Rattle.std.specs.Prelude.{◌≡◌, ◌≢◌, ◌⊎◌, ℕ, ◌+◌, ◌*◌, ◌<◌, Bool, List, Option, None, is_some}
-use Rattle.std.specs.Prelude.{Result, Err}
+use Rattle.std.specs.Prelude.{◌≡◌, ◌≢◌, ◌⊎◌, ℕ, ◌+◌, ◌*◌, ◌<◌, ⊤, List, Option, None, Result}
+use Rattle.std.specs.Prelude.{Err}
+use Rattle.mg_clock.specs.Ticks.{clock_seen}
 use Rattle.mg_engine.specs.declared.config.Config.{Config}
 use Rattle.mg_engine.specs.Config.{IsValidConfig}
 use Rattle.mg_core.specs.declared.counts.Counts.{Counts}
 use Rattle.mg_core.specs.declared.fault.RunFault.{RunFault}
 use Rattle.mg_core.specs.declared.fault.RunFault.TheVariants as faults
-use Rattle.mg_serve.specs.Serve.{ServedSession}
+use Rattle.mg_serve.specs.Serve.{ServedByClock, ServedSession}
+use Rattle.mg_serve.specs.Setup.{Setup}
+use Rattle.mg_program.specs.declared.service.Service.{Service}
+use Rattle.mg_program.specs.Title.{title_if}
 use Rattle.mg_options.specs.declared.status.Status.{Status}
 use Rattle.mg_options.specs.declared.status.Status.TheVariants.{Usage, Failed, NoMemory, NoPort}
 use Rattle.mg_program.specs.Status.{status_of}
@@ -23,30 +27,44 @@ FailsToStart config NoPort = IsValidConfig config
 FailsToStart config NoMemory = Unit {0}
 FailsToStart config status = ⊥
 
--- The ports were bound, and a gateway was served as far as the status says. Its sockets don't tell
--- their calls. Where it records, what it printed is a recording, which has a title.
-pub record ServesOnPorts (config : Config) (records : Bool)
+-- what a session is asked for by the program
+abbrev pub setup_of : Config → Service → Setup
+setup_of config service = record { config = config; controllers = service.controllers }
+
+-- The ports were bound, and a gateway was served as far as the status says. Its sockets don't log
+-- their calls. What it prints is a recording if that was asked for.
+pub record ServesOnPorts (config : Config) (service : Service)
     (input rest held written : Option (List ℕ)) (status : Status) : Type 0 where
   pub outcome : Result Counts RunFault
   pub is : status ≡ status_of outcome
   pub sound : IsValidConfig config
   pub started : outcome ≢ Err faults.BadConfig
-  pub title : Option (List ℕ)
-  pub titled : is_some title ≡ records
-  pub served : ServedSession config title input rest None None held written outcome
+  pub served : ServedSession (setup_of config service) (title_if service.records config) input rest
+      None None held written outcome
 
 -- a gateway was served, or nothing was read and printed
-abbrev pub Serves : {R W : Type 0} → (R → Option (List ℕ)) → (W → Option (List ℕ)) → Config → Bool
-    → R → R → W → W → Status → Type 0
-Serves remaining contents config records input rest old new status =
-    ServesOnPorts config records (remaining input) (remaining rest) (contents old) (contents new)
+abbrev pub Serves : {R W : Type 0} → (R → Option (List ℕ)) → (W → Option (List ℕ)) → Config
+    → Service → R → R → W → W → Status → Type 0
+Serves remaining contents config service input rest old new status =
+    ServesOnPorts config service (remaining input) (remaining rest) (contents old) (contents new)
     status
     ⊎ (FailsToStart config status × (rest ≡ input) × (new ≡ old))
 
--- A gateway was served by the clock, whose lines nobody else gives and which never ends, or nothing
--- was printed: it didn't begin, or the clock couldn't be read.
-abbrev pub ServesByClock : {W : Type 0} → (W → Option (List ℕ)) → Config → Bool → W → W → Status
-    → Type 0
-ServesByClock contents config records old new status =
-    ServesOnPorts config records None None (contents old) (contents new) status
+-- The ports were bound, and a gateway was served by the system's clock, whose readings aren't
+-- known, until a fault.
+pub record ServesByClockOnPorts (config : Config) (service : Service) (late : ℕ)
+    (held written : Option (List ℕ)) (status : Status) : Type 0 where
+  pub fault : RunFault
+  pub is : status ≡ status_of (Err fault)
+  pub sound : IsValidConfig config
+  pub started : fault ≢ faults.BadConfig
+  pub served : ServedByClock (setup_of config service) (title_if service.records config) late
+      (clock_seen None None) (clock_seen None None) ⊤ None None held written fault
+
+-- A gateway was served by the clock, or nothing was printed: it didn't begin, or the clock couldn't
+-- be read.
+abbrev pub ServesByClock : {W : Type 0} → (W → Option (List ℕ)) → Config → Service → ℕ → W → W
+    → Status → Type 0
+ServesByClock contents config service late old new status =
+    ServesByClockOnPorts config service late (contents old) (contents new) status
     ⊎ ((FailsToStart config status ⊎ (status ≡ Failed)) × (new ≡ old))

@@ -7,10 +7,9 @@
 //! let status = program(&rt, &rt, alloc, &words, &mut input, &mut output, &mut errors, &mut reports);
 //! ```
 //!
-//! [`requested_run`] is what the words ask for. [`Sockets`] are the ports of a gateway, bound at the start; no call of theirs
-//! waits, and a port of which the system told nothing is not asked. [`UdpPorts`] lend them to a session (`mg_serve`),
-//! and don't send what is too late by a [`Deadline`]: there is none by lines ([`NoDeadline`]), and by the clock one of
-//! so many ticks ([`TickDeadline`]).
+//! [`requested_run`] is what the words ask for. [`Sockets`] are the sockets of a gateway, bound at the start; no call of
+//! theirs waits, and a socket of which the system reported nothing is not tried. [`UdpPorts`] lend them to a session
+//! (`mg_serve`), and send no packet in a tick that is late.
 //!
 //! `specs/Program.antt` says how a run ends, `specs/Options.antt` what words ask for.
 #![tactic(auto)]
@@ -20,11 +19,9 @@ mod bind_fault;
 mod config_fault;
 mod controller_fault;
 mod controllers;
-mod deadline;
 mod entry;
 mod invocation;
 mod live;
-mod no_deadline;
 mod options;
 mod readiness;
 mod replay;
@@ -32,21 +29,17 @@ mod serve;
 mod service;
 mod sockets;
 mod status;
-mod tick_deadline;
 mod title;
 mod udp_ports;
 
 pub use crate::bind_fault::BindFault;
 pub use crate::controller_fault::ControllerFault;
 pub use crate::controllers::Controllers;
-pub use crate::deadline::Deadline;
 pub use crate::entry::program;
 pub use crate::invocation::Invocation;
-pub use crate::no_deadline::NoDeadline;
 pub use crate::options::requested_run;
 pub use crate::readiness::SOCKETS;
 pub use crate::service::Service;
 pub use crate::sockets::Sockets;
-pub use crate::tick_deadline::TickDeadline;
 pub use crate::title::{Title, title_of};
 pub use crate::udp_ports::UdpPorts;

@@ -1,68 +1,61 @@
-ghost use Rattle.std.specs.Prelude.{◌≡◌, ◌↔◌, ℕ, List, Option, None, Err, is_some};
+ghost use Rattle.std.specs.Prelude.{◌≡◌, ◌↔◌};
+ghost use Rattle.mg_clock.specs.Ticks.{clock_seen};
 ghost use Rattle.mg_engine.specs.Config.{IsValidConfig};
-ghost use Rattle.mg_serve.specs.Serve.{ServedSession};
-ghost use Rattle.mg_program.specs.Serve.{ServesByClock};
+ghost use Rattle.mg_serve.specs.Serve.{ServedByClock};
+ghost use Rattle.mg_program.specs.Serve.{ServesByClock, setup_of};
+ghost use Rattle.mg_program.specs.Title.{title_if};
 
 use crate::serve::bind;
 use crate::service::Service;
-use crate::sockets::Sockets;
 use crate::status::status_after;
-use crate::tick_deadline::TickDeadline;
 use crate::title::title_of;
 use crate::udp_ports::UdpPorts;
-use mg_clock::{ClockLines, SystemWatch, Watch};
-use mg_core::{Config, Counts, RunFault};
+use mg_clock::{SystemWatch, Watch};
+use mg_core::{Config, RunFault};
 use mg_options::Status;
-use mg_ports::GuardedPorts;
+use mg_ports::Ports;
 use std::alloc::Global;
-use std::cell::Cell;
 use std::io::Write;
 use std::net::Net;
 use std::time::Clock;
 
-/// The polls in 20 ms: a control message waits for its answer 20 ms at most.
-const POLLS: u16 = 1;
-
-/// Serves a new gateway on these sockets by a clock. How late a packet is is told by another one with the same start.
-fn serve_by<K: Watch + Drop, W: Write, E: Write, T: Write>(
+/// Serves a new gateway on these ports by a clock.
+fn live_on<P: Ports, K: Watch, W: Write, T: Write>(
     alloc: Global,
     config: Config,
     service: &Service,
+    ports: &mut P,
+    watch: &mut K,
     late: u16,
-    sockets: Sockets,
-    clock: K,
-    duplicate: K,
     output: &mut W,
-    errors: &mut E,
     reports: &mut T,
-) -> Result<Counts, RunFault>
-    ensures session { (title : Option (List ℕ)) × (is_some title ≡ service.now.records)
-        × ServedSession config title None None None None (W.contents output.old) (W.contents output.new) result }
-    ensures bad { (result ≡ Err RunFault.BadConfig) ↔ ¬ IsValidConfig config }
+) -> RunFault
+    ensures session { ServedByClock (setup_of config service.now) (title_if service.now.records config) late
+        (clock_seen (K.readings watch.old) (K.waits watch.old)) (clock_seen (K.readings watch.new) (K.waits watch.new))
+        (K.Fails watch.new) (P.calls ports.old) (P.calls ports.new) (W.contents output.old) (W.contents output.new)
+        result }
+    ensures bad { (result ≡ RunFault.BadConfig) ↔ ¬ IsValidConfig config }
 {
-    let ticks = Cell::new(0);
-    let deadline = TickDeadline::new(duplicate, &ticks, late, errors);
-    let ports = UdpPorts::new(sockets, deadline);
-    let mut ports = GuardedPorts::new(ports, service.controllers.as_slice());
     let title = title_of(&config);
-    let mut lines = ClockLines::new(clock, &ticks, POLLS);
-    mg_serve::serve(
+    mg_serve::serve_by_clock(
         alloc,
-        config,
+        &service.setup(config),
         service.title(title.as_slice()),
-        &mut ports,
-        &mut lines,
+        ports,
+        watch,
+        late,
         output,
         service.report,
         reports,
     )
 }
 
-/// Serves a new gateway on UDP ports by the clock: a poll and a tick every 20 ms. The text of a fault goes to `errors`.
+/// Serves a new gateway on UDP ports by the system's clock: a poll and a tick every 20 ms. It ends with a fault alone,
+/// whose text goes to `errors`.
 ///
 /// After a delay all polls and ticks that were missed are done at once. The packets of a tick that is late by more
-/// ticks than are allowed are not sent, so that callers hear a gap, and timestamps stay with the clock. How many
-/// weren't sent goes to `errors`. A report now and then, if that is asked for, goes to `reports`.
+/// than `late` ticks are not sent, so that callers hear a gap, and timestamps stay with the clock. How many weren't sent
+/// goes to `reports`, and so does a report now and then, if that is asked for.
 pub fn live<N: Net, C: Clock, W: Write, E: Write, T: Write>(
     net: &N,
     clock: &C,
@@ -74,22 +67,22 @@ pub fn live<N: Net, C: Clock, W: Write, E: Write, T: Write>(
     errors: &mut E,
     reports: &mut T,
 ) -> Status
-    ensures value { ServesByClock W.contents config service.now.records output.old output.new result }
+    ensures value { ServesByClock W.contents config service.now late output.old output.new result }
 {
     let sockets = match bind(net, alloc, &config, errors) {
         Ok(sockets) => sockets,
         Err(status) => return status,
     };
-    let watch = match SystemWatch::start_now(clock) {
+    let mut watch = match SystemWatch::start_now(clock) {
         Ok(watch) => watch,
         Err(failed) => {
             let _ = writeln!(errors, "{failed}");
             return Status::Failed;
         }
     };
-    let duplicate = watch.duplicate();
-    let outcome = serve_by(
-        alloc, config, service, late, sockets, watch, duplicate, output, errors, reports,
+    let mut ports = UdpPorts::new(sockets);
+    let fault = live_on(
+        alloc, config, service, &mut ports, &mut watch, late, output, reports,
     );
-    status_after(&outcome, &config, errors)
+    status_after(&Err(fault), &config, errors)
 }

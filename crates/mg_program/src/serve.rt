@@ -1,18 +1,19 @@
-ghost use Rattle.std.specs.Prelude.{◌≡◌, IfErr, OnOk};
+ghost use Rattle.std.specs.Prelude.{◌≡◌, ◌↔◌, Err, IfErr, OnOk};
 ghost use Rattle.mg_engine.specs.Config.{IsValidConfig};
-ghost use Rattle.mg_program.specs.Serve.{FailsToStart, Serves};
+ghost use Rattle.mg_serve.specs.Serve.{ServedSession};
+ghost use Rattle.mg_program.specs.Serve.{FailsToStart, Serves, setup_of};
+ghost use Rattle.mg_program.specs.Title.{title_if};
 
 use crate::config_fault::ConfigFault;
-use crate::no_deadline::NoDeadline;
 use crate::readiness::SOCKETS;
 use crate::service::Service;
 use crate::sockets::Sockets;
 use crate::status::status_after;
 use crate::title::title_of;
 use crate::udp_ports::UdpPorts;
-use mg_core::{Config, RunFault};
+use mg_core::{Config, Counts, RunFault};
 use mg_options::Status;
-use mg_ports::GuardedPorts;
+use mg_ports::Ports;
 use mio::Events;
 use std::alloc::Global;
 use std::io::{Read, Write};
@@ -48,10 +49,38 @@ pub fn bind<N: Net, E: Write>(
     }
 }
 
+/// Serves a new gateway on these ports by the lines that are read.
+fn serve_on<P: Ports, R: Read, W: Write, T: Write>(
+    alloc: Global,
+    config: Config,
+    service: &Service,
+    ports: &mut P,
+    input: &mut R,
+    output: &mut W,
+    reports: &mut T,
+) -> Result<Counts, RunFault>
+    ensures session { ServedSession (setup_of config service.now) (title_if service.now.records config)
+        (R.remaining input.old) (R.remaining input.new) (P.calls ports.old) (P.calls ports.new) (W.contents output.old)
+        (W.contents output.new) result }
+    ensures bad { (result ≡ Err RunFault.BadConfig) ↔ ¬ IsValidConfig config }
+{
+    let title = title_of(&config);
+    mg_serve::serve(
+        alloc,
+        &service.setup(config),
+        service.title(title.as_slice()),
+        ports,
+        input,
+        output,
+        service.report,
+        reports,
+    )
+}
+
 /// Serves a new gateway on UDP ports by the lines that are read. The text of a fault goes to `errors`, and a report now
 /// and then, if that is asked for, to `reports`.
 ///
-/// A configuration that can't be used is told before a port is bound, and a port that can't be bound before a line
+/// A configuration that can't be used is reported before a port is bound, and a port that can't be bound before a line
 /// is read.
 pub fn serve<N: Net, R: Read, W: Write, E: Write, T: Write>(
     net: &N,
@@ -63,26 +92,14 @@ pub fn serve<N: Net, R: Read, W: Write, E: Write, T: Write>(
     errors: &mut E,
     reports: &mut T,
 ) -> Status
-    ensures value { Serves R.remaining W.contents config service.now.records input.old input.new output.old output.new
-        result }
+    ensures value { Serves R.remaining W.contents config service.now input.old input.new output.old output.new result }
     ensures quiet { result ≡ Status.Done → errors.new ≡ errors.old }
 {
     let sockets = match bind(net, alloc, &config, errors) {
         Ok(sockets) => sockets,
         Err(status) => return status,
     };
-    let ports = UdpPorts::new(sockets, NoDeadline);
-    let mut ports = GuardedPorts::new(ports, service.controllers.as_slice());
-    let title = title_of(&config);
-    let outcome = mg_serve::serve(
-        alloc,
-        config,
-        service.title(title.as_slice()),
-        &mut ports,
-        input,
-        output,
-        service.report,
-        reports,
-    );
+    let mut ports = UdpPorts::new(sockets);
+    let outcome = serve_on(alloc, config, service, &mut ports, input, output, reports);
     status_after(&outcome, &config, errors)
 }

@@ -1,51 +1,53 @@
-ghost use Rattle.std.specs.Prelude.{◌≡◌, ◌≤◌, length, IfOk, IfSome, OnErr};
+ghost use Rattle.std.specs.Prelude.{◌≡◌, ◌≤◌, ◌<◌, true, length, is_err, IfOk, IfSome, OnErr};
 ghost use Rattle.mg_ports.specs.Calls.{IsCounted};
 
 use crate::address::is_multicast;
-use crate::deadline::Deadline;
 use crate::sockets::Sockets;
 use mg_core::Peer;
-use mg_ports::{PortFault, Ports};
+use mg_ports::{PortFault, Ports, Timing};
 
-/// The ports of a gateway on UDP sockets.
+/// The ports of a gateway on UDP sockets of the system.
 #[derive(Drop)]
-pub struct UdpPorts<D: Deadline> {
+pub struct UdpPorts {
     sockets: Sockets,
-    deadline: D,
+    /// How the tick is timed whose packets are sent.
+    timing: Timing,
     failures: u64,
 }
 
 /// Whether an address is none of a caller's: 0.0.0.0, by which a call is held, would be this machine's own, and others
-/// are those of many.
+/// are those of groups.
 fn is_unusable_destination(address: [u8; 4]) -> bool {
     address == [0; 4] || is_multicast(address)
 }
 
-impl<D: Deadline> UdpPorts<D> {
-    /// The ports of these sockets. A packet that is too late by the deadline isn't sent: that is a send that failed.
-    pub fn new(sockets: Sockets, deadline: D) -> Self
+impl UdpPorts {
+    /// The ports of these sockets.
+    pub fn new(sockets: Sockets) -> Self
         ensures fresh { result.failures ≡ 0 }
     {
         UdpPorts {
             sockets,
-            deadline,
+            timing: Timing::OnTime,
             failures: 0,
         }
     }
 
-    /// Sends from a slot's socket. A packet, which goes out at a media port, has to be in time and go to one machine.
-    fn send_in_time(&mut self, slot: usize, to: Peer, bytes: &[u8]) -> Result<(), PortFault>
-        ensures failures { self.new.failures ≡ self.old.failures }
+    /// Sends from a socket. A packet, which is sent from a media socket, is sent only in a tick in time and to the
+    /// address of one machine.
+    fn send_in_time(&self, socket: usize, to: Peer, bytes: &[u8]) -> Result<(), PortFault>
+        ensures late { 0 < socket → self.now.timing ≡ Timing.Late → is_err result ≡ true }
     {
-        if slot > 0 && (is_unusable_destination(to.address) || self.deadline.is_late()) {
+        if socket > 0 && (self.timing == Timing::Late || is_unusable_destination(to.address)) {
             return Err(PortFault);
         }
-        self.sockets.try_send(slot, to, bytes)
+        self.sockets.try_send(socket, to, bytes)
     }
 
     /// Counts a failure, if this answer is one.
     fn count<T>(&mut self, answer: &Result<T, PortFault>)
         ensures fault { OnErr answer.now (IsCounted self.old.failures self.new.failures) }
+        ensures timing { self.new.timing ≡ self.old.timing }
     {
         if answer.is_err() {
             self.failures = self.failures.saturating_add(1);
@@ -53,30 +55,30 @@ impl<D: Deadline> UdpPorts<D> {
     }
 }
 
-impl<D: Deadline> Ports for UdpPorts<D> {
+impl Ports for UdpPorts {
     ghost failed = { λ p. p.failures };
 
     fn receive(
         &mut self,
-        slot: usize,
+        socket: usize,
         buffer: &mut [u8],
     ) -> Result<Option<(usize, Peer)>, PortFault> {
-        let answer = self.sockets.receive_ready(slot, buffer);
+        let answer = self.sockets.receive_ready(socket, buffer);
         self.count(&answer);
         answer
     }
 
-    fn send(&mut self, slot: usize, to: Peer, bytes: &[u8]) -> Result<(), PortFault> {
-        let answer = self.send_in_time(slot, to, bytes);
+    fn send(&mut self, socket: usize, to: Peer, bytes: &[u8]) -> Result<(), PortFault> {
+        let answer = self.send_in_time(socket, to, bytes);
         self.count(&answer);
         answer
+    }
+
+    fn begin_tick(&mut self, timing: Timing) {
+        self.timing = timing;
     }
 
     fn failures(&self) -> u64 {
         self.failures
-    }
-
-    fn strangers(&self) -> u64 {
-        0
     }
 }

@@ -6,3 +6,4 @@ pub mod Reading
 pub mod Running
 pub mod Runs
 pub mod ReadBack
+pub mod Clocking

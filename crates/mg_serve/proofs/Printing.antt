@@ -4,6 +4,7 @@ use Rattle.std.proofs.KnownBytes.{Appends-nil, Appends-trans, Appends-kept, Keep
 use Rattle.std.proofs.lemmas.List.Concat.{flat_map-append}
 use Rattle.std.specs.Io.KnownBytes.{Keeps, Appends}
 use Rattle.mg_lines.specs.Streams.{WritesFront}
+use Rattle.mg_lines.proofs.WriterLemmas.{longer}
 use Rattle.mg_ports.specs.declared.call.Call.{Call}
 use Rattle.mg_serve.specs.declared.form.Form.{Form}
 use Rattle.mg_serve.specs.Trace.{TraceEntry, Called, Happened, Printed, Noted, calls_of, output_of, printed_text}
@@ -35,6 +36,7 @@ front_then : (x y z : Option (List ℕ)) (s t : List ℕ) → WritesFront s x y 
 front_then x y z s t h same = record {
   front = h.front;
   rest = h.rest ++ t;
+  cut = longer h.rest t h.cut;
   parts = ap (λ (l : List ℕ). l ++ t) h.parts ∙ append_assoc h.front h.rest t;
   written = Appends-kept x y z h.front h.written same;
 }
@@ -43,6 +45,7 @@ front_after : (x y z : Option (List ℕ)) (s t : List ℕ) → Appends x y s →
 front_after x y z s t h k = record {
   front = s ++ k.front;
   rest = k.rest;
+  cut = k.cut;
   parts = ap (λ (l : List ℕ). s ++ l) k.parts ∙ sym (append_assoc s k.front k.rest);
   written = Appends-trans x y z s k.front h k.written;
 }

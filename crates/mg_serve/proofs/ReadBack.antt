@@ -1,10 +1,10 @@
 -- What is recorded of a session is a script of its events.
-use Rattle.std.proofs.Common.{◌≡◌, ◌≢◌, ℕ, ◌+◌, ◌<◌, inl, inr, true, zero, suc, List, [], ◌∷◌, ◌++◌, length, not, Option, Some, refl, sym, ap, subst, ◌∙◌, arith, codes, true≢false, ◌==◌, All}
+use Rattle.std.proofs.Common.{◌≡◌, ◌≢◌, ℕ, ◌+◌, ◌<◌, inl, inr, Bool, true, false, zero, suc, List, [], ◌∷◌, ◌++◌, length, not, Option, Some, refl, sym, ap, subst, ◌∙◌, arith, codes, true≢false, ◌==◌, All}
 use Rattle.std.proofs.lemmas.List.Elements.{All-nil, All-cons, All-append, All-same, All-take, All-weaker, filter_passes}
 use Rattle.std.proofs.lemmas.Bool.{eq-eqb}
 use Rattle.std.specs.Io.KnownBytes.{Appends}
 use Rattle.std.specs.List.{filter, range_with_len}
-use Rattle.mg_engine.specs.declared.config.Config.{Config}
+use Rattle.mg_serve.specs.Setup.{Setup, is_admitted}
 use Rattle.mg_words.specs.declared.peer.Peer.{Peer}
 use Rattle.mg_engine.specs.Config.{IsValidConfig}
 use Rattle.mg_core.specs.declared.event.Event.{Event}
@@ -16,15 +16,14 @@ use Rattle.mg_core.specs.Script as script
 use Rattle.mg_core.specs.Step.{Sent, Run}
 use Rattle.mg_core.specs.World.{World, start_of}
 use Rattle.mg_lines.specs.Lines.{lines_of}
-use Rattle.mg_ports.specs.declared.call.Call.TheVariants.{Receive}
+use Rattle.mg_ports.specs.declared.call.Call.TheVariants.{Receive, BeginTick}
 use Rattle.mg_ports.specs.declared.receipt.Receipt.TheVariants.{Delivered, Nothing, Failed}
-use Rattle.mg_serve.specs.declared.command.LineCommand.{LineCommand}
-use Rattle.mg_serve.specs.declared.command.LineCommand.TheVariants.{Poll, Tick, Stats, Quit, Unknown}
+use Rattle.mg_serve.specs.declared.command.Command.{Command}
+use Rattle.mg_serve.specs.declared.command.Command.TheVariants.{Poll, Tick, Stats, Quit, Unknown}
 use Rattle.mg_serve.specs.declared.form.Form.TheVariants.{Recording}
 use Rattle.mg_serve.specs.Theorems.{CutSessionsAreReadBack, ReplaysAreTheSession, SessionsAreReadBack, recorded}
-use Rattle.mg_serve.specs.Lines.{line_command}
 use Rattle.mg_serve.specs.Serve.{opening}
-use Rattle.mg_serve.specs.Session.{Each, ReceivesDatagram, Performs, EndsTurn, HandlesEvent, Session, SlotTurn, event_at, sends_of}
+use Rattle.mg_serve.specs.Session.{Each, Becomes, ReceivesDatagram, Performs, EndsTurn, HandlesEvent, Session, SocketTurn, event_at, sends_of}
 use Rattle.mg_serve.specs.Trace.{TraceEntry, Called, Happened, Printed, Noted, events_of_trace, one_line, output_of}
 use Rattle.mg_serve.proofs.OneLine.{short}
 use Rattle.mg_serve.proofs.Runs.{session_run}
@@ -93,12 +92,12 @@ printed_read text = one_entry (entry.Noted (one_line text)) (text_read text)
 noted_read : (text : List ℕ) → AreRead (Noted text ∷ [])
 noted_read text = one_entry (entry.Noted (one_line text)) (text_read text)
 
-no_entries : (config : Config) (sent : List Sent) → entries_of (sends_of config sent) ≡ []
-no_entries config [] = refl
-no_entries config (datagram ∷ sent) = no_entries config sent
+no_entries : (setup : Setup) (sent : List Sent) → entries_of (sends_of setup sent) ≡ []
+no_entries setup [] = refl
+no_entries setup (datagram ∷ sent) = no_entries setup sent
 
-sends_read : (config : Config) (sent : List Sent) → AreRead (sends_of config sent)
-sends_read config sent = All-same IsRecorded (entries_of (sends_of config sent)) [] (no_entries config sent)
+sends_read : (setup : Setup) (sent : List Sent) → AreRead (sends_of setup sent)
+sends_read setup sent = All-same IsRecorded (entries_of (sends_of setup sent)) [] (no_entries setup sent)
     (All-nil IsRecorded)
 
 each_read : {A : Type 0} (R : A → World → List TraceEntry → World → Type 0) →
@@ -109,81 +108,87 @@ each_read R one (x ∷ xs) w next p h = read_as p (h.0 ++ h.1) h.3
     (read_both h.0 h.1 (one x w h.2 h.0 h.4) (each_read R one xs h.2 next h.1 h.5))
 
 -- each of some slots in turn
-slots_read : (R : ℕ → World → List TraceEntry → World → Type 0) (first n : ℕ) →
-    ((slot : ℕ) (w next : World) (p : List TraceEntry) → slot < first + n → R slot w p next → AreRead p) → (w next : World)
+sockets_read : (R : ℕ → World → List TraceEntry → World → Type 0) (first n : ℕ) →
+    ((socket : ℕ) (w next : World) (p : List TraceEntry) → socket < first + n → R socket w p next → AreRead p) → (w next : World)
     (p : List TraceEntry) → Each R (range_with_len first n) w p next → AreRead p
-slots_read R first zero one w next p h = read_as p [] h.0 (All-nil IsRecorded)
-slots_read R first (suc n) one w next p h = read_as p (h.0 ++ h.1) h.3
+sockets_read R first zero one w next p h = read_as p [] h.0 (All-nil IsRecorded)
+sockets_read R first (suc n) one w next p h = read_as p (h.0 ++ h.1) h.3
     (read_both h.0 h.1 (one first w h.2 h.0 (omega arith) h.4)
-    (slots_read R (first + 1) n (λ slot v last q lt. one slot v last q (omega (arith, lt))) h.2 next h.1 h.5))
+    (sockets_read R (first + 1) n (λ socket v last q lt. one socket v last q (omega (arith, lt))) h.2 next h.1 h.5))
 
-event_read : (config : Config) (event : Event) (w next : World) (p : List TraceEntry) → IsRecorded (entry.Happened event) →
-    HandlesEvent config event w p next → AreRead p
-event_read config event w next p fits (sent, step, is) = read_as p (Happened event ∷ sends_of config sent) is
-    (read_both (Happened event ∷ []) (sends_of config sent) (one_entry (entry.Happened event) fits)
-    (sends_read config sent))
+event_read : (setup : Setup) (event : Event) (w next : World) (p : List TraceEntry) → IsRecorded (entry.Happened event) →
+    HandlesEvent setup event w p next → AreRead p
+event_read setup event w next p fits (sent, step, is) = read_as p (Happened event ∷ sends_of setup sent) is
+    (read_both (Happened event ∷ []) (sends_of setup sent) (one_entry (entry.Happened event) fits)
+    (sends_read setup sent))
 
--- the event of a datagram that can come, at a slot that there is
-datagram_read : (config : Config) (slot : ℕ) (source : Peer) (bytes : List ℕ) → IsValidConfig config →
-    slot < config.slots + 1 → IsDatagram source bytes → IsRecorded (entry.Happened (event_at config slot source bytes))
-datagram_read config zero source bytes valid lt fits = fits
-datagram_read config (suc s) source bytes valid lt fits = (omega (arith, lt, valid.limits.0.last), fits)
+-- the event of a datagram that can come, at a socket that there is
+datagram_read : (setup : Setup) (socket : ℕ) (source : Peer) (bytes : List ℕ) → IsValidConfig setup.config →
+    socket < setup.config.slots + 1 → IsDatagram source bytes → IsRecorded (entry.Happened (event_at setup socket source bytes))
+datagram_read setup zero source bytes valid lt fits = fits
+datagram_read setup (suc s) source bytes valid lt fits = (omega (arith, lt, valid.limits.0.last), fits)
 
-comes_read : (config : Config) (slot : ℕ) → IsValidConfig config → slot < config.slots + 1 →
-    (datagram : Peer × List ℕ) (w next : World) (p : List TraceEntry) → ReceivesDatagram config slot datagram w p next → AreRead p
-comes_read config slot valid lt datagram w next p (others, fits, is, inl h) =
-    read_as p (Called (Receive slot (Delivered datagram.0 datagram.1)) ∷ others) is
-    (event_read config (event_at config slot datagram.0 datagram.1) w next others
-    (datagram_read config slot datagram.0 datagram.1 valid lt fits) h)
-comes_read config slot valid lt datagram w next p (others, fits, is, inr h) =
-    read_as p (Called (Receive slot (Delivered datagram.0 datagram.1)) ∷ others) is
-    (read_as others (Noted (codes "no memory for a control datagram") ∷ []) h.1
-    (noted_read (codes "no memory for a control datagram")))
+become_read : (admitted : Bool) (setup : Setup) (socket : ℕ) → IsValidConfig setup.config →
+    socket < setup.config.slots + 1 → (datagram : Peer × List ℕ) (w next : World) (p : List TraceEntry) →
+    IsDatagram datagram.0 datagram.1 → Becomes admitted setup socket datagram w p next → AreRead p
+become_read true setup socket valid lt datagram w next p fits (inl h) =
+    event_read setup (event_at setup socket datagram.0 datagram.1) w next p
+    (datagram_read setup socket datagram.0 datagram.1 valid lt fits) h
+become_read true setup socket valid lt datagram w next p fits (inr h) =
+    read_as p (Noted (codes "no memory for a control datagram") ∷ []) h.1
+    (noted_read (codes "no memory for a control datagram"))
+become_read false setup socket valid lt datagram w next p fits h = read_as p [] h.0 (All-nil IsRecorded)
 
-ends_read : (slot arrived : ℕ) (p : List TraceEntry) → EndsTurn slot arrived p → AreRead p
-ends_read slot arrived p (inl h) = read_as p [] h.1 (All-nil IsRecorded)
-ends_read slot arrived p (inr (few, inl h)) = read_as p (Called (Receive slot Nothing) ∷ []) h (All-nil IsRecorded)
-ends_read slot arrived p (inr (few, inr h)) = read_as p (Called (Receive slot Failed) ∷ []) h (All-nil IsRecorded)
+comes_read : (setup : Setup) (socket : ℕ) → IsValidConfig setup.config → socket < setup.config.slots + 1 →
+    (datagram : Peer × List ℕ) (w next : World) (p : List TraceEntry) → ReceivesDatagram setup socket datagram w p next → AreRead p
+comes_read setup socket valid lt datagram w next p (others, fits, is, h) =
+    read_as p (Called (Receive socket (Delivered datagram.0 datagram.1)) ∷ others) is
+    (become_read (is_admitted setup socket datagram.0.address) setup socket valid lt datagram w next others fits h)
 
-turn_read : (config : Config) → IsValidConfig config → (slot : ℕ) (w next : World) (p : List TraceEntry) →
-    slot < config.slots + 1 → SlotTurn config slot w p next → AreRead p
-turn_read config valid slot w next p lt h = read_as p (h.received ++ h.last) h.parts
+ends_read : (socket arrived : ℕ) (p : List TraceEntry) → EndsTurn socket arrived p → AreRead p
+ends_read socket arrived p (inl h) = read_as p [] h.1 (All-nil IsRecorded)
+ends_read socket arrived p (inr (few, inl h)) = read_as p (Called (Receive socket Nothing) ∷ []) h (All-nil IsRecorded)
+ends_read socket arrived p (inr (few, inr h)) = read_as p (Called (Receive socket Failed) ∷ []) h (All-nil IsRecorded)
+
+turn_read : (setup : Setup) → IsValidConfig setup.config → (socket : ℕ) (w next : World) (p : List TraceEntry) →
+    socket < setup.config.slots + 1 → SocketTurn setup socket w p next → AreRead p
+turn_read setup valid socket w next p lt h = read_as p (h.received ++ h.last) h.parts
     (read_both h.received h.last
-    (each_read (ReceivesDatagram config slot) (comes_read config slot valid lt) h.datagrams w next h.received h.arrivals)
-    (ends_read slot (length h.datagrams) h.last h.ends))
+    (each_read (ReceivesDatagram setup socket) (comes_read setup socket valid lt) h.datagrams w next h.received h.arrivals)
+    (ends_read socket (length h.datagrams) h.last h.ends))
 
-does_read : (config : Config) → IsValidConfig config → (command : LineCommand) (w next : World) (p : List TraceEntry) →
-    Performs config command w p next → AreRead p
-does_read config valid Poll w next p h =
-    slots_read (SlotTurn config) 0 (config.slots + 1)
-    (λ slot v last q lt. turn_read config valid slot v last q (omega (arith, lt))) w next p h
-does_read config valid Tick w next p h = event_read config events.Tick w next p tt h
-does_read config valid Stats w next p (text, is, same) = read_as p (Printed text ∷ []) is (printed_read text)
-does_read config valid Quit w next p h = read_as p [] h.0 (All-nil IsRecorded)
-does_read config valid Unknown w next p h =
+does_read : (setup : Setup) → IsValidConfig setup.config → (command : Command) (w next : World) (p : List TraceEntry) →
+    Performs setup command w p next → AreRead p
+does_read setup valid Poll w next p h =
+    sockets_read (SocketTurn setup) 0 (setup.config.slots + 1)
+    (λ socket v last q lt. turn_read setup valid socket v last q (omega (arith, lt))) w next p h
+does_read setup valid (Tick timing) w next p (others, is, h) =
+    read_as p (Called (BeginTick timing) ∷ others) is (event_read setup events.Tick w next others tt h)
+does_read setup valid Stats w next p (text, is, same) = read_as p (Printed text ∷ []) is (printed_read text)
+does_read setup valid Quit w next p h = read_as p [] h.0 (All-nil IsRecorded)
+does_read setup valid Unknown w next p h =
     read_as p (Printed (codes "unknown command") ∷ []) h.0 (printed_read (codes "unknown command"))
 
-session_read : (config : Config) (title : List ℕ) (lines : List (List ℕ)) (next : World) (p : List TraceEntry) →
-    IsValidConfig config → Session config lines (start_of config) p next → AreRead (opening (Some title) ++ p)
-session_read config title lines next p valid h =
+session_read : (setup : Setup) (title : List ℕ) (commands : List Command) (next : World) (p : List TraceEntry) →
+    IsValidConfig setup.config → Session setup commands (start_of setup.config) p next → AreRead (opening (Some title) ++ p)
+session_read setup title commands next p valid h =
     read_both (opening (Some title)) p
     (read_both (Noted title ∷ []) (Printed (codes "ready") ∷ []) (noted_read title) (printed_read (codes "ready")))
-    (each_read (λ (line : List ℕ). Performs config (line_command line))
-    (λ line. does_read config valid (line_command line)) lines (start_of config) next p h)
+    (each_read (Performs setup) (does_read setup valid) commands (start_of setup.config) next p h)
 
 -- ## The theorems
 
 pub read_back : RecordingsAreRead → SessionsAreReadBack
-read_back law config title lines next p valid h =
+read_back law setup title commands next p valid h =
     let all = opening (Some title) ++ p in
-    rw (recording_is all) (law (entries_of all) (session_read config title lines next p valid h)) ∙
+    rw (recording_is all) (law (entries_of all) (session_read setup title commands next p valid h)) ∙
     ap (λ (es : List Event). Some es) (events_are all)
 
 pub cut_read_back : CutRecordingsAreRead → CutSessionsAreReadBack
-cut_read_back law config title lines next p front rest valid h parts =
+cut_read_back law setup title commands next p front rest valid h parts =
     let all = opening (Some title) ++ p in
     let (first, others, is, read) =
-    law (entries_of all) front rest (session_read config title lines next p valid h) (sym (recording_is all) ∙ parts)
+    law (entries_of all) front rest (session_read setup title commands next p valid h) (sym (recording_is all) ∙ parts)
     in (
       events_in first,
       events_in others,
@@ -205,17 +210,16 @@ same_events : (a b : Option (List Event)) (xs ys : List Event) → a ≡ Some xs
 same_events a b xs ys h k is = cc
 
 pub replayed : RecordingsAreRead → OneOutcome → ReplaysAreTheSession
-replayed law one config title lines next p counts old new valid h ran =
-    let session = session_run config lines (start_of config) next p h in
+replayed law one setup title commands next p counts old new valid h ran =
+    let session = session_run setup commands (start_of setup.config) next p h in
     let same : ran.ran.events ≡ events_of_trace p =
     same_events (script.events_of (lines_of true (recorded title p)))
     (script.events_of (lines_of true (recorded title p))) ran.ran.events (events_of_trace p) ran.ran.are
-    (read_back law config title lines next p valid h) refl in
-    let both = one (start_of config) (events_of_trace p) ran.ran.sent session.sent ran.last next
-    (subst (λ (es : List Event). Run (start_of config) es ran.ran.sent ran.last) same ran.ran.run) session.run in
+    (read_back law setup title commands next p valid h) refl in
+    let both = one (start_of setup.config) (events_of_trace p) ran.ran.sent session.sent ran.last next
+    (subst (λ (es : List Event). Run (start_of setup.config) es ran.ran.sent ran.last) same ran.ran.run) session.run in
     record {
-      sent = session.sent;
-      sends = session.sends;
+      session = session;
       written = subst (λ (s : List Sent). Appends old new (lines_for s)) both.0
           (subst (λ (t : List ℕ). Appends old new t) ran.ran.is_text ran.ran.written);
       same = both.1;

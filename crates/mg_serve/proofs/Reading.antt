@@ -1,16 +1,16 @@
 -- Lines, the bytes that they come in, and how far a session has come.
-use Rattle.std.proofs.Common.{◌≡◌, ◌≢◌, ℕ, ◌-◌, ◌<◌, ◌≤◌, Bool, true, false, cond, eqb, List, [], ◌∷◌, ◌++◌, length, take, Result, Ok, Err, refl, sym, ap, ◌∙◌, append_assoc, length-take, arith, true≢false}
-use Rattle.std.proofs.lemmas.List.{take-append-le, take_all, take_at, length-take-le}
+use Rattle.std.proofs.Common.{◌≡◌, ◌≢◌, ℕ, ◌-◌, ◌<◌, ◌≤◌, Bool, true, false, cond, eqb, List, [], ◌∷◌, ◌++◌, length, map, take, Result, Ok, Err, refl, sym, ap, ◌∙◌, append_assoc, length-take, arith, true≢false}
+use Rattle.std.proofs.lemmas.List.{map-append, take-append-le, take_all, take_at, length-take-le}
 use Rattle.std.proofs.lemmas.Bool.{ne_eqb, ltb-true, ltb-false, false_from_ne_true}
 use Rattle.std.proofs.lemmas.Slice.Eq.{bytes_eq-Decides}
 use Rattle.std.proofs.Math.Dec.{ltb}
 use Rattle.std.specs.Str.{bytes_eq}
 use Rattle.std.specs.Prelude.{slice_index, codes}
-use Rattle.mg_engine.specs.declared.config.Config.{Config}
+use Rattle.mg_serve.specs.Setup.{Setup}
 use Rattle.mg_core.specs.World.{World}
 use Rattle.mg_lines.specs.declared.write_failed.WriteFailed.{WriteFailed}
-use Rattle.mg_serve.specs.declared.command.LineCommand.{LineCommand}
-use Rattle.mg_serve.specs.declared.command.LineCommand.TheVariants.{Poll, Tick, Stats, Quit, Unknown}
+use Rattle.mg_serve.specs.declared.command.Command.{Command}
+use Rattle.mg_serve.specs.declared.command.Command.TheVariants.{Poll, Tick, Stats, Quit, Unknown}
 use Rattle.mg_lines.specs.Lines.{without_return, lines_after}
 use Rattle.mg_serve.specs.Lines.{line_command, is_quit, prints, before_quit}
 use Rattle.mg_serve.specs.declared.form.Form.{Form}
@@ -89,18 +89,18 @@ pub first_line : (q : Bool) (line : List ℕ) (lines : List (List ℕ)) → is_q
 unfolding before_quit
 first_line q line lines is = rw is refl
 
-pub quit_idle : (config : Config) (command : LineCommand) (w next : World) (p : List TraceEntry) → is_quit command ≡ true →
-    Performs config command w p next → (p ≡ []) × (next ≡ w)
-quit_idle config Poll w next p is h = absurd cc
-quit_idle config Tick w next p is h = absurd cc
-quit_idle config Stats w next p is h = absurd cc
-quit_idle config Quit w next p is h = h
-quit_idle config Unknown w next p is h = absurd cc
+pub quit_idle : (setup : Setup) (command : Command) (w next : World) (p : List TraceEntry) → is_quit command ≡ true →
+    Performs setup command w p next → (p ≡ []) × (next ≡ w)
+quit_idle setup Poll w next p is h = absurd cc
+quit_idle setup (Tick timing) w next p is h = absurd cc
+quit_idle setup Stats w next p is h = absurd cc
+quit_idle setup Quit w next p is h = h
+quit_idle setup Unknown w next p is h = absurd cc
 
 -- a byte that ends no line
-pub plain_byte : (form : Form) (config : Config) (left : List ℕ) (b : ℕ) (w : World) → b ≢ 10 →
-    BytesTaken form config left (b ∷ []) (take 8 (take 8 left ++ b ∷ [])) (Ok false) w [] w
-plain_byte form config left b w ne = (
+pub plain_byte : (form : Form) (setup : Setup) (left : List ℕ) (b : ℕ) (w : World) → b ≢ 10 →
+    BytesTaken form setup left (b ∷ []) (take 8 (take 8 left ++ b ∷ [])) (Ok false) w [] w
+plain_byte form setup left b w ne = (
   [],
   left ++ b ∷ [],
   cut_push left b,
@@ -115,24 +115,24 @@ feed_split : (q ended : Bool) (left more : List ℕ) → is_quit (line_command (
 feed_split q ended left more is = ap before_quit (line_feed ended left more) ∙
     first_line q (without_return left) (lines_after ended [] more) is
 
-pub line_done : (config : Config) (line : List ℕ) (w next : World) (p : List TraceEntry) →
-    Performs config (line_command line) w p next → Session config (line ∷ []) w p next
-line_done config line w next p h = each_one (λ (l : List ℕ). Performs config (line_command l)) line w next p h
+pub line_done : (setup : Setup) (line : List ℕ) (w next : World) (p : List TraceEntry) →
+    Performs setup (line_command line) w p next → Session setup (line_command line ∷ []) w p next
+line_done setup line w next p h = each_one (Performs setup) (line_command line) w next p h
 
-pub feed_byte : (form : Form) (config : Config) (q : Bool) (left : List ℕ) (w next : World) (p : List TraceEntry) →
-    is_quit (line_command (without_return left)) ≡ q → Performs config (line_command (without_return left)) w p next →
-    BytesTaken form config left (10 ∷ []) [] (Ok q) w p next
-feed_byte form config false left w next p is h = (
+pub feed_byte : (form : Form) (setup : Setup) (q : Bool) (left : List ℕ) (w next : World) (p : List TraceEntry) →
+    is_quit (line_command (without_return left)) ≡ q → Performs setup (line_command (without_return left)) w p next →
+    BytesTaken form setup left (10 ∷ []) [] (Ok q) w p next
+feed_byte form setup false left w next p is h = (
   without_return left ∷ [],
   [],
   refl,
   λ ended more. feed_split false ended left more is,
-  line_done config (without_return left) w next p h,
+  line_done setup (without_return left) w next p h,
 )
-feed_byte form config true left w next p is h = (
+feed_byte form setup true left w next p is h = (
   [],
   λ ended more. feed_split true ended left more is,
-  quit_idle config (line_command (without_return left)) w next p is h,
+  quit_idle setup (line_command (without_return left)) w next p is h,
 )
 
 pub no_more : before_quit [] ≡ []
@@ -144,26 +144,26 @@ pub last_line : (b : ℕ) (bs : List ℕ) → lines_after true (b ∷ bs) [] ≡
 unfolding lines_after
 last_line b bs = rw (ne_eqb (length (b ∷ bs)) 0 (λ e. absurd (omega (arith, e)))) refl
 
-quit_prints_nothing : (form : Form) (command : LineCommand) → is_quit command ≡ true → prints form command ≡ true → ⊥
+quit_prints_nothing : (form : Form) (command : Command) → is_quit command ≡ true → prints form command ≡ true → ⊥
 quit_prints_nothing form Poll quit printed = absurd (true≢false (sym quit))
-quit_prints_nothing form Tick quit printed = absurd (true≢false (sym quit))
+quit_prints_nothing form (Tick timing) quit printed = absurd (true≢false (sym quit))
 quit_prints_nothing form Stats quit printed = absurd (true≢false (sym quit))
 quit_prints_nothing form Quit quit printed = absurd (true≢false (sym printed))
 quit_prints_nothing form Unknown quit printed = absurd (true≢false (sym quit))
 
-pub feed_fault_by : (form : Form) (config : Config) (q : Bool) (left kept : List ℕ) (failed : WriteFailed) (w next :
+pub feed_fault_by : (form : Form) (setup : Setup) (q : Bool) (left kept : List ℕ) (failed : WriteFailed) (w next :
     World)
     (p : List TraceEntry) → is_quit (line_command (without_return left)) ≡ q →
-    prints form (line_command (without_return left)) ≡ true → Performs config (line_command (without_return left)) w p next
+    prints form (line_command (without_return left)) ≡ true → Performs setup (line_command (without_return left)) w p next
     →
-    BytesTaken form config left (10 ∷ []) kept (Err failed) w p next
-feed_fault_by form config false left kept failed w next p is printed h = (
+    BytesTaken form setup left (10 ∷ []) kept (Err failed) w p next
+feed_fault_by form setup false left kept failed w next p is printed h = (
   without_return left ∷ [],
   λ ended more. (before_quit (lines_after ended [] more), feed_split false ended left more is),
-  record { front = []; line = without_return left; is = refl; printed = printed },
-  line_done config (without_return left) w next p h,
+  record { front = []; command = line_command (without_return left); is = refl; printed = printed },
+  line_done setup (without_return left) w next p h,
 )
-feed_fault_by form config true left kept failed w next p is printed h =
+feed_fault_by form setup true left kept failed w next p is printed h =
     absurd (quit_prints_nothing form (line_command (without_return left)) is printed)
 
 -- a line that is answered by one, and has no line feed
@@ -185,32 +185,33 @@ last_stands form kept (x ∷ xs) is some printed =
 
 -- ## Bytes, and then more
 
-pub session_both : (config : Config) (xs ys : List (List ℕ)) (w mid next : World) (p q : List TraceEntry) →
-    Session config xs w p mid → Session config ys mid q next → Session config (xs ++ ys) w (p ++ q) next
-session_both config xs ys w mid next p q h k =
-    each_both (λ (l : List ℕ). Performs config (line_command l)) xs ys w mid next p q h k
+pub session_both : (setup : Setup) (xs ys : List (List ℕ)) (w mid next : World) (p q : List TraceEntry) →
+    Session setup (map line_command xs) w p mid → Session setup (map line_command ys) mid q next →
+    Session setup (map line_command (xs ++ ys)) w (p ++ q) next
+session_both setup xs ys w mid next p q h k = rw (map-append line_command xs ys)
+    (each_both (Performs setup) (map line_command xs) (map line_command ys) w mid next p q h k)
 
-pub bytes_then : (form : Form) (config : Config) (partial a left b kept : List ℕ) (lines : List (List ℕ))
+pub bytes_then : (form : Form) (setup : Setup) (partial a left b kept : List ℕ) (lines : List (List ℕ))
     (r : Result Bool WriteFailed) (w mid next : World) (p q : List TraceEntry) →
     ((ended : Bool) (more : List ℕ) → before_quit (lines_after ended partial (a ++ more)) ≡ lines ++
-    before_quit (lines_after ended left more)) → Session config lines w p mid →
-    BytesTaken form config left b kept r mid q next → BytesTaken form config partial (a ++ b) kept r w (p ++ q) next
-bytes_then form config partial a left b kept lines (Ok false) w mid next p q split ran h = (
+    before_quit (lines_after ended left more)) → Session setup (map line_command lines) w p mid →
+    BytesTaken form setup left b kept r mid q next → BytesTaken form setup partial (a ++ b) kept r w (p ++ q) next
+bytes_then form setup partial a left b kept lines (Ok false) w mid next p q split ran h = (
   lines ++ h.0,
   h.1,
   h.2,
   λ ended more. ap (λ (l : List ℕ). before_quit (lines_after ended partial l)) (append_assoc a b more) ∙
       split ended (b ++ more) ∙ ap (λ (l : List (List ℕ)). lines ++ l) (h.3 ended more) ∙
       sym (append_assoc lines h.0 (before_quit (lines_after ended h.1 more))),
-  session_both config lines h.0 w mid next p q ran h.4,
+  session_both setup lines h.0 w mid next p q ran h.4,
 )
-bytes_then form config partial a left b kept lines (Ok true) w mid next p q split ran h = (
+bytes_then form setup partial a left b kept lines (Ok true) w mid next p q split ran h = (
   lines ++ h.0,
   λ ended more. ap (λ (l : List ℕ). before_quit (lines_after ended partial l)) (append_assoc a b more) ∙
       split ended (b ++ more) ∙ ap (λ (l : List (List ℕ)). lines ++ l) (h.1 ended more),
-  session_both config lines h.0 w mid next p q ran h.2,
+  session_both setup lines h.0 w mid next p q ran h.2,
 )
-bytes_then form config partial a left b kept lines (Err failed) w mid next p q split ran h = (
+bytes_then form setup partial a left b kept lines (Err failed) w mid next p q split ran h = (
   lines ++ h.0,
   λ ended more. (
     (h.1 ended more).0,
@@ -218,34 +219,34 @@ bytes_then form config partial a left b kept lines (Err failed) w mid next p q s
         ap (λ (l : List (List ℕ)). lines ++ l) (h.1 ended more).1 ∙ sym (append_assoc lines h.0 (h.1 ended more).0),
   ),
   record {
-    front = lines ++ h.2.front;
-    line = h.2.line;
-    is = ap (λ (l : List (List ℕ)). lines ++ l) h.2.is ∙
-        sym (append_assoc lines h.2.front (h.2.line ∷ []));
+    front = map line_command lines ++ h.2.front;
+    command = h.2.command;
+    is = map-append line_command lines h.0 ∙ ap (λ (l : List Command). map line_command lines ++ l) h.2.is ∙
+        sym (append_assoc (map line_command lines) h.2.front (h.2.command ∷ []));
     printed = h.2.printed;
   },
-  session_both config lines h.0 w mid next p q ran h.3,
+  session_both setup lines h.0 w mid next p q ran h.3,
 )
 
-pub no_bytes : (form : Form) (config : Config) (partial kept : List ℕ) (w : World) → kept ≡ take 8 partial →
-    BytesTaken form config partial [] kept (Ok false) w [] w
-no_bytes form config partial kept w is = ([], partial, is, λ ended more. refl, (refl, refl))
+pub no_bytes : (form : Form) (setup : Setup) (partial kept : List ℕ) (w : World) → kept ≡ take 8 partial →
+    BytesTaken form setup partial [] kept (Ok false) w [] w
+no_bytes form setup partial kept w is = ([], partial, is, λ ended more. refl, (refl, refl))
 
 -- where no line is to follow, or a print failed, more bytes change nothing
-pub whatever_follows : (form : Form) (config : Config) (partial a b kept : List ℕ) (w next : World) (p : List TraceEntry) →
-    BytesTaken form config partial a kept (Ok true) w p next → BytesTaken form config partial (a ++ b) kept (Ok true) w p
+pub whatever_follows : (form : Form) (setup : Setup) (partial a b kept : List ℕ) (w next : World) (p : List TraceEntry) →
+    BytesTaken form setup partial a kept (Ok true) w p next → BytesTaken form setup partial (a ++ b) kept (Ok true) w p
     next
-whatever_follows form config partial a b kept w next p h = (
+whatever_follows form setup partial a b kept w next p h = (
   h.0,
   λ ended more. ap (λ (l : List ℕ). before_quit (lines_after ended partial l)) (append_assoc a b more) ∙
       h.1 ended (b ++ more),
   h.2,
 )
 
-pub faulty_follows : (form : Form) (config : Config) (partial a b kept : List ℕ) (failed : WriteFailed) (w next : World)
-    (p : List TraceEntry) → BytesTaken form config partial a kept (Err failed) w p next →
-    BytesTaken form config partial (a ++ b) kept (Err failed) w p next
-faulty_follows form config partial a b kept failed w next p h = (
+pub faulty_follows : (form : Form) (setup : Setup) (partial a b kept : List ℕ) (failed : WriteFailed) (w next : World)
+    (p : List TraceEntry) → BytesTaken form setup partial a kept (Err failed) w p next →
+    BytesTaken form setup partial (a ++ b) kept (Err failed) w p next
+faulty_follows form setup partial a b kept failed w next p h = (
   h.0,
   λ ended more. (
     (h.1 ended (b ++ more)).0,

@@ -1,10 +1,11 @@
 -- How far a session has come, from a core to a core.
-use Rattle.std.proofs.Common.{◌≡◌, ◌≢◌, ℕ, ◌+◌, ◌<◌, inl, inr, Bool, true, false, cond, List, [], ◌∷◌, ◌++◌, length, get_or, take, drop, Option, Some, None, Result, Ok, Err, refl, sym, ap, subst, ◌∙◌, append_assoc, length-take, arith}
+use Rattle.std.proofs.Common.{◌≡◌, ◌≢◌, ℕ, ◌+◌, ◌<◌, inl, inr, Bool, true, false, cond, List, [], ◌∷◌, ◌++◌, length, map, get_or, take, drop, Option, Some, None, Result, Ok, Err, refl, sym, ap, subst, ◌∙◌, append_assoc, length-take, arith}
 use Rattle.std.proofs.KnownBytes.{Appends-nil}
-use Rattle.std.proofs.lemmas.List.{append-nil, take-append-drop, take_more}
+use Rattle.std.proofs.lemmas.List.{append-nil, map-append, take-append-drop, take_more}
 use Rattle.std.proofs.lemmas.Bool.{ne_eqb}
 use Rattle.std.specs.Io.KnownBytes.{Appends, Keeps, Consumes, IsAtEnd}
-use Rattle.mg_engine.specs.declared.config.Config.{Config}
+use Rattle.mg_clock.specs.Ticks.{ClockSeen}
+use Rattle.mg_serve.specs.Setup.{Setup}
 use Rattle.mg_engine.specs.declared.fault.StartFault.{StartFault}
 use Rattle.mg_engine.specs.declared.fault.StartFault.TheVariants as starts
 use Rattle.mg_core.specs.declared.counts.Counts.{Counts}
@@ -17,13 +18,14 @@ use Rattle.mg_lines.specs.declared.write_failed.WriteFailed.{WriteFailed}
 use Rattle.mg_lines.specs.Lines.{without_return, lines_after}
 use Rattle.mg_lines.specs.Streams.{WritesFront}
 use Rattle.mg_ports.specs.declared.call.Call.{Call}
-use Rattle.mg_serve.specs.declared.command.LineCommand.{LineCommand}
+use Rattle.mg_serve.specs.declared.command.Command.{Command}
 use Rattle.mg_serve.specs.declared.form.Form.{Form}
 use Rattle.mg_serve.specs.Lines.{LastPrints, line_command, is_quit, prints, before_quit}
 use Rattle.mg_serve.specs.Session.{Performs, Session}
-use Rattle.mg_serve.specs.Serve.{Exits, IsOutput, Opens, RanLines, ServedSession, form_of, opening}
+use Rattle.mg_serve.specs.Serve.{AreCounted, ClockCommands, ClockExits, Exits, IsOutput, Opens, ReadCommands}
+use Rattle.mg_serve.specs.Serve.{Served, ServedByClock, ServedSession, form_of, opening}
 use Rattle.mg_serve.specs.Trace.{TraceEntry, output_of}
-use Rattle.mg_serve.specs.aids.Driving.{BytesTaken, EndsBy, Finished}
+use Rattle.mg_serve.specs.aids.Driving.{BytesTaken, EndsBy, EndsByFault, Finished, RanBy, RanByClock, RanLines}
 use Rattle.mg_serve.specs.aids.Printing.{PrinterView, Prints, Puts}
 use Rattle.mg_serve.specs.aids.Outside.{Outside, LeadsByTrace, LogsTrace}
 use Rattle.mg_serve.proofs.Printing.{prints_both}
@@ -33,128 +35,128 @@ use Rattle.mg_serve.proofs.Reading.{cut_command, cut_return, plain_byte, feed_by
 
 -- ## Bytes by their index
 
-more_bytes : (config : Config) (partial a b kept new : List ℕ) (r : Result Bool WriteFailed) (old mid core : CoreState)
-    (x y z : Outside) → LeadsByTrace old mid x y (BytesTaken x.printer.form config partial a kept (Ok false)) →
-    ((left : List ℕ) → kept ≡ take 8 left → LeadsByTrace mid core y z (BytesTaken y.printer.form config left b new r)) →
-    LeadsByTrace old core x z (BytesTaken x.printer.form config partial (a ++ b) new r)
-more_bytes config partial a b kept new r old mid core x y z first second w stands =
+more_bytes : (setup : Setup) (partial a b kept new : List ℕ) (r : Result Bool WriteFailed) (old mid core : CoreState)
+    (x y z : Outside) → LeadsByTrace old mid x y (BytesTaken x.printer.form setup partial a kept (Ok false)) →
+    ((left : List ℕ) → kept ≡ take 8 left → LeadsByTrace mid core y z (BytesTaken y.printer.form setup left b new r)) →
+    LeadsByTrace old core x z (BytesTaken x.printer.form setup partial (a ++ b) new r)
+more_bytes setup partial a b kept new r old mid core x y z first second w stands =
     let (p, m, logged, h, held) = first w stands in
     let (q, next, more, k, last) = second h.1 h.2 m held in (
       p ++ q,
       next,
       tells_both x y z p q logged more,
-      bytes_then x.printer.form config partial a h.1 b new h.0 r w m next p q h.3 h.4
-          (subst (λ (f : Form). BytesTaken f config h.1 b new r m q next) logged.prints.form k),
+      bytes_then x.printer.form setup partial a h.1 b new h.0 r w m next p q h.3 h.4
+          (subst (λ (f : Form). BytesTaken f setup h.1 b new r m q next) logged.prints.form k),
       last,
     )
 
-pub bytes_start : (config : Config) (partial kept : List ℕ) (core : CoreState) (x : Outside) →
-    kept ≡ take 8 partial → LeadsByTrace core core x x (BytesTaken x.printer.form config partial [] kept (Ok false))
-bytes_start config partial kept core x is = takes_none core x (BytesTaken x.printer.form config partial [] kept (Ok false))
-    (λ w. no_bytes x.printer.form config partial kept w is)
+pub bytes_start : (setup : Setup) (partial kept : List ℕ) (core : CoreState) (x : Outside) →
+    kept ≡ take 8 partial → LeadsByTrace core core x x (BytesTaken x.printer.form setup partial [] kept (Ok false))
+bytes_start setup partial kept core x is = takes_none core x (BytesTaken x.printer.form setup partial [] kept (Ok false))
+    (λ w. no_bytes x.printer.form setup partial kept w is)
 
-takes_plain : (config : Config) (kept : List ℕ) (b : ℕ) (core : CoreState) (y : Outside) → b ≢ 10 →
+takes_plain : (setup : Setup) (kept : List ℕ) (b : ℕ) (core : CoreState) (y : Outside) → b ≢ 10 →
     (left : List ℕ) → kept ≡ take 8 left → LeadsByTrace core core y y
-    (BytesTaken y.printer.form config left (b ∷ []) (take 8 (kept ++ b ∷ [])) (Ok false))
-takes_plain config kept b core y ne left is =
-    takes_none core y (BytesTaken y.printer.form config left (b ∷ []) (take 8 (kept ++ b ∷ [])) (Ok false))
-    (λ w. subst (λ (k : List ℕ). BytesTaken y.printer.form config left (b ∷ []) (take 8 (k ++ b ∷ [])) (Ok false) w []
+    (BytesTaken y.printer.form setup left (b ∷ []) (take 8 (kept ++ b ∷ [])) (Ok false))
+takes_plain setup kept b core y ne left is =
+    takes_none core y (BytesTaken y.printer.form setup left (b ∷ []) (take 8 (kept ++ b ∷ [])) (Ok false))
+    (λ w. subst (λ (k : List ℕ). BytesTaken y.printer.form setup left (b ∷ []) (take 8 (k ++ b ∷ [])) (Ok false) w []
     w)
-    (sym is) (plain_byte y.printer.form config left b w ne))
+    (sym is) (plain_byte y.printer.form setup left b w ne))
 
 same_command : (kept left : List ℕ) → kept ≡ take 8 left →
     line_command (without_return kept) ≡ line_command (without_return left)
 same_command kept left is = ap (λ (k : List ℕ). line_command (without_return k)) is ∙ cut_return left
 
-takes_feed : (config : Config) (kept : List ℕ) (q : Bool) (mid core : CoreState) (y z : Outside) →
+takes_feed : (setup : Setup) (kept : List ℕ) (q : Bool) (mid core : CoreState) (y z : Outside) →
     q ≡ is_quit (line_command (without_return kept)) →
-    LeadsByTrace mid core y z (Performs config (line_command (without_return kept))) → (left : List ℕ) →
+    LeadsByTrace mid core y z (Performs setup (line_command (without_return kept))) → (left : List ℕ) →
     kept ≡ take 8 left →
-    LeadsByTrace mid core y z (BytesTaken y.printer.form config left (10 ∷ []) [] (Ok q))
-takes_feed config kept q mid core y z quit h left is =
+    LeadsByTrace mid core y z (BytesTaken y.printer.form setup left (10 ∷ []) [] (Ok q))
+takes_feed setup kept q mid core y z quit h left is =
     let same = same_command kept left is in
-    takes_as mid core y z (Performs config (line_command (without_return kept)))
-    (BytesTaken y.printer.form config left (10 ∷ []) [] (Ok q)) h
-    (λ w next p k. feed_byte y.printer.form config q left w next p (sym (quit ∙ ap is_quit same))
-    (subst (λ (d : LineCommand). Performs config d w p next) same k))
+    takes_as mid core y z (Performs setup (line_command (without_return kept)))
+    (BytesTaken y.printer.form setup left (10 ∷ []) [] (Ok q)) h
+    (λ w next p k. feed_byte y.printer.form setup q left w next p (sym (quit ∙ ap is_quit same))
+    (subst (λ (d : Command). Performs setup d w p next) same k))
 
-takes_fault : (config : Config) (kept new : List ℕ) (failed : WriteFailed) (mid core : CoreState)
+takes_fault : (setup : Setup) (kept new : List ℕ) (failed : WriteFailed) (mid core : CoreState)
     (y z : Outside) → y.printer.has_failed ≡ false → z.printer.has_failed ≡ true →
-    LeadsByTrace mid core y z (Performs config (line_command (without_return kept))) → (left : List ℕ) →
+    LeadsByTrace mid core y z (Performs setup (line_command (without_return kept))) → (left : List ℕ) →
     kept ≡ take 8 left →
-    LeadsByTrace mid core y z (BytesTaken y.printer.form config left (10 ∷ []) new (Err failed))
-takes_fault config kept new failed mid core y z before after h left is =
+    LeadsByTrace mid core y z (BytesTaken y.printer.form setup left (10 ∷ []) new (Err failed))
+takes_fault setup kept new failed mid core y z before after h left is =
     let same = same_command kept left is in
     let form = y.printer.form in
-    takes_seen mid core y z (Performs config (line_command (without_return kept)))
-    (BytesTaken form config left (10 ∷ []) new (Err failed)) h
+    takes_seen mid core y z (Performs setup (line_command (without_return kept)))
+    (BytesTaken form setup left (10 ∷ []) new (Err failed)) h
     (λ w next p logged k.
-    let done = subst (λ (d : LineCommand). Performs config d w p next) same k in
-    feed_fault_by form config (is_quit (line_command (without_return left))) left new failed w next p refl
-    (prints_some form config (line_command (without_return left)) w next p done
+    let done = subst (λ (d : Command). Performs setup d w p next) same k in
+    feed_fault_by form setup (is_quit (line_command (without_return left))) left new failed w next p refl
+    (prints_some form setup (line_command (without_return left)) w next p done
     (some_printed y z p before after logged)) done)
 
-pub index_plain : (config : Config) (partial bytes kept new : List ℕ) (i : ℕ) (old mid : CoreState)
+pub index_plain : (setup : Setup) (partial bytes kept new : List ℕ) (i : ℕ) (old mid : CoreState)
     (x y : Outside) → i < length bytes → get_or bytes i 0 ≢ 10 →
     new ≡ take 8 (kept ++ get_or bytes i 0 ∷ []) →
-    LeadsByTrace old mid x y (BytesTaken x.printer.form config partial (take i bytes) kept (Ok false)) →
-    LeadsByTrace old mid x y (BytesTaken x.printer.form config partial (take (i + 1) bytes) new (Ok false))
-index_plain config partial bytes kept new i old mid x y lt ne is h =
+    LeadsByTrace old mid x y (BytesTaken x.printer.form setup partial (take i bytes) kept (Ok false)) →
+    LeadsByTrace old mid x y (BytesTaken x.printer.form setup partial (take (i + 1) bytes) new (Ok false))
+index_plain setup partial bytes kept new i old mid x y lt ne is h =
     let b = get_or bytes i 0 in
-    subst (λ (l : List ℕ). LeadsByTrace old mid x y (BytesTaken x.printer.form config partial l new (Ok false)))
+    subst (λ (l : List ℕ). LeadsByTrace old mid x y (BytesTaken x.printer.form setup partial l new (Ok false)))
     (sym (take_more
     bytes i 0 lt))
     (subst (λ (k : List ℕ). LeadsByTrace old mid x y
-    (BytesTaken x.printer.form config partial (take i bytes ++ b ∷ []) k (Ok
+    (BytesTaken x.printer.form setup partial (take i bytes ++ b ∷ []) k (Ok
     false))) (sym is)
-    (more_bytes config partial (take i bytes) (b ∷ []) kept (take 8 (kept ++ b ∷ [])) (Ok false) old mid mid x y y h
-    (takes_plain config kept b mid y ne)))
+    (more_bytes setup partial (take i bytes) (b ∷ []) kept (take 8 (kept ++ b ∷ [])) (Ok false) old mid mid x y y h
+    (takes_plain setup kept b mid y ne)))
 
-pub index_feed : (config : Config) (partial bytes kept new : List ℕ) (i : ℕ) (q : Bool) (old mid core : CoreState)
+pub index_feed : (setup : Setup) (partial bytes kept new : List ℕ) (i : ℕ) (q : Bool) (old mid core : CoreState)
     (x y z : Outside) → i < length bytes → get_or bytes i 0 ≡ 10 →
-    LeadsByTrace old mid x y (BytesTaken x.printer.form config partial (take i bytes) kept (Ok false)) →
+    LeadsByTrace old mid x y (BytesTaken x.printer.form setup partial (take i bytes) kept (Ok false)) →
     q ≡ is_quit (line_command (without_return kept)) → new ≡ [] →
-    LeadsByTrace mid core y z (Performs config (line_command (without_return kept))) →
-    LeadsByTrace old core x z (BytesTaken x.printer.form config partial (take (i + 1) bytes) new (Ok q))
-index_feed config partial bytes kept new i q old mid core x y z lt feed h quit is k =
-    subst (λ (l : List ℕ). LeadsByTrace old core x z (BytesTaken x.printer.form config partial l new (Ok q)))
+    LeadsByTrace mid core y z (Performs setup (line_command (without_return kept))) →
+    LeadsByTrace old core x z (BytesTaken x.printer.form setup partial (take (i + 1) bytes) new (Ok q))
+index_feed setup partial bytes kept new i q old mid core x y z lt feed h quit is k =
+    subst (λ (l : List ℕ). LeadsByTrace old core x z (BytesTaken x.printer.form setup partial l new (Ok q)))
     (sym (take_more bytes i 0 lt ∙ ap (λ (b : ℕ). take i bytes ++ b ∷ []) feed))
     (subst (λ (l : List ℕ). LeadsByTrace old core x z
-    (BytesTaken x.printer.form config partial (take i bytes ++ 10 ∷ []) l (Ok
+    (BytesTaken x.printer.form setup partial (take i bytes ++ 10 ∷ []) l (Ok
     q))) (sym is)
-    (more_bytes config partial (take i bytes) (10 ∷ []) kept [] (Ok q) old mid core x y z h
-    (takes_feed config kept q mid core y z quit k)))
+    (more_bytes setup partial (take i bytes) (10 ∷ []) kept [] (Ok q) old mid core x y z h
+    (takes_feed setup kept q mid core y z quit k)))
 
-pub index_quit : (config : Config) (partial bytes kept new : List ℕ) (i : ℕ) (old mid core : CoreState)
+pub index_quit : (setup : Setup) (partial bytes kept new : List ℕ) (i : ℕ) (old mid core : CoreState)
     (x y z : Outside) → i < length bytes → get_or bytes i 0 ≡ 10 →
-    LeadsByTrace old mid x y (BytesTaken x.printer.form config partial (take i bytes) kept (Ok false)) →
+    LeadsByTrace old mid x y (BytesTaken x.printer.form setup partial (take i bytes) kept (Ok false)) →
     true ≡ is_quit (line_command (without_return kept)) → new ≡ [] →
-    LeadsByTrace mid core y z (Performs config (line_command (without_return kept))) →
-    LeadsByTrace old core x z (BytesTaken x.printer.form config partial bytes new (Ok true))
-index_quit config partial bytes kept new i old mid core x y z lt feed h quit is k =
-    subst (λ (l : List ℕ). LeadsByTrace old core x z (BytesTaken x.printer.form config partial l new (Ok true)))
+    LeadsByTrace mid core y z (Performs setup (line_command (without_return kept))) →
+    LeadsByTrace old core x z (BytesTaken x.printer.form setup partial bytes new (Ok true))
+index_quit setup partial bytes kept new i old mid core x y z lt feed h quit is k =
+    subst (λ (l : List ℕ). LeadsByTrace old core x z (BytesTaken x.printer.form setup partial l new (Ok true)))
     (take-append-drop (i + 1) bytes)
-    (takes_as old core x z (BytesTaken x.printer.form config partial (take (i + 1) bytes) new (Ok true))
-    (BytesTaken x.printer.form config partial (take (i + 1) bytes ++ drop (i + 1) bytes) new (Ok true))
-    (index_feed config partial bytes kept new i true old mid core x y z lt feed h quit is k)
-    (λ w next p. whatever_follows x.printer.form config partial (take (i + 1) bytes) (drop (i + 1) bytes) new w next p))
+    (takes_as old core x z (BytesTaken x.printer.form setup partial (take (i + 1) bytes) new (Ok true))
+    (BytesTaken x.printer.form setup partial (take (i + 1) bytes ++ drop (i + 1) bytes) new (Ok true))
+    (index_feed setup partial bytes kept new i true old mid core x y z lt feed h quit is k)
+    (λ w next p. whatever_follows x.printer.form setup partial (take (i + 1) bytes) (drop (i + 1) bytes) new w next p))
 
-pub index_fault : (config : Config) (partial bytes kept new : List ℕ) (i : ℕ) (failed : WriteFailed)
+pub index_fault : (setup : Setup) (partial bytes kept new : List ℕ) (i : ℕ) (failed : WriteFailed)
     (old mid core : CoreState) (x y z : Outside) → i < length bytes → get_or bytes i 0 ≡ 10 →
-    LeadsByTrace old mid x y (BytesTaken x.printer.form config partial (take i bytes) kept (Ok false)) →
+    LeadsByTrace old mid x y (BytesTaken x.printer.form setup partial (take i bytes) kept (Ok false)) →
     y.printer.has_failed ≡ false → z.printer.has_failed ≡ true →
-    LeadsByTrace mid core y z (Performs config (line_command (without_return kept))) →
-    LeadsByTrace old core x z (BytesTaken x.printer.form config partial bytes new (Err failed))
-index_fault config partial bytes kept new i failed old mid core x y z lt feed h before after k =
-    subst (λ (l : List ℕ). LeadsByTrace old core x z (BytesTaken x.printer.form config partial l new (Err failed)))
+    LeadsByTrace mid core y z (Performs setup (line_command (without_return kept))) →
+    LeadsByTrace old core x z (BytesTaken x.printer.form setup partial bytes new (Err failed))
+index_fault setup partial bytes kept new i failed old mid core x y z lt feed h before after k =
+    subst (λ (l : List ℕ). LeadsByTrace old core x z (BytesTaken x.printer.form setup partial l new (Err failed)))
     (take-append-drop (i + 1) bytes)
-    (takes_as old core x z (BytesTaken x.printer.form config partial (take (i + 1) bytes) new (Err failed))
-    (BytesTaken x.printer.form config partial (take (i + 1) bytes ++ drop (i + 1) bytes) new (Err failed))
-    (subst (λ (l : List ℕ). LeadsByTrace old core x z (BytesTaken x.printer.form config partial l new (Err failed)))
+    (takes_as old core x z (BytesTaken x.printer.form setup partial (take (i + 1) bytes) new (Err failed))
+    (BytesTaken x.printer.form setup partial (take (i + 1) bytes ++ drop (i + 1) bytes) new (Err failed))
+    (subst (λ (l : List ℕ). LeadsByTrace old core x z (BytesTaken x.printer.form setup partial l new (Err failed)))
     (sym (take_more bytes i 0 lt ∙ ap (λ (b : ℕ). take i bytes ++ b ∷ []) feed))
-    (more_bytes config partial (take i bytes) (10 ∷ []) kept new (Err failed) old mid core x y z h
-    (takes_fault config kept new failed mid core y z before after k)))
-    (λ w next p. faulty_follows x.printer.form config partial (take (i + 1) bytes) (drop (i + 1) bytes) new failed w next
+    (more_bytes setup partial (take i bytes) (10 ∷ []) kept new (Err failed) old mid core x y z h
+    (takes_fault setup kept new failed mid core y z before after k)))
+    (λ w next p. faulty_follows x.printer.form setup partial (take (i + 1) bytes) (drop (i + 1) bytes) new failed w next
     p))
 
 -- ## What was read
@@ -176,25 +178,25 @@ consumes_none None = tt
 consumes_none (Some i) = refl
 
 -- a text was read, and its bytes were taken
-abbrev pub Read : Form → Config → Option (List ℕ) → Option (List ℕ) → List ℕ → Result Bool WriteFailed → World → List
+abbrev pub Read : Form → Setup → Option (List ℕ) → Option (List ℕ) → List ℕ → Result Bool WriteFailed → World → List
     TraceEntry →
     World → Type 0
-Read form config i k kept r w trace next = (text : List ℕ) × Consumes i k text ×
-    BytesTaken form config [] text kept r w trace next
+Read form setup i k kept r w trace next = (text : List ℕ) × Consumes i k text ×
+    BytesTaken form setup [] text kept r w trace next
 
-pub read_start : (config : Config) (i : Option (List ℕ)) (kept : List ℕ) (core : CoreState) (x : Outside) →
-    kept ≡ [] → LeadsByTrace core core x x (Read x.printer.form config i i kept (Ok false))
-read_start config i kept core x is = takes_none core x (Read x.printer.form config i i kept (Ok false))
-    (λ w. ([], consumes_none i, no_bytes x.printer.form config [] kept w is))
+pub read_start : (setup : Setup) (i : Option (List ℕ)) (kept : List ℕ) (core : CoreState) (x : Outside) →
+    kept ≡ [] → LeadsByTrace core core x x (Read x.printer.form setup i i kept (Ok false))
+read_start setup i kept core x is = takes_none core x (Read x.printer.form setup i i kept (Ok false))
+    (λ w. ([], consumes_none i, no_bytes x.printer.form setup [] kept w is))
 
-pub read_more : (config : Config) (i j k : Option (List ℕ)) (b kept new : List ℕ) (r : Result Bool WriteFailed)
+pub read_more : (setup : Setup) (i j k : Option (List ℕ)) (b kept new : List ℕ) (r : Result Bool WriteFailed)
     (old mid core : CoreState) (x y z : Outside) →
-    LeadsByTrace old mid x y (Read x.printer.form config i j kept (Ok false)) →
+    LeadsByTrace old mid x y (Read x.printer.form setup i j kept (Ok false)) →
     Consumes j k b → ((left : List ℕ) → kept ≡ take 8 left →
-    LeadsByTrace mid core y z (BytesTaken y.printer.form config left
+    LeadsByTrace mid core y z (BytesTaken y.printer.form setup left
     b new r)) →
-    LeadsByTrace old core x z (Read x.printer.form config i k new r)
-read_more config i j k b kept new r old mid core x y z first eaten second w stands =
+    LeadsByTrace old core x z (Read x.printer.form setup i k new r)
+read_more setup i j k b kept new r old mid core x y z first eaten second w stands =
     let (p, m, logged, h, held) = first w stands in
     let t = h.2 in
     let (q, next, more, l, last) = second t.1 t.2 m held in (
@@ -204,8 +206,8 @@ read_more config i j k b kept new r old mid core x y z first eaten second w stan
       (
         h.0 ++ b,
         consumes_then i j k h.0 b h.1 eaten,
-        bytes_then x.printer.form config [] h.0 t.1 b new t.0 r w m next p q t.3 t.4
-            (subst (λ (f : Form). BytesTaken f config t.1 b new r m q next) logged.prints.form l),
+        bytes_then x.printer.form setup [] h.0 t.1 b new t.0 r w m next p q t.3 t.4
+            (subst (λ (f : Form). BytesTaken f setup t.1 b new r m q next) logged.prints.form l),
       ),
       last,
     )
@@ -227,226 +229,270 @@ nothing_left left = ap before_quit (unfinished left) ∙ no_more
 abbrev done : Result (Unit {0}) RunFault
 done = Ok tt
 
-ends_by_quit : (form : Form) (config : Config) (i k : Option (List ℕ)) (kept : List ℕ) (w next : World) (p : List TraceEntry) →
-    Read form config i k kept (Ok true) w p next → RanLines form config i k done w p next
-ends_by_quit form config i k kept w next p h =
-    let t = h.2 in
-    record {
-      text = h.0;
-      ended = false;
-      lines = t.0;
-      others = [];
-      consumed = h.1;
-      counted = at_nil false h.0 ∙
-          t.1 false [] ∙ sym (append-nil t.0);
-      session = t.2;
-      exits = (refl, inr (λ more. t.1 true more));
-    }
+ends_by_quit : (form : Form) (setup : Setup) (i k : Option (List ℕ)) (kept : List ℕ) (w next : World) (p : List TraceEntry) →
+    Read form setup i k kept (Ok true) w p next → RanLines form setup i k done w p next
+ends_by_quit form setup i k kept w next p h =
+    let t = h.2 in (
+      map line_command t.0,
+      record {
+        text = h.0;
+        ended = false;
+        lines = t.0;
+        others = [];
+        consumed = h.1;
+        counted = at_nil false h.0 ∙ t.1 false [] ∙ sym (append-nil t.0);
+        are = refl;
+        exits = (refl, inr (λ more. t.1 true more));
+      },
+      t.2,
+    )
 
 abbrev failed_by : RunFault → Result (Unit {0}) RunFault
 failed_by fault = Err fault
 
-ends_by_write : (form : Form) (config : Config) (i k : Option (List ℕ)) (kept : List ℕ) (failed : WriteFailed) (w next
-    : World)
-    (p : List TraceEntry) → Read form config i k kept (Err failed) w p next → RanLines form config i k (failed_by
-    faults.Write) w p next
-ends_by_write form config i k kept failed w next p h =
-    let t = h.2 in
-    record {
-      text = h.0;
-      ended = false;
-      lines = t.0;
-      others = (t.1 false []).0;
-      consumed = h.1;
-      counted = at_nil false h.0 ∙ (t.1 false []).1;
-      session = t.3;
-      exits = inr t.2;
-    }
+ends_by_write : (form : Form) (setup : Setup) (i k : Option (List ℕ)) (kept : List ℕ) (failed : WriteFailed)
+    (w next : World) (p : List TraceEntry) → Read form setup i k kept (Err failed) w p next →
+    RanLines form setup i k (failed_by faults.Write) w p next
+ends_by_write form setup i k kept failed w next p h =
+    let t = h.2 in (
+      map line_command t.0,
+      record {
+        text = h.0;
+        ended = false;
+        lines = t.0;
+        others = (t.1 false []).0;
+        consumed = h.1;
+        counted = at_nil false h.0 ∙ (t.1 false []).1;
+        are = refl;
+        exits = inr t.2;
+      },
+      t.3,
+    )
 
-ends_by_read : (form : Form) (config : Config) (i j k : Option (List ℕ)) (kept : List ℕ) (w next : World) (p : List
-    TraceEntry) →
-    Keeps j k → Read form config i j kept (Ok false) w p next → RanLines form config i k (failed_by faults.Read) w p
-    next
-ends_by_read form config i j k kept w next p same h =
-    let t = h.2 in
-    record {
-      text = h.0;
-      ended = false;
-      lines = t.0;
-      others = [];
-      consumed = consumes_keeps i j k h.0 h.1 same;
-      counted = at_nil false h.0 ∙ t.3 false [] ∙
-          ap (λ (l : List (List ℕ)). t.0 ++ l) (nothing_left t.1);
-      session = t.4;
-      exits = (refl, refl);
-    }
+ends_by_read : (form : Form) (setup : Setup) (i j k : Option (List ℕ)) (kept : List ℕ) (w next : World)
+    (p : List TraceEntry) → Keeps j k → Read form setup i j kept (Ok false) w p next →
+    RanLines form setup i k (failed_by faults.Read) w p next
+ends_by_read form setup i j k kept w next p same h =
+    let t = h.2 in (
+      map line_command t.0,
+      record {
+        text = h.0;
+        ended = false;
+        lines = t.0;
+        others = [];
+        consumed = consumes_keeps i j k h.0 h.1 same;
+        counted = at_nil false h.0 ∙ t.3 false [] ∙ ap (λ (l : List (List ℕ)). t.0 ++ l) (nothing_left t.1);
+        are = refl;
+        exits = (refl, refl);
+      },
+      t.4,
+    )
 
 no_line : before_quit (lines_after true [] []) ≡ []
 unfolding lines_after before_quit
 no_line = refl
 
-last_by : (config : Config) (q : Bool) (line : List ℕ) (w next : World) (p : List TraceEntry) →
-    is_quit (line_command line) ≡ q → Performs config (line_command line) w p next →
-    Session config (cond q [] (line ∷ [])) w p next
-last_by config false line w next p is h = line_done config line w next p h
-last_by config true line w next p is h = quit_idle config (line_command line) w next p is h
+last_by : (setup : Setup) (q : Bool) (line : List ℕ) (w next : World) (p : List TraceEntry) →
+    is_quit (line_command line) ≡ q → Performs setup (line_command line) w p next →
+    Session setup (map line_command (cond q [] (line ∷ []))) w p next
+last_by setup false line w next p is h = line_done setup line w next p h
+last_by setup true line w next p is h = quit_idle setup (line_command line) w next p is h
 
-last_done : (config : Config) (kept left : List ℕ) (w next : World) (p : List TraceEntry) → kept ≡ take 8 left →
-    Finished config kept w p next → Session config (before_quit (lines_after true left [])) w p next
-last_done config [] [] w next p is h = subst (λ (l : List (List ℕ)). Session config l w p next) (sym no_line) h
-last_done config [] (x ∷ xs) w next p is h = absurd (omega (arith, ap length is, length-take 8 (x ∷ xs)))
-last_done config (b ∷ bs) [] w next p is h = absurd (omega (arith, ap length is))
-last_done config (b ∷ bs) (x ∷ xs) w next p is h =
+last_done : (setup : Setup) (kept left : List ℕ) (w next : World) (p : List TraceEntry) → kept ≡ take 8 left →
+    Finished setup kept w p next → Session setup (map line_command (before_quit (lines_after true left []))) w p next
+last_done setup [] [] w next p is h =
+    subst (λ (l : List (List ℕ)). Session setup (map line_command l) w p next) (sym no_line) h
+last_done setup [] (x ∷ xs) w next p is h = absurd (omega (arith, ap length is, length-take 8 (x ∷ xs)))
+last_done setup (b ∷ bs) [] w next p is h = absurd (omega (arith, ap length is))
+last_done setup (b ∷ bs) (x ∷ xs) w next p is h =
     let line = x ∷ xs in
     let quit = is_quit (line_command line) in
     let same : line_command (b ∷ bs) ≡ line_command line = ap line_command is ∙ cut_command line in
     let lines : before_quit (lines_after true line []) ≡ cond quit [] (line ∷ []) =
     ap before_quit (last_line x xs) ∙ first_line quit line [] refl ∙
     ap (λ (l : List (List ℕ)). cond quit [] (line ∷ l)) no_more in
-    subst (λ (l : List (List ℕ)). Session config l w p next) (sym lines)
-    (last_by config quit line w next p refl (subst (λ (d : LineCommand). Performs config d w p next) same h))
+    subst (λ (l : List (List ℕ)). Session setup (map line_command l) w p next) (sym lines)
+    (last_by setup quit line w next p refl (subst (λ (d : Command). Performs setup d w p next) same h))
 
 last_prints : (form : Form) (kept left : List ℕ) (lines : List (List ℕ)) → kept ≡ take 8 left →
     (0 < length kept) × (prints form (line_command kept) ≡ true) →
-    LastPrints form (lines ++ before_quit (lines_after true left []))
+    LastPrints form (map line_command (lines ++ before_quit (lines_after true left [])))
 last_prints form kept left lines is some =
     let stands = last_stands form kept left is some.0 some.1 in
-    record { front = lines; line = left; is = ap (λ (l : List (List ℕ)). lines ++ l) stands.0; printed = stands.1 }
+    record {
+      front = map line_command lines;
+      command = line_command left;
+      is = ap (λ (l : List (List ℕ)). map line_command (lines ++ l)) stands.0 ∙
+          map-append line_command lines (left ∷ []);
+      printed = stands.1;
+    }
 
 -- the input has ended
-ends_at_end : (form : Form) (config : Config) (i j k : Option (List ℕ)) (kept : List ℕ)
+ends_at_end : (form : Form) (setup : Setup) (i j k : Option (List ℕ)) (kept : List ℕ)
     (r : Result (Unit {0}) RunFault) (w mid next : World) (p q : List TraceEntry) → Keeps j k →
     ((text : List ℕ) (lines : List (List ℕ)) (left : List ℕ) → kept ≡ take 8 left →
     Exits form r true text (lines ++ before_quit (lines_after true left [])) [] k) →
-    Read form config i j kept (Ok false) w p mid → Finished config kept mid q next →
-    RanLines form config i k r w (p ++ q) next
-ends_at_end form config i j k kept r w mid next p q same exits h last =
+    Read form setup i j kept (Ok false) w p mid → Finished setup kept mid q next →
+    RanLines form setup i k r w (p ++ q) next
+ends_at_end form setup i j k kept r w mid next p q same exits h last =
     let t = h.2 in
-    let lines = t.0 ++ before_quit (lines_after true t.1 []) in
-    record {
-      text = h.0;
-      ended = true;
-      lines = lines;
-      others = [];
-      consumed = consumes_keeps i j k h.0 h.1 same;
-      counted = at_nil true h.0 ∙ t.3 true [] ∙ sym (append-nil lines);
-      session = session_both config t.0 (before_quit (lines_after true t.1 [])) w mid next p q t.4
-          (last_done config kept t.1 mid next q t.2 last);
-      exits = exits h.0 t.0 t.1 t.2;
-    }
+    let lines = t.0 ++ before_quit (lines_after true t.1 []) in (
+      map line_command lines,
+      record {
+        text = h.0;
+        ended = true;
+        lines = lines;
+        others = [];
+        consumed = consumes_keeps i j k h.0 h.1 same;
+        counted = at_nil true h.0 ∙ t.3 true [] ∙ sym (append-nil lines);
+        are = refl;
+        exits = exits h.0 t.0 t.1 t.2;
+      },
+      session_both setup t.0 (before_quit (lines_after true t.1 [])) w mid next p q t.4
+          (last_done setup kept t.1 mid next q t.2 last),
+    )
 
-pub takes_end : (config : Config) (i j k : Option (List ℕ)) (kept : List ℕ)
+pub takes_end : (setup : Setup) (i j k : Option (List ℕ)) (kept : List ℕ)
     (old mid core : CoreState) (x y z : Outside) →
-    LeadsByTrace old mid x y (Read x.printer.form config i j kept (Ok false)) →
-    Keeps j k × IsAtEnd k → LeadsByTrace mid core y z (Finished config kept) →
-    LeadsByTrace old core x z (RanLines x.printer.form config i k done)
-takes_end config i j k kept old mid core x y z first end last =
+    LeadsByTrace old mid x y (Read x.printer.form setup i j kept (Ok false)) →
+    Keeps j k × IsAtEnd k → LeadsByTrace mid core y z (Finished setup kept) →
+    LeadsByTrace old core x z (RanLines x.printer.form setup i k done)
+takes_end setup i j k kept old mid core x y z first end last =
     let form = x.printer.form in
-    takes_then old mid core x y z (Read form config i j kept (Ok false)) (Finished config kept)
-    (RanLines form config i k done) first last
-    (λ w m next p q h l. ends_at_end form config i j k kept done w m next p q end.0
+    takes_then old mid core x y z (Read form setup i j kept (Ok false)) (Finished setup kept)
+    (RanLines form setup i k done) first last
+    (λ w m next p q h l. ends_at_end form setup i j k kept done w m next p q end.0
     (λ text lines left is. (refl, inl (refl, end.1))) h l)
 
 -- and a print of the last line failed
-pub takes_end_fault : (config : Config) (i j k : Option (List ℕ)) (kept : List ℕ)
+pub takes_end_fault : (setup : Setup) (i j k : Option (List ℕ)) (kept : List ℕ)
     (old mid core : CoreState) (x y z : Outside) →
-    LeadsByTrace old mid x y (Read x.printer.form config i j kept (Ok false)) →
+    LeadsByTrace old mid x y (Read x.printer.form setup i j kept (Ok false)) →
     Keeps j k × IsAtEnd k → y.printer.has_failed ≡ false → z.printer.has_failed ≡ true →
-    LeadsByTrace mid core y z (Finished config kept) →
-    LeadsByTrace old core x z (RanLines x.printer.form config i k (failed_by faults.Write))
-takes_end_fault config i j k kept old mid core x y z first end before after last =
+    LeadsByTrace mid core y z (Finished setup kept) →
+    LeadsByTrace old core x z (RanLines x.printer.form setup i k (failed_by faults.Write))
+takes_end_fault setup i j k kept old mid core x y z first end before after last =
     let form = x.printer.form in
-    takes_joined old mid core x y z (Read form config i j kept (Ok false)) (Finished config kept)
-    (RanLines form config i k (failed_by faults.Write)) first last
+    takes_joined old mid core x y z (Read form setup i j kept (Ok false)) (Finished setup kept)
+    (RanLines form setup i k (failed_by faults.Write)) first last
     (λ w m next p q logged more h l.
     let some = subst (λ (f : Form). output_of f q ≢ []) logged.prints.form (some_printed y z q before after more) in
-    ends_at_end form config i j k kept (failed_by faults.Write) w m next p q end.0
-    (λ text lines left is. inr (last_prints form kept left lines is (finished_prints form config kept m next q l some)))
+    ends_at_end form setup i j k kept (failed_by faults.Write) w m next p q end.0
+    (λ text lines left is. inr (last_prints form kept left lines is (finished_prints form setup kept m next q l some)))
     h l)
 
-pub takes_quit : (config : Config) (i k : Option (List ℕ)) (kept : List ℕ) (old core : CoreState)
-    (x z : Outside) → LeadsByTrace old core x z (Read x.printer.form config i k kept (Ok true)) →
-    LeadsByTrace old core x z (RanLines x.printer.form config i k done)
-takes_quit config i k kept old core x z h =
-    takes_as old core x z (Read x.printer.form config i k kept (Ok true)) (RanLines x.printer.form config i k done) h
-    (ends_by_quit x.printer.form config i k kept)
+pub takes_quit : (setup : Setup) (i k : Option (List ℕ)) (kept : List ℕ) (old core : CoreState)
+    (x z : Outside) → LeadsByTrace old core x z (Read x.printer.form setup i k kept (Ok true)) →
+    LeadsByTrace old core x z (RanLines x.printer.form setup i k done)
+takes_quit setup i k kept old core x z h =
+    takes_as old core x z (Read x.printer.form setup i k kept (Ok true)) (RanLines x.printer.form setup i k done) h
+    (ends_by_quit x.printer.form setup i k kept)
 
-pub takes_broken : (config : Config) (i k : Option (List ℕ)) (kept : List ℕ) (failed : WriteFailed)
+pub takes_broken : (setup : Setup) (i k : Option (List ℕ)) (kept : List ℕ) (failed : WriteFailed)
     (old core : CoreState) (x z : Outside) →
-    LeadsByTrace old core x z (Read x.printer.form config i k kept (Err failed)) →
-    LeadsByTrace old core x z (RanLines x.printer.form config i k (failed_by faults.Write))
-takes_broken config i k kept failed old core x z h =
-    takes_as old core x z (Read x.printer.form config i k kept (Err failed)) (RanLines x.printer.form config i k
+    LeadsByTrace old core x z (Read x.printer.form setup i k kept (Err failed)) →
+    LeadsByTrace old core x z (RanLines x.printer.form setup i k (failed_by faults.Write))
+takes_broken setup i k kept failed old core x z h =
+    takes_as old core x z (Read x.printer.form setup i k kept (Err failed)) (RanLines x.printer.form setup i k
     (failed_by faults.Write)) h
-    (ends_by_write x.printer.form config i k kept failed)
+    (ends_by_write x.printer.form setup i k kept failed)
 
-pub takes_unread : (config : Config) (i j k : Option (List ℕ)) (kept : List ℕ) (old mid : CoreState)
-    (x y : Outside) → Keeps j k → LeadsByTrace old mid x y (Read x.printer.form config i j kept (Ok false)) →
-    LeadsByTrace old mid x y (RanLines x.printer.form config i k (failed_by faults.Read))
-takes_unread config i j k kept old mid x y same h =
-    takes_as old mid x y (Read x.printer.form config i j kept (Ok false)) (RanLines x.printer.form config i k
+pub takes_unread : (setup : Setup) (i j k : Option (List ℕ)) (kept : List ℕ) (old mid : CoreState)
+    (x y : Outside) → Keeps j k → LeadsByTrace old mid x y (Read x.printer.form setup i j kept (Ok false)) →
+    LeadsByTrace old mid x y (RanLines x.printer.form setup i k (failed_by faults.Read))
+takes_unread setup i j k kept old mid x y same h =
+    takes_as old mid x y (Read x.printer.form setup i j kept (Ok false)) (RanLines x.printer.form setup i k
     (failed_by faults.Read)) h
-    (λ w next p. ends_by_read x.printer.form config i j k kept w next p same)
+    (λ w next p. ends_by_read x.printer.form setup i j k kept w next p same)
 
 keeps_same : (i : Option (List ℕ)) → Keeps i i
 keeps_same None = tt
 keeps_same (Some i) = refl
 
 -- too many reads
-pub takes_enough : (config : Config) (i j : Option (List ℕ)) (kept : List ℕ) (old mid : CoreState)
-    (x y : Outside) → LeadsByTrace old mid x y (Read x.printer.form config i j kept (Ok false)) →
-    LeadsByTrace old mid x y (RanLines x.printer.form config i j (failed_by faults.Read))
-takes_enough config i j kept old mid x y h = takes_unread config i j j kept old mid x y (keeps_same j) h
+pub takes_enough : (setup : Setup) (i j : Option (List ℕ)) (kept : List ℕ) (old mid : CoreState)
+    (x y : Outside) → LeadsByTrace old mid x y (Read x.printer.form setup i j kept (Ok false)) →
+    LeadsByTrace old mid x y (RanLines x.printer.form setup i j (failed_by faults.Read))
+takes_enough setup i j kept old mid x y h = takes_unread setup i j j kept old mid x y (keeps_same j) h
 
 -- ## The whole run
 
 abbrev ended_by : RunFault → Result Counts RunFault
 ended_by fault = Err fault
 
--- nothing was read and no line was done
-idle_lines : (form : Form) (config : Config) (i : Option (List ℕ)) (fault : RunFault) →
-    Exits form (ended_by fault) false [] [] [] i → RanLines form config i i (ended_by fault) (start_of config) []
-    (start_of config)
-idle_lines form config i fault exits = record {
+-- nothing was read
+no_lines : (form : Form) (i : Option (List ℕ)) (fault : RunFault) →
+    Exits form (ended_by fault) false [] [] [] i → ReadCommands form i i (ended_by fault) []
+no_lines form i fault exits = record {
   text = [];
   ended = false;
   lines = [];
   others = [];
   consumed = consumes_none i;
   counted = nothing_left [];
-  session = (refl, refl);
+  are = refl;
   exits = exits;
 }
 
+-- no tick began
+no_ticks : (form : Form) (allowed : ℕ) (clock : ClockSeen) (fails : Type 0) (fault : RunFault) →
+    ClockExits form fault fails [] [] clock clock → ClockCommands form allowed clock clock fails fault []
+no_ticks form allowed clock fails fault exits =
+    record { timings = []; now = clock; begin = refl; exits = exits }
+
 -- nothing was done
-serves_nothing : (config : Config) (title i : Option (List ℕ)) (x : Option (List Call)) (held : Option (List ℕ))
-    (fault : RunFault) → Opens title (ended_by fault) [] →
-    IsOutput (ended_by fault) [] held held → Exits (form_of title) (ended_by fault) false [] [] [] i →
-    ServedSession config title i i x x held held (ended_by fault)
-serves_nothing config title i x held fault opens printed exits = record {
+serves_nothing : (setup : Setup) (title : Option (List ℕ)) (Gave : List Command → Type 0) (x : Option (List Call))
+    (held : Option (List ℕ)) (fault : RunFault) → Opens title (ended_by fault) [] →
+    IsOutput (ended_by fault) [] held held → Gave [] → Served setup title Gave x x held held (ended_by fault)
+serves_nothing setup title Gave x held fault opens printed gave = record {
   first = [];
+  commands = [];
   trace = [];
-  last = start_of config;
+  last = start_of setup.config;
   opens = opens;
+  gave = gave;
+  session = (refl, refl);
   logs = told_none x;
   printed = printed;
-  ran = idle_lines (form_of title) config i fault exits;
   counts = tt;
 }
 
-pub no_memory : (config : Config) (title i : Option (List ℕ)) (x : Option (List Call)) (held : Option (List ℕ)) →
-    ServedSession config title i i x x held held (ended_by faults.NoMemory)
-no_memory config title i x held = serves_nothing config title i x held faults.NoMemory refl (Appends-nil held) refl
+pub no_memory : (setup : Setup) (title i : Option (List ℕ)) (x : Option (List Call)) (held : Option (List ℕ)) →
+    ServedSession setup title i i x x held held (ended_by faults.NoMemory)
+no_memory setup title i x held =
+    serves_nothing setup title (ReadCommands (form_of title) i i (ended_by faults.NoMemory)) x held faults.NoMemory refl
+    (Appends-nil held) (no_lines (form_of title) i faults.NoMemory (refl, refl))
 
-pub not_started : (config : Config) (title i : Option (List ℕ)) (x : Option (List Call)) (held : Option (List ℕ))
+pub no_memory_by_clock : (setup : Setup) (title : Option (List ℕ)) (allowed : ℕ) (clock : ClockSeen) (fails : Type 0)
+    (x : Option (List Call)) (held : Option (List ℕ)) →
+    ServedByClock setup title allowed clock clock fails x x held held faults.NoMemory
+no_memory_by_clock setup title allowed clock fails x held =
+    serves_nothing setup title (ClockCommands (form_of title) allowed clock clock fails faults.NoMemory) x held
+    faults.NoMemory refl (Appends-nil held)
+    (no_ticks (form_of title) allowed clock fails faults.NoMemory (refl, refl, refl))
+
+pub not_started : (setup : Setup) (title i : Option (List ℕ)) (x : Option (List Call)) (held : Option (List ℕ))
     (start : StartFault) (fault : RunFault) → fault ≡ run_fault_at_start start →
-    ServedSession config title i i x x held held (ended_by fault)
-not_started config title i x held starts.BadConfig fault is =
-    subst (λ (f : RunFault). ServedSession config title i i x x held held (ended_by f)) (sym is)
-    (serves_nothing config title i x held faults.BadConfig refl (Appends-nil held) refl)
-not_started config title i x held starts.NoMemory fault is =
-    subst (λ (f : RunFault). ServedSession config title i i x x held held (ended_by f)) (sym is)
-    (no_memory config title i x held)
+    ServedSession setup title i i x x held held (ended_by fault)
+not_started setup title i x held starts.BadConfig fault is =
+    subst (λ (f : RunFault). ServedSession setup title i i x x held held (ended_by f)) (sym is)
+    (serves_nothing setup title (ReadCommands (form_of title) i i (ended_by faults.BadConfig)) x held faults.BadConfig
+    refl (Appends-nil held) (no_lines (form_of title) i faults.BadConfig (refl, refl)))
+not_started setup title i x held starts.NoMemory fault is =
+    subst (λ (f : RunFault). ServedSession setup title i i x x held held (ended_by f)) (sym is)
+    (no_memory setup title i x held)
+
+pub not_started_by_clock : (setup : Setup) (title : Option (List ℕ)) (allowed : ℕ) (clock : ClockSeen)
+    (fails : Type 0) (x : Option (List Call)) (held : Option (List ℕ)) (start : StartFault) (fault : RunFault) →
+    fault ≡ run_fault_at_start start → ServedByClock setup title allowed clock clock fails x x held held fault
+not_started_by_clock setup title allowed clock fails x held starts.BadConfig fault is =
+    subst (λ (f : RunFault). ServedByClock setup title allowed clock clock fails x x held held f) (sym is)
+    (serves_nothing setup title (ClockCommands (form_of title) allowed clock clock fails faults.BadConfig) x held
+    faults.BadConfig refl (Appends-nil held)
+    (no_ticks (form_of title) allowed clock fails faults.BadConfig (refl, refl, refl)))
+not_started_by_clock setup title allowed clock fails x held starts.NoMemory fault is =
+    subst (λ (f : RunFault). ServedByClock setup title allowed clock clock fails x x held held f) (sym is)
+    (no_memory_by_clock setup title allowed clock fails x held)
 
 -- what was printed, by whether a print failed
 all_put : (a b : Bool) (text : List ℕ) (x y : Option (List ℕ)) → a ≡ false → b ≡ false → Puts a b text x y →
@@ -469,27 +515,44 @@ new_printer form = record { form = form; has_failed = false }
 abbrev pub Opened : Option (List ℕ) → PrinterView → PrinterView → Option (List ℕ) → Option (List ℕ) → Type 0
 Opened title a b held now = (a ≡ new_printer (form_of title)) × Prints a b held now (opening title)
 
-pub not_opened : (config : Config) (title i : Option (List ℕ)) (x : Option (List Call)) (a b : PrinterView)
-    (held now : Option (List ℕ)) → Opened title a b held now → b.has_failed ≡ true →
-    ServedSession config title i i x x held now (ended_by faults.Write)
-not_opened config title i x a b held now opened failed =
+-- the start couldn't be printed
+opens_not : (setup : Setup) (title : Option (List ℕ)) (Gave : List Command → Type 0) (x : Option (List Call))
+    (a b : PrinterView) (held now : Option (List ℕ)) → Opened title a b held now → b.has_failed ≡ true → Gave [] →
+    Served setup title Gave x x held now (ended_by faults.Write)
+opens_not setup title Gave x a b held now opened failed gave =
     let h = opened.1 in
     let view = opened.0 in
     let put = subst (λ (f : Form). Puts a.has_failed b.has_failed (output_of f (opening title)) held now)
     (ap (λ (v : PrinterView). v.form) view) h.puts in
     record {
       first = opening title;
+      commands = [];
       trace = [];
-      last = start_of config;
+      last = start_of setup.config;
       opens = refl;
+      gave = gave;
+      session = (refl, refl);
       logs = told_none x;
       printed = front_put a.has_failed b.has_failed (output_of (form_of title) (opening title ++ [])) held now
           (ap (λ (v : PrinterView). v.has_failed) view) failed
           (subst (λ (l : List TraceEntry). Puts a.has_failed b.has_failed (output_of (form_of title) l) held now)
           (sym (append-nil (opening title))) put);
-      ran = idle_lines (form_of title) config i faults.Write (inl refl);
       counts = tt;
     }
+
+pub not_opened : (setup : Setup) (title i : Option (List ℕ)) (x : Option (List Call)) (a b : PrinterView)
+    (held now : Option (List ℕ)) → Opened title a b held now → b.has_failed ≡ true →
+    ServedSession setup title i i x x held now (ended_by faults.Write)
+not_opened setup title i x a b held now opened failed =
+    opens_not setup title (ReadCommands (form_of title) i i (ended_by faults.Write)) x a b held now opened failed
+    (no_lines (form_of title) i faults.Write (inl (refl, refl)))
+
+pub not_opened_by_clock : (setup : Setup) (title : Option (List ℕ)) (allowed : ℕ) (clock : ClockSeen) (fails : Type 0)
+    (x : Option (List Call)) (a b : PrinterView) (held now : Option (List ℕ)) → Opened title a b held now →
+    b.has_failed ≡ true → ServedByClock setup title allowed clock clock fails x x held now faults.Write
+not_opened_by_clock setup title allowed clock fails x a b held now opened failed =
+    opens_not setup title (ClockCommands (form_of title) allowed clock clock fails faults.Write) x a b held now opened
+    failed (no_ticks (form_of title) allowed clock fails faults.Write (refl, inl (refl, refl)))
 
 -- what was printed in all
 all_printed : (title : Option (List ℕ)) (a : PrinterView) (held : Option (List ℕ)) (x z : Outside) (p : List TraceEntry) →
@@ -504,93 +567,125 @@ opened_form : (title : Option (List ℕ)) (a b : PrinterView) (held now : Option
     b.form ≡ form_of title
 opened_form title a b held now opened = opened.1.form ∙ ap (λ (v : PrinterView). v.form) opened.0
 
-ran_ok : (counts : Counts) (form : Form) (config : Config) (i k : Option (List ℕ)) (w next : World) (p : List TraceEntry) →
-    RanLines form config i k done w p next → RanLines {T = Counts} form config i k (Ok counts) w p next
-ran_ok counts form config i k w next p h = record {
-  text = h.text;
-  ended = h.ended;
-  lines = h.lines;
-  others = h.others;
-  consumed = h.consumed;
-  counted = h.counted;
-  session = h.session;
-  exits = h.exits;
-}
-
-ran_err : (form : Form) (fault : RunFault) (config : Config) (i k : Option (List ℕ)) (w next : World) (p : List TraceEntry) →
-    ((text : List ℕ) (ended : Bool) (lines others : List (List ℕ)) →
-    Exits form (failed_by fault) ended text lines others k → Exits form (ended_by fault) ended text lines others k) →
-    RanLines form config i k (failed_by fault) w p next → RanLines form config i k (ended_by fault) w p next
-ran_err form fault config i k w next p same h = record {
-  text = h.text;
-  ended = h.ended;
-  lines = h.lines;
-  others = h.others;
-  consumed = h.consumed;
-  counted = h.counted;
-  session = h.session;
-  exits = same h.text h.ended h.lines h.others h.exits;
-}
-
-pub served_ok : (counts : Counts) (config : Config) (title i k : Option (List ℕ)) (old core : CoreState)
-    (a : PrinterView) (held : Option (List ℕ)) (x z : Outside) → StandsFor old (start_of config) →
-    Opened title a x.printer held x.written → EndsBy done z.printer.has_failed →
-    LeadsByTrace old core x z (RanLines x.printer.form config i k done) →
-    ((w : World) → StandsFor core w → record counts { lines = 0; sent = 0; failed = 0 } ≡ counts_of w.tally) →
-    ServedSession config title i k x.calls z.calls held z.written (Ok counts)
-served_ok counts config title i k old core a held x z stands opened ends h counted =
-    let (p, next, logged, ran, after) = h (start_of config) stands in
+-- a run whose commands were done
+served_by : (setup : Setup) (title : Option (List ℕ)) (Gave : Form → List Command → Type 0)
+    (result : Result Counts RunFault) (old core : CoreState) (a : PrinterView) (held : Option (List ℕ))
+    (x z : Outside) → StandsFor old (start_of setup.config) → Opened title a x.printer held x.written →
+    Opens title result (opening title) →
+    ((text : List ℕ) → Puts false z.printer.has_failed text held z.written → IsOutput result text held z.written) →
+    ((w : World) → StandsFor core w → AreCounted result w) →
+    LeadsByTrace old core x z (RanBy setup (Gave x.printer.form)) →
+    Served setup title (Gave (form_of title)) x.calls z.calls held z.written result
+served_by setup title Gave result old core a held x z stands opened opens output counted h =
+    let (p, next, logged, ran, after) = h (start_of setup.config) stands in
     let form = opened_form title a x.printer held x.written opened in
     record {
       first = opening title;
-      trace = p;
-      last = next;
-      opens = refl;
-      logs = logged.logged;
-      printed = all_put false z.printer.has_failed (output_of (form_of title) (opening title ++ p)) held z.written refl
-          ends (all_printed title a held x z p opened logged);
-      ran = ran_ok counts (form_of title) config i k (start_of config) next p
-          (subst (λ (f : Form). RanLines f config i k done (start_of config) p next) form ran);
-      counts = counted next after;
-    }
-
--- a fault of a run whose lines were done, as far as they were
-served_fault : (fault : RunFault) (config : Config) (title i k : Option (List ℕ)) (old core : CoreState)
-    (a : PrinterView) (held : Option (List ℕ)) (x z : Outside) → StandsFor old (start_of config) →
-    Opened title a x.printer held x.written → Opens title (ended_by fault) (opening title) →
-    ((text : List ℕ) → Puts false z.printer.has_failed text held z.written → IsOutput (ended_by fault) text held
-    z.written)
-    → ((text : List ℕ) (ended : Bool) (lines others : List (List ℕ)) →
-    Exits (form_of title) (failed_by fault) ended text lines others k →
-    Exits (form_of title) (ended_by fault) ended text lines others k) →
-    LeadsByTrace old core x z (RanLines x.printer.form config i k (failed_by fault)) →
-    ServedSession config title i k x.calls z.calls held z.written (ended_by fault)
-served_fault fault config title i k old core a held x z stands opened opens output exits h =
-    let (p, next, logged, ran, after) = h (start_of config) stands in
-    let form = opened_form title a x.printer held x.written opened in
-    record {
-      first = opening title;
+      commands = ran.0;
       trace = p;
       last = next;
       opens = opens;
+      gave = subst (λ (f : Form). Gave f ran.0) form ran.1;
+      session = ran.2;
       logs = logged.logged;
       printed = output (output_of (form_of title) (opening title ++ p)) (all_printed title a held x z p opened logged);
-      ran = ran_err (form_of title) fault config i k (start_of config) next p exits
-          (subst (λ (f : Form). RanLines f config i k (failed_by fault) (start_of config) p next) form ran);
-      counts = tt;
+      counts = counted next after;
     }
 
-pub served_err : (fault : RunFault) (config : Config) (title i k : Option (List ℕ)) (old core : CoreState)
-    (a : PrinterView) (held : Option (List ℕ)) (x z : Outside) → StandsFor old (start_of config) →
+read_ok : (counts : Counts) (form : Form) (i k : Option (List ℕ)) (commands : List Command) →
+    ReadCommands form i k done commands → ReadCommands {T = Counts} form i k (Ok counts) commands
+read_ok counts form i k commands h = record {
+  text = h.text;
+  ended = h.ended;
+  lines = h.lines;
+  others = h.others;
+  consumed = h.consumed;
+  counted = h.counted;
+  are = h.are;
+  exits = h.exits;
+}
+
+read_err : (form : Form) (fault : RunFault) (i k : Option (List ℕ)) (commands : List Command) →
+    ((text : List ℕ) (ended : Bool) (lines others : List (List ℕ)) →
+    Exits form (failed_by fault) ended text lines others k → Exits form (ended_by fault) ended text lines others k) →
+    ReadCommands form i k (failed_by fault) commands → ReadCommands form i k (ended_by fault) commands
+read_err form fault i k commands same h = record {
+  text = h.text;
+  ended = h.ended;
+  lines = h.lines;
+  others = h.others;
+  consumed = h.consumed;
+  counted = h.counted;
+  are = h.are;
+  exits = same h.text h.ended h.lines h.others h.exits;
+}
+
+-- the same steps, by commands that were given in another way too
+gave_as : (setup : Setup) (G H : List Command → Type 0) (old core : CoreState) (x z : Outside) →
+    ((commands : List Command) → G commands → H commands) → LeadsByTrace old core x z (RanBy setup G) →
+    LeadsByTrace old core x z (RanBy setup H)
+gave_as setup G H old core x z map h =
+    takes_as old core x z (RanBy setup G) (RanBy setup H) h (λ w next p ran. (ran.0, map ran.0 ran.1, ran.2))
+
+pub served_ok : (counts : Counts) (setup : Setup) (title i k : Option (List ℕ)) (old core : CoreState)
+    (a : PrinterView) (held : Option (List ℕ)) (x z : Outside) → StandsFor old (start_of setup.config) →
+    Opened title a x.printer held x.written → EndsBy done z.printer.has_failed →
+    LeadsByTrace old core x z (RanLines x.printer.form setup i k done) →
+    ((w : World) → StandsFor core w → record counts { lines = 0; sent = 0; failed = 0 } ≡ counts_of w.tally) →
+    ServedSession setup title i k x.calls z.calls held z.written (Ok counts)
+served_ok counts setup title i k old core a held x z stands opened ends h counted =
+    served_by setup title (λ form. ReadCommands form i k (Ok counts)) (Ok counts) old core a held x z stands opened refl
+    (λ text. all_put false z.printer.has_failed text held z.written refl ends) counted
+    (gave_as setup (ReadCommands x.printer.form i k done) (ReadCommands x.printer.form i k (Ok counts)) old core x z
+    (read_ok counts x.printer.form i k) h)
+
+-- what was printed, by the fault
+output_by : (fault : RunFault) (failed : Bool) (text : List ℕ) (held written : Option (List ℕ)) →
+    EndsByFault fault failed → Puts false failed text held written → IsOutput (ended_by fault) text held written
+output_by faults.Read failed text held written ends = all_put false failed text held written refl ends
+output_by faults.Write failed text held written ends = front_put false failed text held written refl ends
+output_by faults.NoMemory failed text held written ends = absurd ends
+output_by faults.BadConfig failed text held written ends = absurd ends
+output_by (faults.Script number) failed text held written ends = absurd ends
+
+opens_by : (fault : RunFault) (failed : Bool) (title : Option (List ℕ)) → EndsByFault fault failed →
+    Opens title (ended_by fault) (opening title)
+opens_by faults.Read failed title ends = refl
+opens_by faults.Write failed title ends = refl
+opens_by faults.NoMemory failed title ends = absurd ends
+opens_by faults.BadConfig failed title ends = absurd ends
+opens_by (faults.Script number) failed title ends = absurd ends
+
+exits_by : (fault : RunFault) (failed : Bool) (form : Form) (k : Option (List ℕ)) → EndsByFault fault failed →
+    (text : List ℕ) (ended : Bool) (lines others : List (List ℕ)) →
+    Exits form (failed_by fault) ended text lines others k → Exits form (ended_by fault) ended text lines others k
+exits_by faults.Read failed form k ends text ended lines others e = e
+exits_by faults.Write failed form k ends text ended lines others e = e
+exits_by faults.NoMemory failed form k ends text ended lines others e = absurd ends
+exits_by faults.BadConfig failed form k ends text ended lines others e = absurd ends
+exits_by (faults.Script number) failed form k ends text ended lines others e = absurd ends
+
+pub served_err : (fault : RunFault) (setup : Setup) (title i k : Option (List ℕ)) (old core : CoreState)
+    (a : PrinterView) (held : Option (List ℕ)) (x z : Outside) → StandsFor old (start_of setup.config) →
     Opened title a x.printer held x.written → EndsBy (failed_by fault) z.printer.has_failed →
-    LeadsByTrace old core x z (RanLines x.printer.form config i k (failed_by fault)) →
-    ServedSession config title i k x.calls z.calls held z.written (ended_by fault)
-served_err faults.Read config title i k old core a held x z stands opened ends h =
-    served_fault faults.Read config title i k old core a held x z stands opened refl
-    (λ text. all_put false z.printer.has_failed text held z.written refl ends) (λ text ended lines others e. e) h
-served_err faults.Write config title i k old core a held x z stands opened ends h =
-    served_fault faults.Write config title i k old core a held x z stands opened refl
-    (λ text. front_put false z.printer.has_failed text held z.written refl ends) (λ text ended lines others e. e) h
-served_err faults.NoMemory config title i k old core a held x z stands opened ends h = absurd ends
-served_err faults.BadConfig config title i k old core a held x z stands opened ends h = absurd ends
-served_err (faults.Script number) config title i k old core a held x z stands opened ends h = absurd ends
+    LeadsByTrace old core x z (RanLines x.printer.form setup i k (failed_by fault)) →
+    ServedSession setup title i k x.calls z.calls held z.written (ended_by fault)
+served_err fault setup title i k old core a held x z stands opened ends h =
+    served_by setup title (λ form. ReadCommands form i k (ended_by fault)) (ended_by fault) old core a held x z stands
+    opened (opens_by fault z.printer.has_failed title ends)
+    (λ text. output_by fault z.printer.has_failed text held z.written ends) (λ w stands. tt)
+    (gave_as setup (ReadCommands x.printer.form i k (failed_by fault))
+    (ReadCommands x.printer.form i k (ended_by fault)) old core x z
+    (λ commands. read_err x.printer.form fault i k commands
+    (exits_by fault z.printer.has_failed x.printer.form k ends)) h)
+
+pub served_by_clock : (fault : RunFault) (setup : Setup) (title : Option (List ℕ)) (allowed : ℕ) (c d : ClockSeen)
+    (fails : Type 0) (old core : CoreState) (a : PrinterView) (held : Option (List ℕ)) (x z : Outside) →
+    StandsFor old (start_of setup.config) → Opened title a x.printer held x.written →
+    EndsByFault fault z.printer.has_failed →
+    LeadsByTrace old core x z (RanByClock x.printer.form setup allowed c d fails fault) →
+    ServedByClock setup title allowed c d fails x.calls z.calls held z.written fault
+served_by_clock fault setup title allowed c d fails old core a held x z stands opened ends h =
+    served_by setup title (λ form. ClockCommands form allowed c d fails fault) (ended_by fault) old core a held x z
+    stands opened (opens_by fault z.printer.has_failed title ends)
+    (λ text. output_by fault z.printer.has_failed text held z.written ends) (λ w stands. tt) h

@@ -1,22 +1,21 @@
 -- A session is a run of the gateway.
-use Rattle.std.proofs.Common.{◌≡◌, ℕ, ◌+◌, inl, inr, List, [], ◌∷◌, ◌++◌, length, map, refl, sym, ap, subst, ◌∙◌, append_assoc, codes}
+use Rattle.std.proofs.Common.{◌≡◌, ℕ, ◌+◌, inl, inr, Bool, true, false, List, [], ◌∷◌, ◌++◌, length, map, refl, sym, ap, subst, ◌∙◌, append_assoc, codes}
 use Rattle.std.proofs.lemmas.List.{append-nil, map-append}
 use Rattle.std.proofs.lemmas.List.Elements.{filter-append}
 use Rattle.std.specs.List.{filter, range_with_len}
-use Rattle.mg_engine.specs.declared.config.Config.{Config}
+use Rattle.mg_serve.specs.Setup.{Setup, is_admitted}
 use Rattle.mg_words.specs.declared.peer.Peer.{Peer}
 use Rattle.mg_core.specs.declared.event.Event.{Event}
 use Rattle.mg_core.specs.declared.event.Event.TheVariants as events
 use Rattle.mg_core.specs.World.{World}
 use Rattle.mg_core.specs.Step.{Sent, Reply, Packet, Run}
 use Rattle.mg_ports.specs.declared.call.Call.{Call}
-use Rattle.mg_ports.specs.declared.call.Call.TheVariants.{Receive}
+use Rattle.mg_ports.specs.declared.call.Call.TheVariants.{Receive, BeginTick}
 use Rattle.mg_ports.specs.declared.receipt.Receipt.TheVariants.{Delivered, Nothing, Failed}
-use Rattle.mg_serve.specs.declared.command.LineCommand.{LineCommand}
-use Rattle.mg_serve.specs.declared.command.LineCommand.TheVariants.{Poll, Tick, Stats, Quit, Unknown}
+use Rattle.mg_serve.specs.declared.command.Command.{Command}
+use Rattle.mg_serve.specs.declared.command.Command.TheVariants.{Poll, Tick, Stats, Quit, Unknown}
 use Rattle.mg_serve.specs.Theorems.{SendsAreARun, is_send}
-use Rattle.mg_serve.specs.Lines.{line_command}
-use Rattle.mg_serve.specs.Session.{Each, ReceivesDatagram, Performs, EndsTurn, HandlesEvent, Session, SlotTurn, event_at, send_of, sends_of}
+use Rattle.mg_serve.specs.Session.{Each, Becomes, ReceivesDatagram, Performs, EndsTurn, HandlesEvent, Session, SocketTurn, event_at, send_of, sends_of}
 use Rattle.mg_serve.specs.Trace.{TraceEntry, Called, Happened, Printed, Noted, calls_of, events_of_trace}
 use Rattle.mg_serve.proofs.Printing.{calls_both}
 
@@ -42,109 +41,115 @@ events_both (Noted text ∷ p) q = events_both p q
 
 -- ## Parts of a session
 
-ran_both : (config : Config) (w mid next : World) (p q : List TraceEntry) → SendsAreARun config w p mid →
-    SendsAreARun config mid q next → SendsAreARun config w (p ++ q) next
-ran_both config w mid next p q h k = record {
+ran_both : (setup : Setup) (w mid next : World) (p q : List TraceEntry) → SendsAreARun setup w p mid →
+    SendsAreARun setup mid q next → SendsAreARun setup w (p ++ q) next
+ran_both setup w mid next p q h k = record {
   sent = h.sent ++ k.sent;
   run = subst (λ (l : List Event). Run w l (h.sent ++ k.sent) next) (sym (events_both p q))
       (run_both w mid next (events_of_trace p) (events_of_trace q) h.sent k.sent h.run k.run);
   sends = ap (filter is_send) (calls_both p q) ∙ filter-append is_send (calls_of p) (calls_of q) ∙
       ap (λ (l : List Call). l ++ filter is_send (calls_of q)) h.sends ∙
-      ap (λ (l : List Call). map (send_of config) h.sent ++ l) k.sends ∙
-      sym (map-append (send_of config) h.sent k.sent);
+      ap (λ (l : List Call). map (send_of setup) h.sent ++ l) k.sends ∙
+      sym (map-append (send_of setup) h.sent k.sent);
 }
 
-no_run : (config : Config) (w next : World) (p : List TraceEntry) → events_of_trace p ≡ [] → filter is_send (calls_of p) ≡ [] →
-    next ≡ w → SendsAreARun config w p next
-no_run config w next p none sends same = record {
+no_run : (setup : Setup) (w next : World) (p : List TraceEntry) → events_of_trace p ≡ [] → filter is_send (calls_of p) ≡ [] →
+    next ≡ w → SendsAreARun setup w p next
+no_run setup w next p none sends same = record {
   sent = [];
   run = subst (λ (l : List Event). Run w l [] next) (sym none) (refl, same);
   sends = sends;
 }
 
-ran_as : (config : Config) (w next : World) (p q : List TraceEntry) → p ≡ q → SendsAreARun config w q next →
-    SendsAreARun config w p next
-ran_as config w next p q is h = subst (λ (l : List TraceEntry). SendsAreARun config w l next) (sym is) h
+ran_as : (setup : Setup) (w next : World) (p q : List TraceEntry) → p ≡ q → SendsAreARun setup w q next →
+    SendsAreARun setup w p next
+ran_as setup w next p q is h = subst (λ (l : List TraceEntry). SendsAreARun setup w l next) (sym is) h
 
-each_ran : {A : Type 0} (config : Config) (R : A → World → List TraceEntry → World → Type 0) →
-    ((x : A) (w next : World) (p : List TraceEntry) → R x w p next → SendsAreARun config w p next) →
-    (xs : List A) (w next : World) (p : List TraceEntry) → Each R xs w p next → SendsAreARun config w p next
-each_ran config R step [] w next p h = ran_as config w next p [] h.0 (no_run config w next [] refl refl h.1)
-each_ran config R step (x ∷ xs) w next p h = ran_as config w next p (h.0 ++ h.1) h.3
-    (ran_both config w h.2 next h.0 h.1 (step x w h.2 h.0 h.4) (each_ran config R step xs h.2 next h.1 h.5))
+each_ran : {A : Type 0} (setup : Setup) (R : A → World → List TraceEntry → World → Type 0) →
+    ((x : A) (w next : World) (p : List TraceEntry) → R x w p next → SendsAreARun setup w p next) →
+    (xs : List A) (w next : World) (p : List TraceEntry) → Each R xs w p next → SendsAreARun setup w p next
+each_ran setup R step [] w next p h = ran_as setup w next p [] h.0 (no_run setup w next [] refl refl h.1)
+each_ran setup R step (x ∷ xs) w next p h = ran_as setup w next p (h.0 ++ h.1) h.3
+    (ran_both setup w h.2 next h.0 h.1 (step x w h.2 h.0 h.4) (each_ran setup R step xs h.2 next h.1 h.5))
 
 -- ## Events
 
-no_events : (config : Config) (sent : List Sent) → events_of_trace (sends_of config sent) ≡ []
-no_events config [] = refl
-no_events config (datagram ∷ sent) = no_events config sent
+no_events : (setup : Setup) (sent : List Sent) → events_of_trace (sends_of setup sent) ≡ []
+no_events setup [] = refl
+no_events setup (datagram ∷ sent) = no_events setup sent
 
-all_sends : (config : Config) (sent : List Sent) →
-    filter is_send (calls_of (sends_of config sent)) ≡ map (send_of config) sent
-all_sends config [] = refl
-all_sends config (Reply to text ∷ sent) =
-    ap (λ (l : List Call). send_of config (Reply to text) ∷ l) (all_sends config sent)
-all_sends config (Packet packet ∷ sent) =
-    ap (λ (l : List Call). send_of config (Packet packet) ∷ l) (all_sends config sent)
+all_sends : (setup : Setup) (sent : List Sent) →
+    filter is_send (calls_of (sends_of setup sent)) ≡ map (send_of setup) sent
+all_sends setup [] = refl
+all_sends setup (Reply to text ∷ sent) =
+    ap (λ (l : List Call). send_of setup (Reply to text) ∷ l) (all_sends setup sent)
+all_sends setup (Packet packet ∷ sent) =
+    ap (λ (l : List Call). send_of setup (Packet packet) ∷ l) (all_sends setup sent)
 
-event_ran : (config : Config) (event : Event) (w next : World) (p : List TraceEntry) → HandlesEvent config event w p next →
-    SendsAreARun config w p next
-event_ran config event w next p (sent, step, is) = ran_as config w next p (Happened event ∷ sends_of config sent) is
+event_ran : (setup : Setup) (event : Event) (w next : World) (p : List TraceEntry) → HandlesEvent setup event w p next →
+    SendsAreARun setup w p next
+event_ran setup event w next p (sent, step, is) = ran_as setup w next p (Happened event ∷ sends_of setup sent) is
     (record {
       sent = sent;
-      run = subst (λ (l : List Event). Run w (event ∷ l) sent next) (sym (no_events config sent))
+      run = subst (λ (l : List Event). Run w (event ∷ l) sent next) (sym (no_events setup sent))
           (sent, [], next, step, (refl, refl), sym (append-nil sent));
-      sends = all_sends config sent;
+      sends = all_sends setup sent;
     })
 
 -- ## A poll
 
-comes_ran : (config : Config) (slot : ℕ) (datagram : Peer × List ℕ) (w next : World) (p : List TraceEntry) →
-    ReceivesDatagram config slot datagram w p next → SendsAreARun config w p next
-comes_ran config slot datagram w next p (others, fits, is, inl h) =
-    let receive = Called (Receive slot (Delivered datagram.0 datagram.1)) in
-    ran_as config w next p (receive ∷ others) is
-    (ran_both config w w next (receive ∷ []) others (no_run config w w (receive ∷ []) refl refl refl)
-    (event_ran config (event_at config slot datagram.0 datagram.1) w next others h))
-comes_ran config slot datagram w next p (others, fits, is, inr h) =
-    let receive = Called (Receive slot (Delivered datagram.0 datagram.1)) in
+-- a datagram that came, by whether its sender is admitted
+become_ran : (admitted : Bool) (setup : Setup) (socket : ℕ) (datagram : Peer × List ℕ) (w next : World) (p : List TraceEntry) →
+    Becomes admitted setup socket datagram w p next → SendsAreARun setup w p next
+become_ran true setup socket datagram w next p (inl h) =
+    event_ran setup (event_at setup socket datagram.0 datagram.1) w next p h
+become_ran true setup socket datagram w next p (inr h) =
     let noted = Noted (codes "no memory for a control datagram") in
-    ran_as config w next p (receive ∷ noted ∷ [])
-    (is ∙ ap (λ (l : List TraceEntry). receive ∷ l) h.1)
-    (no_run config w next (receive ∷ noted ∷ []) refl refl h.2)
+    ran_as setup w next p (noted ∷ []) h.1 (no_run setup w next (noted ∷ []) refl refl h.2)
+become_ran false setup socket datagram w next p h = ran_as setup w next p [] h.0 (no_run setup w next [] refl refl h.1)
 
-ends_ran : (config : Config) (slot n : ℕ) (w : World) (p : List TraceEntry) → EndsTurn slot n p → SendsAreARun config w p w
-ends_ran config slot n w p (inl h) = ran_as config w w p [] h.1 (no_run config w w [] refl refl refl)
-ends_ran config slot n w p (inr (few, inl is)) =
-    let receive = Called (Receive slot Nothing) in
-    ran_as config w w p (receive ∷ []) is (no_run config w w (receive ∷ []) refl refl refl)
-ends_ran config slot n w p (inr (few, inr is)) =
-    let receive = Called (Receive slot Failed) in
-    ran_as config w w p (receive ∷ []) is (no_run config w w (receive ∷ []) refl refl refl)
+comes_ran : (setup : Setup) (socket : ℕ) (datagram : Peer × List ℕ) (w next : World) (p : List TraceEntry) →
+    ReceivesDatagram setup socket datagram w p next → SendsAreARun setup w p next
+comes_ran setup socket datagram w next p (others, fits, is, h) =
+    let receive = Called (Receive socket (Delivered datagram.0 datagram.1)) in
+    ran_as setup w next p (receive ∷ others) is
+    (ran_both setup w w next (receive ∷ []) others (no_run setup w w (receive ∷ []) refl refl refl)
+    (become_ran (is_admitted setup socket datagram.0.address) setup socket datagram w next others h))
 
-turn_ran : (config : Config) (slot : ℕ) (w next : World) (p : List TraceEntry) → SlotTurn config slot w p next →
-    SendsAreARun config w p next
-turn_ran config slot w next p h = ran_as config w next p (h.received ++ h.last) h.parts
-    (ran_both config w next next h.received h.last
-    (each_ran config (ReceivesDatagram config slot) (comes_ran config slot) h.datagrams w next h.received h.arrivals)
-    (ends_ran config slot (length h.datagrams) next h.last h.ends))
+ends_ran : (setup : Setup) (socket n : ℕ) (w : World) (p : List TraceEntry) → EndsTurn socket n p → SendsAreARun setup w p w
+ends_ran setup socket n w p (inl h) = ran_as setup w w p [] h.1 (no_run setup w w [] refl refl refl)
+ends_ran setup socket n w p (inr (few, inl is)) =
+    let receive = Called (Receive socket Nothing) in
+    ran_as setup w w p (receive ∷ []) is (no_run setup w w (receive ∷ []) refl refl refl)
+ends_ran setup socket n w p (inr (few, inr is)) =
+    let receive = Called (Receive socket Failed) in
+    ran_as setup w w p (receive ∷ []) is (no_run setup w w (receive ∷ []) refl refl refl)
 
--- ## Lines
+turn_ran : (setup : Setup) (socket : ℕ) (w next : World) (p : List TraceEntry) → SocketTurn setup socket w p next →
+    SendsAreARun setup w p next
+turn_ran setup socket w next p h = ran_as setup w next p (h.received ++ h.last) h.parts
+    (ran_both setup w next next h.received h.last
+    (each_ran setup (ReceivesDatagram setup socket) (comes_ran setup socket) h.datagrams w next h.received h.arrivals)
+    (ends_ran setup socket (length h.datagrams) next h.last h.ends))
 
-does_ran : (config : Config) (command : LineCommand) (w next : World) (p : List TraceEntry) → Performs config command w p next →
-    SendsAreARun config w p next
-does_ran config Poll w next p h =
-    each_ran config (SlotTurn config) (turn_ran config) (range_with_len 0 (config.slots + 1)) w next p h
-does_ran config Tick w next p h = event_ran config events.Tick w next p h
-does_ran config Stats w next p (text, is, same) =
-    ran_as config w next p (Printed text ∷ []) is (no_run config w next (Printed text ∷ []) refl refl same)
-does_ran config Quit w next p h = ran_as config w next p [] h.0 (no_run config w next [] refl refl h.1)
-does_ran config Unknown w next p h =
+-- ## Commands
+
+does_ran : (setup : Setup) (command : Command) (w next : World) (p : List TraceEntry) → Performs setup command w p next →
+    SendsAreARun setup w p next
+does_ran setup Poll w next p h =
+    each_ran setup (SocketTurn setup) (turn_ran setup) (range_with_len 0 (setup.config.slots + 1)) w next p h
+does_ran setup (Tick timing) w next p (others, is, h) =
+    let begin = Called (BeginTick timing) in
+    ran_as setup w next p (begin ∷ others) is
+    (ran_both setup w w next (begin ∷ []) others (no_run setup w w (begin ∷ []) refl refl refl)
+    (event_ran setup events.Tick w next others h))
+does_ran setup Stats w next p (text, is, same) =
+    ran_as setup w next p (Printed text ∷ []) is (no_run setup w next (Printed text ∷ []) refl refl same)
+does_ran setup Quit w next p h = ran_as setup w next p [] h.0 (no_run setup w next [] refl refl h.1)
+does_ran setup Unknown w next p h =
     let printed = Printed (codes "unknown command") in
-    ran_as config w next p (printed ∷ []) h.0 (no_run config w next (printed ∷ []) refl refl h.1)
+    ran_as setup w next p (printed ∷ []) h.0 (no_run setup w next (printed ∷ []) refl refl h.1)
 
-pub session_run : (config : Config) (lines : List (List ℕ)) (w next : World) (p : List TraceEntry) →
-    Session config lines w p next → SendsAreARun config w p next
-session_run config lines w next p h =
-    each_ran config (λ (line : List ℕ). Performs config (line_command line))
-    (λ line. does_ran config (line_command line)) lines w next p h
+pub session_run : (setup : Setup) (commands : List Command) (w next : World) (p : List TraceEntry) →
+    Session setup commands w p next → SendsAreARun setup w p next
+session_run setup commands w next p h = each_ran setup (Performs setup) (does_ran setup) commands w next p h

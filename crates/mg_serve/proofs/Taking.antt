@@ -3,14 +3,14 @@ use Rattle.std.proofs.Common.{◌≡◌, ℕ, ◌+◌, List, [], ◌∷◌, ◌+
 use Rattle.std.proofs.lemmas.List.{append-nil, map-id}
 use Rattle.std.proofs.lemmas.List.FromFn.{map-range_with_len_more}
 use Rattle.std.specs.List.{range_with_len}
-use Rattle.mg_engine.specs.declared.config.Config.{Config}
+use Rattle.mg_serve.specs.Setup.{Setup}
 use Rattle.mg_core.specs.declared.state.CoreState.{CoreState}
 use Rattle.mg_core.specs.World.{World}
 use Rattle.mg_ports.specs.declared.call.Call.{Call}
 use Rattle.mg_ports.specs.Calls.{Logged}
 use Rattle.mg_serve.specs.declared.form.Form.{Form}
 use Rattle.mg_serve.specs.declared.form.Form.TheVariants.{Plain, Recording}
-use Rattle.mg_serve.specs.Session.{Each, SlotTurn}
+use Rattle.mg_serve.specs.Session.{Each, SocketTurn}
 use Rattle.mg_serve.specs.Trace.{TraceEntry, Called, calls_of, output_of}
 use Rattle.mg_serve.specs.aids.Printing.{PrinterView, Prints}
 use Rattle.mg_serve.specs.aids.Outside.{Outside, LeadsByTrace, LogsTrace, outside}
@@ -147,13 +147,13 @@ takes_after a b x y z calls S T logged second join w stands =
     let (q, next, more, s, kept) = second w stands in
     (calls ++ q, next, tells_both x y z calls q logged more, join w next q s, kept)
 
--- a slot's turn more
-pub one_turn_more : (a b c : CoreState) (x y z : Outside) (config : Config) (slot : ℕ) →
-    LeadsByTrace a b x y (Each (SlotTurn config) (range_with_len 0 slot)) →
-    LeadsByTrace b c y z (SlotTurn config slot) →
-    LeadsByTrace a c x z (Each (SlotTurn config) (range_with_len 0 (slot + 1)))
-one_turn_more a b c x y z config slot first second =
-    let turn = SlotTurn config in
-    subst (λ (l : List ℕ). LeadsByTrace a c x z (Each turn l)) (sym (range_more slot))
-    (takes_then a b c x y z (Each turn (range_with_len 0 slot)) (turn slot)
-    (Each turn (range_with_len 0 slot ++ slot ∷ [])) first second (each_more turn (range_with_len 0 slot) slot))
+-- a socket's turn more
+pub one_turn_more : (a b c : CoreState) (x y z : Outside) (setup : Setup) (socket : ℕ) →
+    LeadsByTrace a b x y (Each (SocketTurn setup) (range_with_len 0 socket)) →
+    LeadsByTrace b c y z (SocketTurn setup socket) →
+    LeadsByTrace a c x z (Each (SocketTurn setup) (range_with_len 0 (socket + 1)))
+one_turn_more a b c x y z setup socket first second =
+    let turn = SocketTurn setup in
+    subst (λ (l : List ℕ). LeadsByTrace a c x z (Each turn l)) (sym (range_more socket))
+    (takes_then a b c x y z (Each turn (range_with_len 0 socket)) (turn socket)
+    (Each turn (range_with_len 0 socket ++ socket ∷ [])) first second (each_more turn (range_with_len 0 socket) socket))

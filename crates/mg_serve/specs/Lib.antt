@@ -1,3 +1,4 @@
+pub mod Setup
 pub mod Trace
 pub mod Lines
 pub mod Session

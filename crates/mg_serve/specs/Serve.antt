@@ -1,8 +1,9 @@
 -- What is said of a server's whole run.
-use Rattle.std.specs.Prelude.{◌≡◌, ◌⊎◌, ℕ, Bool, true, false, List, [], ◌∷◌, ◌++◌, Option, Some}
-use Rattle.std.specs.Prelude.{None, Result, Ok, Err, codes}
+use Rattle.std.specs.Prelude.{◌≡◌, ◌⊎◌, ℕ, ◌+◌, ◌-◌, ◌^◌, ◌≤◌, Bool, true, false, List, [], ◌∷◌}
+use Rattle.std.specs.Prelude.{◌++◌, length, map, flat_map, Option, Some, None, Result, Ok, Err, codes}
 use Rattle.std.specs.Io.KnownBytes.{Appends, Consumes, IsAtEnd}
-use Rattle.mg_engine.specs.declared.config.Config.{Config}
+use Rattle.mg_clock.specs.declared.timing.Timing.{Timing}
+use Rattle.mg_clock.specs.Ticks.{ClockSeen, IsReadEarly, TicksBegin}
 use Rattle.mg_core.specs.declared.counts.Counts.{Counts}
 use Rattle.mg_core.specs.declared.fault.RunFault.{RunFault}
 use Rattle.mg_core.specs.declared.fault.RunFault.TheVariants as faults
@@ -13,40 +14,76 @@ use Rattle.mg_ports.specs.declared.call.Call.{Call}
 use Rattle.mg_ports.specs.Calls.{Logged}
 use Rattle.mg_serve.specs.declared.form.Form.{Form}
 use Rattle.mg_serve.specs.declared.form.Form.TheVariants.{Plain, Recording}
-use Rattle.mg_serve.specs.Lines.{LastPrints, before_quit}
+use Rattle.mg_serve.specs.declared.command.Command.{Command}
+use Rattle.mg_serve.specs.declared.command.Command.TheVariants.{Poll, Tick}
+use Rattle.mg_serve.specs.Lines.{LastPrints, before_quit, line_command}
 use Rattle.mg_serve.specs.Session.{Session}
+use Rattle.mg_serve.specs.Setup.{Setup}
 use Rattle.mg_serve.specs.Trace.{TraceEntry, Printed, Noted, calls_of, output_of}
 
--- Why no line more was done. Of the text that was read these lines count and were done; the others
--- count and were not.
+-- Why no more of a text's lines are done. Of the text that was read these lines count and were done;
+-- the others count and were not.
 abbrev pub Exits : {T : Type 0} → Form → Result T RunFault → (ended : Bool) → (text : List ℕ)
     → (lines others : List (List ℕ)) → Option (List ℕ) → Type 0
--- no line is left: the input ended, or whatever follows stands after a `quit`
+-- no line is left: the input ended, or whatever follows is after a `quit`
 Exits form (Ok value) ended text lines others left =
     (others ≡ []) × (((ended ≡ true) × IsAtEnd left)
     ⊎ ((more : List ℕ) → before_quit (lines_of true (text ++ more)) ≡ lines))
 -- all lines that were read whole were done
 Exits form (Err faults.Read) ended text lines others left = (ended ≡ false) × (others ≡ [])
--- the last line that was done is one of which a print failed, or it was a print of the start
+-- A print failed: of the last line that was done, or at the start.
 Exits form (Err faults.Write) ended text lines others left =
-    (lines ≡ []) ⊎ LastPrints form lines
--- nothing was done
-Exits form (Err faults.NoMemory) ended text lines others left = lines ≡ []
-Exits form (Err faults.BadConfig) ended text lines others left = lines ≡ []
+    ((lines ≡ []) × (text ≡ [])) ⊎ LastPrints form (map line_command lines)
+-- nothing was read
+Exits form (Err faults.NoMemory) ended text lines others left = (lines ≡ []) × (text ≡ [])
+Exits form (Err faults.BadConfig) ended text lines others left = (lines ≡ []) × (text ≡ [])
 Exits form (Err (faults.Script number)) ended text lines others left = ⊥
 
--- A text was read. The lines of it that count, those before the first `quit`, or the first of them
--- where a print failed, were done in the world w: they and the trace are a session.
-pub record RanLines {T : Type 0} (form : Form) (config : Config) (old new : Option (List ℕ))
-    (result : Result T RunFault) (w : World) (trace : List TraceEntry) (next : World) : Type 0 where
+-- A text was read. The commands are those of its lines that count, which are the lines before the
+-- first `quit`, or of the first of them where a print failed.
+pub record ReadCommands {T : Type 0} (form : Form) (old new : Option (List ℕ))
+    (result : Result T RunFault) (commands : List Command) : Type 0 where
   pub text : List ℕ
   pub ended : Bool
   pub lines : List (List ℕ)
   pub others : List (List ℕ)
   pub consumed : Consumes old new text
   pub counted : before_quit (lines_of ended text) ≡ lines ++ others
-  pub session : Session config lines w trace next
+  pub are : commands ≡ map line_command lines
   pub exits : Exits form result ended text lines others new
+
+-- the commands of ticks: in each 20 ms a poll and then the tick
+abbrev pub commands_at : List Timing → List Command
+commands_at timings = flat_map (λ timing. Poll ∷ Tick timing ∷ []) timings
+
+-- Why no more is done by a clock, where these ticks began and these commands were done.
+abbrev pub ClockExits : Form → RunFault → (fails : Type 0) → List Timing → List Command → ClockSeen
+    → ClockSeen → Type 0
+-- the clock can't be read, or will never reach the next tick
+ClockExits form faults.Read fails timings commands now new =
+    (commands ≡ commands_at timings)
+    × (fails ⊎ (length timings ≡ 2 ^ 64 - 1
+    ⊎ IsReadEarly (length timings + 1) (2 ^ 64 - 1) now new))
+-- A print failed: of the last command that was done, after which at most a tick is left; or at the
+-- start.
+ClockExits form faults.Write fails timings commands now new =
+    (new ≡ now) × ((timings ≡ []) × (commands ≡ [])
+    ⊎ ((left : List Command) × (commands_at timings ≡ commands ++ left) × (length left ≤ 1)
+    × LastPrints form commands))
+-- nothing was done
+ClockExits form faults.NoMemory fails timings commands now new =
+    (new ≡ now) × (timings ≡ []) × (commands ≡ [])
+ClockExits form faults.BadConfig fails timings commands now new =
+    (new ≡ now) × (timings ≡ []) × (commands ≡ [])
+ClockExits form (faults.Script number) fails timings commands now new = ⊥
+
+-- The commands are those of the ticks that began by a clock, each when it was due.
+pub record ClockCommands (form : Form) (allowed : ℕ) (old new : ClockSeen) (fails : Type 0)
+    (fault : RunFault) (commands : List Command) : Type 0 where
+  pub timings : List Timing
+  pub now : ClockSeen
+  pub begin : TicksBegin allowed 1 timings old now
+  pub exits : ClockExits form fault fails timings commands now new
 
 -- the events of a world were counted
 abbrev pub AreCounted : Result Counts RunFault → World → Type 0
@@ -65,28 +102,42 @@ opening (Some title) = Noted title ∷ Printed (codes "ready") ∷ []
 
 -- a start that failed prints nothing
 abbrev pub Opens : Option (List ℕ) → Result Counts RunFault → List TraceEntry → Type 0
-Opens title (Ok counts) first = first ≡ opening title
-Opens title (Err faults.Read) first = first ≡ opening title
-Opens title (Err faults.Write) first = first ≡ opening title
 Opens title (Err faults.NoMemory) first = first ≡ []
 Opens title (Err faults.BadConfig) first = first ≡ []
-Opens title (Err (faults.Script number)) first = ⊥
+Opens title result first = first ≡ opening title
 
--- what was to be printed was, or where a print failed its front
+-- what was to be printed was, or where a print failed its front and not all of it
 abbrev pub IsOutput : Result Counts RunFault → List ℕ → Option (List ℕ) → Option (List ℕ) → Type 0
 IsOutput (Err faults.Write) text old new = WritesFront text old new
 IsOutput _ text old new = Appends old new text
 
--- A run on a new gateway: the ports told the calls of its session, and the lines for it were
--- printed.
-pub record ServedSession (config : Config) (title : Option (List ℕ)) (old new : Option (List ℕ))
+-- A run on a new gateway by commands that a source gave: they are a session, whose calls the ports
+-- told, and whose output was printed.
+pub record Served (setup : Setup) (title : Option (List ℕ)) (Gave : List Command → Type 0)
     (before logged : Option (List Call)) (held written : Option (List ℕ))
     (result : Result Counts RunFault) : Type 0 where
   pub first : List TraceEntry
+  pub commands : List Command
   pub trace : List TraceEntry
   pub last : World
   pub opens : Opens title result first
+  pub gave : Gave commands
+  pub session : Session setup commands (start_of setup.config) trace last
   pub logs : Logged before logged (calls_of trace)
   pub printed : IsOutput result (output_of (form_of title) (first ++ trace)) held written
-  pub ran : RanLines (form_of title) config old new result (start_of config) trace last
   pub counts : AreCounted result last
+
+-- a run by the lines of an input
+abbrev pub ServedSession : Setup → Option (List ℕ) → (old new : Option (List ℕ))
+    → (before logged : Option (List Call)) → (held written : Option (List ℕ))
+    → Result Counts RunFault → Type 0
+ServedSession setup title old new before logged held written result =
+    Served setup title (ReadCommands (form_of title) old new result) before logged held written result
+
+-- a run by a clock, which ends with a fault alone
+abbrev pub ServedByClock : Setup → Option (List ℕ) → (allowed : ℕ) → (old new : ClockSeen)
+    → (fails : Type 0) → (before logged : Option (List Call)) → (held written : Option (List ℕ))
+    → RunFault → Type 0
+ServedByClock setup title allowed old new fails before logged held written fault =
+    Served setup title (ClockCommands (form_of title) allowed old new fails fault) before logged held
+    written (Err fault)

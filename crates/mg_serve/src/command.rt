@@ -1,30 +1,34 @@
 ghost use Rattle.std.specs.Prelude.{◌≡◌};
 ghost use Rattle.mg_serve.specs.Lines.{line_command};
 
-/// What a line asks for.
+use mg_clock::Timing;
+
+/// What a gateway is to do next.
 #[derive(Clone, Copy, Debug, PartialEq, Eq)]
-pub enum LineCommand {
-    /// To take what came to the ports.
+pub enum Command {
+    /// To take what came to the sockets.
     Poll,
-    /// To pass on by 20 ms, and send the packets.
-    Tick,
+    /// To pass on by 20 ms, and send the packets, unless the tick is late.
+    Tick(Timing),
     /// To print what was counted.
     Stats,
+    /// To end.
     Quit,
+    /// To print that there is no such command.
     Unknown,
 }
 
-impl LineCommand {
-    /// What a line asks for, which stands without its line feed.
-    pub fn of(line: &[u8]) -> LineCommand
+impl Command {
+    /// The command that a line names, without its line feed.
+    pub fn of_line(line: &[u8]) -> Command
         ensures value { result ≡ line_command line.now }
     {
         match line {
-            b"poll" => LineCommand::Poll,
-            b"tick" => LineCommand::Tick,
-            b"stats" => LineCommand::Stats,
-            b"quit" => LineCommand::Quit,
-            _ => LineCommand::Unknown,
+            b"poll" => Command::Poll,
+            b"tick" => Command::Tick(Timing::OnTime),
+            b"stats" => Command::Stats,
+            b"quit" => Command::Quit,
+            _ => Command::Unknown,
         }
     }
 }

@@ -12,6 +12,7 @@
 //! gateway's events sends, and that a recording of it is a script of these events.
 #![tactic(auto)]
 
+mod clock_driver;
 mod command;
 mod form;
 mod line;
@@ -22,13 +23,16 @@ mod printer;
 mod reports;
 mod server;
 mod serving;
+mod setup;
 pub mod theorems;
 
-// A theorem can name a line's command in a contract only if the type is exported.
+// A theorem can name a command in a contract only if the type is exported.
 #[doc(hidden)]
-pub use crate::command::LineCommand;
+pub use crate::command::Command;
 // The same holds of what a session prints.
 #[doc(hidden)]
 pub use crate::form::Form;
-pub use crate::serving::serve;
+pub use crate::serving::{serve, serve_by_clock};
+pub use crate::setup::Setup;
+pub use mg_clock::Timing;
 pub use mg_core::{Config, Counts, RunFault};

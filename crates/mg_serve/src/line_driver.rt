@@ -1,19 +1,17 @@
-ghost use Rattle.std.specs.Prelude.{◌≡◌, ◌≢◌, ◌↔◌, ◌≤◌, ℕ, List, [], true, false, length, take, Err, IfErr, IfOk, OnErr, OnOk};
-ghost use Rattle.std.specs.Option.{option_map};
+ghost use Rattle.std.specs.Prelude.{◌≡◌, ◌≢◌, ◌↔◌, ◌≤◌, ℕ, List, [], true, false, length, take, Err, IfErr, IfOk, OnOk};
 ghost use Rattle.mg_engine.specs.Config.{IsValidConfig};
 ghost use Rattle.mg_core.specs.World.{StandsFor, start_of};
 ghost use Rattle.mg_lines.specs.Lines.{without_return};
 ghost use Rattle.mg_serve.specs.Lines.{line_command, is_quit};
 ghost use Rattle.mg_serve.specs.Session.{Performs};
-ghost use Rattle.mg_serve.specs.Serve.{RanLines, opening};
-ghost use Rattle.mg_serve.specs.aids.Driving.{BytesTaken, EndsBy, Finished};
-ghost use Rattle.mg_serve.specs.aids.Printing.{Prints};
+ghost use Rattle.mg_serve.specs.aids.Driving.{BytesTaken, EndsBy, Finished, RanLines};
 ghost use Rattle.mg_serve.specs.aids.Outside.{LeadsByTrace, outside};
 
-use crate::command::LineCommand;
+use crate::command::Command;
 use crate::form::Form;
 use crate::line::Line;
 use crate::server::Server;
+use crate::setup::Setup;
 use mg_core::{Config, RunFault, StartFault};
 use mg_lines::{READ_SIZE, WriteFailed, read_some, without_return};
 use mg_ports::Ports;
@@ -49,37 +47,16 @@ impl<'a, E: Write> LineDriver<'a, E> {
         })
     }
 
-    /// Prints the title of a recording, if it is to be one, and `ready`.
-    pub fn open<W: Write>(
-        &mut self,
-        title: Option<&[u8]>,
-        writer: &mut W,
-    ) -> Result<(), WriteFailed>
-        requires whole { self.old.server.printer.has_failed ≡ false }
-        ensures core { self.new.server.core ≡ self.old.server.core }
-        ensures partial { self.new.partial ≡ self.old.partial }
-        ensures whole { OnOk result (self.new.server.printer.has_failed ≡ false) }
-        ensures failed { OnErr result (self.new.server.printer.has_failed ≡ true) }
-        ensures printed { Prints self.old.server.printer self.new.server.printer (W.contents writer.old)
-            (W.contents writer.new) (opening (option_map (λ text. text.now) title.entry)) }
-    {
-        self.server.printer.open(title, writer);
-        if self.server.printer.has_failed() {
-            return Err(WriteFailed);
-        }
-        Ok(())
-    }
-
     /// Takes the line that was begun, which ends here, and answers whether it is the last.
     fn end_line<P: Ports, W: Write>(
         &mut self,
         alloc: Global,
-        config: Config,
+        setup: &Setup<'_>,
         ports: &mut P,
         buffer: &mut [u8],
         writer: &mut W,
     ) -> Result<bool, WriteFailed>
-        requires sound { IsValidConfig config }
+        requires sound { IsValidConfig setup.now.config }
         requires room { length buffer.old ≤ 65535 }
         requires whole { self.old.server.printer.has_failed ≡ false }
         ensures partial { OnOk result (self.new.partial ≡ []) }
@@ -89,12 +66,12 @@ impl<'a, E: Write> LineDriver<'a, E> {
         ensures value { LeadsByTrace self.old.server.core.state self.new.server.core.state
             (outside (P.calls ports.old) (W.contents writer.old) self.old.server.printer)
             (outside (P.calls ports.new) (W.contents writer.new) self.new.server.printer)
-            (Performs config (line_command (without_return self.old.partial))) }
+            (Performs setup.now (line_command (without_return self.old.partial))) }
     {
-        let command = LineCommand::of(without_return(self.partial.as_slice()));
+        let command = Command::of_line(without_return(self.partial.as_slice()));
         let quit = self
             .server
-            .take_command(alloc, config, ports, buffer, command, writer)?;
+            .take_command(alloc, setup, ports, buffer, command, writer)?;
         self.partial.clear();
         Ok(quit)
     }
@@ -103,13 +80,13 @@ impl<'a, E: Write> LineDriver<'a, E> {
     fn take_bytes<P: Ports, W: Write>(
         &mut self,
         alloc: Global,
-        config: Config,
+        setup: &Setup<'_>,
         ports: &mut P,
         buffer: &mut [u8],
         bytes: &[u8],
         writer: &mut W,
     ) -> Result<bool, WriteFailed>
-        requires sound { IsValidConfig config }
+        requires sound { IsValidConfig setup.now.config }
         requires room { length buffer.old ≤ 65535 }
         requires whole { self.old.server.printer.has_failed ≡ false }
         ensures whole { OnOk result (self.new.server.printer.has_failed ≡ false) }
@@ -118,14 +95,14 @@ impl<'a, E: Write> LineDriver<'a, E> {
             → LeadsByTrace self.old.server.core.state self.new.server.core.state
             (outside (P.calls ports.old) (W.contents writer.old) self.old.server.printer)
             (outside (P.calls ports.new) (W.contents writer.new) self.new.server.printer)
-            (BytesTaken self.old.server.printer.form config partial bytes.now self.new.partial result) }
+            (BytesTaken self.old.server.printer.form setup.now partial bytes.now self.new.partial result) }
     {
         for b in bytes {
             if *b != b'\n' {
                 self.partial.push(*b);
                 continue;
             }
-            if self.end_line(alloc, config, ports, buffer, writer)? {
+            if self.end_line(alloc, setup, ports, buffer, writer)? {
                 return Ok(true);
             }
         }
@@ -136,18 +113,18 @@ impl<'a, E: Write> LineDriver<'a, E> {
     fn finish<P: Ports, W: Write>(
         &mut self,
         alloc: Global,
-        config: Config,
+        setup: &Setup<'_>,
         ports: &mut P,
         buffer: &mut [u8],
         writer: &mut W,
     ) -> Result<(), WriteFailed>
-        requires sound { IsValidConfig config }
+        requires sound { IsValidConfig setup.now.config }
         requires room { length buffer.old ≤ 65535 }
         requires whole { self.old.server.printer.has_failed ≡ false }
         ensures value { LeadsByTrace self.old.server.core.state self.new.server.core.state
             (outside (P.calls ports.old) (W.contents writer.old) self.old.server.printer)
             (outside (P.calls ports.new) (W.contents writer.new) self.new.server.printer)
-            (Finished config self.old.partial) }
+            (Finished setup.now self.old.partial) }
         ensures whole { OnOk result (self.new.server.printer.has_failed ≡ false) }
         ensures failed { IfErr result (λ failed. self.new.server.printer.has_failed ≡ true) }
     {
@@ -155,9 +132,9 @@ impl<'a, E: Write> LineDriver<'a, E> {
         if line.is_empty() {
             return Ok(());
         }
-        let command = LineCommand::of(line);
+        let command = Command::of_line(line);
         self.server
-            .take_command(alloc, config, ports, buffer, command, writer)?;
+            .take_command(alloc, setup, ports, buffer, command, writer)?;
         Ok(())
     }
 
@@ -165,13 +142,13 @@ impl<'a, E: Write> LineDriver<'a, E> {
     pub fn take_all<P: Ports, R: Read, W: Write>(
         &mut self,
         alloc: Global,
-        config: Config,
+        setup: &Setup<'_>,
         ports: &mut P,
         buffer: &mut [u8],
         reader: &mut R,
         writer: &mut W,
     ) -> Result<(), RunFault>
-        requires sound { IsValidConfig config }
+        requires sound { IsValidConfig setup.now.config }
         requires room { length buffer.old ≤ 65535 }
         requires whole { self.old.server.printer.has_failed ≡ false }
         requires partial { self.old.partial ≡ [] }
@@ -180,7 +157,7 @@ impl<'a, E: Write> LineDriver<'a, E> {
         ensures value { LeadsByTrace self.old.server.core.state self.new.server.core.state
             (outside (P.calls ports.old) (W.contents writer.old) self.old.server.printer)
             (outside (P.calls ports.new) (W.contents writer.new) self.new.server.printer)
-            (RanLines self.old.server.printer.form config (R.remaining reader.old) (R.remaining reader.new) result) }
+            (RanLines self.old.server.printer.form setup.now (R.remaining reader.old) (R.remaining reader.new) result) }
     {
         let mut bytes = [0; READ_SIZE];
         for _ in 0..u32::MAX {
@@ -188,12 +165,12 @@ impl<'a, E: Write> LineDriver<'a, E> {
                 return Err(RunFault::Read);
             };
             let Some(n) = read else {
-                return match self.finish(alloc, config, ports, buffer, writer) {
+                return match self.finish(alloc, setup, ports, buffer, writer) {
                     Ok(()) => Ok(()),
                     Err(_) => Err(RunFault::Write),
                 };
             };
-            match self.take_bytes(alloc, config, ports, buffer, &bytes[..n], writer) {
+            match self.take_bytes(alloc, setup, ports, buffer, &bytes[..n], writer) {
                 Ok(false) => {}
                 Ok(true) => return Ok(()),
                 Err(_) => return Err(RunFault::Write),

@@ -1,5 +1,6 @@
 use crate::output::Text;
 use crate::port_counts::PortCounts;
+use mg_clock::Timing;
 use mg_core::{Config, Core, Counts, Record, TERMINATIONS, Taken};
 use mg_words::mode_talks;
 use std::alloc::{AllocError, Global};
@@ -8,11 +9,14 @@ use std::io::Write;
 /// Ticks in a second.
 const TICKS: u64 = 50;
 
-/// What is printed for an operator every so many seconds: the totals since the start, and a line for each media port
-/// that had trouble since the last report. A print that fails is passed over.
+/// What is printed for an operator: every so many seconds the totals since the start, and a line for each media port
+/// that had trouble since the last report; and after a stall how many packets were too late to be sent. A print that
+/// fails is skipped.
 #[derive(Drop)]
 pub struct Reports<'a, E: Write> {
     every: u64,
+    /// Packets of the late ticks since the last tick in time.
+    late: u64,
     ports: Vec<PortCounts>,
     writer: &'a mut E,
 }
@@ -22,6 +26,7 @@ impl<'a, E: Write> Reports<'a, E> {
     pub fn new(alloc: Global, seconds: u16, writer: &'a mut E) -> Result<Self, AllocError> {
         Ok(Reports {
             every: u64::from(seconds) * TICKS,
+            late: 0,
             ports: vec![in alloc; PortCounts::new(); TERMINATIONS]?,
             writer,
         })
@@ -32,6 +37,16 @@ impl<'a, E: Write> Reports<'a, E> {
     pub fn count(&mut self, slot: u16, taken: Taken, ticks: u64) {
         if let Some(port) = self.ports.get_mut(usize::from(slot).wrapping_sub(1)) {
             port.count(taken, ticks);
+        }
+    }
+
+    /// Counts the packets of a tick if it is late. The first tick in time after that prints how many there were.
+    pub fn count_late(&mut self, timing: Timing, packets: u64) {
+        if timing == Timing::Late {
+            self.late = self.late.saturating_add(packets);
+        } else if self.late > 0 {
+            let _ = writeln!(self.writer, "{} packets were too late", self.late);
+            self.late = 0;
         }
     }
 

@@ -1,4 +1,4 @@
-ghost use Rattle.std.specs.Prelude.{◌≡◌, ◌≤◌, ◌+◌, ◌*◌, ◌-◌, ◌⊎◌, ◌↔◌, [], ◌∷◌, map, length, true, false, Err, IfErr, IfOk, OnOk};
+ghost use Rattle.std.specs.Prelude.{◌≡◌, ◌≤◌, ◌+◌, ◌*◌, ◌-◌, ◌⊎◌, ◌↔◌, [], ◌∷◌, map, length, true, false, Err, IfErr, IfOk, OnErr, OnOk};
 ghost use Rattle.mg_engine.specs.Config.{IsValidConfig};
 ghost use Rattle.mg_core.specs.declared.event.Event.TheVariants as events;
 ghost use Rattle.mg_core.specs.Step.{Packet, Step};
@@ -9,27 +9,32 @@ ghost use Rattle.mg_ports.specs.Calls.{Logged};
 ghost use Rattle.mg_serve.specs.Lines.{is_quit};
 ghost use Rattle.mg_core.specs.Peer.{peer};
 ghost use Rattle.mg_core.specs.Recording.{IsDatagram};
-ghost use Rattle.mg_serve.specs.Session.{Performs, HandlesEvent, LacksMemory, SlotTurn, event_at, send_of};
+ghost use Rattle.std.specs.Option.{option_map};
+ghost use Rattle.mg_serve.specs.Serve.{opening};
+ghost use Rattle.mg_serve.specs.Session.{Becomes, Performs, HandlesEvent, LacksMemory, SocketTurn, event_at, send_of};
+ghost use Rattle.mg_serve.specs.Setup.{is_admitted};
 ghost use Rattle.mg_serve.specs.Trace.{Called, Happened};
 ghost use Rattle.mg_serve.specs.aids.Driving.{Received};
 ghost use Rattle.mg_serve.specs.aids.Printing.{Prints};
 ghost use Rattle.mg_serve.specs.aids.Outside.{LeadsByTrace, outside};
 
-use crate::command::LineCommand;
+use crate::command::Command;
 use crate::form::Form;
 use crate::output::counts_text;
 use crate::printer::Printer;
 use crate::reports::Reports;
+use crate::setup::Setup;
+use mg_clock::Timing;
 use mg_core::{Answer, Config, Core, Counts, Datagram, Peer, StartFault};
 use mg_lines::WriteFailed;
 use mg_ports::Ports;
 use std::alloc::{AllocError, Global};
 use std::io::Write;
 
-/// How many datagrams one slot gives in a poll.
+/// How many datagrams one socket gives in a poll.
 const TURN: usize = 64;
 
-/// A gateway that is driven over ports. Its configuration is handed to each call.
+/// A gateway that is driven over ports. What its session is asked for is passed to each call.
 #[derive(Drop)]
 pub struct Server<'a, E: Write> {
     pub core: Core,
@@ -41,33 +46,35 @@ pub struct Server<'a, E: Write> {
     pub sent: u64,
     /// Control datagrams for whose reading there was no memory.
     pub unread: u64,
+    /// Datagrams that were dropped because of their senders.
+    pub strangers: u64,
 }
 
 /// Sends a datagram, and counts it if that succeeds.
-fn send<P: Ports>(ports: &mut P, slot: usize, to: Peer, bytes: &[u8], sent: &mut u64)
-    ensures logged { Logged (P.calls ports.old) (P.calls ports.new) (Send slot to bytes.now ∷ []) }
+fn send<P: Ports>(ports: &mut P, socket: usize, to: Peer, bytes: &[u8], sent: &mut u64)
+    ensures logged { Logged (P.calls ports.old) (P.calls ports.new) (Send socket to bytes.now ∷ []) }
 {
-    if ports.send(slot, to, bytes).is_ok() {
+    if ports.send(socket, to, bytes).is_ok() {
         *sent = sent.saturating_add(1);
     }
 }
 
-/// The slot of the ports that a packet is sent on.
-fn slot_of(config: Config, packet: &Datagram) -> usize
-    ensures value { Send result packet.now.to packet.now.bytes ≡ send_of config (Packet packet.now) }
+/// The socket that a packet is sent from.
+fn socket_of(setup: &Setup<'_>, packet: &Datagram) -> usize
+    ensures value { Send result packet.now.to packet.now.bytes ≡ send_of setup.now (Packet packet.now) }
 {
-    usize::from(packet.from.saturating_sub(config.base_port)) / 2 + 1
+    usize::from(packet.from.saturating_sub(setup.config().base_port)) / 2 + 1
 }
 
 /// Sends packets in order. One whose send fails is lost alone.
-fn send_packets<P: Ports>(ports: &mut P, config: Config, packets: &[Datagram], sent: &mut u64)
+fn send_packets<P: Ports>(ports: &mut P, setup: &Setup<'_>, packets: &[Datagram], sent: &mut u64)
     ensures logged { Logged (P.calls ports.old) (P.calls ports.new)
-        (map (λ packet. send_of config (Packet packet)) packets.now) }
+        (map (λ packet. send_of setup.now (Packet packet)) packets.now) }
 {
     for packet in packets {
         send(
             ports,
-            slot_of(config, packet),
+            socket_of(setup, packet),
             packet.to,
             &packet.bytes,
             sent,
@@ -82,14 +89,14 @@ fn parts_fit(address: &[u8], port: u16, bytes: &[u8])
     ensures fit { IsDatagram (peer address.now port) bytes.now }
 {}
 
-/// The media port of a slot of the ports, the first of which is 1.
-fn media_port(config: Config, slot: u16) -> u16
-    requires sound { IsValidConfig config }
-    requires first { 1 ≤ slot }
-    requires last { slot ≤ config.slots }
-    ensures value { result ≡ config.base_port + 2 * (slot - 1) }
+/// The media port of a media socket, the first of which is 1.
+fn media_port(setup: &Setup<'_>, socket: u16) -> u16
+    requires sound { IsValidConfig setup.now.config }
+    requires first { 1 ≤ socket }
+    requires last { socket ≤ setup.now.config.slots }
+    ensures value { result ≡ setup.now.config.base_port + 2 * (socket - 1) }
 {
-    config.base_port + 2 * (slot - 1)
+    setup.config().base_port + 2 * (socket - 1)
 }
 
 /// Where a server tells what happens: prints of a form for whoever drives it, and reports for an operator.
@@ -128,14 +135,35 @@ impl<'a, E: Write> Server<'a, E> {
             lines: 0,
             sent: 0,
             unread: 0,
+            strangers: 0,
         })
+    }
+
+    /// Prints the title of a recording, if it is to be one, and `ready`.
+    pub fn open<W: Write>(
+        &mut self,
+        title: Option<&[u8]>,
+        writer: &mut W,
+    ) -> Result<(), WriteFailed>
+        requires whole { self.old.printer.has_failed ≡ false }
+        ensures core { self.new.core ≡ self.old.core }
+        ensures whole { OnOk result (self.new.printer.has_failed ≡ false) }
+        ensures failed { OnErr result (self.new.printer.has_failed ≡ true) }
+        ensures printed { Prints self.old.printer self.new.printer (W.contents writer.old) (W.contents writer.new)
+            (opening (option_map (λ text. text.now) title.entry)) }
+    {
+        self.printer.open(title, writer);
+        if self.printer.has_failed() {
+            return Err(WriteFailed);
+        }
+        Ok(())
     }
 
     /// Takes a control datagram, and sends its answer.
     fn take_control<P: Ports, W: Write>(
         &mut self,
         alloc: Global,
-        config: Config,
+        setup: &Setup<'_>,
         ports: &mut P,
         source: Peer,
         bytes: &[u8],
@@ -146,7 +174,7 @@ impl<'a, E: Write> Server<'a, E> {
             (outside (P.calls ports.old) (W.contents writer.old) self.old.printer)
             (outside (P.calls ports.new) (W.contents writer.new) self.new.printer)
             (λ w trace next.
-            HandlesEvent config (events.Control source bytes.now) w trace next ⊎ LacksMemory 0 w trace next) }
+            HandlesEvent setup.now (events.Control source bytes.now) w trace next ⊎ LacksMemory 0 w trace next) }
     {
         let Ok(answer) = self.core.control(alloc, source, bytes) else {
             self.printer
@@ -161,57 +189,81 @@ impl<'a, E: Write> Server<'a, E> {
         }
     }
 
-    /// Takes an RTP datagram that came to a media port's slot.
+    /// Takes an RTP datagram that came to a media port's socket.
     fn take_media<W: Write>(
         &mut self,
-        config: Config,
-        slot: u16,
+        setup: &Setup<'_>,
+        socket: u16,
         source: Peer,
         bytes: &[u8],
         writer: &mut W,
     )
-        requires sound { IsValidConfig config }
-        requires first { 1 ≤ slot }
-        requires last { slot ≤ config.slots }
+        requires sound { IsValidConfig setup.now.config }
+        requires first { 1 ≤ socket }
+        requires last { socket ≤ setup.now.config.slots }
         requires short { length bytes.now ≤ 65535 }
         ensures value { Leads StandsFor self.old.core.state self.new.core.state (λ w next.
-            Step w (event_at config slot source bytes.now) [] next) }
+            Step w (event_at setup.now socket source bytes.now) [] next) }
         ensures printed { Prints self.old.printer self.new.printer (W.contents writer.old) (W.contents writer.new)
-            (Happened (event_at config slot source bytes.now) ∷ []) }
+            (Happened (event_at setup.now socket source bytes.now) ∷ []) }
     {
-        let port = media_port(config, slot);
+        let port = media_port(setup, socket);
         let taken = self.core.media(port, source, bytes);
         self.printer.media(port, source, bytes, writer);
-        self.reports.count(slot, taken, self.core.counts().ticks);
+        self.reports.count(socket, taken, self.core.counts().ticks);
     }
 
-    /// Receives a datagram at a slot and takes it, and answers whether one came.
+    /// Takes a datagram that came to a socket, if its sender is admitted.
+    fn take<P: Ports, W: Write>(
+        &mut self,
+        alloc: Global,
+        setup: &Setup<'_>,
+        ports: &mut P,
+        socket: u16,
+        source: Peer,
+        bytes: &[u8],
+        writer: &mut W,
+    )
+        requires sound { IsValidConfig setup.now.config }
+        requires last { socket ≤ setup.now.config.slots }
+        requires short { length bytes.now ≤ 65535 }
+        ensures value { LeadsByTrace self.old.core.state self.new.core.state
+            (outside (P.calls ports.old) (W.contents writer.old) self.old.printer)
+            (outside (P.calls ports.new) (W.contents writer.new) self.new.printer)
+            (Becomes (is_admitted setup.now socket source.address) setup.now socket (source, bytes.now)) }
+    {
+        if !setup.admits(socket, source.address) {
+            self.strangers = self.strangers.saturating_add(1);
+        } else if socket == 0 {
+            self.take_control(alloc, setup, ports, source, bytes, writer);
+        } else {
+            self.take_media(setup, socket, source, bytes, writer);
+        }
+    }
+
+    /// Receives a datagram at a socket and takes it, and returns whether one came.
     fn receive<P: Ports, W: Write>(
         &mut self,
         alloc: Global,
-        config: Config,
+        setup: &Setup<'_>,
         ports: &mut P,
-        slot: u16,
+        socket: u16,
         buffer: &mut [u8],
         writer: &mut W,
     ) -> bool
-        requires sound { IsValidConfig config }
-        requires last { slot ≤ config.slots }
+        requires sound { IsValidConfig setup.now.config }
+        requires last { socket ≤ setup.now.config.slots }
         requires room { length buffer.old ≤ 65535 }
         ensures value { LeadsByTrace self.old.core.state self.new.core.state
             (outside (P.calls ports.old) (W.contents writer.old) self.old.printer)
             (outside (P.calls ports.new) (W.contents writer.new) self.new.printer)
-            (Received config slot result) }
+            (Received setup.now socket result) }
     {
-        match ports.receive(usize::from(slot), buffer) {
+        match ports.receive(usize::from(socket), buffer) {
             Ok(Some((n, source))) => {
                 let bytes = &buffer[..n];
                 parts_fit(source.address.as_slice(), source.port, bytes);
-                if slot == 0 {
-                    self.take_control(alloc, config, ports, source, bytes, writer);
-                } else {
-                    self.take_media(config, slot, source, bytes, writer);
-                }
+                self.take(alloc, setup, ports, socket, source, bytes, writer);
                 true
             }
             Ok(None) => false,
@@ -219,26 +271,26 @@ impl<'a, E: Write> Server<'a, E> {
         }
     }
 
-    /// Takes what waits at a slot: at most 64 datagrams, and no more where a receive failed.
+    /// Takes what waits at a socket: at most 64 datagrams, and no more where a receive failed.
     fn turn<P: Ports, W: Write>(
         &mut self,
         alloc: Global,
-        config: Config,
+        setup: &Setup<'_>,
         ports: &mut P,
-        slot: u16,
+        socket: u16,
         buffer: &mut [u8],
         writer: &mut W,
     )
-        requires sound { IsValidConfig config }
-        requires last { slot ≤ config.slots }
+        requires sound { IsValidConfig setup.now.config }
+        requires last { socket ≤ setup.now.config.slots }
         requires room { length buffer.old ≤ 65535 }
         ensures value { LeadsByTrace self.old.core.state self.new.core.state
             (outside (P.calls ports.old) (W.contents writer.old) self.old.printer)
             (outside (P.calls ports.new) (W.contents writer.new) self.new.printer)
-            (SlotTurn config slot) }
+            (SocketTurn setup.now socket) }
     {
         for _ in 0..TURN {
-            if !self.receive(alloc, config, ports, slot, buffer, writer) {
+            if !self.receive(alloc, setup, ports, socket, buffer, writer) {
                 return;
             }
         }
@@ -248,45 +300,54 @@ impl<'a, E: Write> Server<'a, E> {
     fn poll<P: Ports, W: Write>(
         &mut self,
         alloc: Global,
-        config: Config,
+        setup: &Setup<'_>,
         ports: &mut P,
         buffer: &mut [u8],
         writer: &mut W,
     )
-        requires sound { IsValidConfig config }
+        requires sound { IsValidConfig setup.now.config }
         requires room { length buffer.old ≤ 65535 }
         ensures value { LeadsByTrace self.old.core.state self.new.core.state
             (outside (P.calls ports.old) (W.contents writer.old) self.old.printer)
             (outside (P.calls ports.new) (W.contents writer.new) self.new.printer)
-            (Performs config LineCommand.Poll) }
+            (Performs setup.now Command.Poll) }
     {
-        for slot in 0..=config.slots {
-            self.turn(alloc, config, ports, slot, buffer, writer);
+        for socket in 0..=setup.config().slots {
+            self.turn(alloc, setup, ports, socket, buffer, writer);
         }
     }
 
-    /// Passes on by 20 ms, sends the packets, and reports if that is due.
-    fn tick<P: Ports, W: Write>(&mut self, config: Config, ports: &mut P, writer: &mut W)
+    /// Passes on by 20 ms, sends the packets unless the tick is late, and reports if that is due.
+    fn tick<P: Ports, W: Write>(
+        &mut self,
+        setup: &Setup<'_>,
+        ports: &mut P,
+        timing: Timing,
+        writer: &mut W,
+    )
         ensures value { LeadsByTrace self.old.core.state self.new.core.state
             (outside (P.calls ports.old) (W.contents writer.old) self.old.printer)
             (outside (P.calls ports.new) (W.contents writer.new) self.new.printer)
-            (Performs config LineCommand.Tick) }
+            (Performs setup.now (Command.Tick timing)) }
     {
+        ports.begin_tick(timing);
         self.core.tick();
         self.printer.tick(writer);
-        send_packets(ports, config, self.core.outbox(), &mut self.sent);
-        self.report_if_due(config, ports);
+        send_packets(ports, setup, self.core.outbox(), &mut self.sent);
+        self.report(setup, ports, timing);
     }
 
-    /// Reports to the operator, if that is due.
-    fn report_if_due<P: Ports>(&mut self, config: Config, ports: &P)
+    /// Reports to the operator what a tick calls for: packets that were too late, and the counts if they are due.
+    fn report<P: Ports>(&mut self, setup: &Setup<'_>, ports: &P, timing: Timing)
         ensures core { self.new.core ≡ self.old.core }
         ensures printer { self.new.printer ≡ self.old.printer }
     {
+        let packets = self.core.outbox().len() as u64;
+        self.reports.count_late(timing, packets);
         let counts = self.counts(ports);
         if self.reports.is_due(counts.ticks) {
             self.reports
-                .print(config, &self.core, &counts, ports.strangers());
+                .print(setup.config(), &self.core, &counts, self.strangers);
         }
     }
 
@@ -303,46 +364,46 @@ impl<'a, E: Write> Server<'a, E> {
         }
     }
 
-    /// Does what a line asks for.
+    /// Does what a command asks for.
     fn execute<P: Ports, W: Write>(
         &mut self,
         alloc: Global,
-        config: Config,
+        setup: &Setup<'_>,
         ports: &mut P,
         buffer: &mut [u8],
-        command: LineCommand,
+        command: Command,
         writer: &mut W,
     )
-        requires sound { IsValidConfig config }
+        requires sound { IsValidConfig setup.now.config }
         requires room { length buffer.old ≤ 65535 }
         ensures value { LeadsByTrace self.old.core.state self.new.core.state
             (outside (P.calls ports.old) (W.contents writer.old) self.old.printer)
             (outside (P.calls ports.new) (W.contents writer.new) self.new.printer)
-            (Performs config command) }
+            (Performs setup.now command) }
     {
         match command {
-            LineCommand::Poll => self.poll(alloc, config, ports, buffer, writer),
-            LineCommand::Tick => self.tick(config, ports, writer),
-            LineCommand::Stats => {
+            Command::Poll => self.poll(alloc, setup, ports, buffer, writer),
+            Command::Tick(timing) => self.tick(setup, ports, timing, writer),
+            Command::Stats => {
                 let text = counts_text(&self.counts(ports));
                 self.printer.print(text.as_slice(), writer);
             }
-            LineCommand::Quit => {}
-            LineCommand::Unknown => self.printer.print(b"unknown command", writer),
+            Command::Quit => {}
+            Command::Unknown => self.printer.print(b"unknown command", writer),
         }
     }
 
-    /// Does what a line asks for, and answers whether that is to quit. It is done whole also where a print failed.
+    /// Does what a command asks for, and returns whether that is to quit. It is done whole even if a print fails.
     pub fn take_command<P: Ports, W: Write>(
         &mut self,
         alloc: Global,
-        config: Config,
+        setup: &Setup<'_>,
         ports: &mut P,
         buffer: &mut [u8],
-        command: LineCommand,
+        command: Command,
         writer: &mut W,
     ) -> Result<bool, WriteFailed>
-        requires sound { IsValidConfig config }
+        requires sound { IsValidConfig setup.now.config }
         requires room { length buffer.old ≤ 65535 }
         ensures quit { IfOk result (λ quit. quit ≡ is_quit command) }
         ensures whole { OnOk result (self.new.printer.has_failed ≡ false) }
@@ -350,13 +411,13 @@ impl<'a, E: Write> Server<'a, E> {
         ensures value { LeadsByTrace self.old.core.state self.new.core.state
             (outside (P.calls ports.old) (W.contents writer.old) self.old.printer)
             (outside (P.calls ports.new) (W.contents writer.new) self.new.printer)
-            (Performs config command) }
+            (Performs setup.now command) }
     {
         self.lines = self.lines.saturating_add(1);
-        self.execute(alloc, config, ports, buffer, command, writer);
+        self.execute(alloc, setup, ports, buffer, command, writer);
         if self.printer.has_failed() {
             return Err(WriteFailed);
         }
-        Ok(command == LineCommand::Quit)
+        Ok(command == Command::Quit)
     }
 }

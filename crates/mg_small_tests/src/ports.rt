@@ -1,6 +1,6 @@
-//! Ports in memory, and guarded ones.
+//! Ports in memory.
 
-use mg_ports::{Arrival, Call, FakePorts, GuardedPorts, Payload, Peer, PortFault, Ports, Receipt};
+use mg_ports::{Arrival, Call, FakePorts, Payload, Peer, PortFault, Ports, Receipt, Timing};
 use std::alloc::{AllocError, Global};
 use std::test::Fail;
 
@@ -13,10 +13,10 @@ const CALLER: Peer = Peer {
 fn ports(alloc: Global, failing: &[u64]) -> Result<FakePorts, AllocError> {
     let waiting: [(usize, &[u8]); 3] = [(0, b"one"), (2, b"three"), (0, b"two")];
     let mut arrivals = Vec::new(alloc);
-    for (slot, bytes) in waiting {
+    for (socket, bytes) in waiting {
         let payload = Payload::new(alloc, bytes)?;
         arrivals.push(Arrival {
-            slot,
+            socket,
             source: CALLER,
             payload,
         })?;
@@ -25,7 +25,7 @@ fn ports(alloc: Global, failing: &[u64]) -> Result<FakePorts, AllocError> {
 }
 
 #[test]
-fn gives_datagrams_by_their_slots(rt: HostRuntime) -> Result<(), Fail> {
+fn gives_datagrams_by_their_sockets(rt: HostRuntime) -> Result<(), Fail> {
     let mut ports = ports(rt.alloc(), &[])?;
     let mut buffer = [0; 8];
     assert_eq!(rt; ports.receive(0, &mut buffer), Ok(Some((3, CALLER))));
@@ -62,8 +62,8 @@ fn fails_on_request(rt: HostRuntime) -> Result<(), Fail> {
 /// Returns whether a call is a receive that returned these bytes at a socket.
 fn is_datagram(call: &Call, at: usize, text: &[u8]) -> bool {
     match call {
-        Call::Receive(slot, Receipt::Delivered(source, payload)) => {
-            *slot == at && *source == CALLER && payload.as_slice() == text
+        Call::Receive(socket, Receipt::Delivered(source, payload)) => {
+            *socket == at && *source == CALLER && payload.as_slice() == text
         }
         _ => false,
     }
@@ -72,8 +72,8 @@ fn is_datagram(call: &Call, at: usize, text: &[u8]) -> bool {
 /// Returns whether a call is a receive at a socket that returned `n`othing, or `f`ailed.
 fn is_receive(call: &Call, at: usize, letter: u8) -> bool {
     match call {
-        Call::Receive(slot, Receipt::Nothing) => *slot == at && letter == b'n',
-        Call::Receive(slot, Receipt::Failed) => *slot == at && letter == b'f',
+        Call::Receive(socket, Receipt::Nothing) => *socket == at && letter == b'n',
+        Call::Receive(socket, Receipt::Failed) => *socket == at && letter == b'f',
         _ => false,
     }
 }
@@ -81,10 +81,10 @@ fn is_receive(call: &Call, at: usize, letter: u8) -> bool {
 /// Returns whether a call sends these bytes from a socket.
 fn is_send(call: &Call, from: usize, text: &[u8]) -> bool {
     match call {
-        Call::Send(slot, to, payload) => {
-            *slot == from && *to == CALLER && payload.as_slice() == text
+        Call::Send(socket, to, payload) => {
+            *socket == from && *to == CALLER && payload.as_slice() == text
         }
-        Call::Receive(_, _) => false,
+        _ => false,
     }
 }
 
@@ -95,49 +95,18 @@ fn logs_its_calls(rt: HostRuntime) -> Result<(), Fail> {
     let _ = ports.receive(2, &mut buffer);
     let _ = ports.receive(1, &mut buffer);
     let _ = ports.receive(0, &mut buffer);
+    ports.begin_tick(Timing::Late);
     let _ = ports.send(3, CALLER, b"out");
     let calls = ports.calls().unwrap_or(&[]);
     let is_told = match calls {
-        [first, second, third, fourth] => {
+        [first, second, third, Call::BeginTick(Timing::Late), last] => {
             is_datagram(first, 2, b"three")
                 && is_receive(second, 1, b'n')
                 && is_receive(third, 0, b'f')
-                && is_send(fourth, 3, b"out")
+                && is_send(last, 3, b"out")
         }
         _ => false,
     };
     assert!(rt; is_told);
-    Ok(())
-}
-
-#[test]
-fn drops_messages_from_strangers(rt: HostRuntime) -> Result<(), Fail> {
-    let mut buffer = [0; 8];
-    let controllers = [[127, 0, 0, 2]];
-    let mut guarded = GuardedPorts::new(ports(rt.alloc(), &[])?, &controllers);
-    assert_eq!(rt; guarded.receive(0, &mut buffer), Ok(None));
-    assert_eq!(rt; guarded.strangers(), 2);
-    assert_eq!(rt; guarded.receive(2, &mut buffer), Ok(Some((5, CALLER))));
-    Ok(())
-}
-
-#[test]
-fn gives_messages_of_controllers(rt: HostRuntime) -> Result<(), Fail> {
-    let mut buffer = [0; 8];
-    let controllers = [[127, 0, 0, 2], CALLER.address];
-    let mut guarded = GuardedPorts::new(ports(rt.alloc(), &[1])?, &controllers);
-    assert_eq!(rt; guarded.receive(0, &mut buffer), Ok(Some((3, CALLER))));
-    assert_eq!(rt; guarded.receive(0, &mut buffer), Err(PortFault));
-    assert_eq!(rt; guarded.receive(0, &mut buffer), Ok(Some((3, CALLER))));
-    assert_eq!(rt; guarded.failures(), 1);
-    Ok(())
-}
-
-#[test]
-fn gives_all_messages_where_no_controller_is_listed(rt: HostRuntime) -> Result<(), Fail> {
-    let mut buffer = [0; 8];
-    let mut open = GuardedPorts::new(ports(rt.alloc(), &[])?, &[]);
-    assert_eq!(rt; open.receive(0, &mut buffer), Ok(Some((3, CALLER))));
-    assert_eq!(rt; open.strangers(), 0);
     Ok(())
 }

@@ -3,7 +3,7 @@
 use crate::failing_writer::FailingWriter;
 use crate::serve::{HEARTBEAT, call_log, config, ports};
 use mg_core::{Shown, run};
-use mg_serve::{RunFault, serve};
+use mg_serve::{RunFault, Setup, serve};
 use std::alloc::{AllocError, Global};
 use std::io::Write;
 use std::test::Fail;
@@ -30,7 +30,7 @@ fn record<W: Write>(
     let mut reports = Vec::new(alloc);
     let result = serve(
         alloc,
-        config(),
+        &Setup::new(config(), &[]),
         Some(title),
         &mut ports,
         &mut input,

@@ -2,11 +2,13 @@
 
 use crate::failing_reader::FailingReader;
 use crate::failing_writer::FailingWriter;
+use mg_clock::{ClockFailed, Watch};
 use mg_ports::{Arrival, Call, FakePorts, Payload, Peer, Receipt};
-use mg_serve::{Config, Counts, RunFault, serve};
+use mg_serve::{Config, Counts, RunFault, Setup, Timing, serve, serve_by_clock};
 use std::alloc::{AllocError, Global};
 use std::io::Cursor;
 use std::test::Fail;
+use std::time::Duration;
 
 const CALLER: Peer = Peer {
     address: [127, 0, 0, 1],
@@ -36,10 +38,10 @@ pub fn ports(
     failing: &[u64],
 ) -> Result<FakePorts, AllocError> {
     let mut arrivals = Vec::new(alloc);
-    for (slot, bytes) in waiting {
+    for (socket, bytes) in waiting {
         let payload = Payload::new(alloc, bytes)?;
         arrivals.push(Arrival {
-            slot: *slot,
+            socket: *socket,
             source: CALLER,
             payload,
         })?;
@@ -47,14 +49,16 @@ pub fn ports(
     Ok(FakePorts::new(alloc, arrivals, failing.to_vec(alloc)?))
 }
 
-/// A letter for a call: a datagram `c`ame, `n`one did, or the receive `f`ailed; an `a`nswer or a `p`acket was sent.
-fn letter(call: &Call) -> char {
+/// A letter and a number for a receive or a send: a datagram `c`ame at this socket, `n`one did, or the receive
+/// `f`ailed; an `a`nswer or a `p`acket was sent from it.
+fn letter(call: &Call) -> Option<(char, usize)> {
     match call {
-        Call::Receive(_, Receipt::Delivered(_, _)) => 'c',
-        Call::Receive(_, Receipt::Nothing) => 'n',
-        Call::Receive(_, Receipt::Failed) => 'f',
-        Call::Send(0, _, _) => 'a',
-        Call::Send(_, _, _) => 'p',
+        Call::Receive(socket, Receipt::Delivered(_, _)) => Some(('c', *socket)),
+        Call::Receive(socket, Receipt::Nothing) => Some(('n', *socket)),
+        Call::Receive(socket, Receipt::Failed) => Some(('f', *socket)),
+        Call::Send(0, _, _) => Some(('a', 0)),
+        Call::Send(socket, _, _) => Some(('p', *socket)),
+        Call::BeginTick(_) => None,
     }
 }
 
@@ -62,10 +66,10 @@ fn letter(call: &Call) -> char {
 pub fn call_log(alloc: Global, ports: &FakePorts) -> Result<String, AllocError> {
     let mut text = String::new(alloc);
     for call in ports.calls().unwrap_or(&[]) {
-        let (Call::Receive(slot, _) | Call::Send(slot, _, _)) = call;
-        let digit = char::from(b'0' + (*slot % 10) as u8);
-        text.push(letter(call))?;
-        text.push(digit)?;
+        if let Some((letter, socket)) = letter(call) {
+            text.push(letter)?;
+            text.push(char::from(b'0' + (socket % 10) as u8))?;
+        }
     }
     Ok(text)
 }
@@ -91,7 +95,7 @@ fn session(
     let mut reports = Vec::new(alloc);
     let result = serve(
         alloc,
-        config(),
+        &Setup::new(config(), &[]),
         None,
         &mut ports,
         &mut input,
@@ -117,7 +121,7 @@ fn prints(alloc: Global, lines: &[u8], wanted: &[u8]) -> Result<bool, AllocError
 fn last_head(ports: &FakePorts) -> Option<&[u8]> {
     match ports.calls()?.last()? {
         Call::Send(_, _, payload) => payload.as_slice().get(..12),
-        Call::Receive(_, _) => None,
+        _ => None,
     }
 }
 
@@ -130,7 +134,7 @@ fn loses_the_packet_whose_send_fails(rt: HostRuntime) -> Result<(), Fail> {
     let mut reports = Vec::new(alloc);
     let result = serve(
         alloc,
-        config(),
+        &Setup::new(config(), &[]),
         None,
         &mut ports,
         &mut input,
@@ -293,7 +297,7 @@ fn reported(alloc: Global, seconds: u16, ticks: u64) -> Result<Vec<u8>, AllocErr
     let mut reports = Vec::new(alloc);
     let _ = serve(
         alloc,
-        config(),
+        &Setup::new(config(), &[]),
         None,
         &mut ports,
         &mut input,
@@ -339,7 +343,7 @@ fn refuses_a_bad_configuration(rt: HostRuntime) -> Result<(), Fail> {
     let mut reports = Vec::new(alloc);
     let result = serve(
         alloc,
-        config,
+        &Setup::new(config, &[]),
         None,
         &mut ports,
         &mut input,
@@ -366,7 +370,7 @@ fn ends_where_a_read_fails(rt: HostRuntime) -> Result<(), Fail> {
     let mut reports = Vec::new(alloc);
     let result = serve(
         alloc,
-        config(),
+        &Setup::new(config(), &[]),
         None,
         &mut ports,
         &mut input,
@@ -387,7 +391,7 @@ fn call_log_with_writer(alloc: Global, calls: usize, lines: &[u8]) -> Result<Str
     let mut reports = Vec::new(alloc);
     let result = serve(
         alloc,
-        config(),
+        &Setup::new(config(), &[]),
         None,
         &mut ports,
         &mut input,
@@ -407,5 +411,110 @@ fn ends_where_a_print_fails(rt: HostRuntime) -> Result<(), Fail> {
     let lines: &[u8] = b"poll\npol\npoll\n";
     assert_eq!(rt; call_log_with_writer(alloc, 1, lines)?.as_str(), "n0c1n1n2");
     assert_eq!(rt; call_log_with_writer(alloc, 0, lines)?.as_str(), "");
+    Ok(())
+}
+
+/// Ports at which these datagrams wait, each from an address of the loopback network.
+fn ports_of(alloc: Global, waiting: &[(usize, u8, &[u8])]) -> Result<FakePorts, AllocError> {
+    let mut arrivals = Vec::new(alloc);
+    for (socket, host, bytes) in waiting {
+        let payload = Payload::new(alloc, bytes)?;
+        arrivals.push(Arrival {
+            socket: *socket,
+            source: Peer {
+                address: [127, 0, 0, *host],
+                port: 40000,
+            },
+            payload,
+        })?;
+    }
+    Ok(FakePorts::new(alloc, arrivals, Vec::new(alloc)))
+}
+
+#[test]
+fn takes_messages_of_controllers_alone(rt: HostRuntime) -> Result<(), Fail> {
+    let alloc = rt.alloc();
+    let waiting: [(usize, u8, &[u8]); 5] = [
+        (0, 1, HEARTBEAT),
+        (0, 3, HEARTBEAT),
+        (0, 1, HEARTBEAT),
+        (0, 2, HEARTBEAT),
+        (1, 1, b"x"),
+    ];
+    let mut ports = ports_of(alloc, &waiting)?;
+    let controllers = [[127, 0, 0, 2], [127, 0, 0, 3]];
+    let lines = poll_and_ticks(alloc, 50)?;
+    let mut input = lines.as_bytes();
+    let mut printed = Vec::new(alloc);
+    let mut reports = Vec::new(alloc);
+    let result = serve(
+        alloc,
+        &Setup::new(config(), &controllers),
+        None,
+        &mut ports,
+        &mut input,
+        &mut printed,
+        1,
+        &mut reports,
+    );
+    assert!(rt; matches!(result, Ok(counts) if counts.control == 2 && counts.media == 1));
+    assert_eq!(rt; call_log(alloc, &ports)?.as_str(), "c0c0a0c0c0a0n0c1n1n2");
+    let wanted: &[u8] = b"totals control=2 media=1 ticks=50 sent=2 failed=0 strangers=2 ";
+    assert!(rt; reports.as_slice().starts_with(wanted));
+    Ok(())
+}
+
+/// A clock that stands still until it is waited for, is two ticks late at its third reading, and then fails.
+#[derive(Drop)]
+struct LateClock {
+    readings: usize,
+}
+
+impl Watch for LateClock {
+    fn now(&mut self) -> Result<u64, ClockFailed> {
+        self.readings = self.readings.saturating_add(1);
+        match self.readings {
+            1 => Ok(0),
+            2 => Ok(20_000_000),
+            3..=5 => Ok(80_000_000),
+            _ => Err(ClockFailed),
+        }
+    }
+
+    fn wait(&mut self, _time: Duration) {}
+}
+
+#[test]
+fn begins_ticks_by_the_clock_until_it_fails(rt: HostRuntime) -> Result<(), Fail> {
+    let alloc = rt.alloc();
+    let mut ports = ports(alloc, &[(0, ADD)], &[])?;
+    let mut watch = LateClock { readings: 0 };
+    let mut printed = Vec::new(alloc);
+    let mut reports = Vec::new(alloc);
+    let fault = serve_by_clock(
+        alloc,
+        &Setup::new(config(), &[]),
+        None,
+        &mut ports,
+        &mut watch,
+        1,
+        &mut printed,
+        0,
+        &mut reports,
+    );
+    assert!(rt; matches!(fault, RunFault::Read));
+    assert_eq!(rt; printed.as_slice(), b"ready\n".as_slice());
+    assert_eq!(rt;
+        call_log(alloc, &ports)?.as_str(),
+        "c0a0n0n1n2p1n0n1n2p1n0n1n2p1n0n1n2p1"
+    );
+    let mut late = 0;
+    for call in ports.calls().unwrap_or(&[]) {
+        if let Call::BeginTick(Timing::Late) = call {
+            late += 1;
+        }
+    }
+    assert_eq!(rt; late, 1);
+    assert_eq!(rt; reports.as_slice(), b"1 packets were too late\n".as_slice());
     Ok(())
 }

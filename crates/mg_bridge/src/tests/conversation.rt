@@ -1,8 +1,8 @@
 use super::local;
 use mg_core::{Config, Counts, Peer, RunFault};
-use mg_ports::{GuardedPorts, PortFault, Ports};
-use mg_program::{NoDeadline, SOCKETS, Sockets, UdpPorts};
-use mg_serve::serve;
+use mg_ports::{PortFault, Ports};
+use mg_program::{SOCKETS, Sockets, UdpPorts};
+use mg_serve::{Setup, serve};
 use mio::Events;
 use std::alloc::{AllocError, Global};
 use std::io;
@@ -40,12 +40,12 @@ fn config(control_port: u16, slots: u16) -> Config {
 }
 
 /// Binds the ports of a gateway.
-fn bind(rt: &HostRuntime, config: &Config) -> Result<UdpPorts<NoDeadline>, Fail> {
+fn bind(rt: &HostRuntime, config: &Config) -> Result<UdpPorts, Fail> {
     if !config.is_sound() {
         return Err(Fail::new("bad configuration"));
     }
     let events = Events::with_capacity(rt.alloc(), SOCKETS)?;
-    Ok(UdpPorts::new(Sockets::bind(rt, config, events)?, NoDeadline))
+    Ok(UdpPorts::new(Sockets::bind(rt, config, events)?))
 }
 
 /// Returns a caller's non-blocking socket.
@@ -84,7 +84,7 @@ fn serve_lines<P: Ports>(
     let mut reports = Vec::new(alloc);
     let result = serve(
         alloc,
-        config,
+        &Setup::new(config, &[]),
         None,
         ports,
         &mut input,
@@ -110,7 +110,7 @@ fn carry_speech(
     rt: &impl Abort,
     alloc: Global,
     config: Config,
-    ports: &mut UdpPorts<NoDeadline>,
+    ports: &mut UdpPorts,
     first: &UdpSocket,
     second: &UdpSocket,
 ) -> Result<(), Fail> {
@@ -146,7 +146,7 @@ fn lose_packets(
     rt: &impl Abort,
     alloc: Global,
     config: Config,
-    ports: &mut UdpPorts<NoDeadline>,
+    ports: &mut UdpPorts,
     caller: &UdpSocket,
 ) -> Result<(), Fail> {
     caller.send_to(ONE_UNREACHABLE, local(29600))?;
@@ -178,7 +178,7 @@ fn send_to_unicast_addresses(
     rt: &impl Abort,
     alloc: Global,
     config: Config,
-    ports: &mut UdpPorts<NoDeadline>,
+    ports: &mut UdpPorts,
     caller: &UdpSocket,
 ) -> Result<(), Fail> {
     caller.send_to(HELD, local(28700))?;
@@ -203,7 +203,7 @@ fn take_at_two_addresses(
     rt: &impl Abort,
     alloc: Global,
     config: Config,
-    ports: &mut UdpPorts<NoDeadline>,
+    ports: &mut UdpPorts,
     caller: &UdpSocket,
 ) -> Result<(), Fail> {
     let control = SocketAddr::new(IpAddr::V4(Ipv4Addr::new(127, 0, 0, 2)), 29700);
@@ -240,7 +240,7 @@ fn binds_only_its_addresses(rt: HostRuntime) -> Result<(), Fail> {
 /// A waiting datagram is received; if none waits, none is.
 fn receive_what_waits(
     rt: &impl Abort,
-    ports: &mut UdpPorts<NoDeadline>,
+    ports: &mut UdpPorts,
     caller: &UdpSocket,
 ) -> Result<(), Fail> {
     let mut buffer = [0; 4];
@@ -255,6 +255,10 @@ fn receive_what_waits(
     assert_eq!(rt; ports.receive(1, &mut buffer), Ok(Some((0, source))));
     assert_eq!(rt; ports.receive(1, &mut buffer), Ok(Some((4, source))));
     assert_eq!(rt; buffer, *b"cut ");
+    assert_eq!(rt; ports.receive(1, &mut buffer), Ok(None));
+    caller.send_to(b"again", local(29802))?;
+    assert_eq!(rt; ports.receive(0, &mut buffer), Ok(None));
+    assert_eq!(rt; ports.receive(1, &mut buffer), Ok(Some((4, source))));
     assert_eq!(rt; ports.receive(1, &mut buffer), Ok(None));
     assert_eq!(rt; ports.failures(), 0);
     assert_eq!(rt; ports.receive(2, &mut buffer), Err(PortFault));
@@ -285,7 +289,7 @@ fn take_messages(
     rt: &impl Abort,
     alloc: Global,
     config: Config,
-    ports: &mut UdpPorts<NoDeadline>,
+    ports: &mut UdpPorts,
     caller: &UdpSocket,
 ) -> Result<(), Fail> {
     for length in [8192, 8193, 65507] {
@@ -310,36 +314,4 @@ fn takes_messages_whole(rt: HostRuntime) -> Result<(), Fail> {
     let caller = caller(&rt, 29910)?;
     let mut ports = bind(&rt, &config)?;
     take_messages(&rt, rt.alloc(), config, &mut ports, &caller)
-}
-
-/// Of three messages, only that of the listed controller is accepted.
-fn take_from_the_controller<P: Ports>(
-    rt: &impl Abort,
-    alloc: Global,
-    config: Config,
-    ports: &mut P,
-    stranger: &UdpSocket,
-    controller: &UdpSocket,
-) -> Result<(), Fail> {
-    for sender in [stranger, stranger, controller] {
-        sender.send_to(b"MEGACO/2", local(28800))?;
-    }
-    let (result, _) = serve_lines(alloc, config, ports, "poll\n");
-    assert_eq!(rt; result?.control, 1);
-    assert_eq!(rt; ports.strangers(), 2);
-    let mut buffer = [0; 100];
-    assert!(rt; stranger.recv_from(&mut buffer).is_err());
-    assert!(rt; controller.recv_from(&mut buffer).is_ok());
-    Ok(())
-}
-
-#[test]
-fn drops_messages_from_strangers(rt: HostRuntime) -> Result<(), Fail> {
-    let config = config(28800, 1);
-    let stranger = caller(&rt, 28810)?;
-    let address = SocketAddr::new(IpAddr::V4(Ipv4Addr::new(127, 0, 0, 2)), 28810);
-    let controller = UdpSocket::bind(&rt, address)?;
-    let controllers = [[127, 0, 0, 2]];
-    let mut ports = GuardedPorts::new(bind(&rt, &config)?, &controllers);
-    take_from_the_controller(&rt, rt.alloc(), config, &mut ports, &stranger, &controller)
 }

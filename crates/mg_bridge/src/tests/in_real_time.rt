@@ -1,6 +1,5 @@
 use super::local;
-use mg_clock::{ClockFailed, Watch};
-use mg_program::{Deadline, TickDeadline, program};
+use mg_program::program;
 use std::cell::Cell;
 use std::io;
 use std::io::ErrorKind;
@@ -44,20 +43,6 @@ impl<'a> Clock for StallingClock<'a> {
         let now = self.now.get().saturating_add(time);
         self.now.set(if now == 100 * MS { 2100 * MS } else { now });
     }
-}
-
-/// Returns a clock that reads a number of ticks of 20 ms.
-#[derive(Drop)]
-struct Dial<'a> {
-    ticks: &'a Cell<u64>,
-}
-
-impl<'a> Watch for Dial<'a> {
-    fn now(&mut self) -> Result<u64, ClockFailed> {
-        Ok(self.ticks.get().saturating_mul(20 * MS))
-    }
-
-    fn wait(&mut self, _time: Duration) {}
 }
 
 /// Returns the sequence number and the timestamp of the next packet that waits at a socket.
@@ -111,13 +96,10 @@ fn turns_a_stall_into_a_gap(rt: HostRuntime) -> Result<(), Fail> {
     assert_eq!(rt; status, 3);
     assert_eq!(rt; input, b"quit\n".as_slice());
     assert_eq!(rt; output.as_slice(), b"ready\n".as_slice());
-    assert_eq!(rt;
-        errors.as_slice(),
-        b"95 packets were too late\nread failed\n".as_slice()
-    );
+    assert_eq!(rt; errors.as_slice(), b"read failed\n".as_slice());
     assert!(rt;
         reports.as_slice().starts_with(
-            b"totals control=1 media=0 ticks=100 sent=6 failed=95 strangers=0 "
+            b"95 packets were too late\ntotals control=1 media=0 ticks=100 sent=6 failed=95 strangers=0 "
         )
     );
     let mut reply = [0; 500];
@@ -133,20 +115,4 @@ fn turns_a_stall_into_a_gap(rt: HostRuntime) -> Result<(), Fail> {
         assert_eq!(rt; next_packet(&caller)?, (sequence, timestamp));
     }
     Ok(())
-}
-
-#[test]
-fn reports_how_many_packets_were_too_late(rt: HostRuntime) {
-    let mut errors = Vec::new(rt.alloc());
-    let ticks = Cell::new(10);
-    let now = Cell::new(15);
-    let mut deadline = TickDeadline::new(Dial { ticks: &now }, &ticks, 5, &mut errors);
-    assert!(rt; !deadline.is_late());
-    now.set(16);
-    assert!(rt; deadline.is_late());
-    assert!(rt; deadline.is_late());
-    ticks.set(11);
-    assert!(rt; !deadline.is_late());
-    assert!(rt; !deadline.is_late());
-    assert_eq!(rt; errors.as_slice(), b"2 packets were too late\n".as_slice());
 }

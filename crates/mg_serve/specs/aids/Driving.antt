@@ -1,6 +1,8 @@
 -- What the steps of a server do: a receive, some bytes of its input, and the last line.
-use Rattle.std.specs.Prelude.{◌≡◌, ℕ, Bool, true, false, List, [], ◌∷◌, ◌++◌, take, Result, Ok, Err}
-use Rattle.mg_engine.specs.declared.config.Config.{Config}
+use Rattle.std.specs.Prelude.{◌≡◌, ℕ, ◌≤◌, Bool, true, false, List, [], ◌∷◌, ◌++◌, length, take, map}
+use Rattle.std.specs.Prelude.{Option, Result, Ok, Err}
+use Rattle.mg_clock.specs.declared.timing.Timing.{Timing}
+use Rattle.mg_clock.specs.Ticks.{ClockSeen, TicksBegin}
 use Rattle.mg_words.specs.declared.peer.Peer.{Peer}
 use Rattle.mg_core.specs.declared.fault.RunFault.{RunFault}
 use Rattle.mg_core.specs.declared.fault.RunFault.TheVariants as faults
@@ -9,39 +11,43 @@ use Rattle.mg_lines.specs.declared.write_failed.WriteFailed.{WriteFailed}
 use Rattle.mg_lines.specs.Lines.{lines_after}
 use Rattle.mg_serve.specs.declared.form.Form.{Form}
 use Rattle.mg_serve.specs.Lines.{LastPrints, line_command, before_quit}
+use Rattle.mg_serve.specs.Serve.{ClockCommands, ReadCommands, commands_at}
 use Rattle.mg_serve.specs.Session.{ReceivesDatagram, Performs, ReceivesNothing, Session}
+use Rattle.mg_serve.specs.Setup.{Setup}
+use Rattle.mg_serve.specs.declared.command.Command.{Command}
+use Rattle.mg_serve.specs.declared.command.Command.TheVariants.{Poll, Tick}
 use Rattle.mg_serve.specs.Trace.{TraceEntry}
 
 -- a receive, and whether a datagram came
-abbrev pub Received : Config → ℕ → Bool → World → List TraceEntry → World → Type 0
-Received config slot true w trace next =
-    (datagram : Peer × List ℕ) × ReceivesDatagram config slot datagram w trace next
-Received config slot false w trace next = ReceivesNothing slot trace × (next ≡ w)
+abbrev pub Received : Setup → ℕ → Bool → World → List TraceEntry → World → Type 0
+Received setup socket true w trace next =
+    (datagram : Peer × List ℕ) × ReceivesDatagram setup socket datagram w trace next
+Received setup socket false w trace next = ReceivesNothing socket trace × (next ≡ w)
 
 -- The lines that end in some bytes were done, and the line after them is begun, of which the first
 -- 8 bytes are kept; or a line was the last, or a print of it failed.
-abbrev pub BytesTaken : Form → Config → List ℕ → List ℕ → List ℕ → Result Bool WriteFailed → World
+abbrev pub BytesTaken : Form → Setup → List ℕ → List ℕ → List ℕ → Result Bool WriteFailed → World
     → List TraceEntry → World → Type 0
-BytesTaken form config partial bytes kept (Ok false) w trace next =
+BytesTaken form setup partial bytes kept (Ok false) w trace next =
     (lines : List (List ℕ)) × (left : List ℕ) × (kept ≡ take 8 left)
     × ((ended : Bool) (more : List ℕ) → before_quit (lines_after ended partial (bytes ++ more))
     ≡ lines ++ before_quit (lines_after ended left more))
-    × Session config lines w trace next
-BytesTaken form config partial bytes kept (Ok true) w trace next =
+    × Session setup (map line_command lines) w trace next
+BytesTaken form setup partial bytes kept (Ok true) w trace next =
     (lines : List (List ℕ))
     × ((ended : Bool) (more : List ℕ)
     → before_quit (lines_after ended partial (bytes ++ more)) ≡ lines)
-    × Session config lines w trace next
-BytesTaken form config partial bytes kept (Err failed) w trace next =
+    × Session setup (map line_command lines) w trace next
+BytesTaken form setup partial bytes kept (Err failed) w trace next =
     (lines : List (List ℕ))
     × ((ended : Bool) (more : List ℕ) → (others : List (List ℕ))
     × (before_quit (lines_after ended partial (bytes ++ more)) ≡ lines ++ others))
-    × LastPrints form lines × Session config lines w trace next
+    × LastPrints form (map line_command lines) × Session setup (map line_command lines) w trace next
 
 -- the line that was begun is the last, if there is one
-abbrev pub Finished : Config → List ℕ → World → List TraceEntry → World → Type 0
-Finished config [] w trace next = (trace ≡ []) × (next ≡ w)
-Finished config (b ∷ bs) w trace next = Performs config (line_command (b ∷ bs)) w trace next
+abbrev pub Finished : Setup → List ℕ → World → List TraceEntry → World → Type 0
+Finished setup [] w trace next = (trace ≡ []) × (next ≡ w)
+Finished setup (b ∷ bs) w trace next = Performs setup (line_command (b ∷ bs)) w trace next
 
 -- a run ends with `Write` where a print has failed, and only there
 abbrev pub EndsBy : {T : Type 0} → Result T RunFault → (has_failed : Bool) → Type 0
@@ -51,3 +57,37 @@ EndsBy (Err faults.Write) has_failed = has_failed ≡ true
 EndsBy (Err faults.NoMemory) has_failed = ⊥
 EndsBy (Err faults.BadConfig) has_failed = ⊥
 EndsBy (Err (faults.Script number)) has_failed = ⊥
+
+abbrev pub EndsByFault : RunFault → (has_failed : Bool) → Type 0
+EndsByFault fault has_failed = EndsBy {T = Unit {0}} (Err fault) has_failed
+
+-- the commands that a source gave are a session
+abbrev pub RanBy : Setup → (List Command → Type 0) → World → List TraceEntry → World → Type 0
+RanBy setup Gave w trace next =
+    (commands : List Command) × Gave commands × Session setup commands w trace next
+
+abbrev pub RanLines : {T : Type 0} → Form → Setup → Option (List ℕ) → Option (List ℕ)
+    → Result T RunFault → World → List TraceEntry → World → Type 0
+RanLines form setup old new result w trace next =
+    RanBy setup (ReadCommands form old new result) w trace next
+
+abbrev pub RanByClock : Form → Setup → ℕ → ClockSeen → ClockSeen → (fails : Type 0) → RunFault
+    → World → List TraceEntry → World → Type 0
+RanByClock form setup allowed old new fails fault w trace next =
+    RanBy setup (ClockCommands form allowed old new fails fault) w trace next
+
+-- a poll and a tick were done, or a print of one of them failed
+abbrev pub TickTaken : Form → Setup → Timing → Result (Unit {0}) WriteFailed → World → List TraceEntry
+    → World → Type 0
+TickTaken form setup timing (Ok done) w trace next =
+    Session setup (Poll ∷ Tick timing ∷ []) w trace next
+TickTaken form setup timing (Err failed) w trace next =
+    (commands : List Command) × (left : List Command)
+    × (Poll ∷ Tick timing ∷ [] ≡ commands ++ left) × (length left ≤ 1)
+    × LastPrints form commands × Session setup commands w trace next
+
+-- so many ticks were done by a clock
+abbrev pub TicksDone : Setup → ℕ → ℕ → ClockSeen → ClockSeen → World → List TraceEntry → World → Type 0
+TicksDone setup allowed count old now w trace next =
+    (timings : List Timing) × (length timings ≡ count) × TicksBegin allowed 1 timings old now
+    × Session setup (commands_at timings) w trace next

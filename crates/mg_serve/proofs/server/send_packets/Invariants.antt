@@ -7,4 +7,4 @@ use Rattle.mg_serve.proofs.server.send_packets.Given as goal
 
 abbrev pub invariant-loop-packet : goal.invariant-loop-packet
 invariant-loop-packet g l = Logged (g.P.Ports.calls l.initial.ports) (g.P.Ports.calls l.ports)
-    (map (λ (packet : Datagram). send_of l.config (Packet packet)) (take l.packet-index l.packets))
+    (map (λ (packet : Datagram). send_of l.setup (Packet packet)) (take l.packet-index l.packets))

@@ -5,14 +5,14 @@ use Rattle.mg_serve.proofs.Running.{no_memory, not_opened, served_ok, served_err
 use Rattle.mg_serve.proofs.serving.drive.Goals as goal
 
 pub returns-in_default-clause-session : goal.returns-in_default-clause-session
-returns-in_default-clause-session g c = no_memory c.args.config (option_map (λ title. title.now) c.args.title)
+returns-in_default-clause-session g c = no_memory c.args.setup.now (option_map (λ title. title.now) c.args.title)
     (g.R.Read.remaining c.args.reader.now) (g.P.Ports.calls c.args.ports.now) (g.W.Write.contents c.args.writer.now)
 
 pub returns-in_default-open-clause-session : goal.returns-in_default-open-clause-session
 returns-in_default-open-clause-session g c =
-    not_opened c.args.config (option_map (λ title. title.now) c.args.title)
+    not_opened c.args.setup.now (option_map (λ title. title.now) c.args.title)
     (g.R.Read.remaining c.args.reader.now) (g.P.Ports.calls c.args.ports.now)
-    c.args.driver.now.server.printer c.open.new.self.server.printer
+    c.args.driver.now.server.printer c.open.new.self.printer
     (g.W.Write.contents c.args.writer.now) (g.W.Write.contents c.open.new.writer)
     (c.requires.printer, c.open.ensures.printed)
     c.in_default-open.ensures.failed
@@ -20,11 +20,11 @@ returns-in_default-open-clause-session g c =
 pub returns-in_err-take_all-clause-session : goal.returns-in_err-take_all-clause-session
 returns-in_err-take_all-clause-session g c =
     let p = err_from_is_err_and c.from_residual.result c.from_residual.ensures.1 in
-    rw (p.1, p.2) (served_err c.in_err-take_all.field-0.0 c.args.config (option_map (λ title. title.now) c.args.title)
+    rw (p.1, p.2) (served_err c.in_err-take_all.field-0.0 c.args.setup.now (option_map (λ title. title.now) c.args.title)
     (g.R.Read.remaining c.args.reader.now) (g.R.Read.remaining c.take_all.new.reader)
     c.args.driver.now.server.core.state c.take_all.new.self.server.core.state
     c.args.driver.now.server.printer (g.W.Write.contents c.args.writer.now)
-    (outside (g.P.Ports.calls c.args.ports.now) (g.W.Write.contents c.open.new.writer) c.open.new.self.server.printer)
+    (outside (g.P.Ports.calls c.args.ports.now) (g.W.Write.contents c.open.new.writer) c.open.new.self.printer)
     (outside (g.P.Ports.calls c.take_all.new.ports) (g.W.Write.contents c.take_all.new.writer)
     c.take_all.new.self.server.printer) c.requires.start
     (c.requires.printer, c.open.ensures.printed)
@@ -32,11 +32,11 @@ returns-in_err-take_all-clause-session g c =
 
 pub returns-clause-session : goal.returns-clause-session
 returns-clause-session g c =
-    served_ok c.counts.result c.args.config (option_map (λ title. title.now) c.args.title)
+    served_ok c.counts.result c.args.setup.now (option_map (λ title. title.now) c.args.title)
     (g.R.Read.remaining c.args.reader.now) (g.R.Read.remaining c.take_all.new.reader)
     c.args.driver.now.server.core.state c.take_all.new.self.server.core.state
     c.args.driver.now.server.printer (g.W.Write.contents c.args.writer.now)
-    (outside (g.P.Ports.calls c.args.ports.now) (g.W.Write.contents c.open.new.writer) c.open.new.self.server.printer)
+    (outside (g.P.Ports.calls c.args.ports.now) (g.W.Write.contents c.open.new.writer) c.open.new.self.printer)
     (outside (g.P.Ports.calls c.take_all.new.ports) (g.W.Write.contents c.take_all.new.writer)
     c.take_all.new.self.server.printer) c.requires.start
     (c.requires.printer, c.open.ensures.printed)

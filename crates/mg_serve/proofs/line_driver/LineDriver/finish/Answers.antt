@@ -13,18 +13,18 @@ returns-then-is_empty-clause-value g c =
     let none : length c.args.self.now.partial ≡ 0 = grind (arith, ap length seen) in
     takes_none c.args.self.now.server.core.state (outside (g.P.Ports.calls c.args.ports.now) (g.W.Write.contents
     c.args.writer.now) c.args.self.now.server.printer)
-    (Finished c.args.config c.args.self.now.partial)
-    (λ w. finished_none c.args.config c.args.self.now.partial w none)
+    (Finished c.args.setup.now c.args.self.now.partial)
+    (λ w. finished_none c.args.setup.now c.args.self.now.partial w none)
 
 pub returns-clause-value : goal.returns-clause-value
 returns-clause-value g c =
     let seen = c.as_slice-line.ensures.value in
-    let config = c.args.config in
+    let setup = c.args.setup.now in
     let some : length c.args.self.now.partial ≢ 0 = grind (arith, ap length seen) in
     takes_as c.args.self.now.server.core.state c.take_command.new.self.core.state (outside (g.P.Ports.calls
     c.args.ports.now) (g.W.Write.contents c.args.writer.now) c.args.self.now.server.printer)
     (outside (g.P.Ports.calls c.take_command.new.ports) (g.W.Write.contents c.take_command.new.writer)
     c.take_command.new.self.printer)
-    (Performs config (line_command c.args.self.now.partial)) (Finished config c.args.self.now.partial)
-    (rw seen at (rw c.of-command.ensures.value at c.take_command.ensures.value))
-    (λ w next p h. finished_some config c.args.self.now.partial w next p some h)
+    (Performs setup (line_command c.args.self.now.partial)) (Finished setup c.args.self.now.partial)
+    (rw seen at (rw c.of_line-command.ensures.value at c.take_command.ensures.value))
+    (λ w next p h. finished_some setup c.args.self.now.partial w next p some h)

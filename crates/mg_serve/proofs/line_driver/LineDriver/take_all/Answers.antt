@@ -6,14 +6,14 @@ use Rattle.mg_serve.proofs.line_driver.LineDriver.take_all.Goals as goal
 pub loop-init : goal.loop-init
 loop-init g c = (
   c.requires.whole,
-  read_start c.args.config (g.R.Read.remaining c.args.reader.now) c.args.self.now.partial
+  read_start c.args.setup.now (g.R.Read.remaining c.args.reader.now) c.args.self.now.partial
       c.args.self.now.server.core.state (outside (g.P.Ports.calls c.args.ports.now) (g.W.Write.contents
       c.args.writer.now) c.args.self.now.server.printer) c.requires.partial,
 )
 
 pub returns-in_default-clause-value : goal.returns-in_default-clause-value
 returns-in_default-clause-value g c =
-    takes_unread c.args.config (g.R.Read.remaining c.args.reader.now) (g.R.Read.remaining c.loop.reader)
+    takes_unread c.args.setup.now (g.R.Read.remaining c.args.reader.now) (g.R.Read.remaining c.loop.reader)
     (g.R.Read.remaining c.read_some.new.reader) c.loop.self.partial c.args.self.now.server.core.state
     c.loop.self.server.core.state (outside (g.P.Ports.calls c.args.ports.now) (g.W.Write.contents c.args.writer.now)
     c.args.self.now.server.printer) (outside (g.P.Ports.calls c.loop.ports) (g.W.Write.contents c.loop.writer)
@@ -22,7 +22,7 @@ returns-in_default-clause-value g c =
 
 pub returns-in-Ok-finish-clause-value : goal.returns-in-Ok-finish-clause-value
 returns-in-Ok-finish-clause-value g c =
-    takes_end c.args.config (g.R.Read.remaining c.args.reader.now) (g.R.Read.remaining c.loop.reader)
+    takes_end c.args.setup.now (g.R.Read.remaining c.args.reader.now) (g.R.Read.remaining c.loop.reader)
     (g.R.Read.remaining c.read_some.new.reader) c.loop.self.partial c.args.self.now.server.core.state
     c.loop.self.server.core.state c.finish.new.self.server.core.state
     (outside (g.P.Ports.calls c.args.ports.now) (g.W.Write.contents c.args.writer.now) c.args.self.now.server.printer)
@@ -33,7 +33,7 @@ returns-in-Ok-finish-clause-value g c =
 
 pub returns-in-Err-clause-value : goal.returns-in-Err-clause-value
 returns-in-Err-clause-value g c =
-    takes_end_fault c.args.config (g.R.Read.remaining c.args.reader.now) (g.R.Read.remaining c.loop.reader)
+    takes_end_fault c.args.setup.now (g.R.Read.remaining c.args.reader.now) (g.R.Read.remaining c.loop.reader)
     (g.R.Read.remaining c.read_some.new.reader) c.loop.self.partial
     c.args.self.now.server.core.state c.loop.self.server.core.state c.finish.new.self.server.core.state
     (outside (g.P.Ports.calls c.args.ports.now) (g.W.Write.contents c.args.writer.now) c.args.self.now.server.printer)
@@ -46,12 +46,12 @@ returns-in-Err-clause-value g c =
 pub returns-in-Ok-true-clause-value : goal.returns-in-Ok-true-clause-value
 returns-in-Ok-true-clause-value g c =
     let read = rw c.in-Some.is at c.in-Ok.ensures.value in
-    takes_quit c.args.config (g.R.Read.remaining c.args.reader.now) (g.R.Read.remaining c.read_some.new.reader)
+    takes_quit c.args.setup.now (g.R.Read.remaining c.args.reader.now) (g.R.Read.remaining c.read_some.new.reader)
     c.take_bytes.new.self.partial c.args.self.now.server.core.state c.take_bytes.new.self.server.core.state
     (outside (g.P.Ports.calls c.args.ports.now) (g.W.Write.contents c.args.writer.now) c.args.self.now.server.printer)
     (outside (g.P.Ports.calls c.take_bytes.new.ports) (g.W.Write.contents c.take_bytes.new.writer)
     c.take_bytes.new.self.server.printer)
-    (read_more c.args.config (g.R.Read.remaining c.args.reader.now) (g.R.Read.remaining c.loop.reader)
+    (read_more c.args.setup.now (g.R.Read.remaining c.args.reader.now) (g.R.Read.remaining c.loop.reader)
     (g.R.Read.remaining c.read_some.new.reader) (take c.in-Some.n c.read_some.new.buffer) c.loop.self.partial
     c.take_bytes.new.self.partial (Ok true) c.args.self.now.server.core.state c.loop.self.server.core.state
     c.take_bytes.new.self.server.core.state (outside (g.P.Ports.calls c.args.ports.now) (g.W.Write.contents
@@ -64,13 +64,13 @@ returns-in-Ok-true-clause-value g c =
 pub returns-in-Err-take_bytes-clause-value : goal.returns-in-Err-take_bytes-clause-value
 returns-in-Err-take_bytes-clause-value g c =
     let read = rw c.in-Some.is at c.in-Ok.ensures.value in
-    takes_broken c.args.config (g.R.Read.remaining c.args.reader.now) (g.R.Read.remaining c.read_some.new.reader)
+    takes_broken c.args.setup.now (g.R.Read.remaining c.args.reader.now) (g.R.Read.remaining c.read_some.new.reader)
     c.take_bytes.new.self.partial c.in-Err-take_bytes.field-0 c.args.self.now.server.core.state
     c.take_bytes.new.self.server.core.state (outside (g.P.Ports.calls c.args.ports.now) (g.W.Write.contents
     c.args.writer.now) c.args.self.now.server.printer)
     (outside (g.P.Ports.calls c.take_bytes.new.ports) (g.W.Write.contents c.take_bytes.new.writer)
     c.take_bytes.new.self.server.printer)
-    (read_more c.args.config (g.R.Read.remaining c.args.reader.now) (g.R.Read.remaining c.loop.reader)
+    (read_more c.args.setup.now (g.R.Read.remaining c.args.reader.now) (g.R.Read.remaining c.loop.reader)
     (g.R.Read.remaining c.read_some.new.reader) (take c.in-Some.n c.read_some.new.buffer) c.loop.self.partial
     c.take_bytes.new.self.partial (Err c.in-Err-take_bytes.field-0) c.args.self.now.server.core.state
     c.loop.self.server.core.state c.take_bytes.new.self.server.core.state (outside (g.P.Ports.calls c.args.ports.now)
@@ -84,7 +84,7 @@ pub loop-preserved : goal.loop-preserved
 loop-preserved g c =
     let read = rw c.in-Some.is at c.in-Ok.ensures.value in (
       c.in-Ok-false.ensures.whole,
-      read_more c.args.config (g.R.Read.remaining c.args.reader.now) (g.R.Read.remaining c.loop.reader)
+      read_more c.args.setup.now (g.R.Read.remaining c.args.reader.now) (g.R.Read.remaining c.loop.reader)
           (g.R.Read.remaining c.read_some.new.reader) (take c.in-Some.n c.read_some.new.buffer) c.loop.self.partial
           c.take_bytes.new.self.partial (Ok false) c.args.self.now.server.core.state c.loop.self.server.core.state
           c.take_bytes.new.self.server.core.state (outside (g.P.Ports.calls c.args.ports.now) (g.W.Write.contents
@@ -98,7 +98,7 @@ loop-preserved g c =
 
 pub returns-clause-value : goal.returns-clause-value
 returns-clause-value g c =
-    takes_enough c.args.config (g.R.Read.remaining c.args.reader.now) (g.R.Read.remaining c.loop.reader)
+    takes_enough c.args.setup.now (g.R.Read.remaining c.args.reader.now) (g.R.Read.remaining c.loop.reader)
     c.loop.self.partial c.args.self.now.server.core.state c.loop.self.server.core.state
     (outside (g.P.Ports.calls c.args.ports.now) (g.W.Write.contents c.args.writer.now) c.args.self.now.server.printer)
     (outside (g.P.Ports.calls c.loop.ports) (g.W.Write.contents c.loop.writer) c.loop.self.server.printer)

@@ -8,5 +8,5 @@ invariant-loop g l = (l.self.server.printer.has_failed ≡ false) ×
     LeadsByTrace l.initial.self.server.core.state l.self.server.core.state
     (outside (g.P.Ports.calls l.initial.ports) (g.W.Write.contents l.initial.writer) l.initial.self.server.printer)
     (outside (g.P.Ports.calls l.ports) (g.W.Write.contents l.writer) l.self.server.printer)
-    (Read l.initial.self.server.printer.form l.config (g.R.Read.remaining l.initial.reader)
+    (Read l.initial.self.server.printer.form l.setup (g.R.Read.remaining l.initial.reader)
     (g.R.Read.remaining l.reader) l.self.partial (Ok false))

@@ -8,7 +8,7 @@ use Rattle.mg_serve.proofs.line_driver.LineDriver.take_bytes.Goals as goal
 pub loop-b-init : goal.loop-b-init
 loop-b-init g c = (
   c.requires.whole,
-  λ partial is. bytes_start c.args.config partial c.args.self.now.partial c.args.self.now.server.core.state
+  λ partial is. bytes_start c.args.setup.now partial c.args.self.now.partial c.args.self.now.server.core.state
       (outside (g.P.Ports.calls c.args.ports.now) (g.W.Write.contents c.args.writer.now)
       c.args.self.now.server.printer) is,
 )
@@ -17,7 +17,7 @@ pub loop-b-preserved-then-b-ne10 : goal.loop-b-preserved-then-b-ne10
 loop-b-preserved-then-b-ne10 g c = (
   c.loop-b.invariant.0,
   λ partial is.
-      index_plain c.args.config partial c.args.bytes.now c.loop-b.self.partial c.push.new.self c.loop-b.b-index
+      index_plain c.args.setup.now partial c.args.bytes.now c.loop-b.self.partial c.push.new.self c.loop-b.b-index
       c.args.self.now.server.core.state c.loop-b.self.server.core.state (outside (g.P.Ports.calls c.args.ports.now)
       (g.W.Write.contents c.args.writer.now) c.args.self.now.server.printer)
       (outside (g.P.Ports.calls c.loop-b.ports) (g.W.Write.contents c.loop-b.writer) c.loop-b.self.server.printer)
@@ -28,7 +28,7 @@ pub loop-b-preserved : goal.loop-b-preserved
 loop-b-preserved g c = (
   c.in_ok-end_line.ensures.whole,
   λ partial is.
-      index_feed c.args.config partial c.args.bytes.now c.loop-b.self.partial c.end_line.new.self.partial c.loop-b.b-index
+      index_feed c.args.setup.now partial c.args.bytes.now c.loop-b.self.partial c.end_line.new.self.partial c.loop-b.b-index
       false c.args.self.now.server.core.state c.loop-b.self.server.core.state c.end_line.new.self.server.core.state
       (outside (g.P.Ports.calls c.args.ports.now) (g.W.Write.contents c.args.writer.now)
       c.args.self.now.server.printer) (outside (g.P.Ports.calls c.loop-b.ports) (g.W.Write.contents c.loop-b.writer)
@@ -44,7 +44,7 @@ returns-then-branch g c = record {
   failed = tt;
   value =
       λ partial is.
-      index_quit c.args.config partial c.args.bytes.now c.loop-b.self.partial c.end_line.new.self.partial c.loop-b.b-index
+      index_quit c.args.setup.now partial c.args.bytes.now c.loop-b.self.partial c.end_line.new.self.partial c.loop-b.b-index
       c.args.self.now.server.core.state c.loop-b.self.server.core.state c.end_line.new.self.server.core.state
       (outside (g.P.Ports.calls c.args.ports.now) (g.W.Write.contents c.args.writer.now)
       c.args.self.now.server.printer) (outside (g.P.Ports.calls c.loop-b.ports) (g.W.Write.contents c.loop-b.writer)
@@ -64,7 +64,7 @@ returns-in_err-end_line g c = record {
   value =
       λ partial is.
       let p = err_from_is_err_and c.from_residual.result c.from_residual.ensures.1 in
-      rw p.1 (index_fault c.args.config partial c.args.bytes.now c.loop-b.self.partial c.end_line.new.self.partial
+      rw p.1 (index_fault c.args.setup.now partial c.args.bytes.now c.loop-b.self.partial c.end_line.new.self.partial
       c.loop-b.b-index _ c.args.self.now.server.core.state c.loop-b.self.server.core.state
       c.end_line.new.self.server.core.state (outside (g.P.Ports.calls c.args.ports.now) (g.W.Write.contents
       c.args.writer.now) c.args.self.now.server.printer) (outside (g.P.Ports.calls c.loop-b.ports) (g.W.Write.contents

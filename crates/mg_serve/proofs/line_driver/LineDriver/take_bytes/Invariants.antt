@@ -9,4 +9,4 @@ invariant-loop-b g l = (l.self.server.printer.has_failed ≡ false) × ((partial
     LeadsByTrace l.initial.self.server.core.state l.self.server.core.state
     (outside (g.P.Ports.calls l.initial.ports) (g.W.Write.contents l.initial.writer) l.initial.self.server.printer)
     (outside (g.P.Ports.calls l.ports) (g.W.Write.contents l.writer) l.self.server.printer)
-    (BytesTaken l.initial.self.server.printer.form l.config partial (take l.b-index l.bytes) l.self.partial (Ok false)))
+    (BytesTaken l.initial.self.server.printer.form l.setup partial (take l.b-index l.bytes) l.self.partial (Ok false)))

@@ -15,7 +15,7 @@ returns-in-Send g c =
     let old = g.W.Write.contents c.args.writer.now in
     let written = g.W.Write.contents c.control-2.new.writer in
     record {
-      value = control_answered c.args.config c.args.source c.args.bytes.now _ c.args.self.now.core.state
+      value = control_answered c.args.setup.now c.args.source c.args.bytes.now _ c.args.self.now.core.state
           c.control.new.self.state (outside calls old before) (outside calls written after)
           (outside (g.P.Ports.calls c.send.new.ports) written after)
           (rw c.in-Send.is at c.in-Ok.ensures.answered)
@@ -34,7 +34,7 @@ returns-in-Silent g c =
     let old = g.W.Write.contents c.args.writer.now in
     let written = g.W.Write.contents c.control-2.new.writer in
     record {
-      value = control_answered c.args.config c.args.source c.args.bytes.now [] c.args.self.now.core.state
+      value = control_answered c.args.setup.now c.args.source c.args.bytes.now [] c.args.self.now.core.state
           c.control.new.self.state (outside calls old before) (outside calls written after)
           (outside calls written after) (rw c.in-Silent.is at c.in-Ok.ensures.answered)
           (tells_print calls old written before after (Happened (events.Control c.args.source c.args.bytes.now)) refl

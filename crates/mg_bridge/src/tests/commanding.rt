@@ -1,0 +1,161 @@
+use super::local;
+use mg_program::program;
+use std::cell::Cell;
+use std::io;
+use std::io::{ErrorKind, Read};
+use std::net::{IpAddr, Ipv4Addr, SocketAddr, UdpSocket};
+use std::test::Fail;
+use std::time::{Clock, Duration};
+
+const MESSAGE: &[u8] = b"MEGACO/2";
+
+/// A stranger and a controller, who each send messages to a gateway once it runs: when it reads its input first, or
+/// first waits. The stranger sends before the controller and after it.
+#[derive(Drop)]
+struct Senders<'a> {
+    stranger: &'a UdpSocket,
+    controller: &'a UdpSocket,
+    port: u16,
+    /// The input of the gateway.
+    text: &'a [u8],
+    has_sent: Cell<bool>,
+    now: Cell<u64>,
+}
+
+impl<'a> Senders<'a> {
+    fn send(&self) {
+        if !self.has_sent.replace(true) {
+            for socket in [self.stranger, self.controller, self.stranger] {
+                let _ = socket.send_to(MESSAGE, local(self.port));
+            }
+        }
+    }
+}
+
+impl<'a> Read for Senders<'a> {
+    fn read(&mut self, buf: &mut [u8]) -> io::Result<usize> {
+        self.send();
+        let n = self.text.len().min(buf.len());
+        let (front, rest) = self.text.split_at(n);
+        buf[..n].copy_from_slice(front);
+        self.text = rest;
+        Ok(n)
+    }
+}
+
+impl<'a> Clock for Senders<'a> {
+    /// Fails after a second.
+    fn monotonic(&self) -> io::Result<Duration> {
+        if self.now.get() > 1_000_000_000 {
+            return Err(io::Error::from(ErrorKind::Other));
+        }
+        Ok(Duration::from_nanos(self.now.get()))
+    }
+
+    fn since_1970(&self) -> io::Result<Duration> {
+        Err(io::Error::from(ErrorKind::Other))
+    }
+
+    fn sleep(&self, duration: Duration) {
+        self.send();
+        let time = u64::try_from(duration.as_nanos()).unwrap_or(u64::MAX);
+        self.now.set(self.now.get().saturating_add(time));
+    }
+}
+
+/// A socket of a host of the loopback network, which doesn't wait.
+fn sender(rt: &HostRuntime, host: u8, port: u16) -> io::Result<UdpSocket> {
+    let address = IpAddr::V4(Ipv4Addr::new(127, 0, 0, host));
+    let socket = UdpSocket::bind(rt, SocketAddr::new(address, port))?;
+    socket.set_nonblocking(true)?;
+    Ok(socket)
+}
+
+/// How many answers wait at a socket.
+fn answers(socket: &UdpSocket) -> usize {
+    let mut buffer = [0; 200];
+    let mut count = 0;
+    for _ in 0..10 {
+        if socket.recv_from(&mut buffer).is_ok() {
+            count += 1;
+        }
+    }
+    count
+}
+
+/// How many answers a stranger and a controller get from the program by these words: the controller is 127.0.0.2, and
+/// the control port is this one.
+fn answered(rt: &HostRuntime, port: u16, words: &[&str]) -> Result<(usize, usize), Fail> {
+    let alloc = rt.alloc();
+    let stranger = sender(rt, 1, port + 8)?;
+    let controller = sender(rt, 2, port + 8)?;
+    let mut senders = Senders {
+        stranger: &stranger,
+        controller: &controller,
+        port,
+        text: b"poll\nquit\n",
+        has_sent: Cell::new(false),
+        now: Cell::new(0),
+    };
+    let clock = Senders {
+        stranger: &stranger,
+        controller: &controller,
+        port,
+        text: b"",
+        has_sent: Cell::new(false),
+        now: Cell::new(0),
+    };
+    let mut output = Vec::new(alloc);
+    let mut errors = Vec::new(alloc);
+    let mut reports = Vec::new(alloc);
+    program(
+        rt,
+        &clock,
+        alloc,
+        words,
+        &mut senders,
+        &mut output,
+        &mut errors,
+        &mut reports,
+    );
+    Ok((answers(&stranger), answers(&controller)))
+}
+
+#[test]
+fn serve_answers_controllers_alone(rt: HostRuntime) -> Result<(), Fail> {
+    let words = [
+        "serve",
+        "--control-port=28400",
+        "--base-port=28402",
+        "--slots=1",
+        "--controller=127.0.0.3",
+        "--controller=127.0.0.2",
+    ];
+    assert_eq!(rt; answered(&rt, 28400, &words)?, (0, 1));
+    Ok(())
+}
+
+#[test]
+fn live_answers_controllers_alone(rt: HostRuntime) -> Result<(), Fail> {
+    let words = [
+        "live",
+        "--control-port=28420",
+        "--base-port=28422",
+        "--slots=1",
+        "--controller=127.0.0.2",
+    ];
+    assert_eq!(rt; answered(&rt, 28420, &words)?, (0, 1));
+    Ok(())
+}
+
+#[test]
+fn answers_anybody_if_no_controller_is_listed(rt: HostRuntime) -> Result<(), Fail> {
+    let words = [
+        "serve",
+        "--control-port=28440",
+        "--base-port=28442",
+        "--slots=1",
+    ];
+    assert_eq!(rt; answered(&rt, 28440, &words)?, (2, 1));
+    Ok(())
+}

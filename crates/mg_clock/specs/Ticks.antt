@@ -1,0 +1,56 @@
+-- When the ticks of a gateway begin by a clock.
+use Rattle.std.specs.Prelude.{◌≡◌, ℕ, ◌+◌, ◌*◌, ◌<◌, ◌≤◌, nat_lt, List, [], ◌∷◌, ◌++◌, length}
+use Rattle.std.specs.Prelude.{Option, if◌then◌else◌}
+use Rattle.std.specs.Io.KnownBytes.{Appends}
+use Rattle.mg_clock.specs.declared.timing.Timing.{Timing}
+use Rattle.mg_clock.specs.declared.timing.Timing.TheVariants.{OnTime, Late}
+use Rattle.mg_clock.specs.Due.{period, ticks_due}
+
+-- what is known of a clock's readings and waits
+pub record ClockSeen : Type 0 where
+  pub readings : Option (List ℕ)
+  pub waits : Option (List ℕ)
+
+abbrev pub clock_seen : Option (List ℕ) → Option (List ℕ) → ClockSeen
+clock_seen readings waits = record { readings = readings; waits = waits }
+
+-- At none of these readings a tick is due, and after each the clock waits until it is.
+abbrev pub WaitsForTick : (tick : ℕ) → (readings waits : List ℕ) → Type 0
+WaitsForTick tick [] [] = Unit {0}
+WaitsForTick tick (t ∷ ts) (d ∷ ds) =
+    (t < tick * period) × (t + d ≡ tick * period) × WaitsForTick tick ts ds
+WaitsForTick tick readings waits = ⊥
+
+-- A clock was read so many times before a tick was due.
+pub record IsReadEarly (tick count : ℕ) (old new : ClockSeen) : Type 0 where
+  pub early : List ℕ
+  pub waits : List ℕ
+  pub waited : WaitsForTick tick early waits
+  pub counted : length early ≡ count
+  pub readings : Appends old.readings new.readings early
+  pub slept : Appends old.waits new.waits waits
+
+-- A clock is read until a tick is due: at this reading it is, and at none before.
+pub record IsReadUntilDue (tick now : ℕ) (old new : ClockSeen) : Type 0 where
+  pub count : ℕ
+  pub before : Option (List ℕ)
+  pub early : IsReadEarly tick count old (clock_seen before new.waits)
+  pub last : Appends before new.readings (now ∷ [])
+  pub due : tick ≤ ticks_due now
+
+-- how a tick is timed that begins at a time, if it may be late by so many ticks
+abbrev pub timing_of : (tick allowed now : ℕ) → Timing
+timing_of tick allowed now = if nat_lt (tick + allowed) (ticks_due now) then Late else OnTime
+
+-- A tick begins at the first reading at which it is due.
+pub record BeginsTick (tick allowed : ℕ) (old new : ClockSeen) (timing : Timing) : Type 0 where
+  pub now : ℕ
+  pub read : IsReadUntilDue tick now old new
+  pub timing_is : timing ≡ timing_of tick allowed now
+
+-- These ticks begin one after another, the first with this number.
+abbrev pub TicksBegin : (allowed first : ℕ) → List Timing → ClockSeen → ClockSeen → Type 0
+TicksBegin allowed first [] old new = new ≡ old
+TicksBegin allowed first (timing ∷ timings) old new =
+    (mid : ClockSeen) × BeginsTick first allowed old mid timing
+    × TicksBegin allowed (first + 1) timings mid new

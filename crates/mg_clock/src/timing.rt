@@ -1,0 +1,6 @@
+/// Whether a tick begins in time, so that its packets are still worth sending.
+#[derive(Clone, Copy, Debug, PartialEq, Eq)]
+pub enum Timing {
+    OnTime,
+    Late,
+}

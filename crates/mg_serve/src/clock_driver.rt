@@ -1,0 +1,113 @@
+ghost use Rattle.std.specs.Prelude.{◌≡◌, ◌≢◌, ◌↔◌, ◌≤◌, true, false, length, Err, IfOk, OnErr, OnOk};
+ghost use Rattle.mg_clock.specs.Ticks.{clock_seen};
+ghost use Rattle.mg_engine.specs.Config.{IsValidConfig};
+ghost use Rattle.mg_core.specs.World.{StandsFor, start_of};
+ghost use Rattle.mg_serve.specs.aids.Driving.{EndsByFault, RanByClock, TickTaken};
+ghost use Rattle.mg_serve.specs.aids.Outside.{LeadsByTrace, outside};
+
+use crate::command::Command;
+use crate::form::Form;
+use crate::server::Server;
+use crate::setup::Setup;
+use mg_clock::{TickSchedule, Timing, Watch};
+use mg_core::{Config, RunFault, StartFault};
+use mg_lines::WriteFailed;
+use mg_ports::Ports;
+use std::alloc::Global;
+use std::io::Write;
+
+/// Drives a server by a clock: a poll and a tick every 20 ms.
+#[derive(Drop)]
+pub struct ClockDriver<'a, E: Write> {
+    pub server: Server<'a, E>,
+    pub schedule: TickSchedule,
+}
+
+impl<'a, E: Write> ClockDriver<'a, E> {
+    /// A driver of a new gateway, before the first tick. A tick may be late by so many ticks. It reports every so many
+    /// seconds, if any.
+    pub fn new(
+        alloc: Global,
+        config: Config,
+        form: Form,
+        allowed: u16,
+        seconds: u16,
+        reports: &'a mut E,
+    ) -> Result<Self, StartFault>
+        ensures bad { (result ≡ Err StartFault.BadConfig) ↔ ¬ IsValidConfig config }
+        ensures sound { OnOk result (IsValidConfig config) }
+        ensures start { IfOk result (λ driver. StandsFor driver.server.core.state (start_of config)) }
+        ensures printer { IfOk result (λ driver.
+            driver.server.printer ≡ record { form = form; has_failed = false }) }
+        ensures first { IfOk result (λ driver. driver.schedule.ticks ≡ 0) }
+        ensures allowed { IfOk result (λ driver. driver.schedule.allowed ≡ allowed) }
+    {
+        Ok(ClockDriver {
+            server: Server::new(alloc, config, form, seconds, reports)?,
+            schedule: TickSchedule::new(allowed),
+        })
+    }
+
+    /// Does what is due every 20 ms: a poll and a tick.
+    fn take_tick<P: Ports, W: Write>(
+        &mut self,
+        alloc: Global,
+        setup: &Setup<'_>,
+        ports: &mut P,
+        buffer: &mut [u8],
+        timing: Timing,
+        writer: &mut W,
+    ) -> Result<(), WriteFailed>
+        requires sound { IsValidConfig setup.now.config }
+        requires room { length buffer.old ≤ 65535 }
+        requires whole { self.old.server.printer.has_failed ≡ false }
+        ensures schedule { self.new.schedule ≡ self.old.schedule }
+        ensures whole { OnOk result (self.new.server.printer.has_failed ≡ false) }
+        ensures failed { OnErr result (self.new.server.printer.has_failed ≡ true) }
+        ensures value { LeadsByTrace self.old.server.core.state self.new.server.core.state
+            (outside (P.calls ports.old) (W.contents writer.old) self.old.server.printer)
+            (outside (P.calls ports.new) (W.contents writer.new) self.new.server.printer)
+            (TickTaken self.old.server.printer.form setup.now timing result) }
+    {
+        self.server
+            .take_command(alloc, setup, ports, buffer, Command::Poll, writer)?;
+        let tick = Command::Tick(timing);
+        self.server
+            .take_command(alloc, setup, ports, buffer, tick, writer)?;
+        Ok(())
+    }
+
+    /// Does what is due by a clock, until the clock or a print fails.
+    pub fn take_all<P: Ports, K: Watch, W: Write>(
+        &mut self,
+        alloc: Global,
+        setup: &Setup<'_>,
+        ports: &mut P,
+        buffer: &mut [u8],
+        watch: &mut K,
+        writer: &mut W,
+    ) -> RunFault
+        requires sound { IsValidConfig setup.now.config }
+        requires room { length buffer.old ≤ 65535 }
+        requires whole { self.old.server.printer.has_failed ≡ false }
+        requires first { self.old.schedule.ticks ≡ 0 }
+        ensures ends { EndsByFault result self.new.server.printer.has_failed }
+        ensures started { result ≢ RunFault.BadConfig }
+        ensures value { LeadsByTrace self.old.server.core.state self.new.server.core.state
+            (outside (P.calls ports.old) (W.contents writer.old) self.old.server.printer)
+            (outside (P.calls ports.new) (W.contents writer.new) self.new.server.printer)
+            (RanByClock self.old.server.printer.form setup.now self.old.schedule.allowed
+            (clock_seen (K.readings watch.old) (K.waits watch.old))
+            (clock_seen (K.readings watch.new) (K.waits watch.new)) (K.Fails watch.new) result) }
+    {
+        for _ in 0..u64::MAX {
+            let Ok(timing) = self.schedule.next_tick(watch) else {
+                return RunFault::Read;
+            };
+            let Ok(()) = self.take_tick(alloc, setup, ports, buffer, timing, writer) else {
+                return RunFault::Write;
+            };
+        }
+        RunFault::Read
+    }
+}

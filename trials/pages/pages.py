@@ -1,9 +1,10 @@
-"""Runs the commands of a page that need no network, and looks whether they print what the page shows.
+"""Runs the commands of pages that need no network and compares their output with what the page shows.
 
-usage: pages.py PAGE ..
+usage: pages.py [--try] PAGE ..
 
-Such a command is a block of `sh` that calls `rt run` or `rt try` in parentheses. What it prints has to be one of the
-blocks that follow it, up to the next block of `sh`. Ends with 1 where it isn't.
+Such a command is a block of `sh` in parentheses that calls `rt run` or `rt try`. Its output must be one of the blocks
+that follow it, up to the next block of `sh`. Exits with 1 if one differs. With --try, `rt try` takes the place of
+`rt run`: nothing is proved, and a command takes about a minute.
 """
 import re
 import subprocess
@@ -19,7 +20,7 @@ def commands(page):
     """Each command that needs no network, with the blocks that follow it."""
     found = blocks(page)
     for i, (language, text) in enumerate(found):
-        if language == "sh" and re.match(r"\(cd .* rt (run|try) ", text):
+        if language == "sh" and re.match(r"\(cd .* rt (run|try) ", text, re.S):
             following = []
             for other, shown in found[i + 1:]:
                 if other == "sh":
@@ -29,14 +30,19 @@ def commands(page):
 
 
 def main():
+    words = sys.argv[1:]
+    unproved = "--try" in words
     wrong = 0
-    for path in sys.argv[1:]:
+    for path in [word for word in words if word != "--try"]:
         with open(path) as page:
             for command, shown in commands(page.read()):
-                run = subprocess.run(["bash", "-c", command], stdout=subprocess.PIPE, stderr=subprocess.PIPE, text=True)
+                typed = command.replace(" rt run ", " rt try ") if unproved else command
+                run = subprocess.run(["bash", "-c", typed], stdout=subprocess.PIPE, stderr=subprocess.PIPE, text=True)
                 holds = run.stdout in shown
                 wrong += not holds
-                print("%s: %s: %s" % (path, "as shown" if holds else "NOT as shown", command))
+                print("%s: %s: %s" % (path, "as shown" if holds else "NOT as shown", command), flush=True)
+                if not holds:
+                    print(run.stdout + run.stderr)
     sys.exit(wrong > 0)
 
 

@@ -24,8 +24,11 @@ start --record
 "$work/calls" "$callers" "$seconds" "$work/sent" "$work/came"
 stop
 
-read -ra words <<< "$(head -n 1 "$work/out")"
-[ "${words[*]:0:3}" = '# mg_bridge replay' ] || { echo "no command to replay it: ${words[*]}"; exit 1; }
+# The options in the first line. A recording is data: only known options with plain values are taken from it.
+title=$(head -n 1 "$work/out")
+names='address|control-address|control-port|base-port|slots|first-termination|first-context|ssrc|sequence|timestamp'
+[[ $title =~ ^'# mg_bridge replay'(\ --($names)=[0-9.]+)*$ ]] || { echo "no title: $title"; exit 1; }
+read -ra words <<< "$title"
 
 # Prints the whole lines of the recording, but for the one of a kind in its midst, if a kind is named.
 recording() {

@@ -210,7 +210,7 @@ IsOptionalAudit source _ ts rest = ⊥
 abbrev pub IsSkipped : List Descriptor → Production
 IsSkipped xs ts rest = (xs ≡ []) × IsOptionalGroup ts rest
 
--- What stands after the name of a command's termination:
+-- The descriptors after the name of a command's termination:
 -- (ADD | MODIFY | MOVE) ["{" param *("," param) "}"] | (SUBTRACT | AUDITVALUE) ["{" audit "}"]
 -- | (NOTIFY | SERVICECHANGE | AUDITCAPABILITY) [group]
 abbrev pub IsDescribed : List ℕ → CommandWord → List Descriptor → Production

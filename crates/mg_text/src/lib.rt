@@ -5,7 +5,8 @@
 //! [`write_reply`] to [`Bytes`]; these are types of the crate `mg_reply`:
 //!
 //! ```rust
-//! let message = read(alloc, b"MEGACO/1 [127.0.0.1]:2945 Transaction=1{Context=-{AuditValue=ROOT}}")?;
+//! let source = b"MEGACO/1 [127.0.0.1]:2945 Transaction=1{Context=-{AuditValue=ROOT}}".as_slice();
+//! let message = read(alloc, source)?;
 //! assert_eq!(rt; message.sender.text(source), b"[127.0.0.1]:2945".as_slice());
 //! ```
 //!

@@ -10,7 +10,7 @@ ghost use Rattle.mg_engine.specs.Isolation.{NoneHearsItself, OwnSpeechChangesNoP
 ghost use Rattle.mg_core.specs.Interleaving.{PortOrderIsIrrelevant, PortOrderInHistories, PortOrderInScripts};
 ghost use Rattle.mg_core.specs.Recording.{RecordingsAreRead, CutRecordingsAreRead};
 ghost use Rattle.mg_core.specs.Retransmissions.{KeptRepliesAreSent, RetransmissionsAreAnsweredAlike, OthersAreRun, RepliesPersist, NewReplyIsNewest, AcknowledgedAreDropped, EvictedAreDropped, DroppedRequestsAreRerun, RepliesAreKept};
-ghost use Rattle.mg_core.specs.Flows.{OnlyChangesAreReported, EachChangeIsReported};
+ghost use Rattle.mg_core.specs.Flows.{OnlyChangesAreReported, ReportDeterminesOutcome};
 ghost use Rattle.mg_core.specs.Run.{TextIsDetermined};
 ghost use Rattle.mg_core.specs.Step.{Sent, Step, Run};
 ghost use Rattle.mg_core.specs.World.{World};
@@ -116,9 +116,9 @@ pub fn unheard_changes_nothing()
     mg_commands::theorems::requests_keep_agreement();
 }
 
-/// Where nothing is told of changes nothing changed, and where nothing changed nothing is told.
+/// The lines that report what an event changed determine its outcome, and if nothing changed there are none.
 pub fn changes_are_reported()
-    ensures complete { EachChangeIsReported }
+    ensures complete { ReportDeterminesOutcome }
     ensures exact { OnlyChangesAreReported }
 {}
 

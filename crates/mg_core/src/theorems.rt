@@ -3,7 +3,7 @@
 ghost use Rattle.std.specs.Prelude.{◌≡◌, List};
 ghost use Rattle.mg_core.specs.declared.event.Event.{Event};
 ghost use Rattle.mg_commands.specs.Theorems.{RefusedNamesChangeNothing, RefusedCommandsChangeNothing, RefusedActionsChangeNothing, RefusedTopologiesChangeNothing, OthersAreTried, RefusedRequestsChangeNothing};
-ghost use Rattle.mg_core.specs.Apart.{SameEventKeepsAgreement, OneArrivalKeepsAgreement, SamePacketsFromPort, UnheardChangesNothing, UnheardInHistories, UnheardInScripts};
+ghost use Rattle.mg_core.specs.Apart.{UnheardChangesNothing, UnheardInHistories, UnheardInScripts};
 ghost use Rattle.mg_core.specs.Counting.{EventsAreCounted, RunsTake};
 ghost use Rattle.mg_core.specs.Headline.{EventsDetermineOutcome, GatewayDeterminesFuture, WorldsAreConsistent};
 ghost use Rattle.mg_engine.specs.Isolation.{NoneHearsItself, OwnSpeechChangesNoPacket, IsolatedAreNotHeard, UnheardChangesNoPacket, PayloadsAreMixes};
@@ -98,14 +98,10 @@ pub fn port_order_is_irrelevant()
     mg_commands::theorems::requests_are_consistent();
 }
 
-/// What some terminations send changes nothing for whoever doesn't hear them, over any time: of two gateways to which
-/// the same comes, but for RTP datagrams at ports of these terminations, the same packets are sent, byte for byte, from
-/// the port of each that hears none of them. What is said of events, one at a time, adds up to lists, histories and
-/// scripts.
+/// In each tick, the packet to a listener does not depend on what was ever received from terminations that it does not
+/// hear in that tick. Two gateways receive the same events, except for RTP datagrams at ports of some terminations. In
+/// the next tick both send the same bytes to each listener who then hears none of these, whatever it heard before.
 pub fn unheard_changes_nothing()
-    ensures event { SameEventKeepsAgreement }
-    ensures one { OneArrivalKeepsAgreement }
-    ensures packets { SamePacketsFromPort }
     ensures lists { UnheardChangesNothing }
     ensures histories { UnheardInHistories }
     ensures scripts { UnheardInScripts }

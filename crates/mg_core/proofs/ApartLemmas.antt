@@ -1,11 +1,10 @@
 -- Two worlds that differ in what some terminations received.
-use Rattle.std.proofs.Common.{◌≡◌, ℕ, ◌-◌, eqb, leb, not, ◌&&◌, Bool, true, false, cond, List, [], ◌∷◌, ◌++◌, length, map, drop, Option, Some, None, refl, sym, ap, subst, ◌∙◌}
+use Rattle.std.proofs.Common.{◌≡◌, ℕ, ◌-◌, eqb, leb, not, ◌&&◌, Bool, true, false, cond, List, [], ◌∷◌, ◌++◌, length, map, drop, Option, Some, None, refl, sym, ap, subst, ◌∙◌, append_assoc}
 use Rattle.std.specs.Prelude.{filter, find, filter_map, option_map, is_some}
 use Rattle.std.specs.List.{AllByRecursion, cons_option}
 use Rattle.std.specs.Str.{str_eq_ignore_ascii_case}
 use Rattle.std.proofs.lemmas.Bool.{eqb-true}
 use Rattle.std.proofs.lemmas.List.{drop-map, map-append, length-map}
-use Rattle.std.proofs.lemmas.List.Elements.{filter-append}
 use Rattle.mg_kept.specs.KeptReplies.{KeptReply, kept_text, newest, with_reply, without_range}
 use Rattle.mg_commands.specs.Agreement.{RequestsKeepAgreement}
 use Rattle.mg_commands.specs.Transaction.{replied}
@@ -32,11 +31,10 @@ use Rattle.mg_core.specs.declared.event.Event.{Event}
 use Rattle.mg_core.specs.declared.event.Event.TheVariants.{Control, Media, Tick}
 use Rattle.mg_core.specs.Answer.{answer_head, answered, has_requests, if_asked, item_replied, mark_after, replied_to, run_and_kept, sent_text, without_ranges}
 use Rattle.mg_core.specs.aids.Answers.{unless_kept}
-use Rattle.mg_core.specs.Apart.{AgreeOutside, Both, FirstOnly, SecondOnly, HearsNoneAt, HearsNoneIn}
-use Rattle.mg_core.specs.Apart.{OneArrivalKeepsAgreement, SameEventKeepsAgreement, SamePacketsFromPort}
-use Rattle.mg_core.specs.Apart.{UnheardChangesNothing, is_packet_from, key_of, packets_from}
-use Rattle.mg_core.specs.Step.{Sent, Packet, Step, answer_to}
-use Rattle.mg_core.specs.World.{World, with_control}
+use Rattle.mg_core.specs.Apart.{AgreeOutside, Both, DifferAtPortsOf, FirstOnly, Happening, HearsNoneAt, SecondOnly}
+use Rattle.mg_core.specs.Apart.{UnheardChangesNothing, UnheardInHistories, UnheardInScripts, key_of, to_first, to_second}
+use Rattle.mg_core.specs.Step.{Sent, Packet, Run, Step}
+use Rattle.mg_core.specs.World.{World, packets_of, start_of, with_control}
 
 -- ## Keys of kept replies
 
@@ -192,6 +190,17 @@ module _ (requests : RequestsKeepAgreement) (some : List ℕ) where
 abbrev OneReading : Type 0
 OneReading = (bytes : List ℕ) (a b : MessageReading) → IsMessageReading bytes a → IsMessageReading bytes b → a ≡ b
 
+-- the same event, whatever it is, keeps agreement
+abbrev SameEventKeepsAgreement : Type 0
+SameEventKeepsAgreement = (some : List ℕ) (a b x y : World) (event : Event) (s t : List Sent) →
+    AgreeOutside some a b → Step a event s x → Step b event t y → AgreeOutside some x y
+
+-- so does an RTP datagram to one of some terminations that comes to one of the worlds alone
+abbrev OneArrivalKeepsAgreement : Type 0
+OneArrivalKeepsAgreement = (some : List ℕ) (a b x : World) (port : ℕ) (source : Peer) (bytes : List ℕ) (s : List Sent) →
+    AgreeOutside some a b → IsPortAmong some a.gateway port → Step a (Media port source bytes) s x →
+    AgreeOutside some x b
+
 module _ (requests : RequestsKeepAgreement) (reads : OneReading) (media : engine.SameArrivalKeepsAgreement)
     (one_arrival : engine.OneArrivalKeepsAgreement) (turned : engine.AgreementIsMutual)
     (ticks : engine.SameTickKeepsAgreement) where
@@ -232,12 +241,12 @@ module _ (requests : RequestsKeepAgreement) (reads : OneReading) (media : engine
 -- ## Packets of a tick
 
 module _ (same : engine.SamePackets) (some : List ℕ) (port : ℕ) where
-  abbrev from : List Datagram → List Sent
-  from ds = packets_from port (map Packet ds)
+  abbrev from : List Datagram → List Datagram
+  from ds = filter (λ d. eqb d.from port) ds
 
-  one_more : (x : Bool) (d : Datagram) (rest others : List Sent) → rest ≡ others →
-      cond x (Packet d ∷ rest) rest ≡ cond x (Packet d ∷ others) others
-  one_more true d rest others e = ap (λ (l : List Sent). Packet d ∷ l) e
+  one_more : (x : Bool) (d : Datagram) (rest others : List Datagram) → rest ≡ others →
+      cond x (d ∷ rest) rest ≡ cond x (d ∷ others) others
+  one_more true d rest others e = ap (λ (l : List Datagram). d ∷ l) e
   one_more false d rest others e = e
 
   cons_same : (o : Option Datagram) (rest others : List Datagram) → from rest ≡ from others →
@@ -250,7 +259,7 @@ module _ (same : engine.SamePackets) (some : List ℕ) (port : ℕ) where
       eqb (slot_port w.rooms.limits r.slot) port ≡ false →
       from (cons_option (option_map (packet w r to) o) rest) ≡ from rest
   unseen_at w r to None rest e = refl
-  unseen_at w r to (Some s) rest e = ap (λ (x : Bool). cond x (Packet (packet w r to s) ∷ from rest) (from rest)) e
+  unseen_at w r to (Some s) rest e = ap (λ (x : Bool). cond x (packet w r to s ∷ from rest) (from rest)) e
 
   unseen : (w : Gateway) (r : Record) (to : Option Chosen) (rest : List Datagram) →
       eqb (slot_port w.rooms.limits r.slot) port ≡ false → from (cons_option (packet_to w r to) rest) ≡ from rest
@@ -277,39 +286,13 @@ module _ (same : engine.SamePackets) (some : List ℕ) (port : ℕ) where
       (filter_map (packet_of (all_played b)) rs) (eqb (slot_port a.rooms.limits r.slot) port) refl h.rooms
       (λ at. same some a b r h (none.0 (eqb-true (slot_port a.rooms.limits r.slot) port at))) (all_same a b rs h none.1)
 
-  tick_same : (a b : Gateway) → engine.AgreeOutside some a b → HearsNoneAt some a port →
+  pub tick_same : (a b : Gateway) → engine.AgreeOutside some a b → HearsNoneAt some a port →
       from (sent_in_tick a) ≡ from (sent_in_tick b)
   tick_same a b h none =
       all_same a b a.rooms.terminations h none ∙
       ap (λ (z : rooms.Registry). from (filter_map (packet_of (all_played b)) z.terminations)) h.rooms
 
-  no_packets : (source : Peer) (o : Option (List ℕ)) → packets_from port (answer_to source o) ≡ []
-  no_packets source None = refl
-  no_packets source (Some text) = refl
-
-  event_same : (a b x y : World) (event : Event) (s t : List Sent) → AgreeOutside some a b →
-      HearsNoneIn event some a.gateway port → Step a event s x → Step b event t y →
-      packets_from port s ≡ packets_from port t
-  event_same a b x y (Control source bytes) s t h none (answer, represents, sent) (other, comes, also) =
-      ap (packets_from port) sent ∙ no_packets source answer ∙ sym (no_packets source other) ∙
-      ap (packets_from port) (sym also)
-  event_same a b x y (Media p source bytes) s t h none (taken, represents, sent) (other, comes, also) =
-      ap (packets_from port) (sent ∙ sym also)
-  event_same a b x y Tick s t h none (sent, is) (also, its) = ap (packets_from port) sent ∙
-      tick_same a.gateway b.gateway h.gateway none ∙ ap (packets_from port) (sym also)
-
-pub same_packets : engine.SamePackets → SamePacketsFromPort
-same_packets same some port a b x y event s t h none step too =
-    event_same same some port a b x y event s t h none step too
-
 -- ## Lists of events
-
-joined : (port : ℕ) (s first others t second rest : List Sent) → s ≡ first ++ others → t ≡ second ++ rest →
-    packets_from port first ≡ packets_from port second → packets_from port others ≡ packets_from port rest →
-    packets_from port s ≡ packets_from port t
-joined port s first others t second rest is its e f =
-    ap (packets_from port) is ∙ filter-append (is_packet_from port) first others ∙ (λ i. e i ++ f i) ∙
-    sym (filter-append (is_packet_from port) second rest) ∙ ap (packets_from port) (sym its)
 
 among_both : (some : List ℕ) (a b : World) (port : ℕ) → AgreeOutside some a b → IsPortAmong some a.gateway port →
     IsPortAmong some b.gateway port
@@ -318,29 +301,67 @@ among_both some a b port h (r, at, is_one) =
 
 module _ (event : SameEventKeepsAgreement) (one : OneArrivalKeepsAgreement)
     (turned : (some : List ℕ) (a b : World) → AgreeOutside some a b →
-    AgreeOutside some b a) (packets : SamePacketsFromPort)
+    AgreeOutside some b a) (same : engine.SamePackets)
   where
-    pub unheard : UnheardChangesNothing
-    unheard some port a b x y [] s t h none (sent, is) (also, its) = (
-      ap (packets_from port) (sent ∙ sym also),
-      subst (λ (w : World). AgreeOutside some w y) (sym is) (subst (λ (w : World). AgreeOutside some a w) (sym its) h),
-    )
-    unheard some port a b x y (Both e ∷ xs) s t h (hears, later) (first, others, next, step, run, is)
+    -- lists that differ only in datagrams to some terminations keep agreement
+    agree_after : (some : List ℕ) (a b x y : World) (xs : List Happening) (s t : List Sent) → AgreeOutside some a b →
+        DifferAtPortsOf some a xs → Run a (to_first xs) s x → Run b (to_second xs) t y → AgreeOutside some x y
+    agree_after some a b x y [] s t h only (sent, is) (also, its) =
+        subst (λ (w : World). AgreeOutside some w y) (sym is) (subst (λ (w : World). AgreeOutside some a w) (sym its) h)
+    agree_after some a b x y (Both e ∷ xs) s t h only (first, others, next, step, run, is)
         (second, rest, also, too, runs, its) =
-        let agree = event some a b next also e first second h step too in
-        let last = unheard some port next also x y xs others rest agree (later first next step) run runs in (
-          joined port s first others t second rest is its
-              (packets some port a b next also e first second h hears step too) last.0,
-          last.1,
-        )
-    unheard some port a b x y (FirstOnly p source bytes ∷ xs) s t h (among, later) (first, others, next, step, run, is)
+        agree_after some next also x y xs others rest (event some a b next also e first second h step too)
+        (only first next step) run runs
+    agree_after some a b x y (FirstOnly p source bytes ∷ xs) s t h (among, only) (first, others, next, step, run, is)
         runs =
-        let agree = one some a b next p source bytes first h among step in
-        let last = unheard some port next b x y xs others t agree (later first next step) run runs in
-        (ap (packets_from port) (is ∙ ap (λ (l : List Sent). l ++ others) step.2) ∙ last.0, last.1)
-    unheard some port a b x y (SecondOnly p source bytes ∷ xs) s t h (among, later) run
+        agree_after some next b x y xs others t (one some a b next p source bytes first h among step)
+        (only first next step) run runs
+    agree_after some a b x y (SecondOnly p source bytes ∷ xs) s t h (among, only) run
         (second, rest, also, too, runs, its) =
-        let agree = turned some also a (one some b a also p source bytes second (turned some a b h)
-        (among_both some a b p h among) too) in
-        let last = unheard some port a also x y xs s rest agree later run runs in
-        (last.0 ∙ sym (ap (packets_from port) (its ∙ ap (λ (l : List Sent). l ++ rest) too.2)), last.1)
+        agree_after some a also x y xs s rest (turned some also a (one some b a also p source bytes second
+        (turned some a b h) (among_both some a b p h among) too)) only run runs
+
+    pub unheard : UnheardChangesNothing
+    unheard some port a b x y xs s t h only run runs =
+        let agree = agree_after some a b x y xs s t h only run runs in
+        (agree, tick_same same some port x.gateway y.gateway agree.gateway)
+
+-- ## Scripts
+
+-- what is sent before a tick, in it and after it
+around_tick : (w last : World) (events rest : List Event) (sent : List Sent) → Run w (events ++ (Tick ∷ rest)) sent last
+    → (v : World) × (before after : List Sent) × Run w events before v
+    × (sent ≡ before ++ (map Packet (packets_of v) ++ after))
+around_tick w last [] rest sent (first, others, next, (packets, is), run, parts) =
+    (w, [], others, (refl, refl), parts ∙ ap (λ (l : List Sent). l ++ others) packets)
+around_tick w last (event ∷ events) rest sent (first, others, next, step, run, parts) =
+    let (v, before, after, runs, are) = around_tick next last events rest others run in (
+      v,
+      first ++ before,
+      after,
+      (first, before, next, step, runs, refl),
+      parts ∙ ap (λ (l : List Sent). first ++ l) are ∙
+          sym (append_assoc first before (map Packet (packets_of v) ++ after)),
+    )
+
+itself : (some : List ℕ) (w : World) → AgreeOutside some w w
+itself some w = record { gateway = record { config = refl; rooms = refl; edits = refl; media = refl }; replies = refl }
+
+pub unheard_in_histories : UnheardChangesNothing → UnheardInHistories
+unheard_in_histories lists some port config xs s t v w one other only (run, stands) (runs, too) =
+    (lists some port (start_of config) (start_of config) v w xs s t (itself some (start_of config)) only run runs).1
+
+pub unheard_in_scripts : UnheardChangesNothing → UnheardInScripts
+unheard_in_scripts lists some port config xs rest others first second one other counts more old new was now a b only is
+    its =
+    let (v, before, after, run, are) = around_tick (start_of config) a.last (to_first xs) rest a.ran.sent
+    (subst (λ (events : List Event). Run (start_of config) events a.ran.sent a.last) is a.ran.run) in
+    let (w, earlier, later, runs, too) = around_tick (start_of config) b.last (to_second xs) others b.ran.sent
+    (subst (λ (events : List Event). Run (start_of config) events b.ran.sent b.last) its b.ran.run) in (
+      v,
+      w,
+      (before, after, run, are),
+      (earlier, later, runs, too),
+      (lists some port (start_of config) (start_of config) v w xs before earlier (itself some (start_of config)) only run
+          runs).1,
+    )

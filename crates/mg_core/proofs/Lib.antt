@@ -6,6 +6,7 @@ pub mod OutputLemmas
 pub mod ChangeLemmas
 pub mod ListenerLemmas
 pub mod QuietLemmas
+pub mod ReportLineLemmas
 pub mod ReportLemmas
 pub mod LineLemmas
 pub mod RunLemmas

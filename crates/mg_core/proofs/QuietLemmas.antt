@@ -56,7 +56,7 @@ nothing_in f (x ∷ xs) h = rw (
   nothing_in f xs (All-tail (λ y. f y ≡ []) x xs h),
 ) refl
 
-abbrev AreFound : List Listener → Type 0
+abbrev pub AreFound : List Listener → Type 0
 AreFound xs = All (λ x. listener_at xs x.number ≡ Some x) xs
 
 none_changed : (ticks : ℕ) (xs : List Listener) → AreFound xs → changes ticks xs xs ≡ []
@@ -80,7 +80,7 @@ found w [] n = refl
 found w (r ∷ rs) n = found_step (r.number == n) w r (find (λ x. x.number == n) rs)
     (listener_at (map (listener_of w) rs) n) (found w rs n)
 
-all_found : (w : Gateway) → IsSound w.rooms → AreFound (listeners_of w)
+pub all_found : (w : Gateway) → IsSound w.rooms → AreFound (listeners_of w)
 all_found w sound k d lt =
     let rs = w.rooms.terminations in
     let within : k < length rs = omega (arith, lt, length-map rs (listener_of w)) in

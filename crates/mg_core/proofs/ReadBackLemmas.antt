@@ -1,5 +1,5 @@
 -- What is written of an event is read as that event.
-use Rattle.std.proofs.Common.{◌≡◌, ℕ, zero, suc, ◌+◌, ◌/◌, ◌%◌, ◌<◌, ◌≤◌, Bool, true, not, eqb, List, [], ◌∷◌, ◌++◌, length, slice_index, Some, None, All, refl, ap, ◌∙◌, length-append, arith, codes, decimal}
+use Rattle.std.proofs.Common.{◌≡◌, ℕ, zero, suc, ◌/◌, ◌%◌, ◌<◌, ◌≤◌, Bool, true, not, eqb, List, [], ◌∷◌, ◌++◌, length, slice_index, Some, None, All, refl, ap, ◌∙◌, length-append, arith, codes, decimal}
 use Rattle.std.proofs.lemmas.Bool.{lt-ltb, le-ltb, le-leb, ne_eqb, and_parts, and_from, not_from_false}
 use Rattle.std.proofs.lemmas.List.Elements.{All-head, All-tail}
 use Rattle.std.proofs.lemmas.List.Folds.{list_all-append}
@@ -44,7 +44,7 @@ pub record Passes (p : ℕ → Bool) : Type 0 where
   pub rtp : list_all p (codes "rtp ") ≡ true
   pub tick : list_all p (codes "tick") ≡ true
 
-decimals_above : (byte : ℕ) → byte < 48 → (c : ℕ) → 48 ≤ c → c ≤ 57 → is_not byte c ≡ true
+pub decimals_above : (byte : ℕ) → byte < 48 → (c : ℕ) → 48 ≤ c → c ≤ 57 → is_not byte c ≡ true
 decimals_above byte small c low high = not_from_false (eqb c byte) (ne_eqb c byte (λ e. absurd (omega arith)))
 
 decimals_below : (byte : ℕ) → 57 < byte → (c : ℕ) → 48 ≤ c → c ≤ 57 → is_not byte c ≡ true
@@ -105,7 +105,7 @@ peer_passes p h dot colon source small port =
 -- ## Texts in two parts
 
 -- a text is cut at the first such byte
-cut_seam : (byte : ℕ) (xs ys : List ℕ) → eqb byte byte ≡ true → list_all (is_not byte) xs ≡ true →
+pub cut_seam : (byte : ℕ) (xs ys : List ℕ) → eqb byte byte ≡ true → list_all (is_not byte) xs ≡ true →
     cut byte (xs ++ byte ∷ ys) ≡ Some (xs, ys)
 cut_seam byte xs ys same h =
     let within : length xs < length (xs ++ byte ∷ ys) = omega (arith, length-append xs (byte ∷ ys)) in

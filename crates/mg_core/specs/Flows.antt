@@ -112,19 +112,21 @@ changes_by w next =
 
 -- ## All that changed, and nothing else
 
--- a termination but for its port, which it keeps as long as it is there
+-- a termination without its port, which stays the same as long as the termination exists
 abbrev pub but_port : Listener → Listener
 but_port x = record x { port = 0 }
 
--- Where nothing is told the same terminations are there, in the same contexts and modes, and the
--- same speech goes to each.
-abbrev pub EachChangeIsReported : Type 0
-EachChangeIsReported =
-    (ticks : ℕ) (v w : Gateway) → IsConsistent v.rooms → IsConsistent w.rooms
-    → changes ticks (listeners_of v) (listeners_of w) ≡ []
+-- The lines determine the outcome: if two outcomes of one state are reported alike, the same
+-- terminations exist, in the same contexts and modes, and the same speech goes to each.
+abbrev pub ReportDeterminesOutcome : Type 0
+ReportDeterminesOutcome =
+    (ticks : ℕ) (u v w : Gateway)
+    → IsConsistent u.rooms → IsConsistent v.rooms → IsConsistent w.rooms
+    → changes ticks (listeners_of u) (listeners_of v)
+    ≡ changes ticks (listeners_of u) (listeners_of w)
     → map but_port (listeners_of v) ≡ map but_port (listeners_of w)
 
--- Where all is the same, nothing is told.
+-- If nothing changed, there are no lines.
 abbrev pub OnlyChangesAreReported : Type 0
 OnlyChangesAreReported =
     (ticks : ℕ) (v w : Gateway) → IsConsistent v.rooms → listeners_of v ≡ listeners_of w

@@ -3,14 +3,14 @@
 ghost use Rattle.std.specs.Prelude.{◌≡◌, List};
 ghost use Rattle.mg_core.specs.declared.event.Event.{Event};
 ghost use Rattle.mg_commands.specs.Theorems.{RefusedNamesChangeNothing, RefusedCommandsChangeNothing, RefusedActionsChangeNothing, RefusedTopologiesChangeNothing, OthersAreTried, RefusedRequestsChangeNothing};
-ghost use Rattle.mg_core.specs.Apart.{SameEventKeepsAgreement, OneArrivalKeepsAgreement, SamePacketsFromPort, UnheardChangesNothing, UnheardInHistories, UnheardInScripts};
+ghost use Rattle.mg_core.specs.Apart.{UnheardChangesNothing, UnheardInHistories, UnheardInScripts};
 ghost use Rattle.mg_core.specs.Counting.{EventsAreCounted, RunsTake};
 ghost use Rattle.mg_core.specs.Headline.{EventsDetermineOutcome, GatewayDeterminesFuture, WorldsAreConsistent};
 ghost use Rattle.mg_engine.specs.Isolation.{NoneHearsItself, OwnSpeechChangesNoPacket, IsolatedAreNotHeard, UnheardChangesNoPacket, PayloadsAreMixes};
 ghost use Rattle.mg_core.specs.Interleaving.{PortOrderIsIrrelevant, PortOrderInHistories, PortOrderInScripts};
 ghost use Rattle.mg_core.specs.Recording.{RecordingsAreRead, CutRecordingsAreRead};
 ghost use Rattle.mg_core.specs.Retransmissions.{KeptRepliesAreSent, RetransmissionsAreAnsweredAlike, OthersAreRun, RepliesPersist, NewReplyIsNewest, AcknowledgedAreDropped, EvictedAreDropped, DroppedRequestsAreRerun, RepliesAreKept};
-ghost use Rattle.mg_core.specs.Flows.{OnlyChangesAreReported, EachChangeIsReported};
+ghost use Rattle.mg_core.specs.Flows.{OnlyChangesAreReported, ReportDeterminesOutcome};
 ghost use Rattle.mg_core.specs.Run.{TextIsDetermined};
 ghost use Rattle.mg_core.specs.Step.{Sent, Step, Run};
 ghost use Rattle.mg_core.specs.World.{World};
@@ -104,14 +104,10 @@ pub fn port_order_is_irrelevant()
     mg_commands::theorems::requests_are_consistent();
 }
 
-/// What some terminations send changes nothing for whoever doesn't hear them, over any time: of two gateways to which
-/// the same comes, but for RTP datagrams at ports of these terminations, the same packets are sent, byte for byte, from
-/// the port of each that hears none of them. What is said of events, one at a time, adds up to lists, histories and
-/// scripts.
+/// In each tick, the packet to a listener does not depend on what was ever received from terminations that it does not
+/// hear in that tick. Two gateways receive the same events, except for RTP datagrams at ports of some terminations. In
+/// the next tick both send the same bytes to each listener who then hears none of these, whatever it heard before.
 pub fn unheard_changes_nothing()
-    ensures event { SameEventKeepsAgreement }
-    ensures one { OneArrivalKeepsAgreement }
-    ensures packets { SamePacketsFromPort }
     ensures lists { UnheardChangesNothing }
     ensures histories { UnheardInHistories }
     ensures scripts { UnheardInScripts }
@@ -122,9 +118,9 @@ pub fn unheard_changes_nothing()
     mg_commands::theorems::requests_keep_agreement();
 }
 
-/// Where nothing is told of changes nothing changed, and where nothing changed nothing is told.
+/// The lines that report what an event changed determine its outcome, and if nothing changed there are none.
 pub fn changes_are_reported()
-    ensures complete { EachChangeIsReported }
+    ensures complete { ReportDeterminesOutcome }
     ensures exact { OnlyChangesAreReported }
 {}
 

@@ -142,6 +142,7 @@ module _ {E : Type 0} (options : Options) (count t : ℕ) (r0 r1 r2 w0 w1 w2 o n
       record {
         front = text p.polls p.steps ++ turn.2.front;
         rest = turn.2.rest;
+        cut = turn.2.cut;
         parts = turn.1 ∙ ap (λ (l : List ℕ). text p.polls p.steps ++ l) turn.2.parts ∙
             sym (append_assoc (text p.polls p.steps) turn.2.front turn.2.rest);
         written = appends_then o n m (text p.polls p.steps) turn.2.front s.wrote turn.2.written;

@@ -4,7 +4,7 @@ use Rattle.std.proofs.lemmas.List.{append-nil}
 use Rattle.std.specs.Io.KnownBytes.{Appends}
 use Rattle.mg_lines.specs.declared.write_failed.WriteFailed.{WriteFailed}
 use Rattle.mg_lines.specs.Streams.{Writes}
-use Rattle.mg_lines.proofs.WriterLemmas.{appends_then}
+use Rattle.mg_lines.proofs.WriterLemmas.{appends_then, longer}
 use Rattle.mg_clock.specs.Text.{text}
 use Rattle.mg_pace.specs.Text.{quit_line}
 use Rattle.mg_pace.specs.aids.Steps.{WritesLast, WritesSteps}
@@ -51,6 +51,7 @@ stops_at polls from step to a b c e some lt so_far failed =
       record {
         front = so_far.0 ++ failed.front;
         rest = failed.rest ++ after.0;
+        cut = longer failed.rest after.0 failed.cut;
         parts = ap (λ (l : List ℕ). so_far.0 ++ (l ++ after.0)) failed.parts ∙
             ap (λ (l : List ℕ). so_far.0 ++ l) (append_assoc failed.front failed.rest after.0)
             ∙ sym (append_assoc so_far.0 failed.front (failed.rest ++ after.0));
@@ -66,6 +67,7 @@ last_stops polls from to a b e w = (
   record {
     front = w.2.front;
     rest = w.2.rest ++ quit_line;
+    cut = longer w.2.rest quit_line w.2.cut;
     parts = ap (λ (l : List ℕ). l ++ quit_line) w.2.parts ∙
         append_assoc w.2.front w.2.rest quit_line;
     written = w.2.written;
@@ -79,6 +81,7 @@ quit_written x a b c (Err e) h k =
     record {
       front = x ++ k.front;
       rest = k.rest;
+      cut = k.cut;
       parts = ap (λ (l : List ℕ). x ++ l) k.parts ∙
           sym (append_assoc x k.front k.rest);
       written = appends_then a b c x k.front h k.written;

@@ -4,13 +4,13 @@ ghost use Rattle.mg_clock.specs.Due.{IsTimeTo, period, steps_due, ticks_due};
 
 use std::time::Duration;
 
-/// The time from one tick to the next, 20 ms, in nanoseconds.
+/// The time between ticks, 20 ms, in nanoseconds.
 const PERIOD: u128 = 20_000_000;
 
-/// The most polls in 20 ms.
+/// The maximum number of polls per 20 ms.
 pub const MAX_POLLS: u16 = 1000;
 
-/// The steps that are due at a time, in nanoseconds since the start, with so many polls in 20 ms.
+/// Returns how many steps are due at a time, in nanoseconds since the start, with this many polls per 20 ms.
 pub fn steps_due(polls: u64, now: u64) -> u64
     requires few { polls ≤ 1000 }
     ensures value { result ≡ steps_due polls now }
@@ -19,7 +19,7 @@ pub fn steps_due(polls: u64, now: u64) -> u64
     (u128::from(now) * u128::from(polls) / PERIOD) as u64
 }
 
-/// How long after a time the step after so many is due: no time, where it is due already.
+/// Returns how long after a time the next step is due, if `before` steps came before it: zero if it is already due.
 #[tactic(auto, using(crate::proofs::DueLemmas::soon))]
 pub fn time_to_step(polls: u64, before: u64, now: u64) -> Duration
     requires some { 0 < polls }
@@ -31,7 +31,7 @@ pub fn time_to_step(polls: u64, before: u64, now: u64) -> Duration
     Duration::from_nanos_u128(point.saturating_sub(u128::from(now)))
 }
 
-/// How long after a time a tick is due: `None` if it is due already.
+/// Returns how long after a time a tick is due, or `None` if it is already due.
 pub fn time_to_tick(tick: u64, now: u64) -> Option<Duration>
     ensures later { IfSome result (λ time. (now < tick * period) × (now + as_nanos time ≡ tick * period)) }
     ensures due { IfNone result (tick ≤ ticks_due now) }

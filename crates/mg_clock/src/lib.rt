@@ -1,7 +1,7 @@
-//! The time of a gateway: when its ticks begin, and when polls and ticks of a pace are due.
+//! The gateway's timing: when its ticks begin, and when the polls and ticks of `mg_pace` are due.
 //!
-//! A tick comes every 20 ms. Each is due at its own time from the start of the clock, so that no delay adds up.
-//! [`TickSchedule`] waits for them one after another:
+//! There is a tick every 20 ms. Each is due at its own time from the start of the clock, so delays do not add up.
+//! [`TickSchedule`] waits for one tick after another:
 //!
 //! ```rust
 //! let mut watch = SystemWatch::start_now(&rt)?;
@@ -9,13 +9,13 @@
 //! let timing = schedule.next_tick(&mut watch)?;
 //! ```
 //!
-//! A step is a poll, once in 20 ms or more often; the last step of each 20 ms is a tick too ([`steps_due`]).
+//! A step is a poll; there are one or more per 20 ms. The last step of each 20 ms is a tick too ([`steps_due`]).
 //!
-//! [`Watch`] is a clock that can wait, and [`SystemWatch`] the system's monotonic one. Times are nanoseconds since the
-//! start.
+//! [`Watch`] is a clock that can wait, and [`SystemWatch`] is the system's monotonic clock. Times are in nanoseconds
+//! since the start.
 //!
-//! Contracts speak of a clock by its readings and waits, where they are known: those of a clock that is a script are,
-//! and the system's are not.
+//! Contracts describe a clock by its readings and waits if these are known. They are known for a scripted clock, and
+//! not for the system's.
 #![tactic(auto)]
 
 mod clock_failed;

@@ -6,18 +6,19 @@ use crate::due::time_to_tick;
 use crate::timing::Timing;
 use crate::watch::Watch;
 
-/// When the ticks of a gateway begin by a clock: the k-th one `k * 20 ms` after the clock's start, or as soon as the
-/// clock is read after that.
+/// A schedule of ticks by a clock. The k-th tick begins `k * 20 ms` after the clock's start, or at the first reading of
+/// the clock after that.
 #[derive(Clone, Copy, Debug, PartialEq, Eq)]
 pub struct TickSchedule {
     /// How many ticks have begun.
     pub ticks: u64,
-    /// By how many ticks of 20 ms a tick may be late.
+    /// The maximum lateness of a tick whose packets are sent, in ticks of 20 ms.
     pub allowed: u16,
 }
 
 impl TickSchedule {
-    /// A schedule from the start of a clock on. A tick that is late by more ticks than `allowed` is [`Timing::Late`].
+    /// Makes a schedule that begins at the start of a clock. A tick that is more than `allowed` ticks late is
+    /// [`Timing::Late`].
     pub fn new(allowed: u16) -> Self
         ensures ticks { result.ticks ≡ 0 }
         ensures allowed { result.allowed ≡ allowed }
@@ -25,10 +26,10 @@ impl TickSchedule {
         TickSchedule { ticks: 0, allowed }
     }
 
-    /// Waits until the next tick is due and begins it. After a delay the ticks that were missed are due at once.
+    /// Waits until the next tick is due and begins it. After a delay, the ticks that were missed are due at once.
     ///
-    /// [`ClockFailed`]: the clock can't be read, or 18,446,744,073,709,551,615 ticks have begun, or so many readings in
-    /// a row didn't reach the tick's time.
+    /// [`ClockFailed`]: the clock can't be read, or 18,446,744,073,709,551,615 ticks have begun, or that many readings
+    /// in a row were before the tick's time.
     pub fn next_tick<K: Watch>(&mut self, watch: &mut K) -> Result<Timing, ClockFailed>
         ensures begins { IfOk result (BeginsTick (self.old.ticks + 1) self.old.allowed
             (clock_seen (K.readings watch.old) (K.waits watch.old))
@@ -49,7 +50,7 @@ impl TickSchedule {
     }
 }
 
-/// Waits until a tick is due, and returns the reading of the clock that reached its time.
+/// Waits until a tick is due. Returns the first reading of the clock at or after its time.
 fn wait_until_due<K: Watch>(tick: u64, watch: &mut K) -> Result<u64, ClockFailed>
     ensures due { IfOk result (λ now. IsReadUntilDue tick now
         (clock_seen (K.readings watch.old) (K.waits watch.old))
@@ -68,7 +69,7 @@ fn wait_until_due<K: Watch>(tick: u64, watch: &mut K) -> Result<u64, ClockFailed
     Err(ClockFailed)
 }
 
-/// How a tick is timed that begins at a time.
+/// Returns whether a tick that begins at the time `now` is late or on time.
 fn timing_of(tick: u64, allowed: u16, now: u64) -> Timing
     ensures value { result ≡ timing_of tick allowed now }
 {

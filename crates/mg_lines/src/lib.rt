@@ -1,4 +1,4 @@
-//! Text in and out by lines: what a reader gives is taken piece by piece, and what is written is written whole.
+//! Text input and output by lines: reads piece by piece, and writes in full.
 //!
 //! ```rust
 //! let mut buffer = [0; READ_SIZE];
@@ -7,8 +7,8 @@
 //! }
 //! ```
 //!
-//! Contracts speak of readers that tell what remains of them and of writers that tell what they hold, as those over
-//! memory do. `specs/Lines.antt` says what the lines of a text are.
+//! Contracts apply to readers whose remaining input is known, and to writers whose content is known, as it is for those
+//! in memory. `specs/Lines.antt` defines the lines of a text.
 #![tactic(auto)]
 
 mod line;

@@ -3,10 +3,10 @@ ghost use Rattle.mg_lines.specs.Streams.{ReadsSome};
 use crate::read_failed::ReadFailed;
 use std::io::{ErrorKind, Read};
 
-/// How many bytes one read asks for.
+/// The maximum number of bytes that one read asks for.
 pub const READ_SIZE: usize = 4096;
 
-/// Reads some bytes, and answers how many: none where the read was interrupted, and `None` at the end.
+/// Reads some bytes. Returns how many: 0 if the read was interrupted, and `None` at the end.
 pub fn read_some<R: Read>(
     reader: &mut R,
     buffer: &mut [u8; READ_SIZE],

@@ -1,3 +1,3 @@
-/// A writer failed, or took nothing.
+/// A writer failed, or wrote zero bytes.
 #[derive(Clone, Copy, Debug, PartialEq, Eq)]
 pub struct WriteFailed;

@@ -11,9 +11,9 @@
 //! ExitCode::from(status.code())
 //! ```
 //!
-//! A number is decimal, with an optional plus sign. The parser rejects any other text, and a number that is too great.
+//! A number is decimal, with an optional plus sign. The parser rejects any other text, and a number that is too large.
 //! So a value is missing only if the option was not given. `specs/Numbers.antt` defines this, and `specs/Ends.antt`
-//! how a program ends.
+//! defines how a program ends.
 #![tactic(auto)]
 
 mod arguments;

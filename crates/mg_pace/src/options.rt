@@ -14,7 +14,7 @@ use std::convert::AsStr;
 /// The options of a run.
 #[derive(Clone, Copy, Debug, PartialEq, Eq)]
 pub struct Options {
-    /// The ticks after which the run ends: `u64::MAX` if none were given, which is never reached.
+    /// The number of ticks after which the run ends. The default is `u64::MAX`, which is never reached.
     pub ticks: u64,
     /// The polls in each 20 ms, from 1 to 1000.
     pub polls: u16,
@@ -59,7 +59,7 @@ fn ticks_wanted(named: Option<u32>) -> u64
     named.map_or(u64::MAX, u64::from)
 }
 
-/// Brings a number of polls within its bounds.
+/// Limits a number of polls to its bounds.
 fn bounded_polls(polls: u16) -> u16
     ensures value { result ≡ max 1 (min 1000 polls) }
 {

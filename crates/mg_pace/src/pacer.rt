@@ -11,7 +11,7 @@ use mg_clock::Watch;
 use mg_lines::WriteFailed;
 use std::io::Write;
 
-/// Reports how many ticks were left out.
+/// Reports how many ticks were skipped.
 fn report_left_out<E: Write>(left: u64, errors: &mut E)
     ensures quiet { left ≡ 0 → errors.new ≡ errors.old }
 {
@@ -47,7 +47,7 @@ fn turn<W: Write, E: Write>(
     Ok(true)
 }
 
-/// Writes polls and ticks by a clock, until the wanted number of ticks was written.
+/// Writes polls and ticks by a clock, until the wanted number of ticks has been written.
 ///
 /// `Clock`: the clock cannot be read, or was read 18,446,744,073,709,551,615 times. `Closed`: the output is closed.
 pub fn pace<K: Watch, W: Write, E: Write>(

@@ -6,7 +6,7 @@ use mg_clock::{steps_due, time_to_step};
 use std::marker::Model;
 use std::time::Duration;
 
-/// The greatest number of ticks that are written at once after a delay: one second. Older ones are left out.
+/// The maximum number of ticks that are written at once after a delay: one second. Older ones are skipped.
 const CATCH_UP: u64 = 50;
 
 /// The progress of a run. A step is a poll; the last poll of each 20 ms comes with a tick.
@@ -60,7 +60,7 @@ impl Schedule {
         self.steps
     }
 
-    /// Returns the number of ticks that were left out.
+    /// Returns the number of ticks that were skipped.
     pub fn left(&self) -> u64
         ensures value { result ≡ self.now.left }
     {
@@ -69,7 +69,7 @@ impl Schedule {
 
     /// Advances to a reading of the clock, in nanoseconds since the start.
     ///
-    /// The steps that are due then count as written or, in whole ticks, as left out.
+    /// The steps that are due then count as written or, in whole ticks, as skipped.
     pub fn advance(&mut self, now: u64)
         ensures value { Advances self.old now self.new }
     {

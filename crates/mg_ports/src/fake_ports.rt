@@ -12,7 +12,7 @@ use mg_clock::Timing;
 use mg_words::Peer;
 use std::alloc::{AllocError, Global};
 
-/// Ports in memory, for tests. Each call is told, as long as there is memory for it.
+/// In-memory ports for tests. Each call is logged, as long as there is memory for it.
 #[derive(Drop)]
 pub struct FakePorts {
     alloc: Global,
@@ -23,7 +23,7 @@ pub struct FakePorts {
     log: Log,
 }
 
-/// What a receive gave, with a copy of its bytes.
+/// Returns the result of a receive, with a copy of its bytes.
 fn receipt_of(
     alloc: Global,
     answer: Result<Option<(usize, Peer)>, PortFault>,
@@ -40,8 +40,8 @@ fn receipt_of(
 }
 
 impl FakePorts {
-    /// Ports at which these datagrams wait, in this order at each socket. The calls whose numbers, counted from 0 over
-    /// all slots, are among `failing` fail.
+    /// Makes ports at which these datagrams wait, in this order at each socket. `failing` has the numbers of the calls
+    /// that fail, counted from 0 over all sockets.
     pub fn new(alloc: Global, waiting: Vec<Arrival>, failing: Vec<u64>) -> Self {
         FakePorts {
             alloc,
@@ -53,12 +53,12 @@ impl FakePorts {
         }
     }
 
-    /// The calls so far, or `None` where memory for one of them ran out.
+    /// Returns the calls so far, or `None` if memory for one of them ran out.
     pub fn calls(&self) -> Option<&[Call]> {
         self.log.calls()
     }
 
-    /// Begins a call, which fails if its number is among those that are to fail.
+    /// Begins a call. Fails if its number is one of those that are to fail.
     fn begin(&mut self) -> Result<(), PortFault>
         ensures log { self.new.log ≡ self.old.log }
         ensures fault { OnErr result (IsCounted self.old.failures self.new.failures) }

@@ -1,9 +1,10 @@
-//! The UDP sockets of a gateway by their numbers: 0 is the control socket, and s + 1 the media socket of slot s of the
-//! pool.
+//! The UDP sockets of a gateway, by number.
 //!
-//! [`Ports`] is what a gateway needs of them: to receive a datagram without waiting, to send one, and to count the calls
-//! that failed. [`FakePorts`] are ports in memory, for tests: datagrams wait at them, calls of chosen numbers fail, and
-//! each call is logged.
+//! Socket 0 is the control socket, and socket s + 1 is the media socket of slot s of the pool.
+//!
+//! [`Ports`] is what a gateway needs from its sockets: to receive a datagram without waiting, to send one, and to count
+//! the calls that failed. [`FakePorts`] are in-memory ports for tests: datagrams wait at them, calls with chosen
+//! numbers fail, and each call is logged.
 //!
 //! ```rust
 //! let mut ports = FakePorts::new(alloc, waiting, failing);
@@ -13,8 +14,8 @@
 //! }
 //! ```
 //!
-//! Contracts speak of ports by their calls (`specs/Calls.antt`): ports may log each receive with what it returned, and
-//! each send with its arguments. Those of an operating system log nothing.
+//! Contracts describe ports by their calls (`specs/Calls.antt`). Ports may log each receive with its result, and each
+//! send with its arguments. The ports of an operating system log nothing.
 #![tactic(auto)]
 
 mod arrival;

@@ -5,7 +5,7 @@ use crate::call::Call;
 use std::alloc::Global;
 use std::marker::Model;
 
-/// A list of calls. From the first call on for which there was no memory it tells nothing.
+/// A list of calls. If memory for one of them runs out, the list is lost.
 #[derive(Drop)]
 pub struct Log {
     calls: Option<Vec<Call>>,
@@ -30,7 +30,7 @@ impl Log {
         }
     }
 
-    /// Tells a call, or nothing from now on.
+    /// Appends a call. If there is none, the list is lost.
     pub fn add_call(&mut self, call: Option<Call>)
         ensures value { LogsNext self.old self.new call }
     {
@@ -46,7 +46,7 @@ impl Log {
         }
     }
 
-    /// The calls so far, where they are told.
+    /// Returns the calls so far, or `None` if the list was lost.
     pub fn calls(&self) -> Option<&[Call]>
         ensures some { IfSome result (λ calls. self.now ≡ Some calls.now) }
         ensures none { IfNone result (self.now ≡ None) }

@@ -7,17 +7,19 @@ use crate::port_fault::PortFault;
 use mg_clock::Timing;
 use mg_words::Peer;
 
-/// The UDP sockets of a gateway, by their numbers: 0 is the control socket, s + 1 the media socket of slot s of the
+/// The UDP sockets of a gateway, by number: 0 is the control socket, and s + 1 is the media socket of slot s of the
 /// pool.
 pub trait Ports {
-    /// All calls so far, where they are known.
+    /// All calls so far, if they are known.
     ghost calls: { Self → Option (List Call) } = { λ _. None };
 
     /// How many receives and sends failed.
     ghost failed: { Self → ℕ };
 
-    /// Receives a datagram if one is waiting: returns how many of its bytes are at the front of the buffer, and where
-    /// it came from. This never waits. A datagram that is longer than the buffer loses its end.
+    /// Receives a datagram if one is waiting.
+    ///
+    /// Returns how many of its bytes are at the front of the buffer, and its source. It never waits. A datagram that is
+    /// longer than the buffer is truncated.
     fn receive(
         &mut self,
         socket: usize,
@@ -27,16 +29,17 @@ pub trait Ports {
         ensures logged { Logged (calls self.old) (calls self.new) (Receive socket (receipt_of result buffer.new) ∷ []) }
         ensures fault { OnErr result (IsCounted (failed self.old) (failed self.new)) };
 
-    /// Sends a datagram. This never waits.
+    /// Sends a datagram. It never waits.
     fn send(&mut self, socket: usize, to: Peer, bytes: &[u8]) -> Result<(), PortFault>
         ensures logged { Logged (calls self.old) (calls self.new) (Send socket to bytes.now ∷ []) }
         ensures fault { OnErr result (IsCounted (failed self.old) (failed self.new)) };
 
-    /// Begins a tick, whose packets are sent next. If it is late, sending at a media socket fails until the next tick.
+    /// Begins a tick, whose packets are sent next. If the tick is late, every send from a media socket fails until the
+    /// next tick.
     fn begin_tick(&mut self, timing: Timing)
         ensures logged { Logged (calls self.old) (calls self.new) (BeginTick timing ∷ []) };
 
-    /// How many receives and sends failed. The count stays at its greatest value.
+    /// Returns how many receives and sends failed. The count stays at its maximum once it reaches it.
     fn failures(&self) -> u64
         ensures value { result ≡ failed self.now };
 }

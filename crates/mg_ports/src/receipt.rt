@@ -1,12 +1,12 @@
 use crate::payload::Payload;
 use mg_words::Peer;
 
-/// What a receive answered.
+/// The result of a receive.
 #[derive(Drop)]
 pub enum Receipt {
-    /// A datagram, with where it came from.
+    /// A datagram, with its source.
     Delivered(Peer, Payload),
-    /// None was there.
+    /// No datagram was waiting.
     Nothing,
     Failed,
 }

@@ -3,19 +3,19 @@ ghost use Rattle.mg_program.specs.Address.{is_multicast, own_address};
 
 use mg_words::address_of;
 
-/// Why a text names no address that a gateway can have.
+/// Why a text is not an address that a gateway can have.
 #[derive(Clone, Copy, Debug, PartialEq, Eq)]
 pub enum AddressFault {
-    /// It is no IPv4 address in dotted decimal.
+    /// It is not an IPv4 address in dotted decimal.
     Unreadable,
-    /// It is 0.0.0.0, which stands for all addresses of a machine: nobody can send to it.
+    /// It is 0.0.0.0, which means all addresses of a machine: nobody can send to it.
     Unspecified,
     /// It is 224.0.0.0 or above: a multicast, reserved or broadcast address.
     Multicast,
 }
 
 impl AddressFault {
-    /// The text that tells it of the address for media.
+    /// Returns the error text for the address for media.
     pub fn message(self) -> &'static str {
         match self {
             AddressFault::Unreadable => {
@@ -30,7 +30,7 @@ impl AddressFault {
         }
     }
 
-    /// The text that tells it of the address for control messages.
+    /// Returns the error text for the address for control messages.
     pub fn control_message(self) -> &'static str {
         match self {
             AddressFault::Unreadable => {
@@ -53,7 +53,7 @@ pub fn is_multicast(address: [u8; 4]) -> bool
     address[0] >= 224
 }
 
-/// The address of a gateway that a text names: an IPv4 address in dotted decimal, where leading zeros are allowed.
+/// Parses the address of a gateway: an IPv4 address in dotted decimal, with leading zeros allowed.
 pub fn own_address(text: &str) -> Result<[u8; 4], AddressFault>
     ensures value { result ≡ own_address text.now }
 {

@@ -1,7 +1,7 @@
 use std::io;
 use thiserror::Error;
 
-/// A UDP port that couldn't be bound, and what the system says of it: it is taken, the address isn't this machine's, or
+/// A UDP port that couldn't be bound, with the system's reason: it is in use, the address isn't this machine's, or
 /// there are too many open files.
 #[derive(Debug, Drop, Error)]
 #[error("cannot bind port {port}: {error}")]

@@ -5,7 +5,7 @@ use mg_core::{Config, TERMINATIONS};
 use mg_words::LAST_CONTEXT;
 use thiserror::Error;
 
-/// Why no gateway can be started with a configuration, by the option at fault.
+/// Why a gateway cannot start with a configuration: the first invalid option.
 #[derive(Clone, Copy, Debug, PartialEq, Eq, Error)]
 pub enum ConfigFault {
     #[error("--slots is 0, or more than there can be terminations")]
@@ -21,7 +21,7 @@ pub enum ConfigFault {
 }
 
 impl ConfigFault {
-    /// The first option at fault, if one is.
+    /// Returns the first invalid option, if there is one.
     pub fn of(config: &Config) -> Option<Self>
         ensures sound { IfNone result (IsValidConfig config.now) }
         ensures fault { IfSome result (λ fault. ¬ IsValidConfig config.now) }

@@ -1,14 +1,14 @@
-/// Why texts name no controllers.
+/// Why texts do not name controllers.
 #[derive(Clone, Copy, Debug, PartialEq, Eq)]
 pub enum ControllerFault {
-    /// One of them is no IPv4 address in dotted decimal.
+    /// One of them is not an IPv4 address in dotted decimal.
     Unreadable,
     /// There are more than eight.
     TooMany,
 }
 
 impl ControllerFault {
-    /// The text that tells it.
+    /// Returns the error text.
     pub fn message(self) -> &'static str {
         match self {
             ControllerFault::Unreadable => {

@@ -6,10 +6,10 @@ use arrayvec::ArrayVec;
 use mg_words::address_of;
 use std::marker::Model;
 
-/// The most controllers that can be listed.
+/// The maximum number of controllers that can be listed.
 const MAX_CONTROLLERS: usize = 8;
 
-/// The addresses of the controllers, eight at most. Where none is listed, anybody may command the gateway.
+/// The addresses of the controllers, at most eight. If none is listed, anybody may command the gateway.
 #[derive(Drop)]
 pub struct Controllers {
     addresses: ArrayVec<[u8; 4], MAX_CONTROLLERS>,
@@ -24,7 +24,7 @@ impl Model for Controllers {
 }
 
 impl Controllers {
-    /// The addresses that these texts name, IPv4 addresses in dotted decimal.
+    /// Parses addresses: IPv4 addresses in dotted decimal.
     pub fn of(texts: &[&str]) -> Result<Self, ControllerFault>
         ensures value { result ≡ controllers_of (map (λ text. text.now) texts.now) }
     {

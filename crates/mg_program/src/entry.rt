@@ -15,10 +15,11 @@ use std::io::{Read, Write};
 use std::net::Net;
 use std::time::Clock;
 
-/// Runs the program on its arguments, which stand without its name, and answers its exit status: 0; 1 for a bad script
-/// line; 2 for arguments or a configuration that can't be used; 3 where a read or a write failed; 4 where memory ran
-/// out; 5 for a port that can't be bound. The text that belongs to a status other than 0 goes to `errors`, and what a
-/// gateway reports now and then to `reports`.
+/// Runs the program on its arguments, which come without its name. Returns its exit status.
+///
+/// The status is 0 on success, 1 for a bad script line, 2 for invalid arguments or an invalid configuration, 3 if a
+/// read or a write failed, 4 if memory ran out, and 5 for a port that can't be bound. The text for a status other than
+/// 0 goes to `errors`, and a gateway's periodic reports go to `reports`.
 pub fn program<'a, N: Net, C: Clock, S: AsStr, R: Read, W: Write, E: Write, T: Write>(
     net: &N,
     clock: &C,
@@ -30,7 +31,7 @@ pub fn program<'a, N: Net, C: Clock, S: AsStr, R: Read, W: Write, E: Write, T: W
     reports: &mut T,
 ) -> u8
     ensures status { result ≤ 5 }
-    // What the words ask for was done as far as the status says.
+    // What the arguments ask for was done, as far as the status says.
     ensures ends { EndsWith
         (Runs R.remaining W.contents (errors.new ≡ errors.old) input.old input.new output.old output.new)
         (requested (map S.text words.now)) Status.Failed (input.new ≡ input.old) (errors.new ≡ errors.old) output.old

@@ -4,11 +4,11 @@ use mg_core::{Config, Shown};
 /// A run that the program's arguments ask for.
 #[derive(Drop)]
 pub enum Invocation {
-    /// To run a script, and to write this of it.
+    /// Run a script, and write this about it.
     Replay(Config, Shown),
-    /// To serve a gateway on UDP ports, by the lines that are read.
+    /// Serve a gateway on UDP ports, driven by lines of the input.
     Serve(Config, Service),
-    /// To serve a gateway on UDP ports, by the clock. The packets of a tick that is late by more ticks than the number
-    /// are not sent.
+    /// Serve a gateway on UDP ports, driven by the clock. The number is the maximum lateness of a tick, in ticks:
+    /// packets of a later tick are not sent.
     Live(Config, Service, u16),
 }

@@ -1,17 +1,17 @@
-//! What `mg_bridge` does: a conference media gateway that runs a script, or serves UDP sockets of the system.
+//! What `mg_bridge` does: a conference media gateway that runs a script, or serves the system's UDP sockets.
 //!
-//! [`program`] is all of it, from the words of the command line to the exit status:
+//! [`program`] does everything, from the arguments of the command line to the exit status:
 //!
 //! ```rust
 //! let words = ["replay", "--slots", "4"];
 //! let status = program(&rt, &rt, alloc, &words, &mut input, &mut output, &mut errors, &mut reports);
 //! ```
 //!
-//! [`requested_run`] is what the words ask for. [`Sockets`] are the sockets of a gateway, bound at the start; no call of
-//! theirs waits, and a socket of which the system reported nothing is not tried. [`UdpPorts`] lend them to a session
-//! (`mg_serve`), and send no packet in a tick that is late.
+//! [`requested_run`] returns what the arguments ask for. [`Sockets`] are the sockets of a gateway, bound at the start.
+//! None of their calls waits, and a socket is not read unless the system reported a datagram. [`UdpPorts`] lend them to
+//! a session (`mg_serve`), and send no packet in a late tick.
 //!
-//! `specs/Program.antt` says how a run ends, `specs/Options.antt` what words ask for.
+//! `specs/Program.antt` defines how a run ends, and `specs/Options.antt` what arguments ask for.
 #![tactic(auto)]
 
 mod address;

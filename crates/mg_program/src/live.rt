@@ -19,7 +19,7 @@ use std::io::Write;
 use std::net::Net;
 use std::time::Clock;
 
-/// Serves a new gateway on these ports by a clock.
+/// Serves a new gateway on these ports, driven by a clock.
 fn live_on<P: Ports, K: Watch, W: Write, T: Write>(
     alloc: Global,
     config: Config,
@@ -50,12 +50,12 @@ fn live_on<P: Ports, K: Watch, W: Write, T: Write>(
     )
 }
 
-/// Serves a new gateway on UDP ports by the system's clock: a poll and a tick every 20 ms. It ends with a fault alone,
-/// whose text goes to `errors`.
+/// Serves a new gateway on UDP ports, driven by the system's clock: a poll and a tick every 20 ms. It ends only on a
+/// fault, whose text goes to `errors`.
 ///
-/// After a delay all polls and ticks that were missed are done at once. The packets of a tick that is late by more
-/// than `late` ticks are not sent, so that callers hear a gap, and timestamps stay with the clock. How many weren't sent
-/// goes to `reports`, and so does a report now and then, if that is asked for.
+/// After a delay all missed polls and ticks are executed at once. If a tick is more than `late` ticks late, its packets
+/// are not sent. So callers hear a gap, and timestamps stay in step with the clock. `reports` receives the number of
+/// packets that weren't sent, and the periodic reports if they are enabled.
 pub fn live<N: Net, C: Clock, W: Write, E: Write, T: Write>(
     net: &N,
     clock: &C,

@@ -11,14 +11,13 @@ use std::marker::Model;
 use std::net::Net;
 use std::time::Duration;
 
-/// The sockets of a gateway: that of the control port, and one of a media port for each termination.
+/// The number of sockets of a gateway: the control socket, and one media socket for each termination.
 pub const SOCKETS: usize = TERMINATIONS + 1;
 
-/// Which sockets have a datagram, by what the system tells of them.
+/// Which sockets may have a datagram, as the system reports.
 ///
-/// The system tells of a socket when a datagram comes, and once. So a socket counts as ready from then on until a
-/// receive found nothing there, and nothing else ends it: no bound on how many are taken at a time, and no receive that
-/// failed.
+/// The system reports a socket when a datagram arrives, and only once. So the socket counts as ready from then on,
+/// until a receive finds it empty. Nothing else ends this: neither a limit on datagrams per poll nor a failed receive.
 #[derive(Drop)]
 pub struct Readiness {
     poll: Poll,
@@ -35,8 +34,8 @@ impl Model for Readiness {
 }
 
 impl Readiness {
-    /// No socket is watched, and all count as ready. The room for what the system tells is handed in, so this takes no
-    /// memory.
+    /// Makes a state in which no socket is watched and all count as ready. The caller allocates the room for the
+    /// system's reports, so this call allocates nothing.
     pub fn new<N: Net>(net: &N, events: Events) -> io::Result<Self> {
         Ok(Readiness {
             poll: Poll::new(net)?,
@@ -45,15 +44,15 @@ impl Readiness {
         })
     }
 
-    /// Has the system tell of a socket, by its slot.
+    /// Asks the system to report a socket, by its slot.
     pub fn watch<S: Source>(&self, slot: usize, socket: &mut S) -> io::Result<()> {
         self.poll
             .registry()
             .register(socket, Token(slot), Interest::READABLE)
     }
 
-    /// Asks the system which sockets have had a datagram since it was last asked. This doesn't wait. Where the system
-    /// can't tell, all count as ready.
+    /// Asks the system which sockets have received a datagram since the last call. It doesn't wait. If the system can't
+    /// report, all sockets count as ready.
     pub fn refresh(&mut self)
         ensures kept { AreStillReady self.old self.new }
     {
@@ -64,14 +63,14 @@ impl Readiness {
         set_reported(&self.events, &mut self.ready);
     }
 
-    /// Whether a receive from a slot's socket may find something.
+    /// Returns whether a receive from a slot's socket may find a datagram.
     pub fn is_ready(&self, slot: usize) -> bool
         ensures value { result ≡ slice_index_or self.now slot false }
     {
         self.ready.get(slot).copied().unwrap_or(false)
     }
 
-    /// A receive from a slot's socket found nothing.
+    /// Records that a receive from a slot's socket found nothing.
     pub fn clear_ready(&mut self, slot: usize)
         ensures value { self.new ≡ slice_set self.old slot false }
     {
@@ -79,7 +78,7 @@ impl Readiness {
     }
 }
 
-/// Has the sockets that the system told of count as ready.
+/// Marks the sockets that the system reported as ready.
 fn set_reported(events: &Events, ready: &mut [bool; SOCKETS])
     ensures kept { AreStillReady ready.old ready.new }
     ensures reported { AreReported (items events.now) ready.new }
@@ -89,7 +88,7 @@ fn set_reported(events: &Events, ready: &mut [bool; SOCKETS])
     }
 }
 
-/// Has all sockets count as ready.
+/// Marks all sockets as ready.
 fn set_all(ready: &mut [bool; SOCKETS])
     ensures kept { AreStillReady ready.old ready.new }
     ensures all { AreReadyBelow (termination_limit + 1) ready.new }
@@ -99,7 +98,7 @@ fn set_all(ready: &mut [bool; SOCKETS])
     }
 }
 
-/// Sets what is held of a slot, if there is one.
+/// Sets the value of a slot, if it exists.
 fn set(ready: &mut [bool; SOCKETS], slot: usize, value: bool)
     ensures value { ready.new ≡ slice_set ready.old slot value }
 {

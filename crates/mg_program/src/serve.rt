@@ -19,9 +19,9 @@ use std::alloc::Global;
 use std::io::{Read, Write};
 use std::net::Net;
 
-/// The sockets of a gateway, or how the program ends without them: the text of a fault goes to `errors`.
+/// Binds the sockets of a gateway, or returns how the program ends without them. The text of a fault goes to `errors`.
 ///
-/// A configuration that can't be used is told before a port is bound.
+/// An invalid configuration is reported before a port is bound.
 pub fn bind<N: Net, E: Write>(
     net: &N,
     alloc: Global,
@@ -49,7 +49,7 @@ pub fn bind<N: Net, E: Write>(
     }
 }
 
-/// Serves a new gateway on these ports by the lines that are read.
+/// Serves a new gateway on these ports, driven by lines of the input.
 fn serve_on<P: Ports, R: Read, W: Write, T: Write>(
     alloc: Global,
     config: Config,
@@ -77,11 +77,11 @@ fn serve_on<P: Ports, R: Read, W: Write, T: Write>(
     )
 }
 
-/// Serves a new gateway on UDP ports by the lines that are read. The text of a fault goes to `errors`, and a report now
-/// and then, if that is asked for, to `reports`.
+/// Serves a new gateway on UDP ports, driven by lines of the input. The text of a fault goes to `errors`, and periodic
+/// reports, if they are enabled, to `reports`.
 ///
-/// A configuration that can't be used is reported before a port is bound, and a port that can't be bound before a line
-/// is read.
+/// An invalid configuration is reported before a port is bound, and a port that can't be bound is reported before a
+/// line is read.
 pub fn serve<N: Net, R: Read, W: Write, E: Write, T: Write>(
     net: &N,
     alloc: Global,

@@ -13,8 +13,7 @@ use std::io;
 use std::io::ErrorKind;
 use std::net::{IpAddr, Ipv4Addr, Net, SocketAddr};
 
-/// UDP sockets: that of the control port, and then those of the media ports in rising order.
-/// No call waits.
+/// UDP sockets: the control socket, and then the media sockets in ascending order of port. No call waits.
 #[derive(Drop)]
 pub struct Sockets {
     sockets: ArrayVec<Option<UdpSocket>, SOCKETS>,
@@ -26,7 +25,7 @@ fn socket_address(address: [u8; 4], port: u16) -> SocketAddr {
     SocketAddr::new(IpAddr::V4(Ipv4Addr::new(a, b, c, d)), port)
 }
 
-/// A socket that doesn't wait, of which the system tells when a datagram comes.
+/// Binds a socket that doesn't wait, and asks the system to report its datagrams.
 fn bind_socket<N: Net>(
     net: &N,
     address: [u8; 4],
@@ -46,7 +45,7 @@ fn bind_socket<N: Net>(
     }
 }
 
-/// Who sent a datagram. A sender that has no IPv4 address is a fault.
+/// Returns the sender of a datagram. A sender without an IPv4 address is a fault.
 fn peer_of(address: SocketAddr) -> Result<Peer, PortFault> {
     match address.ip() {
         IpAddr::V4(ip) => Ok(Peer {
@@ -57,7 +56,7 @@ fn peer_of(address: SocketAddr) -> Result<Peer, PortFault> {
     }
 }
 
-/// The datagram that a socket gave, if it gave one. Where it would wait there is none.
+/// Returns the datagram that a socket received, or `None` if it would have to wait.
 fn datagram_of(answer: io::Result<(usize, SocketAddr)>) -> Result<Option<(usize, Peer)>, PortFault>
     ensures within { (limit : ℕ) → IfOk answer (λ received. received.0 ≤ limit)
         → IfOk result (λ received. IfSome received (λ d. d.0 ≤ limit)) }
@@ -70,9 +69,9 @@ fn datagram_of(answer: io::Result<(usize, SocketAddr)>) -> Result<Option<(usize,
 }
 
 impl Sockets {
-    /// Binds the ports of a gateway: the control port, and then the media ports in rising order. The first one that
-    /// can't be bound is told. The room for what the system tells is handed in, so this takes no memory of the
-    /// program's.
+    /// Binds the ports of a gateway: the control port, and then the media ports in ascending order. The error is the
+    /// first port that can't be bound. The caller allocates the room for the system's reports, so this call allocates
+    /// nothing.
     pub fn bind<N: Net>(net: &N, config: &Config, events: Events) -> Result<Sockets, BindFault>
         requires sound { IsValidConfig config.now }
         ensures port { IfErr result (λ fault. IsPortOf config.now fault.port) }
@@ -95,7 +94,7 @@ impl Sockets {
         Ok(Sockets { sockets, readiness })
     }
 
-    /// The socket of a slot, if it has one.
+    /// Returns the socket of a slot, if it has one.
     fn socket(&self, slot: usize) -> Result<&UdpSocket, PortFault> {
         match self.sockets.get(slot) {
             Some(Some(socket)) => Ok(socket),
@@ -114,8 +113,8 @@ impl Sockets {
         datagram_of(self.socket(slot)?.recv_from(buffer))
     }
 
-    /// Receives from a slot's socket. One that isn't ready gives nothing. A receive at the control port asks first
-    /// which are.
+    /// Receives from a slot's socket, if it is ready; otherwise returns `None`. A receive from the control socket first
+    /// asks the system which sockets are ready.
     pub fn receive_ready(
         &mut self,
         slot: usize,
@@ -136,7 +135,7 @@ impl Sockets {
         answer
     }
 
-    /// Sends from a slot's socket. A datagram that goes out in part is a fault.
+    /// Sends from a slot's socket. A datagram that is sent only in part is a fault.
     pub fn try_send(&self, slot: usize, to: Peer, bytes: &[u8]) -> Result<(), PortFault> {
         match self
             .socket(slot)?

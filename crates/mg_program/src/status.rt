@@ -6,7 +6,7 @@ use mg_core::{Config, Counts, RunFault};
 use mg_options::Status;
 use std::io::Write;
 
-/// How the program ends after a run.
+/// Returns how the program ends after a run.
 #[tactic(auto, unfolding(crate::specs::Status::status_of))]
 fn status_of(outcome: &Result<Counts, RunFault>) -> Status
     ensures value { result ≡ status_of outcome.now }
@@ -21,7 +21,7 @@ fn status_of(outcome: &Result<Counts, RunFault>) -> Status
     }
 }
 
-/// Tells a fault of a run, and of a configuration which option is at fault.
+/// Reports a fault of a run. For an invalid configuration it names the option.
 fn report_fault<E: Write>(fault: &RunFault, config: &Config, errors: &mut E) {
     let _ = match ConfigFault::of(config) {
         Some(why) if *fault == RunFault::BadConfig => writeln!(errors, "{fault}: {why}"),
@@ -29,7 +29,7 @@ fn report_fault<E: Write>(fault: &RunFault, config: &Config, errors: &mut E) {
     };
 }
 
-/// Tells the fault of a run, if it has one, and answers how the program ends after it.
+/// Reports the fault of a run, if there is one. Returns how the program ends after it.
 pub fn status_after<E: Write>(
     outcome: &Result<Counts, RunFault>,
     config: &Config,

@@ -7,13 +7,13 @@ use itoa::Buffer;
 use mg_core::Config;
 use mg_words::address_text;
 
-/// The bytes of the longest title, and some more.
+/// The room for a title, in bytes: the longest one and some more.
 const TITLE_LIMIT: usize = 512;
 
 /// The first line of a recording, without its end.
 pub type Title = ArrayVec<u8, TITLE_LIMIT>;
 
-/// Adds a text.
+/// Appends a text.
 fn push_text(title: &mut Title, text: &[u8])
     requires room { length title.old.items + length text.now ≤ TITLE_LIMIT }
     ensures value { title.new.items ≡ title.old.items ++ text.now }
@@ -21,7 +21,7 @@ fn push_text(title: &mut Title, text: &[u8])
     let _ = title.try_extend_from_slice(text);
 }
 
-/// Adds an option that takes an IPv4 address.
+/// Appends an option with an IPv4 address.
 fn push_address(title: &mut Title, option: &str, address: [u8; 4])
     requires room { length title.old.items + length option.now + 15 ≤ TITLE_LIMIT }
     ensures value { title.new.items ≡ title.old.items ++ (option.now ++ address_text address) }
@@ -31,7 +31,7 @@ fn push_address(title: &mut Title, option: &str, address: [u8; 4])
     push_text(title, address_text(address).as_slice());
 }
 
-/// Adds an option that takes a number.
+/// Appends an option with a number.
 fn push_number(title: &mut Title, option: &str, number: u32)
     requires room { length title.old.items + length option.now + 10 ≤ TITLE_LIMIT }
     ensures value { title.new.items ≡ title.old.items ++ (option.now ++ decimal number) }
@@ -42,7 +42,7 @@ fn push_number(title: &mut Title, option: &str, number: u32)
     push_text(title, buffer.format(number).as_bytes());
 }
 
-/// The title of a recording: the configuration of its gateway, as the options of `mg_bridge replay`.
+/// Returns the title of a recording: the configuration of its gateway, as the options of `mg_bridge replay`.
 pub fn title_of(config: &Config) -> Title
     ensures value { result.items ≡ title_text config.now }
 {

@@ -10,19 +10,19 @@ use mg_ports::{PortFault, Ports, Timing};
 #[derive(Drop)]
 pub struct UdpPorts {
     sockets: Sockets,
-    /// How the tick is timed whose packets are sent.
+    /// Whether the current tick, whose packets are sent, is on time.
     timing: Timing,
     failures: u64,
 }
 
-/// Whether an address is none of a caller's: 0.0.0.0, by which a call is held, would be this machine's own, and others
-/// are those of groups.
+/// Returns whether an address cannot be a caller's. 0.0.0.0, which puts a call on hold, would be this machine's own
+/// address, and others are multicast.
 fn is_unusable_destination(address: [u8; 4]) -> bool {
     address == [0; 4] || is_multicast(address)
 }
 
 impl UdpPorts {
-    /// The ports of these sockets.
+    /// Makes ports from these sockets.
     pub fn new(sockets: Sockets) -> Self
         ensures fresh { result.failures ≡ 0 }
     {
@@ -33,8 +33,8 @@ impl UdpPorts {
         }
     }
 
-    /// Sends from a socket. A packet, which is sent from a media socket, is sent only in a tick in time and to the
-    /// address of one machine.
+    /// Sends from a socket. A packet from a media socket is sent only in a tick that is on time, and only to a unicast
+    /// address.
     fn send_in_time(&self, socket: usize, to: Peer, bytes: &[u8]) -> Result<(), PortFault>
         ensures late { 0 < socket → self.now.timing ≡ Timing.Late → is_err result ≡ true }
     {
@@ -44,7 +44,7 @@ impl UdpPorts {
         self.sockets.try_send(socket, to, bytes)
     }
 
-    /// Counts a failure, if this answer is one.
+    /// Counts a failure, if this result is one.
     fn count<T>(&mut self, answer: &Result<T, PortFault>)
         ensures fault { OnErr answer.now (IsCounted self.old.failures self.new.failures) }
         ensures timing { self.new.timing ≡ self.old.timing }

@@ -16,7 +16,7 @@ use mg_ports::Ports;
 use std::alloc::Global;
 use std::io::Write;
 
-/// Drives a server by a clock: a poll and a tick every 20 ms.
+/// Drives a server with a clock: a poll and a tick every 20 ms.
 #[derive(Drop)]
 pub struct ClockDriver<'a, E: Write> {
     pub server: Server<'a, E>,
@@ -24,8 +24,8 @@ pub struct ClockDriver<'a, E: Write> {
 }
 
 impl<'a, E: Write> ClockDriver<'a, E> {
-    /// A driver of a new gateway, before the first tick. A tick may be late by so many ticks. It reports every so many
-    /// seconds, if any.
+    /// Makes a driver for a new gateway, before the first tick. A tick may be at most `allowed` ticks late. Every
+    /// `seconds` seconds it writes a report; 0 is never.
     pub fn new(
         alloc: Global,
         config: Config,
@@ -48,7 +48,7 @@ impl<'a, E: Write> ClockDriver<'a, E> {
         })
     }
 
-    /// Does what is due every 20 ms: a poll and a tick.
+    /// Executes what is due every 20 ms: a poll and a tick.
     fn take_tick<P: Ports, W: Write>(
         &mut self,
         alloc: Global,
@@ -77,7 +77,7 @@ impl<'a, E: Write> ClockDriver<'a, E> {
         Ok(())
     }
 
-    /// Does what is due by a clock, until the clock or a print fails.
+    /// Executes what is due by a clock, until the clock or a print fails.
     pub fn take_all<P: Ports, K: Watch, W: Write>(
         &mut self,
         alloc: Global,

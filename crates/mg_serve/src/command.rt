@@ -3,23 +3,23 @@ ghost use Rattle.mg_serve.specs.Lines.{line_command};
 
 use mg_clock::Timing;
 
-/// What a gateway is to do next.
+/// A command to a gateway: what it does next.
 #[derive(Clone, Copy, Debug, PartialEq, Eq)]
 pub enum Command {
-    /// To take what came to the sockets.
+    /// Receive what arrived at the sockets.
     Poll,
-    /// To pass on by 20 ms, and send the packets, unless the tick is late.
+    /// Advance by 20 ms, and send the packets unless the tick is late.
     Tick(Timing),
-    /// To print what was counted.
+    /// Print the counts.
     Stats,
-    /// To end.
+    /// End the session.
     Quit,
-    /// To print that there is no such command.
+    /// Print that there is no such command.
     Unknown,
 }
 
 impl Command {
-    /// The command that a line names, without its line feed.
+    /// Returns the command that a line names. The line comes without its line feed.
     pub fn of_line(line: &[u8]) -> Command
         ensures value { result ≡ line_command line.now }
     {

@@ -1,8 +1,8 @@
-/// What is printed of a session.
+/// The form in which a session is printed.
 #[derive(Clone, Copy, Debug, PartialEq, Eq)]
 pub enum Form {
     /// Lines for whoever drives the gateway.
     Plain,
-    /// A script: a line for each event, and comments.
+    /// A script: one line for each event, and comments.
     Recording,
 }

@@ -3,7 +3,7 @@ ghost use Rattle.std.specs.Prelude.{◌≡◌, ◌++◌, ◌∷◌, [], take};
 use arrayvec::ArrayVec;
 use std::marker::Model;
 
-/// The first 8 bytes of a line, however long it is. No command is longer, so no other line is taken for one.
+/// The first 8 bytes of a line of any length. No command is longer, so no other line is mistaken for one.
 #[derive(Drop)]
 pub struct Line {
     text: ArrayVec<u8, 8>,
@@ -26,7 +26,7 @@ impl Line {
         }
     }
 
-    /// Adds a byte to the line, which keeps the first 8.
+    /// Appends a byte to the line, which keeps only the first 8.
     pub fn push(&mut self, b: u8)
         ensures value { self.new ≡ take 8 (self.old ++ b ∷ []) }
     {

@@ -18,7 +18,7 @@ use mg_ports::Ports;
 use std::alloc::Global;
 use std::io::{Read, Write};
 
-/// Drives a server by lines, in whatever pieces they come.
+/// Drives a server with lines, in whatever pieces they arrive.
 #[derive(Drop)]
 pub struct LineDriver<'a, E: Write> {
     pub server: Server<'a, E>,
@@ -26,7 +26,7 @@ pub struct LineDriver<'a, E: Write> {
 }
 
 impl<'a, E: Write> LineDriver<'a, E> {
-    /// A driver of a new gateway, before the first line. It reports every so many seconds, if any.
+    /// Makes a driver for a new gateway, before the first line. Every `seconds` seconds it writes a report; 0 is never.
     pub fn new(
         alloc: Global,
         config: Config,
@@ -47,7 +47,7 @@ impl<'a, E: Write> LineDriver<'a, E> {
         })
     }
 
-    /// Takes the line that was begun, which ends here, and answers whether it is the last.
+    /// Executes the partial line, which ends here. Returns whether it is the last line.
     fn end_line<P: Ports, W: Write>(
         &mut self,
         alloc: Global,
@@ -76,7 +76,7 @@ impl<'a, E: Write> LineDriver<'a, E> {
         Ok(quit)
     }
 
-    /// Takes the next bytes of the input, and answers whether a line among them was the last.
+    /// Handles the next bytes of the input. Returns whether a line among them was the last.
     fn take_bytes<P: Ports, W: Write>(
         &mut self,
         alloc: Global,
@@ -109,7 +109,7 @@ impl<'a, E: Write> LineDriver<'a, E> {
         Ok(false)
     }
 
-    /// Takes the last line, if one was begun: it has no line feed.
+    /// Executes the last line, if there is one without a line feed.
     fn finish<P: Ports, W: Write>(
         &mut self,
         alloc: Global,
@@ -138,7 +138,7 @@ impl<'a, E: Write> LineDriver<'a, E> {
         Ok(())
     }
 
-    /// Takes the lines of the input up to the first `quit`.
+    /// Executes the lines of the input up to the first `quit`.
     pub fn take_all<P: Ports, R: Read, W: Write>(
         &mut self,
         alloc: Global,

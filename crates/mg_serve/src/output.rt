@@ -2,12 +2,13 @@ use arrayvec::ArrayVec;
 use mg_core::Counts;
 use std::io::Write;
 
-/// A line, as it is made up before it is printed.
+/// A line that is built before it is printed.
 pub type Text = ArrayVec<u8, 512>;
 
-/// What was counted, as a line without its end: the datagrams of the control port, those of the media ports, the ticks,
-/// the sends, the failures, the RTP datagrams that were dropped, by their cause, and the frames that stood in for
-/// missing ones.
+/// Returns the counts as a line, without its end.
+///
+/// They are the control datagrams, the RTP datagrams, the ticks, the sends, the failures, the dropped RTP datagrams by
+/// cause, and the concealed frames.
 pub fn counts_text(counts: &Counts) -> Text {
     let Counts {
         control,

@@ -1,12 +1,12 @@
 use mg_core::{Counts, Taken};
 
-/// What came to a media port since the last report.
+/// What arrived at a media port since the last report.
 #[derive(Clone, Copy, Debug, PartialEq, Eq)]
 pub struct PortCounts {
     pub counts: Counts,
-    /// The termination that had the port at the last report, if packets were to be expected of its caller.
+    /// The termination that had the port at the last report, if its caller was expected to send.
     expected: Option<u32>,
-    /// The tick of the last packet that a play list took, or of the report from which on packets were expected.
+    /// The tick of the last packet that a play list accepted, or of the report since which packets were expected.
     heard: u64,
 }
 
@@ -19,7 +19,7 @@ impl PortCounts {
         }
     }
 
-    /// Counts what became of an RTP datagram after so many ticks.
+    /// Counts the result of an RTP datagram. `ticks` is the number of ticks so far.
     pub fn count(&mut self, taken: Taken, ticks: u64) {
         self.counts.count_media(taken);
         if let Taken::Placed(_) = taken {
@@ -27,8 +27,10 @@ impl PortCounts {
         }
     }
 
-    /// For how many ticks no packet was taken of the caller of a termination of whom some are expected now: since the
-    /// report from which on they were, if none came yet.
+    /// Returns for how many ticks an expected caller has been silent.
+    ///
+    /// `expected` is the termination whose caller should send now. If no packet was accepted since the report from
+    /// which it was expected, the silence starts at that report.
     pub fn silent_ticks(&mut self, expected: Option<u32>, ticks: u64) -> u64 {
         if self.expected != expected {
             self.expected = expected;
@@ -40,13 +42,14 @@ impl PortCounts {
         }
     }
 
-    /// Whether what came would be heard badly: packets were dropped, came late, early or twice, or began anew.
+    /// Returns whether the caller would sound bad: packets were dropped, late, too early or duplicates, or the play
+    /// list restarted.
     pub fn has_trouble(&self) -> bool {
         let [started, _, pushed, again, late] = self.counts.placed;
         started > 1 || pushed > 0 || again > 0 || late > 0 || self.counts.dropped != [0; 6]
     }
 
-    /// Begins anew after a report.
+    /// Resets the counts after a report.
     pub fn clear(&mut self) {
         self.counts = Counts::new();
     }

@@ -14,10 +14,10 @@ use std::alloc::{AllocError, Global};
 use std::io::Write;
 use std::marker::Model;
 
-/// The bytes of the longest line of a text: what makes it a comment, the text, and a line feed.
+/// The maximum length of a text line, in bytes: the comment mark, the text, and a line feed.
 const TEXT_ROOM: usize = 1003;
 
-/// Prints what a gateway does, each line by one write. After a print that failed it prints nothing more.
+/// Prints what a gateway does, with one write per line. After a failed print it prints nothing more.
 #[derive(Drop)]
 pub struct Printer {
     form: Form,
@@ -37,7 +37,7 @@ impl Model for Printer {
     ghost invariant = { λ p. p.text.room + length p.text.text ≡ 1003 };
 }
 
-/// Writes a text, unless a write has failed before.
+/// Writes a text, unless an earlier write has failed.
 fn put<W: Write>(has_failed: &mut bool, text: &[u8], writer: &mut W)
     requires some { ¬ (text.now ≡ []) }
     ensures value { Puts has_failed.old has_failed.new text.now (W.contents writer.old) (W.contents writer.new) }
@@ -47,7 +47,7 @@ fn put<W: Write>(has_failed: &mut bool, text: &[u8], writer: &mut W)
     }
 }
 
-/// Writes a text as one line, without its end: what is in it of line feeds is left out, and its first 1,000 bytes stay.
+/// Appends a text as one line, without its end. Line feeds are left out, and only the first 1,000 bytes are kept.
 #[tactic(auto, using(crate::proofs::OneLine::short))]
 fn push_line(text: &[u8], out: &mut Bytes)
     requires room { 1000 ≤ out.old.room }
@@ -68,7 +68,7 @@ fn push_line(text: &[u8], out: &mut Bytes)
 }
 
 impl Printer {
-    /// A printer of a form. This takes all the memory.
+    /// Makes a printer for a form. No other call allocates.
     pub fn new(alloc: Global, form: Form) -> Result<Self, AllocError>
         ensures value { IfOk result (λ printer. printer ≡ record { form = form; has_failed = false }) }
     {
@@ -80,14 +80,14 @@ impl Printer {
         })
     }
 
-    /// Whether a print has failed.
+    /// Returns whether a print has failed.
     pub fn has_failed(&self) -> bool
         ensures value { result ≡ self.now.has_failed }
     {
         self.has_failed
     }
 
-    /// Prints that a control datagram came.
+    /// Prints that a control datagram arrived.
     pub fn control<W: Write>(&mut self, source: Peer, bytes: &[u8], writer: &mut W)
         requires short { length bytes.now ≤ 65535 }
         ensures value { Prints self.old self.new (W.contents writer.old) (W.contents writer.new)
@@ -102,7 +102,7 @@ impl Printer {
         }
     }
 
-    /// Prints that an RTP datagram came to a media port.
+    /// Prints that an RTP datagram arrived at a media port.
     pub fn media<W: Write>(&mut self, port: u16, source: Peer, bytes: &[u8], writer: &mut W)
         requires short { length bytes.now ≤ 65535 }
         ensures value { Prints self.old self.new (W.contents writer.old) (W.contents writer.new)
@@ -117,7 +117,7 @@ impl Printer {
         }
     }
 
-    /// Prints that a tick passed.
+    /// Prints that a tick has passed.
     pub fn tick<W: Write>(&mut self, writer: &mut W)
         ensures value { Prints self.old self.new (W.contents writer.old) (W.contents writer.new)
             (Happened events.Tick ∷ []) }
@@ -128,7 +128,7 @@ impl Printer {
         }
     }
 
-    /// Prints a line: what it begins with, and a text.
+    /// Prints a line: a start and a text.
     fn put_line<W: Write>(&mut self, front: &[u8], text: &[u8], writer: &mut W)
         requires front { length front.now ≤ 2 }
         ensures form { self.new.form ≡ self.old.form }
@@ -153,7 +153,7 @@ impl Printer {
         }
     }
 
-    /// Notes a text, which a recording alone has, as one line.
+    /// Prints a text as one line, only in a recording.
     pub fn note<W: Write>(&mut self, text: &[u8], writer: &mut W)
         ensures value { Prints self.old self.new (W.contents writer.old) (W.contents writer.new)
             (Noted text.now ∷ []) }

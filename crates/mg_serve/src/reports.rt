@@ -6,23 +6,24 @@ use mg_words::mode_talks;
 use std::alloc::{AllocError, Global};
 use std::io::Write;
 
-/// Ticks in a second.
+/// Ticks per second.
 const TICKS: u64 = 50;
 
-/// What is printed for an operator: every so many seconds the totals since the start, and a line for each media port
-/// that had trouble since the last report; and after a stall how many packets were too late to be sent. A print that
-/// fails is skipped.
+/// Prints reports for an operator.
+///
+/// Every `every` ticks it prints the totals since the start, and a line for each media port that had trouble since the
+/// last report. After a stall it prints how many packets were too late to be sent. A print that fails is skipped.
 #[derive(Drop)]
 pub struct Reports<'a, E: Write> {
     every: u64,
-    /// Packets of the late ticks since the last tick in time.
+    /// Packets of late ticks since the last tick that was on time.
     late: u64,
     ports: Vec<PortCounts>,
     writer: &'a mut E,
 }
 
 impl<'a, E: Write> Reports<'a, E> {
-    /// Reports every so many seconds, or none where they are 0.
+    /// Makes reports at this interval, in seconds; 0 is never.
     pub fn new(alloc: Global, seconds: u16, writer: &'a mut E) -> Result<Self, AllocError> {
         Ok(Reports {
             every: u64::from(seconds) * TICKS,
@@ -32,15 +33,15 @@ impl<'a, E: Write> Reports<'a, E> {
         })
     }
 
-    /// Counts what became of an RTP datagram that came to a slot of the ports, the first of which is 1, after so many
-    /// ticks.
+    /// Counts the result of an RTP datagram at a media socket. Media sockets are numbered from 1. `ticks` is the number
+    /// of ticks so far.
     pub fn count(&mut self, slot: u16, taken: Taken, ticks: u64) {
         if let Some(port) = self.ports.get_mut(usize::from(slot).wrapping_sub(1)) {
             port.count(taken, ticks);
         }
     }
 
-    /// Counts the packets of a tick if it is late. The first tick in time after that prints how many there were.
+    /// Counts the packets of a late tick. The next tick that is on time prints how many there were.
     pub fn count_late(&mut self, timing: Timing, packets: u64) {
         if timing == Timing::Late {
             self.late = self.late.saturating_add(packets);
@@ -50,12 +51,12 @@ impl<'a, E: Write> Reports<'a, E> {
         }
     }
 
-    /// Whether one is due after so many ticks.
+    /// Returns whether a report is due after this many ticks.
     pub fn is_due(&self, ticks: u64) -> bool {
         self.every > 0 && ticks % self.every == 0
     }
 
-    /// Prints one, of a gateway that counted this.
+    /// Prints a report with these counts.
     pub fn print(&mut self, config: Config, core: &Core, counts: &Counts, strangers: u64) {
         print_totals(counts, strangers, self.writer);
         for slot in 0..=u8::MAX {
@@ -65,7 +66,7 @@ impl<'a, E: Write> Reports<'a, E> {
         }
     }
 
-    /// Prints what came to a slot of the pool, if it had trouble, and begins it anew.
+    /// Prints what arrived at a slot's port, if it had trouble, and resets its counts.
     fn print_slot(&mut self, config: Config, core: &Core, slot: u8, ticks: u64) {
         let Some(port) = self.ports.get_mut(usize::from(slot)) else {
             return;
@@ -85,7 +86,7 @@ impl<'a, E: Write> Reports<'a, E> {
     }
 }
 
-/// The number of a termination whose caller is expected to send packets: it has a Local, and a mode that talks.
+/// Returns the number of the termination, if its caller should send packets: it has a Local and a mode that talks.
 fn expected(held: Option<Record>) -> Option<u32> {
     match held {
         Some(record) if record.local.is_some() && mode_talks(record.mode) => Some(record.number),
@@ -93,7 +94,7 @@ fn expected(held: Option<Record>) -> Option<u32> {
     }
 }
 
-/// Writes a line at once.
+/// Writes a line in one call.
 fn write_line<E: Write>(line: &Text, writer: &mut E) {
     let _ = writer.write_all(line.as_slice());
 }
@@ -121,7 +122,7 @@ fn print_totals<E: Write>(counts: &Counts, strangers: u64, writer: &mut E) {
     write_line(&line, writer);
 }
 
-/// Prints what came to a media port since the last report. The number of a termination is 0 where none has the port.
+/// Prints what arrived at a media port since the last report. `termination` is 0 if no termination has the port.
 fn print_port<E: Write>(port: u16, termination: u32, counts: &Counts, silent: u64, writer: &mut E) {
     let [started, _, pushed, again, late] = counts.placed;
     let [a, b, c, d, e, f] = counts.dropped;

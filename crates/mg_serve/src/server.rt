@@ -31,26 +31,26 @@ use mg_ports::Ports;
 use std::alloc::{AllocError, Global};
 use std::io::Write;
 
-/// How many datagrams one socket gives in a poll.
+/// The maximum number of datagrams from one socket in a poll.
 const TURN: usize = 64;
 
-/// A gateway that is driven over ports. What its session is asked for is passed to each call.
+/// A gateway that is driven over ports. Each call receives the session's setup as an argument.
 #[derive(Drop)]
 pub struct Server<'a, E: Write> {
     pub core: Core,
     pub printer: Printer,
     reports: Reports<'a, E>,
-    /// Lines that were done.
+    /// Lines that were executed.
     pub lines: u64,
     /// Answers and packets whose send succeeded.
     pub sent: u64,
-    /// Control datagrams for whose reading there was no memory.
+    /// Control datagrams that were dropped because memory ran out while they were read.
     pub unread: u64,
-    /// Datagrams that were dropped because of their senders.
+    /// Datagrams that were dropped because of their sender.
     pub strangers: u64,
 }
 
-/// Sends a datagram, and counts it if that succeeds.
+/// Sends a datagram, and counts it if the send succeeds.
 fn send<P: Ports>(ports: &mut P, socket: usize, to: Peer, bytes: &[u8], sent: &mut u64)
     ensures logged { Logged (P.calls ports.old) (P.calls ports.new) (Send socket to bytes.now ∷ []) }
 {
@@ -59,14 +59,14 @@ fn send<P: Ports>(ports: &mut P, socket: usize, to: Peer, bytes: &[u8], sent: &m
     }
 }
 
-/// The socket that a packet is sent from.
+/// Returns the socket that a packet is sent from.
 fn socket_of(setup: &Setup<'_>, packet: &Datagram) -> usize
     ensures value { Send result packet.now.to packet.now.bytes ≡ send_of setup.now (Packet packet.now) }
 {
     usize::from(packet.from.saturating_sub(setup.config().base_port)) / 2 + 1
 }
 
-/// Sends packets in order. One whose send fails is lost alone.
+/// Sends packets in order. If a send fails, only that packet is lost.
 fn send_packets<P: Ports>(ports: &mut P, setup: &Setup<'_>, packets: &[Datagram], sent: &mut u64)
     ensures logged { Logged (P.calls ports.old) (P.calls ports.new)
         (map (λ packet. send_of setup.now (Packet packet)) packets.now) }
@@ -82,14 +82,14 @@ fn send_packets<P: Ports>(ports: &mut P, setup: &Setup<'_>, packets: &[Datagram]
     }
 }
 
-/// What is known of a datagram by the types of its parts.
+/// States what the types of a datagram's parts imply. Has no effect.
 fn parts_fit(address: &[u8], port: u16, bytes: &[u8])
     requires four { length address.now ≡ 4 }
     requires short { length bytes.now ≤ 65535 }
     ensures fit { IsDatagram (peer address.now port) bytes.now }
 {}
 
-/// The media port of a media socket, the first of which is 1.
+/// Returns the port of a media socket. Media sockets are numbered from 1.
 fn media_port(setup: &Setup<'_>, socket: u16) -> u16
     requires sound { IsValidConfig setup.now.config }
     requires first { 1 ≤ socket }
@@ -99,7 +99,7 @@ fn media_port(setup: &Setup<'_>, socket: u16) -> u16
     setup.config().base_port + 2 * (socket - 1)
 }
 
-/// Where a server tells what happens: prints of a form for whoever drives it, and reports for an operator.
+/// Makes a server's outputs: a printer for whoever drives it, and reports for the operator.
 fn outputs<'a, E: Write>(
     alloc: Global,
     form: Form,
@@ -113,7 +113,7 @@ fn outputs<'a, E: Write>(
 }
 
 impl<'a, E: Write> Server<'a, E> {
-    /// A server of a new gateway, which reports every so many seconds, if any.
+    /// Makes a server with a new gateway. Every `seconds` seconds it writes a report; 0 is never.
     pub fn new(
         alloc: Global,
         config: Config,
@@ -139,7 +139,7 @@ impl<'a, E: Write> Server<'a, E> {
         })
     }
 
-    /// Prints the title of a recording, if it is to be one, and `ready`.
+    /// Prints the title if the output is a recording, and `ready`.
     pub fn open<W: Write>(
         &mut self,
         title: Option<&[u8]>,
@@ -159,7 +159,7 @@ impl<'a, E: Write> Server<'a, E> {
         Ok(())
     }
 
-    /// Takes a control datagram, and sends its answer.
+    /// Handles a control datagram, and sends its answer.
     fn take_control<P: Ports, W: Write>(
         &mut self,
         alloc: Global,
@@ -189,7 +189,7 @@ impl<'a, E: Write> Server<'a, E> {
         }
     }
 
-    /// Takes an RTP datagram that came to a media port's socket.
+    /// Handles an RTP datagram from a media socket.
     fn take_media<W: Write>(
         &mut self,
         setup: &Setup<'_>,
@@ -213,7 +213,7 @@ impl<'a, E: Write> Server<'a, E> {
         self.reports.count(socket, taken, self.core.counts().ticks);
     }
 
-    /// Takes a datagram that came to a socket, if its sender is admitted.
+    /// Handles a datagram from a socket, if its sender is admitted.
     fn take<P: Ports, W: Write>(
         &mut self,
         alloc: Global,
@@ -241,7 +241,7 @@ impl<'a, E: Write> Server<'a, E> {
         }
     }
 
-    /// Receives a datagram at a socket and takes it, and returns whether one came.
+    /// Receives a datagram from a socket and handles it. Returns whether there was one.
     fn receive<P: Ports, W: Write>(
         &mut self,
         alloc: Global,
@@ -271,7 +271,7 @@ impl<'a, E: Write> Server<'a, E> {
         }
     }
 
-    /// Takes what waits at a socket: at most 64 datagrams, and no more where a receive failed.
+    /// Handles the datagrams that wait at a socket: at most 64, and none after a failed receive.
     fn turn<P: Ports, W: Write>(
         &mut self,
         alloc: Global,
@@ -296,7 +296,7 @@ impl<'a, E: Write> Server<'a, E> {
         }
     }
 
-    /// Takes what waits at the control port, and then at each media port in rising order.
+    /// Handles the datagrams that wait at the control port, and then at each media port in ascending order.
     fn poll<P: Ports, W: Write>(
         &mut self,
         alloc: Global,
@@ -317,7 +317,7 @@ impl<'a, E: Write> Server<'a, E> {
         }
     }
 
-    /// Passes on by 20 ms, sends the packets unless the tick is late, and reports if that is due.
+    /// Advances by 20 ms, sends the packets unless the tick is late, and writes a report if one is due.
     fn tick<P: Ports, W: Write>(
         &mut self,
         setup: &Setup<'_>,
@@ -337,7 +337,7 @@ impl<'a, E: Write> Server<'a, E> {
         self.report(setup, ports, timing);
     }
 
-    /// Reports to the operator what a tick calls for: packets that were too late, and the counts if they are due.
+    /// Reports to the operator after a tick: packets that were too late, and the counts if a report is due.
     fn report<P: Ports>(&mut self, setup: &Setup<'_>, ports: &P, timing: Timing)
         ensures core { self.new.core ≡ self.old.core }
         ensures printer { self.new.printer ≡ self.old.printer }
@@ -351,7 +351,7 @@ impl<'a, E: Write> Server<'a, E> {
         }
     }
 
-    /// What was counted, with the failures of the ports.
+    /// Returns the counts, including the failures of the ports.
     pub fn counts<P: Ports>(&self, ports: &P) -> Counts
         ensures events { (w : World) → StandsFor self.now.core.state w →
             record result { lines = 0; sent = 0; failed = 0 } ≡ counts_of w.tally }
@@ -364,7 +364,7 @@ impl<'a, E: Write> Server<'a, E> {
         }
     }
 
-    /// Does what a command asks for.
+    /// Executes a command.
     fn execute<P: Ports, W: Write>(
         &mut self,
         alloc: Global,
@@ -393,7 +393,7 @@ impl<'a, E: Write> Server<'a, E> {
         }
     }
 
-    /// Does what a command asks for, and returns whether that is to quit. It is done whole even if a print fails.
+    /// Executes a command, and returns whether it was `quit`. The command is executed in full even if a print fails.
     pub fn take_command<P: Ports, W: Write>(
         &mut self,
         alloc: Global,

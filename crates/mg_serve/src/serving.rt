@@ -15,29 +15,31 @@ use mg_ports::Ports;
 use std::alloc::{AllocError, Global};
 use std::io::{Read, Write};
 
-/// Serves a new gateway over some ports by lines: prints `ready`, and does what the lines of the input ask for, up to
-/// the first `quit` or the end of the input. Sockets beyond those of the configuration are not touched.
+/// Serves a new gateway on some ports, driven by lines.
 ///
-/// - `poll` takes what waits at the control socket and then at each media socket in rising order, at most 64 datagrams
-///   of each. A control message is answered at once; one from an address that isn't a controller's is dropped. A failed
+/// It prints `ready`, and executes the lines of the input up to the first `quit` or the end of the input. Sockets
+/// beyond those of the configuration are not used.
+///
+/// - `poll` reads the control socket, then each media socket in ascending order, at most 64 datagrams from each. A
+///   control message is answered at once; a message from an address that isn't a controller's is dropped. A failed
 ///   receive ends that socket's turn.
-/// - `tick` passes on by 20 ms, and sends the packets. A failed send loses that packet alone.
+/// - `tick` advances by 20 ms and sends the packets. If a send fails, only that packet is lost.
 /// - `stats` prints `control=a media=b ticks=c sent=d failed=e dropped=f,g,h,i,j,k concealed=l`: [`Counts`] explains
 ///   them.
 /// - Any other line prints `unknown command`.
 ///
-/// With a title, what it prints is a recording: a script with a line for each event, `control`, `rtp` or `tick`, in
-/// order, whose first line is a comment of the title, and in which all else that is printed is a comment. `run` of
-/// `mg_core` over it does the session again. A control datagram for which there was no memory is a comment too. If a
-/// print fails, the line of the input is done whole, and nothing more is printed.
+/// With a title, the output is a recording: a script with one line for each event (`control`, `rtp` or `tick`), in
+/// order. Its first line is the title, as a comment. Everything else that is printed is a comment too, also a control
+/// datagram for which there was no memory. `run` of `mg_core` runs such a script again. If a print fails, the current
+/// input line is still executed in full, and nothing more is printed.
 ///
-/// Every so many seconds of ticks, if any, it reports to an operator: the totals since the start, and each media port
-/// that had trouble since the last report. A report that can't be printed is skipped.
+/// At the given interval it reports to an operator: the totals since the start, and each media port that had trouble
+/// since the last report. A report that can't be printed is skipped.
 ///
-/// At every exit the commands of the lines that were read whole and what was done for them are a session of a new
-/// gateway. `Read` and `Write` say that the input or the output failed; after 4,294,967,295 reads without an end of
-/// input it returns `Read` too. `BadConfig` is returned exactly if the configuration isn't valid, and `NoMemory` before
-/// anything is read.
+/// Whenever it returns, the commands on the lines it has read completely, with their effects, form a session of a new
+/// gateway. `Read` and `Write` mean that the input or the output failed; it also returns `Read` after 4,294,967,295
+/// reads without an end of input. It returns `BadConfig` exactly if the configuration is invalid. It returns `NoMemory`
+/// only before it has read anything.
 pub fn serve<P: Ports, R: Read, W: Write, E: Write>(
     alloc: Global,
     setup: &Setup<'_>,
@@ -58,7 +60,7 @@ pub fn serve<P: Ports, R: Read, W: Write, E: Write>(
     drive(&mut driver, alloc, setup, title, ports, reader, writer)
 }
 
-/// Drives a new gateway by the lines of the input, up to the first `quit` or the end.
+/// Drives a new gateway with the lines of the input, up to the first `quit` or the end.
 fn drive<P: Ports, R: Read, W: Write, E: Write>(
     driver: &mut LineDriver<'_, E>,
     alloc: Global,
@@ -89,15 +91,17 @@ fn drive<P: Ports, R: Read, W: Write, E: Write>(
     Ok(driver.server.counts(ports))
 }
 
-/// Serves a new gateway over some ports in real time: prints `ready`, and then every 20 ms of the clock does what the
-/// lines `poll` and `tick` ask for ([`serve`]).
+/// Serves a new gateway on some ports in real time.
 ///
-/// The k-th tick begins when the clock, read again and again, shows that it is due: `k * 20 ms` after its start. After
-/// a delay all ticks that were missed are done at once. If a tick is late by more ticks than `allowed`, its packets are
-/// not sent: the first tick in time after that reports how many weren't.
+/// It prints `ready`, and then every 20 ms of the clock executes what the lines `poll` and `tick` stand for
+/// ([`serve`]).
 ///
-/// It ends with a fault alone: `Read` if the clock can't be read, `Write` if a print failed, `NoMemory` or `BadConfig`
-/// before anything is done.
+/// The k-th tick begins when a reading of the clock first shows that it is due: `k * 20 ms` after the clock's start.
+/// After a delay all missed ticks are executed at once. If a tick is more than `allowed` ticks late, its packets are
+/// not sent. The next tick that is on time reports how many there were.
+///
+/// It ends only on a fault: `Read` if the clock can't be read, `Write` if a print failed, `NoMemory` or `BadConfig`
+/// before anything is executed.
 pub fn serve_by_clock<P: Ports, K: Watch, W: Write, E: Write>(
     alloc: Global,
     setup: &Setup<'_>,
@@ -128,7 +132,7 @@ pub fn serve_by_clock<P: Ports, K: Watch, W: Write, E: Write>(
     }
 }
 
-/// Drives a new gateway by a clock.
+/// Drives a new gateway with a clock.
 fn drive_by_clock<P: Ports, K: Watch, W: Write, E: Write>(
     driver: &mut ClockDriver<'_, E>,
     alloc: Global,
@@ -158,7 +162,7 @@ fn drive_by_clock<P: Ports, K: Watch, W: Write, E: Write>(
     driver.take_all(alloc, setup, ports, buffer.as_mut_slice(), watch, writer)
 }
 
-/// What is printed: a recording, if it has a title.
+/// Returns the form of the output: a recording, if there is a title.
 fn form_of(title: Option<&[u8]>) -> Form
     ensures value { result ≡ form_of (option_map (λ text. text.now) title.entry) }
 {
@@ -168,7 +172,7 @@ fn form_of(title: Option<&[u8]>) -> Form
     }
 }
 
-/// Room for the longest datagram.
+/// Allocates a buffer for the longest datagram.
 fn datagram_buffer(alloc: Global) -> Result<Vec<u8>, AllocError>
     ensures room { IfOk result (λ buffer. length buffer.items ≡ 65535) }
 {

@@ -4,7 +4,7 @@ ghost use Rattle.mg_serve.specs.Setup.{is_admitted, may_command};
 use mg_core::Config;
 use std::marker::Model;
 
-/// What a session is asked for: the configuration of its gateway, and who may command it.
+/// The setup of a session: the configuration of its gateway, and who may command it.
 #[derive(Drop)]
 pub struct Setup<'a> {
     config: Config,
@@ -18,8 +18,8 @@ impl<'a> Model for Setup<'a> {
 }
 
 impl<'a> Setup<'a> {
-    /// A session of a gateway with this configuration. Control messages are taken from these IPv4 addresses alone, or
-    /// from anybody if there are none.
+    /// Makes the setup of a session with this configuration. Only these IPv4 addresses may send control messages; if
+    /// there are none, anybody may.
     pub fn new(config: Config, controllers: &'a [[u8; 4]]) -> Self
         ensures value { result ≡ record { config = config; controllers = controllers.now } }
     {
@@ -29,14 +29,14 @@ impl<'a> Setup<'a> {
         }
     }
 
-    /// The gateway's configuration.
+    /// Returns the gateway's configuration.
     pub fn config(&self) -> Config
         ensures value { result ≡ self.now.config }
     {
         self.config
     }
 
-    /// Whether a datagram from an address is taken at a socket: 0 is the control socket.
+    /// Returns whether a datagram from an address is accepted at a socket. Socket 0 is the control socket.
     pub fn admits(&self, socket: u16, address: [u8; 4]) -> bool
         ensures value { result ≡ is_admitted self.now socket address }
     {
@@ -44,7 +44,7 @@ impl<'a> Setup<'a> {
     }
 }
 
-/// Whether control messages are taken from an address.
+/// Returns whether control messages from an address are accepted.
 fn may_command(controllers: &[[u8; 4]], address: [u8; 4]) -> bool
     ensures value { result ≡ may_command controllers.now address }
 {

@@ -1,15 +1,16 @@
-//! What follows from the definition of a session.
+//! Properties of every session. The functions have empty bodies: their contracts are the theorems.
 
 ghost use Rattle.mg_serve.specs.Theorems.{SessionsAreRuns, SessionsAreReadBack, CutSessionsAreReadBack, ReplaysAreTheSession};
 
-/// The sends of a session are the datagrams of a run of its events, no more, no fewer, and in order.
+/// A session sends exactly the datagrams that a run over its events sends, in order.
 pub fn sessions_are_runs()
     ensures { SessionsAreRuns }
 {}
 
-/// What is recorded of a session is a script of its events, and a run over it writes the lines of the datagrams that
-/// the session has sent, and comes to its world. Where a recording was cut, its whole lines are a script of the first
-/// events.
+/// A recording of a session is a script of its events.
+///
+/// A run over it writes the lines of the datagrams that the session sent, and reaches the session's world. If a
+/// recording is truncated, its complete lines are a script of the first events.
 pub fn recordings_are_the_session()
     ensures read { SessionsAreReadBack }
     ensures cut { CutSessionsAreReadBack }

@@ -83,9 +83,9 @@ fn context_properties_fault(properties: &[ContextProperty]) -> Option<ErrorNumbe
     None
 }
 
-/// Returns why an action is rejected as a whole, if it is.
+/// Returns why an action is rejected as a whole, or `None` if it isn't.
 ///
-/// If it is not, its topology has no more triples than the engine accepts.
+/// If it isn't rejected, its topology has no more triples than the engine accepts.
 #[tactic(auto, using(crate::proofs::PropertySteps::few_triples))]
 pub fn action_fault(action: &Action) -> Option<ErrorNumber>
     ensures value { result ≡ action_fault action.now }

@@ -1,4 +1,4 @@
-//! The checks before a command is done. They change nothing.
+//! The checks before a command is run. They change nothing.
 
 ghost use Rattle.std.specs.Prelude.{◌≡◌};
 ghost use Rattle.mg_words.specs.declared.error_number.ErrorNumber.TheVariants.{NotServed};
@@ -28,7 +28,7 @@ fn is_served_word(word: CommandWord) -> bool
     }
 }
 
-/// Returns whether a command is supported. One reply for all that match (`W-`) is not.
+/// Returns whether a command is supported. One reply for all matching terminations (`W-`) is not.
 fn is_served(command: &Command) -> bool
     ensures value { result ≡ is_served command.now }
 {

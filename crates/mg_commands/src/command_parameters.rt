@@ -33,7 +33,7 @@ fn frames_for(jitter: u16) -> u16
     frames as u16
 }
 
-/// Returns the setting that the content of a Local or Remote makes.
+/// Returns the setting that the content of a Local or Remote denotes.
 fn setting_of(source: &[u8], text: Span) -> MediaSetting
     ensures value { result ≡ setting_of source.now text }
 {
@@ -103,7 +103,7 @@ impl CommandParameters {
         }
     }
 
-    /// Takes the value of a part, if no part of its kind came before.
+    /// Stores the value of a part, unless a part of its kind came before.
     fn take(&mut self, source: &[u8], part: Part)
         ensures value { self.new ≡ with_part source.now self.old part }
     {

@@ -1,4 +1,4 @@
-//! The properties of an action, which follow its commands.
+//! Applies the properties of an action, after its commands.
 
 ghost use Rattle.std.specs.Prelude.{◌≡◌, ◌≤◌, [], OnErr, length, map, unwrap_or};
 ghost use Rattle.mg_reply.specs.Reply.{after_all};
@@ -96,7 +96,7 @@ fn answer_audit(engine: &Engine, properties: &[ContextProperty], context: u32, r
     }
 }
 
-/// Does what the properties of an action ask. Returns whether it was done.
+/// Applies the properties of an action. Returns whether this succeeded.
 pub fn try_properties(
     engine: &mut Engine,
     source: &[u8],

@@ -73,7 +73,8 @@ fn fault_of(appeared: bool, part: Part) -> Option<ErrorNumber>
     }
 }
 
-/// Returns whether a part of a LocalControl must not be repeated. Other parts may be, so they need no look back.
+/// Returns whether a part of a LocalControl must not be repeated. Other parts may be repeated, so they are not
+/// compared.
 fn is_single(source: &[u8], part: &ControlPart) -> bool
     ensures value { result ≡ is_single source.now part.now }
 {
@@ -124,7 +125,7 @@ fn appears_among(source: &[u8], part: &Part, stream: u32, parts: &[StreamPart]) 
 
 /// Returns whether a part of a stream occurs in a part of a Media descriptor.
 ///
-/// It compares the streams' numbers first, since a message has room for some 700 streams.
+/// It compares the streams' numbers first, because a message has room for about 700 streams.
 fn appears_in(source: &[u8], part: &Part, stream: u32, other: &MediaPart) -> bool
     ensures value { result ≡ appears_in source.now part.now stream other.now }
 {
@@ -219,7 +220,7 @@ fn stream_of(part: &MediaPart) -> u32
 
 /// Returns the earlier parts of a Media descriptor that a part may repeat.
 ///
-/// There are none if its stream's number exceeds all before it, so streams in rising order need no look back.
+/// There are none if its stream's number exceeds all earlier ones, so streams in ascending order are not compared.
 fn lookback<'a>(greatest: u32, before: &'a [MediaPart], part: &MediaPart) -> &'a [MediaPart]
     requires greatest { greatest ≡ greatest_stream before.now }
     ensures level { (source : List ℕ) → media_level source result.now part.now ≡

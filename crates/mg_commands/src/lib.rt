@@ -2,7 +2,7 @@
 //!
 //! See RFC 3525, section 8.
 //!
-//! A [`Request`](mg_text::Request) refers to parts of its message by spans, so [`transaction`] takes the message too.
+//! A [`Request`](mg_text::Request) refers to parts of its message by spans, so [`transaction`] needs the message too.
 //! It runs the commands on an [`Engine`](mg_engine::Engine), puts their outcomes into a [`Reply`](mg_text::Reply), and
 //! does not allocate:
 //!
@@ -12,16 +12,16 @@
 //! ```
 //!
 //! Commands are tried in order, action by action, up to the first that fails. Commands that were not tried are not
-//! reported. A rejected command leaves the engine unchanged. What an action asks of its context, a topology and an
-//! audit of it, is done after its commands, unless one of them ended it.
+//! reported. A rejected command leaves the engine unchanged. The topology and the audit of an action's context are
+//! processed after its commands, unless one of them failed and ended the action.
 //!
 //! A Modify, Subtract or AuditValue of `*` (RFC 3525, section 6.2.2) is tried on each current member of the action's
 //! context, in order of entry. The reply has an item for each. An error for one does not stop the others, but the
-//! command then counts as failed. If it may not be tried at all, the reply has one item, named `*`: a descriptor is
-//! faulty, or the context has no members, for example.
+//! command then counts as failed. If it may not be tried at all, for example because a descriptor is faulty or the
+//! context has no members, the reply has one item, named `*`.
 //!
 //! A command marked `O-` (section 8.2.2) is optional: if it fails, the reply reports its error, and the next commands
-//! are still tried. It does not save an action that is rejected as a whole, which always ends the request.
+//! are still tried. An action that is rejected as a whole always ends the request, even if its commands are optional.
 //!
 //! [`Kept`] keeps the replies that answer retransmissions.
 #![tactic(auto)]

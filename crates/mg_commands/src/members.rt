@@ -1,4 +1,4 @@
-//! The members that a command for all of them (`*`) is tried on.
+//! The members on which a command for all members (`*`) is tried.
 
 ghost use Rattle.std.specs.Prelude.{◌≡◌, ◌≤◌, Ok, Err, MatchResult, IfOk, length, map, take};
 ghost use Rattle.mg_engine.specs.Gateway.{Gateway};
@@ -36,7 +36,7 @@ fn members_in(engine: &Engine, target: Target) -> &[u32]
     }
 }
 
-/// Returns the members that a command for all of them is tried on (RFC 3525, section 6.2.2): at least one.
+/// Returns the members on which a command for all members is tried (RFC 3525, section 6.2.2): at least one.
 pub fn all_members(
     engine: &Engine,
     target: Target,
@@ -57,7 +57,7 @@ pub fn all_members(
     Ok(members)
 }
 
-/// Copies the members to the front of an array, since a Subtract changes those of the context.
+/// Copies the members to the front of an array, because a Subtract changes the context's list.
 pub fn copy_of(members: &[u32]) -> [u32; MEMBERS]
     requires few { length members.now ≤ MEMBERS }
     ensures front { take (length members.now) result ≡ members.now }

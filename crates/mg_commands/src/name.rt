@@ -10,7 +10,7 @@ use mg_words::{after_prefix, number_of};
 pub enum Name {
     /// `ROOT`: the gateway as a whole.
     Root,
-    /// `$` or `RTP/$`: a termination that the gateway is to make.
+    /// `$` or `RTP/$`: a new termination, which the gateway makes.
     Choose,
     /// `*` or `RTP/*`: all terminations of the context.
     All,
@@ -70,7 +70,7 @@ pub fn written_as(text: &[u8], name: Name) -> Term
 
 /// Returns the spelling of a name in a reply.
 ///
-/// A name that means `RTP/n`, `ROOT`, `$` or `*` is written so, any other as received.
+/// A name that means `RTP/n`, `ROOT`, `$` or `*` is written in that form; any other name is written as received.
 #[tactic(auto, unfolding(crate::specs::Name::written_name))]
 pub fn written_name(text: &[u8]) -> Term
     requires term { is_term text.now ≡ true }

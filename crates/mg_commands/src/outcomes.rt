@@ -1,4 +1,4 @@
-//! The commands on one termination, and what a reply reports of them.
+//! The commands on one termination, and what a reply reports about them.
 
 ghost use Rattle.std.specs.Prelude.{◌≡◌, OnErr, if◌then◌else◌};
 ghost use Rattle.mg_words.specs.Term.{rtp_name};
@@ -18,7 +18,7 @@ use crate::served::Served;
 use mg_engine::{Engine, Target};
 use mg_text::{CommandWord, ErrorNumber, Parts, Term};
 
-/// Returns what is reported of the termination with this number.
+/// Returns what is reported about the termination with this number.
 fn served_at(target: Target, number: u32, parts: Parts) -> Served
     ensures value { result ≡ served_at target (rtp_name number) parts }
 {
@@ -30,7 +30,7 @@ fn served_at(target: Target, number: u32, parts: Parts) -> Served
     }
 }
 
-/// Returns what is reported of a termination that was made.
+/// Returns what is reported about a new termination.
 fn made_at(target: Target, number: u32, parts: Parts) -> Served
     ensures value { result ≡ made_at target number parts }
 {
@@ -167,7 +167,7 @@ fn audit_outcome(
     }
 }
 
-/// Runs a command for one name, after its text was checked. A rejected command changes nothing.
+/// Runs a command for one name, after its text has been checked. A rejected command changes nothing.
 #[tactic(auto, unfolding(crate::specs::Outcome::outcome))]
 pub fn outcome(
     engine: &mut Engine,

@@ -4,7 +4,7 @@ ghost use Rattle.mg_commands.specs.ReplyDescriptors.{is_offer, descriptors_after
 use crate::command_parameters::CommandParameters;
 use mg_engine::MediaSetting;
 
-/// What a reply reports of a termination.
+/// What a reply reports about a termination.
 #[derive(Clone, Copy, Debug, PartialEq, Eq)]
 pub struct ReplyDescriptors {
     /// All settings of its media.

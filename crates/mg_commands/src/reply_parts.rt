@@ -8,7 +8,7 @@ use crate::reply_descriptors::ReplyDescriptors;
 use mg_engine::{Engine, Record, Stats};
 use mg_text::{Control, Media, Parts};
 
-/// Returns all settings of a termination's media, by its record.
+/// Returns all settings of a termination's media, from its record.
 fn media_of_record(termination: Record) -> Media
     ensures value { result ≡ media_of_record termination }
 {
@@ -56,7 +56,7 @@ fn reply_media(engine: &Engine, number: u32, descriptors: ReplyDescriptors) -> O
     }
 }
 
-/// Returns the counters, if they are wanted.
+/// Returns the counters, if they are requested.
 fn reply_statistics(engine: &Engine, number: u32, is_wanted: bool) -> Option<Stats>
     ensures value { (w : Gateway) → StandsFor engine.now w → result ≡ (if is_wanted then stats_of w number else None) }
 {
@@ -67,7 +67,7 @@ fn reply_statistics(engine: &Engine, number: u32, is_wanted: bool) -> Option<Sta
     }
 }
 
-/// Returns what a reply reports of a termination.
+/// Returns what a reply reports about a termination.
 pub fn reply_parts(engine: &Engine, number: u32, descriptors: ReplyDescriptors) -> Parts
     ensures value { (w : Gateway) → StandsFor engine.now w → result ≡ reply_parts descriptors w number }
 {

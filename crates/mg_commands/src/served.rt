@@ -1,7 +1,7 @@
 use mg_engine::Target;
 use mg_text::{Parts, Term};
 
-/// The result of a command that was done.
+/// The result of a successful command.
 #[derive(Drop)]
 pub struct Served {
     /// The action's context after the command.
@@ -10,6 +10,6 @@ pub struct Served {
     pub made: Option<u32>,
     /// The termination's name, as spelled in the reply.
     pub term: Term,
-    /// What the reply reports of the termination.
+    /// What the reply reports about the termination.
     pub parts: Parts,
 }

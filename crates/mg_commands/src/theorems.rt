@@ -5,13 +5,13 @@
 ghost use Rattle.mg_commands.specs.Agreement.{RequestsKeepAgreement};
 ghost use Rattle.mg_commands.specs.Theorems.{RefusedNamesChangeNothing, RefusedCommandsChangeNothing, RefusedActionsChangeNothing, RefusedTopologiesChangeNothing, OthersAreTried, RefusedRequestsChangeNothing, RequestsAreConsistent};
 
-/// What is rejected changes nothing except the reply, which reports the error.
+/// Whatever is rejected changes only the reply, which reports the error.
 ///
-/// The gateway, the action's context and the meaning of `$` are unchanged. This holds for a command for one name and
-/// for a command that may not be tried at all. It also holds for an action that is rejected before its commands. If an
-/// action's topology is rejected, what its commands did remains. If a command for all members (`*`) is rejected for
-/// one of them, the others are still tried. So a request leaves the gateway unchanged if each command that was tried
-/// was rejected.
+/// The gateway, the action's context and the meaning of `$` are unchanged. This holds for a command on one name and for
+/// a command that may not be tried at all. It also holds for an action that is rejected before its commands. If an
+/// action's topology is rejected, the effects of its commands remain. If a command for all members (`*`) is rejected
+/// for one of them, the others are still tried. So a request leaves the gateway unchanged if each command that was
+/// tried was rejected.
 pub fn refused_commands_change_nothing()
     ensures names { RefusedNamesChangeNothing }
     ensures commands { RefusedCommandsChangeNothing }
@@ -23,7 +23,7 @@ pub fn refused_commands_change_nothing()
 
 /// Every request preserves the consistency of terminations and contexts.
 ///
-/// So it holds after any requests, without the engine at hand.
+/// So it holds after any requests, and a proof needs no engine.
 pub fn requests_are_consistent()
     ensures theorem { RequestsAreConsistent }
 {
@@ -32,7 +32,7 @@ pub fn requests_are_consistent()
 
 /// Two gateways that agree outside some terminations also do after the same request.
 ///
-/// The replies differ at most in the received packets of their statistics.
+/// The replies differ at most in the counts of received packets and octets.
 pub fn requests_keep_agreement()
     ensures theorem { RequestsKeepAgreement }
 {

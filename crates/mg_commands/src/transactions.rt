@@ -24,7 +24,7 @@ use crate::progress::Progress;
 use mg_engine::{Engine, Target};
 use mg_text::{Action, Command, ContextId, ErrorNumber, Item, Outcome, Reply, Request};
 
-/// Tries a command for one name. Returns the progress of the action, and whether the command was done.
+/// Tries a command for one name. Returns the progress of the action, and whether the command succeeded.
 fn try_name(
     engine: &mut Engine,
     source: &[u8],
@@ -59,7 +59,7 @@ fn try_name(
 
 /// Tries a command for several members, one after another. A failure for one does not stop the others.
 ///
-/// Returns the progress of the action, and whether the command was done for all.
+/// Returns the progress of the action, and whether the command succeeded for all of them.
 fn try_members(
     engine: &mut Engine,
     source: &[u8],
@@ -127,7 +127,7 @@ fn try_all(
 
 /// Tries a command of an action, for its name or, with `*`, for all members.
 ///
-/// Returns the progress of the action, and whether the command was done.
+/// Returns the progress of the action, and whether the command succeeded.
 fn try_command(
     engine: &mut Engine,
     source: &[u8],
@@ -229,7 +229,7 @@ fn try_action(engine: &mut Engine, source: &[u8], action: &Action, reply: &mut R
     is_done
 }
 
-/// Tries actions up to the first that is not completed.
+/// Tries actions, up to the first that is not completed.
 #[tactic(auto, using(crate::proofs::RunLemmas::propers))]
 fn try_actions(engine: &mut Engine, source: &[u8], actions: &[Action], reply: &mut Reply)
     requires proper { list_all (action_is_proper source.now) actions.now ≡ true }
@@ -247,10 +247,10 @@ fn try_actions(engine: &mut Engine, source: &[u8], actions: &[Action], reply: &m
 /// Runs a request of the message `source`, and puts the outcomes of its commands into the reply, which it empties
 /// first.
 ///
-/// Commands are tried in order, up to the first that fails. A command for all members (`*`) fails if it fails for any
-/// of them; all are tried. The failure of an optional command (`O-`) ends nothing. An action's triples follow its
-/// commands, all or none, and then its audit. An action that is rejected as a whole, before or after its commands,
-/// ends the request even if its commands are optional.
+/// Commands are tried in order, up to the first that fails. A command for all members (`*`) is tried on all of them,
+/// and fails if it fails for any. The failure of an optional command (`O-`) ends nothing. After its commands, an
+/// action's triples are applied, all or none, and then its audit is answered. An action that is rejected as a whole,
+/// before or after its commands, ends the request even if its commands are optional.
 pub fn transaction(engine: &mut Engine, source: &[u8], request: &Request, reply: &mut Reply)
     requires proper { request_is_proper source.now request.now ≡ true }
     ensures ran { Leads StandsFor engine.old engine.new (λ w next. ((replied source.now request.now w).gateway ≡ next)
@@ -263,7 +263,7 @@ pub fn transaction(engine: &mut Engine, source: &[u8], request: &Request, reply:
     ensures ended { (w : Gateway) → (is_refusal (replied source.now request.now w).items
         || last_is_action false (replied source.now request.now w).items) ≡ true }
 
-    // At most four rows for each edit that was done. Rejected commands, audits and triples cost none.
+    // The cost is at most four rows for each edit applied. Rejected commands, audits and triples cost none.
     ensures work { (w : Gateway) → StandsFor engine.old w →
         RisesAtMost (4 * edits_reported (replied source.now request.now w).items) engine.old.sums.work
         engine.new.sums.work }

@@ -66,7 +66,7 @@ request_replied source sender request w =
 
 -- ## An item of a message
 
--- the kept replies that are left after a sender acknowledged these ranges of numbers
+-- the kept replies that remain after a sender acknowledged these ranges of numbers
 abbrev pub without_ranges : List ℕ → List Range → List KeptReply → List KeptReply
 without_ranges sender [] replies = replies
 without_ranges sender (x ∷ xs) replies =

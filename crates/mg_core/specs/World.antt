@@ -81,7 +81,7 @@ with_taken (takens.Dropped cause) t =
 abbrev pub with_tick : ℕ → Tally → Tally
 with_tick concealed t = record t { ticks = t.ticks + 1; concealed = t.concealed + concealed }
 
--- a count that reaches the greatest value of 64 bits stays there
+-- a count that reaches the largest value of 64 bits stays there
 abbrev pub capped : ℕ → ℕ
 capped n = min n (2 ^ 64 - 1)
 

@@ -1,4 +1,4 @@
-//! The comment lines that report changes of terminations and of who hears whom.
+//! The comment lines that report changes to terminations and to who hears whom.
 
 ghost use Rattle.std.specs.Prelude.{◌≡◌, ◌≤◌, ◌+◌, ◌*◌, ◌++◌, length, codes, decimal, flat_map, MatchOption, None, Some};
 ghost use Rattle.mg_reply.specs.Bytes.{appended};
@@ -59,7 +59,7 @@ fn push_place(context: u32, port: u16, out: &mut Bytes)
     push_number(u64::from(port), out);
 }
 
-/// Writes that a termination was made.
+/// Writes that a termination is new.
 #[tactic(auto, using(crate::proofs::ChangeLemmas::steps))]
 fn push_made(ticks: u64, new: &KeptListener, out: &mut Bytes)
     requires room { 121 ≤ out.old.room }
@@ -169,7 +169,7 @@ fn is_same_mode(a: Mode, b: Mode) -> bool
     a == b
 }
 
-/// Writes what changed of an existing termination.
+/// Writes what changed in an existing termination.
 #[tactic(auto, using(crate::proofs::ChangeLemmas::steps))]
 fn push_changed(ticks: u64, old: &KeptListener, new: &KeptListener, out: &mut Bytes)
     requires room { 1854 ≤ out.old.room }
@@ -213,7 +213,7 @@ fn push_old(ticks: u64, after: &[KeptListener], old: &KeptListener, out: &mut By
     }
 }
 
-/// Writes what is new of a termination.
+/// Writes what is new about a termination.
 #[tactic(auto, using(crate::proofs::ChangeLemmas::steps))]
 fn push_listener(ticks: u64, before: &[KeptListener], new: &KeptListener, out: &mut Bytes)
     requires room { 1854 ≤ out.old.room }
@@ -238,7 +238,7 @@ fn push_all_old(ticks: u64, before: &[KeptListener], after: &[KeptListener], out
     }
 }
 
-/// Writes what is new of all terminations.
+/// Writes what is new about all terminations.
 #[tactic(auto, using(crate::proofs::ChangeLemmas::steps))]
 fn push_all_new(ticks: u64, before: &[KeptListener], after: &[KeptListener], out: &mut Bytes)
     requires room { 1854 * length after.now ≤ out.old.room }
@@ -252,7 +252,7 @@ fn push_all_new(ticks: u64, before: &[KeptListener], after: &[KeptListener], out
     }
 }
 
-/// Writes all changes between the terminations before and those after.
+/// Writes all changes from the earlier to the later state of the terminations.
 #[tactic(auto, using(crate::proofs::ChangeLemmas::steps))]
 pub fn push_changes(ticks: u64, before: &[KeptListener], after: &[KeptListener], out: &mut Bytes)
     requires room { 61 * length before.now + 1854 * length after.now ≤ out.old.room }

@@ -4,7 +4,7 @@ ghost use Rattle.mg_core.specs.World.{placed_counter, cause_of};
 use mg_engine::{DropCause, Taken};
 use mg_playout::Placed;
 
-/// The counters of a run. A counter that reaches its greatest value stays there.
+/// The counters of a run. A counter that reaches its maximum stays there.
 #[derive(Clone, Copy, Debug, PartialEq, Eq)]
 pub struct Counts {
     /// Script lines that were read.
@@ -21,7 +21,7 @@ pub struct Counts {
     pub failed: u64,
     /// RTP datagrams by the result of placing: started, placed, pushed, again, late.
     pub placed: [u64; 5],
-    /// Dropped RTP datagrams by cause: no termination, stray, no Local, no RTP, payload type, length.
+    /// Dropped RTP datagrams by cause: no termination, stray, no Local, not RTP, payload type, length.
     pub dropped: [u64; 6],
     /// Frames that concealed a missing one.
     pub concealed: u64,

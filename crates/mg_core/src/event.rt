@@ -1,7 +1,7 @@
 use mg_engine::Peer;
 use mg_text::TreeList;
 
-/// An event of a gateway, as a line of a script has it.
+/// An event of a gateway, as a script line spells it.
 #[derive(Drop)]
 pub enum Event {
     /// A control datagram: its source and its bytes.

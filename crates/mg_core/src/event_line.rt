@@ -11,7 +11,7 @@ use mg_text::{Bytes, write_port};
 use std::alloc::{AllocError, Global};
 use std::marker::Model;
 
-/// The greatest length in bytes of a line: a first word, a port, a peer, and the digits of a datagram.
+/// The maximum length of a line, in bytes: a first word, a port, a peer, and the digits of a datagram.
 const LINE_ROOM: usize = 33 + 2 * DATAGRAM_LIMIT;
 
 /// The script line of an event, which is built here and then written at once. Contracts see its text.

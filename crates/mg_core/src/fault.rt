@@ -2,7 +2,7 @@ use mg_engine::StartFault;
 use mg_lines::{ReadFailed, WriteFailed};
 use thiserror::Error;
 
-/// Memory ran out while a control datagram was read. Nothing has changed but the last answer, which is now empty.
+/// Memory ran out while a control datagram was read. Only the last answer has changed: it is now empty.
 #[derive(Clone, Copy, Debug, PartialEq, Eq, Error)]
 #[error("no memory")]
 pub struct NoMemory;

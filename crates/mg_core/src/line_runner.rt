@@ -21,11 +21,11 @@ use mg_text::Bytes;
 use std::alloc::{AllocError, Global};
 use std::io::Write;
 
-/// The greatest length in bytes of a line that is written: a first word, a peer, and an answer whose bytes may all
-/// need an escape.
+/// The maximum length of an output line, in bytes: a first word, a peer, and an answer whose bytes may all need an
+/// escape.
 const OUTPUT_LIMIT: usize = 27 + 2 * ANSWER_LIMIT;
 
-/// Makes the store of terminations that a form of a run needs, for a gateway without terminations.
+/// Makes the store of terminations that is needed to show changes, for a gateway without terminations.
 fn watched_for(alloc: Global, shown: Shown) -> Result<Option<Watched>, AllocError>
     ensures value { (config : Config) → IfOk result (λ watched. AreKeptListeners shown watched (start_of config)) }
 {

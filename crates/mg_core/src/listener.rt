@@ -16,7 +16,7 @@ use std::marker::Model;
 pub struct KeptListener {
     pub number: u32,
     pub context: u32,
-    /// The UDP port that it receives at.
+    /// The UDP port at which it receives.
     pub port: u16,
     pub mode: Mode,
     /// In order of their numbers.
@@ -38,7 +38,7 @@ impl Model for KeptListener {
 }
 
 impl KeptListener {
-    /// Returns a listener for no termination.
+    /// Returns an empty listener, of no termination.
     pub fn new() -> Self
         ensures value { result ≡ record { number = 0; context = 0; port = 0; mode = Mode.Inactive; talkers = [] } }
     {
@@ -64,7 +64,8 @@ impl KeptListener {
     }
 }
 
-/// Returns those whose speech flows to a listener. They are members of its context, so there is room for all.
+/// Returns the talkers whose speech flows to a listener. They are members of its context, so there is room for all of
+/// them.
 fn talkers_of(core: &Core, listener: u32) -> ArrayVec<u32, MEMBERS>
     ensures value { (w : World) → StandsFor core.now.state w →
         result.items ≡ filter (λ n. flow w.gateway n listener) (numbers_of w.gateway) }

@@ -11,7 +11,7 @@ use std::marker::Model;
 /// The terminations of a gateway at some time, in order of their numbers.
 #[derive(Drop)]
 pub struct KeptListeners {
-    /// A place for each termination that there can be. The first `len` are in use.
+    /// A place for each possible termination. The first `len` places are in use.
     places: Vec<KeptListener>,
     len: usize,
 }
@@ -40,7 +40,7 @@ impl KeptListeners {
         Ok(KeptListeners { places, len: 0 })
     }
 
-    /// Stores the current terminations of a core, in place of the earlier ones.
+    /// Replaces the stored terminations with the current ones of a core.
     pub fn fill(&mut self, core: &Core)
         ensures value { (w : World) → StandsFor core.now.state w → self.new ≡ listeners_of w.gateway }
     {

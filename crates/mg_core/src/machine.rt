@@ -31,7 +31,7 @@ use mg_text::{Bytes, ErrorNumber, Message, Reply, read, write_head};
 use std::alloc::{AllocError, Global};
 use std::marker::Model;
 
-/// The greatest length in bytes of an answer: a head, four replies, and a line feed between two replies.
+/// The maximum length of an answer, in bytes: a head, four replies, and a line feed between two replies.
 pub const ANSWER_LIMIT: usize = 64036;
 
 /// The gateway as a state machine: datagrams and ticks go in, answers and packets come out.
@@ -96,7 +96,7 @@ impl Core {
 
     /// Handles a control datagram; [`Core::answer`] returns its answer.
     ///
-    /// Only reading allocates. If memory runs out, nothing has changed but the last answer, which is then empty.
+    /// Only reading allocates. If memory runs out, only the last answer changes: it is then empty.
     pub fn control(&mut self, alloc: Global, source: Peer, bytes: &[u8]) -> Result<Answer, NoMemory>
         ensures answered { IfOk result (λ answer. Leads StandsFor self.old.state self.new.state (λ w next.
             Step w (events.Control source bytes.now) (answer_to source (reported answer self.new.answer)) next)) }
@@ -166,7 +166,7 @@ impl Core {
         Answer::Silent
     }
 
-    /// Answers a datagram that is not a valid message with an error.
+    /// Answers an invalid message with an error.
     fn refuse(&mut self, number: ErrorNumber)
         requires empty { self.old.answer ≡ [] }
         ensures refused { (w : World) → StandsFor self.old.state w →
@@ -230,7 +230,7 @@ impl Core {
         self.state.engine.flow(talker, listener)
     }
 
-    /// Returns the plain sum of sample `i` in this tick over the members of a context that talk.
+    /// Returns the sum of sample `i` over all talkers of a context in this tick, not limited to 16 bits.
     ///
     /// Returns `None` if the context does not exist, or if `i` is not below 160.
     pub fn total(&self, context: u32, i: usize) -> Option<i32>
@@ -265,7 +265,7 @@ impl Core {
         self.state.engine.termination(place)
     }
 
-    /// Shows a proof the invariant of the terminations. Has no effect.
+    /// Exposes the invariant of the terminations to a proof. Has no effect.
     pub(crate) fn assert_invariant(&self)
         ensures sound { IsSound self.now.state.engine.rooms }
     {
@@ -296,7 +296,7 @@ impl Core {
 
     /// Returns the counts of events: control datagrams, RTP datagrams by their result, and ticks.
     ///
-    /// `lines`, `sent` and `failed` are 0, since the runner of the core counts them.
+    /// `lines`, `sent` and `failed` are 0, because the runner of the core counts them.
     pub fn counts(&self) -> Counts
         ensures value { (w : World) → StandsFor self.now.state w → result ≡ counts_of w.tally }
     {

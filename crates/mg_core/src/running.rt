@@ -19,10 +19,10 @@ use std::io::{Read, Write};
 /// The lines of an event are written before more is read. `Ok` means that all of the input is a script, and that
 /// exactly the datagrams of its events were written. Its lines, events and datagrams are counted.
 ///
-/// A fault says how far the script was run, of the text that was read; what the reader still holds does not count. The
-/// lines before the named line were run, and their output was written completely, before more was read:
+/// A fault says how far the script was run, within the text that was read. The lines before the named line were run,
+/// and their output was written completely, before more was read:
 /// - `Script`: the first bad line has this number, and the lines before it were run.
-/// - `Read`: exactly the lines that end in the text that was read were run. It also ends a run after 4,294,967,295 reads.
+/// - `Read`: exactly the lines were run whose ends had been read. It also ends a run after 4,294,967,295 reads.
 /// - `Write`: the lines before one were run, and the output of that line was written in part.
 /// - `NoMemory`: the lines before one were run, and that line had no effect; or nothing was read.
 /// - `BadConfig`: returned exactly if the configuration is invalid. Nothing was read.

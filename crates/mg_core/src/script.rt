@@ -10,10 +10,10 @@ use mg_text::TreeList;
 use mg_words::{cut, port_of};
 use std::alloc::{AllocError, AllocFailed, Global};
 
-/// The greatest length in bytes of a script line.
+/// The maximum length of a script line, in bytes.
 pub const LINE_LIMIT: usize = 140000;
 
-/// The greatest length in bytes of a datagram: that of UDP.
+/// The maximum length of a datagram, in bytes: the limit of UDP.
 pub const DATAGRAM_LIMIT: usize = 65535;
 
 /// Why a line was not parsed.
@@ -53,7 +53,7 @@ fn is_plain(b: u8) -> bool
     matches!(b, 0x20..=0x7E)
 }
 
-/// Returns the byte that a backslash and this byte stand for.
+/// Returns the byte denoted by a backslash and this byte.
 fn escaped_byte(b: u8) -> Option<u8>
     ensures value { result ≡ escaped_byte b }
 {
@@ -104,7 +104,7 @@ fn unhex(alloc: Global, digits: &[u8]) -> Result<Vec<u8>, ParseFault>
     }
 }
 
-/// How a line spells a datagram, by its first word.
+/// The spelling of a datagram in a line, as its first word says.
 #[derive(Clone, Copy, Debug, PartialEq, Eq)]
 enum Spelling {
     /// A text with escapes.

@@ -16,10 +16,10 @@ use mg_text::Bytes;
 use std::alloc::Global;
 use std::io::{Read, Write};
 
-/// The greatest length in bytes of a partial line: the longest line and a carriage return.
+/// The maximum length of a partial line, in bytes: the longest line and a carriage return.
 const PARTIAL_LIMIT: usize = 140001;
 
-/// Runs a script on a gateway, in whatever pieces it arrives.
+/// Runs a script on a gateway, in whatever pieces the script arrives.
 #[derive(Drop)]
 pub struct ScriptRunner {
     pub runner: LineRunner,

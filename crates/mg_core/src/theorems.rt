@@ -51,7 +51,7 @@ pub fn refused_commands_change_no_packet()
     mg_engine::theorems::one_arrival(b"");
 }
 
-/// A retransmitted request is answered like the request while its reply is kept, and nothing is done twice.
+/// A retransmitted request gets the same answer while its reply is kept, and is not run again.
 ///
 /// Any other request is run.
 pub fn retransmissions_are_answered_alike()
@@ -62,7 +62,7 @@ pub fn retransmissions_are_answered_alike()
     mg_kept::theorems::kept_reply_is_found();
 }
 
-/// How long a retransmitted request is answered alike: until its reply is acknowledged, or 32 other replies were kept.
+/// A retransmitted request gets the same answer until its reply is acknowledged, or 32 other replies have been kept.
 ///
 /// After that it is run again. Kept replies answer different requests.
 pub fn replies_persist()
@@ -106,7 +106,8 @@ pub fn port_order_is_irrelevant()
 
 /// In each tick, the packet to a listener does not depend on what was ever received from terminations that it does not
 /// hear in that tick. Two gateways receive the same events, except for RTP datagrams at ports of some terminations. In
-/// the next tick both send the same bytes to each listener who then hears none of these, whatever it heard before.
+/// the next tick both send the same bytes to each listener who then hears none of these terminations, whatever it heard
+/// before.
 pub fn unheard_changes_nothing()
     ensures lists { UnheardChangesNothing }
     ensures histories { UnheardInHistories }
@@ -142,11 +143,11 @@ pub fn recordings_are_read()
     ensures cut { CutRecordingsAreRead }
 {}
 
-/// The headline theorem, joined.
+/// The headline theorem: everything that the contracts of a core's calls do not say.
 ///
 /// The clauses `headline` and `packets` of a [`Core`](crate::Core) say that after any events it returns and sends what
 /// is recomputed from the resulting world. This theorem says the rest. That world is determined, and so is the content
-/// of each packet. What is rejected changes nothing and no later packet. Nobody hears himself, and an isolated
+/// of each packet. A rejected command changes nothing, and no later packet. Nobody hears himself, and an isolated
 /// participant is not heard.
 pub fn headline()
     ensures world { EventsDetermineOutcome }

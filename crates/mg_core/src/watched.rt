@@ -13,7 +13,7 @@ use std::io::Write;
 use std::marker::Model;
 use std::mem;
 
-/// The greatest length in bytes of the reported changes: 256 terminations end and 256 are new, each with three lines.
+/// The maximum length of the reported changes, in bytes: 256 terminations end and 256 are new, each with three lines.
 const CHANGES_LIMIT: usize = 490240;
 
 /// The terminations of a gateway after its last changes. Contracts see them as a list.
@@ -48,7 +48,7 @@ impl Watched {
         })
     }
 
-    /// Writes what changed of a core since the last call, and stores its current terminations.
+    /// Writes what changed in a core since the last call, and stores its current terminations.
     #[tactic(auto, using(crate::proofs::AnswerLemmas::totals))]
     pub fn write_changes<W: Write>(
         &mut self,

@@ -9,7 +9,7 @@ abbrev pub play_after : Option ℕ → PlayList → PlayList
 play_after None play = play
 play_after (Some depth) play = with_depth play (depth_after (Some depth) depth)
 
--- a counter that reaches its greatest value stays there
+-- a counter that reaches its maximum stays there
 abbrev pub counted_up : ℕ → ℕ → ℕ
 counted_up more n = min (n + more) (2 ^ 64 - 1)
 

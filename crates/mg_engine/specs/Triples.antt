@@ -16,7 +16,7 @@ use Rattle.mg_engine.specs.declared.topology_triple.TopologyTriple.{TopologyTrip
 use Rattle.mg_engine.specs.Gateway.{ContextEdit, Apply}
 use Rattle.mg_engine.specs.Flow.{has}
 
--- the greatest number of triples in an edit; a datagram cannot hold more
+-- the maximum number of triples in an edit; a datagram cannot hold more
 abbrev pub triple_limit : ℕ
 triple_limit = 1200
 

@@ -13,16 +13,15 @@ use Rattle.mg_engine.specs.Tick.{sent_to}
 abbrev pub silenced_for : Gateway → ℕ → ℕ
 silenced_for w listener = count_by (λ talker. is_silenced w talker listener) (numbers_of w)
 
--- the greatest number of rows for what a termination is sent: one, and one for each talker
--- silenced for it; none of these in a loopback, where it is sent its own frame
+-- the maximum number of rows for what a termination is sent: one, and one for each talker silenced
+-- for it; none of these in a loopback, where it is sent its own frame
 abbrev pub mix_work : Gateway → Record → ℕ
 mix_work w r = 1 + (if is_loopback r.mode then 0 else silenced_for w r.number)
 
 abbrev pub sending_work : Gateway → Record → ℕ
 sending_work w r = if is_some (sent_to r) then mix_work w r else 0
 
--- the greatest number of rows in a tick: two for each termination's frame, and those of what is
--- sent
+-- the maximum number of rows in a tick: two for each termination's frame, and those of what is sent
 abbrev pub tick_work : Gateway → ℕ
 tick_work w =
     2 * length w.rooms.terminations + sum_by (sending_work w) w.rooms.terminations

@@ -1,4 +1,4 @@
-//! What an RTP datagram brings to a termination.
+//! How an RTP datagram changes a termination.
 
 ghost use Rattle.std.specs.Prelude.{◌≡◌, ℕ, ℤ, List, Result, Ok, Err};
 ghost use Rattle.mg_rtp.specs.declared.header.Header.{Header};

@@ -50,7 +50,7 @@ impl Datagram {
     }
 }
 
-/// The packets of one tick, in the order of their terminations' numbers.
+/// The packets of one tick, in order of their terminations' numbers.
 pub type Outbox = ArrayVec<Datagram, TERMINATIONS>;
 
 /// Appends a packet with this payload to an outbox. Its header and addresses are set later.

@@ -1,6 +1,6 @@
 use mg_rooms::Record;
 
-/// The result of an edit that was done.
+/// The result of a successful edit.
 #[derive(Clone, Copy, Debug, PartialEq, Eq)]
 pub enum Done {
     /// The termination after the edit or, for a Subtract, before it.

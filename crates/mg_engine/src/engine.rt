@@ -79,7 +79,7 @@ pub struct Engine {
     held: ArrayVec<u8, TERMINATIONS>,
     /// Who hears whom, by the places of members.
     flows: FlowTable,
-    /// The slot of the member on each place.
+    /// The slot of the member at each place.
     seating: Seating,
     /// The current frame of each slot, and the total of each room.
     sums: Sums,
@@ -119,7 +119,7 @@ fn idle_media(alloc: Global, slots: u16) -> Result<Vec<HeldMedia>, AllocError>
 
 /// Makes the tables of a gateway without terminations.
 ///
-/// They have the flows, the slots by place, the frames and totals, and the shared payloads. Fails only if the
+/// They hold the flows, the slots by place, the frames and totals, and the shared payloads. Fails only if the
 /// allocation does.
 fn empty_tables(alloc: Global) -> Result<(FlowTable, Seating, Sums, Shares), AllocError>
     ensures flows { IfOk result (λ (flows, seating, sums, shares). table.StandsFor flows []) }
@@ -223,7 +223,7 @@ impl Engine {
         &self.sums
     }
 
-    /// Does an edit, or rejects it without a change.
+    /// Applies an edit, or rejects it and changes nothing.
     pub fn edit(&mut self, edit: &Edit) -> Result<Done, ErrorNumber>
         ensures outcome { (w : Gateway) → StandsFor self.old w → IsOutcome self.new result (outcome w edit.now) }
         ensures refused { OnErr result (self.new ≡ self.old) }
@@ -327,7 +327,7 @@ impl Engine {
         Ok(moved.to.record)
     }
 
-    /// Removes a member from the action's context, and ends it (RFC 3525, section 7.2.3).
+    /// Removes a member from the action's context, and ends the termination (RFC 3525, section 7.2.3).
     ///
     /// The context ends if it has no other member.
     pub fn subtract(&mut self, target: Target, number: u32) -> Result<Record, ErrorNumber>
@@ -347,7 +347,7 @@ impl Engine {
 
     /// Applies triples in order to the current members of the action's context (RFC 3525, section 7.1.18).
     ///
-    /// At the first error none is applied. Returns the context's number.
+    /// If there is an error, none is applied, and the first error is returned. Returns the context's number.
     pub fn apply_triples(
         &mut self,
         target: Target,
@@ -471,7 +471,7 @@ impl Engine {
 
     /// Returns the members of a context with their places, in order of entry.
     ///
-    /// It serves callers that ask about many pairs.
+    /// It is for callers that ask about many pairs.
     pub fn seated(&self, context: u32) -> ArrayVec<SeatedMember, MEMBERS>
         ensures numbers { (w : Gateway) → StandsFor self.now w →
             map (λ m. m.number) result.items ≡ members_at w.rooms context }
@@ -491,7 +491,7 @@ impl Engine {
         self.flows.hears(to, from)
     }
 
-    /// Returns the plain sum of sample `i` in this tick over the members of a context that talk.
+    /// Returns the sum of sample `i` over all talkers of a context in this tick, not limited to 16 bits.
     ///
     /// Returns `None` if the context does not exist, or if `i` is not below 160.
     pub fn total(&self, context: u32, i: usize) -> Option<i32>
@@ -560,7 +560,7 @@ impl Engine {
         fill(self, count, outbox);
     }
 
-    /// Ends a tick in which each termination that sends has sent a packet.
+    /// Ends a tick for all terminations. The packet of each that sends is already in the outbox.
     fn end_all(&mut self)
         ensures after { (w : Gateway) → StandsFor self.old w → StandsFor self.new (all_ended w) }
         ensures sums { self.new.sums ≡ self.old.sums }
@@ -598,7 +598,8 @@ impl Engine {
         self.address(&sender, to, outbox);
     }
 
-    /// Completes the last packet of an outbox, which has its payload, as that of a termination to its peer.
+    /// Completes the last packet of an outbox, which already has its payload, as a packet from a termination to its
+    /// peer.
     fn address(&self, sender: &Record, to: Chosen, outbox: &mut Outbox)
         requires member { record_at self.now.rooms sender.now.number ≡ Some sender.now }
         requires last { 0 < length outbox.old.items }
@@ -617,9 +618,9 @@ impl Engine {
         address_last(outbox, from, Peer { address, port }, header);
     }
 
-    /// Appends a packet with the payload of what a member is sent. Its header and addresses are set later.
+    /// Appends a packet whose payload is what a member is sent. Its header and addresses are set later.
     ///
-    /// In a loopback that is its own frame, otherwise the sum of everyone whose speech flows to it.
+    /// In Loopback that is its own frame, otherwise the sum of everyone whose speech flows to it.
     fn put_payload(&mut self, sender: &Record, law: Law, outbox: &mut Outbox)
         requires member { record_at self.old.rooms sender.now.number ≡ Some sender.now }
         requires sends { IsTrue (sends sender.now.mode) }
@@ -642,9 +643,9 @@ impl Engine {
         }
     }
 
-    /// Appends a packet with the payload of what a member on a place hears.
+    /// Appends a packet whose payload is what the member at a place hears.
     ///
-    /// Listeners that hear the same in the same law have the same payload, which is computed once.
+    /// Listeners that hear the same in the same law share a payload, which is computed once.
     fn put_heard(&mut self, listener: &Record, place: Place, law: Law, outbox: &mut Outbox)
         requires place { IsOnPlace self.old.rooms listener.now.number listener.now place }
         requires listens { IsTrue (listens listener.now.mode) }
@@ -764,7 +765,7 @@ fn sends_in(rooms: &Rooms, slot: u8) -> bool
     }
 }
 
-/// Ends a tick for the termination in a slot, which has sent a packet if it sends.
+/// Ends a tick for the termination in a slot. If it sends, its packet is already in the outbox.
 fn end_slot(rooms: &Rooms, media: &mut Vec<HeldMedia>, slot: u8)
     requires slot { slot < length media.old.items }
     ensures value { media.new.items ≡ slice_set media.old.items slot
@@ -774,7 +775,7 @@ fn end_slot(rooms: &Rooms, media: &mut Vec<HeldMedia>, slot: u8)
     media[usize::from(slot)].end_tick(is_sent);
 }
 
-/// Ends a tick for the terminations in these slots, each of which has sent a packet if it sends.
+/// Ends a tick for the terminations in these slots. The packet of each that sends is already in the outbox.
 fn end_slots(rooms: &Rooms, held: &[u8], media: &mut Vec<HeldMedia>)
     requires slots { EachIndex held.now (λ i. slice_index_or held.now i 0 < length media.old.items) }
     requires apart { AreApart held.now }

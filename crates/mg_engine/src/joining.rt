@@ -1,4 +1,4 @@
-//! Which rows are joined to the rooms of contexts: those of members that talk.
+//! Joins rows to the rooms of contexts: the rows of members that talk.
 
 ghost use Rattle.std.specs.Prelude.{◌≡◌, ◌<◌, ◌↔◌, IsTrue, None, Some, length};
 ghost use Rattle.mg_words.specs.Limits.{context_limit, termination_limit};
@@ -9,7 +9,7 @@ ghost use Rattle.mg_engine.specs.aids.Joined.{SetsRow, room_for};
 use mg_rooms::{Mode, mode_talks};
 use mg_sums::{Room, Row, Sums};
 
-/// Returns the room that a member's row is joined to: its own if its mode talks, otherwise none.
+/// Returns the room that a member's row is joined to: the member's room if its mode talks, otherwise none.
 fn room_for(mode: Mode, room: u8) -> Option<Room>
     requires room { room < context_limit }
     ensures value { result ≡ room_for mode room }
@@ -44,7 +44,7 @@ pub fn part(sums: &mut Sums, row: Row)
     }
 }
 
-/// Joins a row that is joined to none to a room, if there is one.
+/// Joins a row to a room, if there is one. The row must not be joined to any room yet.
 fn join(sums: &mut Sums, row: Row, room: Option<Room>)
     requires free { room_of sums.old row ≡ None }
     requires rows { length sums.old.rooms ≡ termination_limit }

@@ -1,7 +1,7 @@
 //! The state of a conference gateway, changed by edits, media and ticks.
 //!
-//! [`Engine::new`] allocates all memory. Commands arrive as calls, or as [`Edit`]s. Each is done, or rejected with an
-//! [`ErrorNumber`](mg_rooms::ErrorNumber) without a change:
+//! [`Engine::new`] allocates all memory. Commands arrive as calls, or as [`Edit`]s. Each is either applied, or rejected
+//! with an [`ErrorNumber`](mg_rooms::ErrorNumber) and changes nothing:
 //!
 //! ```rust
 //! let mut engine = Engine::new(alloc, Config::default())?;
@@ -9,15 +9,15 @@
 //! assert_eq!(rt; engine.rooms().members(done.context), [done.number].as_slice());
 //! ```
 //!
-//! The cost of a tick grows with the terminations and packets, not with the pairs that hear each other. The engine
-//! keeps the frame of each termination and a total for each context, in [`Sums`]. It counts each row of 160 samples
-//! that is added to a total, subtracted from one, or written ([`Engine::work`]).
+//! The cost of a tick grows with the number of terminations and packets, not with the number of pairs that hear each
+//! other. The engine keeps the frame of each termination and a total for each context, in [`Sums`]. It counts each row
+//! of 160 samples that is added to a total, subtracted from one, or written ([`Engine::work`]).
 //!
-//! A tick takes two rows for each termination that talks: its old frame leaves the total, and its new one enters. A
-//! packet takes one, the total without the listener itself, and one more for each talker that the topology silences
-//! for the listener. In Loopback a termination is sent its own frame, which takes none. Listeners of one context that
-//! hear the same in the same law share a payload, if it is among the newest eight of their context. `specs/Work.antt`
-//! has the proved bound of a tick. An edit takes at most four rows, and an RTP datagram none.
+//! A tick costs two rows for each termination that talks: its old frame is subtracted from the total, and its new frame
+//! is added. A packet costs one row, the total without the listener itself, and one more for each talker that the
+//! topology silences for the listener. In Loopback a termination is sent its own frame, which costs none. Listeners of
+//! one context that hear the same in the same law share a payload, if it is among the newest eight of their context.
+//! `specs/Work.antt` has the proved bound for a tick. An edit costs at most four rows, and an RTP datagram none.
 //!
 //! The engine keeps no history, and its state may hold less than what it represents. So its contracts speak of every
 //! `Gateway` (`specs/Gateway.antt`) that it represents, before and after a call (`StandsFor` in `specs/Stands.antt`).

@@ -114,7 +114,7 @@ impl HeldMedia {
         }
     }
 
-    /// Ends a tick in which a packet was sent, or none.
+    /// Ends a tick, given whether a packet was sent in it.
     pub fn end_tick(&mut self, is_sent: bool)
         ensures value { self.new ≡ slot_ended is_sent self.old }
     {

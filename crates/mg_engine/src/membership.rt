@@ -1,4 +1,4 @@
-//! Updates the table of flows by the places of members, and which rows are joined.
+//! Updates the table of flows when members enter, leave or change, and joins their rows.
 
 ghost use Rattle.std.specs.Prelude.{◌≡◌, ◌<◌, IsFalse, IsTrue, length, slice_set};
 ghost use Rattle.mg_words.specs.Limits.{termination_limit};
@@ -37,7 +37,7 @@ pub fn place_of(rooms: &Rooms, termination: &Record) -> Option<Place>
     })
 }
 
-/// Lets a member enter on its place. Its row is joined to the room if it talks.
+/// Adds a member at its place. Its row is joined to the room if it talks.
 pub fn enter(flows: &mut FlowTable, seating: &mut Seating, sums: &mut Sums, member: Member)
     requires within { IsWithinLimits (member_place member) }
     requires slot { member.record.slot < termination_limit }
@@ -57,7 +57,7 @@ pub fn enter(flows: &mut FlowTable, seating: &mut Seating, sums: &mut Sums, memb
     join_if_talking(sums, Row::new(member.record.slot), place.room, mode);
 }
 
-/// Lets a member leave its place.
+/// Removes a member from its place.
 pub fn vacate(flows: &mut FlowTable, member: Member)
     requires held { IsTrue (table.holds flows.old (member_place member)) }
     ensures left { Leaves flows.old flows.new (member_place member) }

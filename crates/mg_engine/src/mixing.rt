@@ -26,7 +26,7 @@ pub fn own_row(listener: &Record) -> Option<Row>
     }
 }
 
-/// Returns the rows of the members on some seats of a room.
+/// Returns the rows of the members in some seats of a room.
 pub fn rows_on(seating: &Seating, room: u8, seats: Mask) -> ArrayVec<Row, SEATS>
     requires room { room < context_limit }
     requires slots { (seat : ℕ) → IsTrue (has_seat seats seat) →

@@ -43,10 +43,10 @@ impl RoomShares {
         self.shares.clear();
     }
 
-    /// Finds a packet with the payload, in this law, of what these seats say, if one of the newest has it.
+    /// Finds a packet whose payload is what these seats say, in this law, among the newest packets.
     ///
-    /// A member that talks hears what nobody else does. So a room of talkers has as many of these packets as members,
-    /// and a full search would cost as much as all pairs. Members that only listen find theirs among the newest.
+    /// Each talker hears a different sum. So a room of talkers has as many of these packets as members, and a full
+    /// search would be quadratic. Members that only listen find theirs among the newest.
     pub fn find(&self, talkers: Mask, law: Law) -> Option<u8>
         ensures found { IfSome result
             (λ packet. Contains self.now (record { talkers = talkers; law = law; packet = packet })) }
@@ -67,7 +67,7 @@ impl RoomShares {
     }
 }
 
-/// Returns the first of these packets with the payload, in this law, of what these seats say.
+/// Returns the first of these packets whose payload is what these seats say, in this law.
 fn packet_among(shares: &[Share], talkers: Mask, law: Law) -> Option<u8>
     ensures found { IfSome result (λ packet. Contains shares.now
         (record { talkers = talkers; law = law; packet = packet })) }

@@ -8,7 +8,7 @@ use mg_words::CONTEXTS;
 use std::alloc::{AllocError, Global};
 use std::marker::Model;
 
-/// The slot of the member on each place. The slot of an empty place has no meaning.
+/// The slot of the member at each place. The slot of an empty place has no meaning.
 #[derive(Drop)]
 pub struct Seating {
     slots: Vec<u8>,
@@ -46,7 +46,7 @@ impl Seating {
         Ok(Seating { slots })
     }
 
-    /// Returns the slot of the member on the place.
+    /// Returns the slot of the member at the place.
     pub fn slot(&self, place: Place) -> u8
         requires within { IsWithinLimits place }
         ensures value { result ≡ slot_at self.now place }
@@ -54,7 +54,7 @@ impl Seating {
         self.slots[index_of(place)]
     }
 
-    /// Sets the slot of the member on the place.
+    /// Sets the slot of the member at the place.
     pub fn put(&mut self, place: Place, slot: u8)
         requires within { IsWithinLimits place }
         ensures value { self.new ≡ slice_set self.old (index_of place) slot }

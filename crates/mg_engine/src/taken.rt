@@ -1,7 +1,7 @@
 use mg_playout::Placed;
 use mg_rtp::RtpFault;
 
-/// What became of an RTP datagram.
+/// What happened to an RTP datagram.
 #[derive(Clone, Copy, Debug, PartialEq, Eq)]
 pub enum Taken {
     /// Its frame was passed to the termination's play list.
@@ -10,7 +10,7 @@ pub enum Taken {
     Dropped(DropCause),
 }
 
-/// Why an RTP datagram was dropped: the first of these causes that holds.
+/// Why an RTP datagram was dropped: the first of these causes that applies.
 #[derive(Clone, Copy, Debug, PartialEq, Eq)]
 pub enum DropCause {
     /// No termination has the port.

@@ -43,7 +43,7 @@ pub fn none_hears_itself()
 /// An isolated participant is not heard.
 ///
 /// After an Isolate on two, neither's speech flows to the other, until one of them enters a context or another triple
-/// mentions the two. The packets to one are the same, whatever the other says.
+/// mentions the two. The packets to one of them are the same, whatever the other says.
 pub fn isolated_are_not_heard()
     ensures flow { IsolatedAreNotHeard }
     ensures packets { UnheardChangesNoPacket }
@@ -51,19 +51,19 @@ pub fn isolated_are_not_heard()
 
 /// The payload of a packet is the encoding of what its listener is sent.
 ///
-/// Outside a loopback that is the sum of everyone whose speech flows to it, limited once.
+/// Except in Loopback, that is the sum of everyone whose speech flows to it, limited once.
 pub fn payloads_are_mixes()
     ensures theorem { PayloadsAreMixes }
 {}
 
-/// The limit of triples in the code is that of the definitions.
+/// The limit on triples in the code equals the limit in the definitions.
 pub fn triples_are_limited()
     ensures { TRIPLES ≡ triple_limit }
 {}
 
 /// The terminations and contexts of a new gateway are consistent, and each edit and RTP datagram preserves that.
 ///
-/// So it holds after any of these, without the engine at hand.
+/// So it holds after any of these, and a proof needs no engine.
 pub fn worlds_are_consistent()
     ensures start { (config : Config) → IsValidConfig config → config.first_termination ≤ LAST_TERMINATION →
         IsConsistent (start_of config).rooms }
@@ -92,11 +92,11 @@ pub fn port_order_is_irrelevant()
     ensures theorem { ArrivalOrderIsIrrelevant }
 {}
 
-/// An edit does not affect other contexts, and neither does an RTP datagram.
+/// Neither an edit nor an RTP datagram affects other contexts.
 ///
-/// Their members and order are unchanged, and so are the members' records and media, who hears whom, the flows, and
-/// the total. An edit is about the action's context and that of the termination that it names. A datagram is about the
-/// context of the termination with its port.
+/// Their members and order are unchanged, and so are the members' records and media, who hears whom, the flows, and the
+/// total. An edit concerns only the action's context and the context of the termination that it names. A datagram
+/// concerns only the context of the termination with its port.
 pub fn other_contexts_are_unaffected()
     ensures edits { EditsDoNotAffectOthers }
     ensures media { DatagramsDoNotAffectOthers }
@@ -104,9 +104,9 @@ pub fn other_contexts_are_unaffected()
     mg_rooms::theorems::consistent_registries_are_sound();
 }
 
-/// Two gateways that agree outside some terminations keep doing so after the same edit, datagram or tick.
+/// Two gateways that agree outside some terminations still agree after the same edit, datagram or tick.
 ///
-/// They also do if only one of them receives an RTP datagram at a port of one of these terminations. Counters are
+/// They also agree if only one of them receives an RTP datagram at a port of one of these terminations. Counters are
 /// equal in both, except for received packets.
 pub fn agreement_lasts()
     ensures edits { SameEditsKeepAgreement }

@@ -2,7 +2,7 @@ use crate::triple_term::TripleTerm;
 use arrayvec::ArrayVec;
 use mg_words::Association;
 
-/// The greatest number of triples in an edit. A control datagram cannot hold more.
+/// The maximum number of triples in an edit. A control datagram cannot hold more.
 pub const TRIPLES: usize = 1200;
 
 /// Who hears whom among the members that two terms match (RFC 3525, section 7.1.18).
@@ -16,7 +16,7 @@ pub struct TopologyTriple {
     pub association: Association,
 }
 
-/// Makes a triple that lets its edit fail.
+/// Makes a triple that makes its edit fail.
 impl Default for TopologyTriple {
     ghost use Rattle.std.specs.Prelude.{◌≡◌};
     ghost use Rattle.mg_engine.specs.Triples.{barred_triple};

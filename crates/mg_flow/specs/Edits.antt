@@ -39,7 +39,7 @@ edits_in room (Apply r triple ∷ es) =
 abbrev pub is_held : List FlowEdit → Place → Bool
 is_held es place = topology.is_held (edits_in place.room es) place.seat
 
--- the last setting of the member on the place: one side of whether it talks and whether it listens
+-- the last setting of the member at the place: one side of whether it talks and whether it listens
 abbrev pub last_setting : (Bool → Bool → Bool) → List FlowEdit → Place → Bool
 last_setting side [] place = false
 last_setting side (Enter p talks listens ∷ es) place =
@@ -50,11 +50,11 @@ last_setting side (SetMode p talks listens ∷ es) place =
     if is_same_place place p then side talks listens else last_setting side es place
 last_setting side (Apply room triple ∷ es) place = last_setting side es place
 
--- whether the member on the place talks
+-- whether the member at the place talks
 abbrev pub talks_in : List FlowEdit → Place → Bool
 talks_in = last_setting (λ talks listens. talks)
 
--- whether the member on the place listens
+-- whether the member at the place listens
 abbrev pub listens_in : List FlowEdit → Place → Bool
 listens_in = last_setting (λ talks listens. listens)
 

@@ -27,11 +27,11 @@ room_at table room = slice_index_or table room vacant
 abbrev pub holds : List RoomFlows → Place → Bool
 holds table place = topology.holds (room_at table place.room).topology place.seat
 
--- whether the member on the place talks
+-- whether the member at the place talks
 abbrev pub talks_at : List RoomFlows → Place → Bool
 talks_at table place = has_seat (room_at table place.room).talks place.seat
 
--- whether the member on the place listens
+-- whether the member at the place listens
 abbrev pub listens_at : List RoomFlows → Place → Bool
 listens_at table place = has_seat (room_at table place.room).listens place.seat
 

@@ -80,8 +80,8 @@ impl FlowTable {
         }
     }
 
-    /// Returns whether `listener` hears `talker`: different members of one room, and the last word on the two allows
-    /// it.
+    /// Returns whether `listener` hears `talker`: they are different members of one room, and the last word on the two
+    /// allows it.
     ///
     /// The listener comes first.
     pub fn hears(&self, listener: Place, talker: Place) -> bool
@@ -98,7 +98,7 @@ impl FlowTable {
         }
     }
 
-    /// Returns the seats in the room whose speech flows to the listener on the place.
+    /// Returns the seats in the room whose speech flows to the listener at the place.
     pub fn open(&self, place: Place) -> &Mask
         requires { IsTrue (holds self.now place) }
         ensures kept { (seat : ℕ) →
@@ -112,9 +112,9 @@ impl FlowTable {
         room.open(usize::from(place.seat))
     }
 
-    /// Returns the seats of talking members of the room whom the last word keeps from the listener on the place.
+    /// Returns the seats of talking members of the room that the last word mutes for the listener at the place.
     ///
-    /// It does not matter whether the member on the place listens.
+    /// It does not matter whether the member at the place listens.
     pub fn silenced(&self, place: Place) -> &Mask
         requires { IsTrue (holds self.now place) }
         ensures kept { (seat : ℕ) →
@@ -128,7 +128,7 @@ impl FlowTable {
         room.silenced(usize::from(place.seat))
     }
 
-    /// Lets a member take a free place. It and each other member of the room hear each other.
+    /// Adds a member at a free place. It and each other member of the room hear each other.
     pub fn on_enter(&mut self, place: Place, talks: bool, listens: bool)
         requires within { IsWithinLimits place }
         requires free { IsFalse (holds self.old place) }
@@ -145,7 +145,7 @@ impl FlowTable {
         room.enter(usize::from(place.seat), talks, listens);
     }
 
-    /// Lets the member on the place leave. Nothing changes between the others.
+    /// Removes the member at the place. Nothing changes between the others.
     pub fn on_leave(&mut self, place: Place)
         requires { IsTrue (holds self.old place) }
         ensures edits { (es : List FlowEdit) → StandsFor self.old es →
@@ -159,7 +159,7 @@ impl FlowTable {
         room.leave(usize::from(place.seat));
     }
 
-    /// Changes the mode of the member on the place: whether it talks, and whether it listens.
+    /// Changes the mode of the member at the place: whether it talks, and whether it listens.
     pub fn on_mode(&mut self, place: Place, talks: bool, listens: bool)
         requires { IsTrue (holds self.old place) }
         ensures edits { (es : List FlowEdit) → StandsFor self.old es →
@@ -191,7 +191,7 @@ impl FlowTable {
         spoken_of.apply(triples)
     }
 
-    /// Shows a proof that every table represents some list of edits. Has no effect.
+    /// Exposes to a proof that every table represents some list of edits. Has no effect.
     pub(crate) fn assert_invariant(&self)
         ensures { StandsForSome self.now }
     {

@@ -5,9 +5,9 @@
 //! it listens, by its stream mode (RFC 3525, section 7.1.7). From these it derives two sets of seats for each
 //! listener:
 //!
-//! - [`FlowTable::open`]: those whose speech flows to it. They talk, it listens, and the last word on the two allows
-//!   it (RFC 3525, section 7.1.18).
-//! - [`FlowTable::silenced`]: the talkers of the room whom the last word keeps from it.
+//! - [`FlowTable::open`]: the members whose speech flows to it. They talk, it listens, and the last word on the two
+//!   allows it (RFC 3525, section 7.1.18).
+//! - [`FlowTable::silenced`]: the talkers of the room that the last word mutes for it.
 //!
 //! ```rust
 //! let mut table = FlowTable::new(alloc)?;
@@ -21,8 +21,8 @@
 //!
 //! A table keeps no history. So its contracts speak of every list of edits that it represents, before and after a call
 //! (`StandsFor` in `specs/Table.antt`). `specs/Edits.antt` defines what a list of edits means, looking backwards from
-//! the newest. [`theorems`] states what follows. For a proof without a list at hand, the clauses `kept`, `place`,
-//! `places`, `hears` and `others` say what is kept, what changes and what stays.
+//! the newest. [`theorems`] states what follows. For a proof without such a list, the clauses `kept`, `place`,
+//! `places`, `hears` and `others` say what is stored, what changes, and what is unchanged.
 #![tactic(auto)]
 
 mod flow_table;

@@ -12,7 +12,7 @@ use mg_topology::mask::{self, Mask, SEATS};
 pub(crate) struct Masks {
     /// The talkers whose speech flows to the listener.
     pub(crate) open: [Mask; SEATS],
-    /// The talkers whom the last word keeps from the listener.
+    /// The talkers that the last word mutes for the listener.
     pub(crate) silenced: [Mask; SEATS],
 }
 
@@ -49,7 +49,7 @@ fn open_row(topology: &Topology, talks: Mask, listens: Mask, listener: usize) ->
     }
 }
 
-/// Returns the talkers other than the listener whom the last word keeps from it.
+/// Returns the talkers, other than the listener, that the last word mutes for it.
 fn silenced_row(topology: &Topology, talks: Mask, listener: usize) -> Mask
     requires { listener < SEATS }
     ensures { (talker : ℕ) →

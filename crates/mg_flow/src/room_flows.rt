@@ -80,7 +80,7 @@ impl RoomFlows {
         &self.masks.open[listener]
     }
 
-    /// Returns the talkers whom the last word keeps from the listener.
+    /// Returns the talkers that the last word mutes for the listener.
     pub(crate) fn silenced(&self, listener: usize) -> &Mask
         requires { listener < seat_limit }
         ensures { (talker : ℕ) → has_seat result.now talker ≡
@@ -89,7 +89,7 @@ impl RoomFlows {
         &self.masks.silenced[listener]
     }
 
-    /// Lets a member take a free seat.
+    /// Adds a member in a free seat.
     pub(crate) fn enter(&mut self, seat: usize, talks: bool, listens: bool)
         requires below_limit { seat < seat_limit }
         requires free { IsFalse (holds self.old.topology seat) }
@@ -103,7 +103,7 @@ impl RoomFlows {
         self.masks = Masks::of(&self.topology, self.talks, self.listens);
     }
 
-    /// Lets the member on the seat leave.
+    /// Removes the member in the seat.
     pub(crate) fn leave(&mut self, seat: usize)
         requires { IsTrue (holds self.old.topology seat) }
         ensures edits { (es : List TopologyEdit) → StandsFor self.old.topology es →
@@ -116,7 +116,7 @@ impl RoomFlows {
         self.masks = Masks::of(&self.topology, self.talks, self.listens);
     }
 
-    /// Changes the mode of the member on the seat.
+    /// Changes the mode of the member in the seat.
     pub(crate) fn set_mode(&mut self, seat: usize, does_talk: bool, does_listen: bool)
         requires { IsTrue (holds self.old.topology seat) }
         ensures topology { self.new.topology ≡ self.old.topology }

@@ -60,7 +60,7 @@ pub fn talkers_are_open_or_silenced()
         IsFalse (flows_in es talker listener && is_silenced_in es talker listener) }
 {}
 
-/// Nobody is silenced for a newcomer, and it for nobody, whatever was said of its place before.
+/// Nobody is silenced for a newcomer, and a newcomer is silenced for nobody, whatever triples named its place before.
 pub fn newcomer_is_not_silenced()
     ensures { (es : List FlowEdit) (newcomer other : Place) (talks listens : Bool) →
         IsFalse (is_silenced_in (Enter newcomer talks listens ∷ es) other newcomer)

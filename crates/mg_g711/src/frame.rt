@@ -11,7 +11,7 @@ use crate::sample::encode;
 /// Contracts see a frame as a list; `IsFrame` says that it has 160 samples of 16 bits.
 pub type Frame = [i16; 160];
 
-/// Decodes the 160 bytes of a packet's payload, one sample a byte.
+/// Decodes the 160 bytes of a packet's payload, one sample per byte.
 pub fn decode_frame(law: Law, bytes: &[u8; 160]) -> Frame
     ensures each { result ≡ map (sample_of law) bytes.now }
     ensures frame { IsFrame result }
@@ -24,7 +24,7 @@ pub fn decode_frame(law: Law, bytes: &[u8; 160]) -> Frame
     samples
 }
 
-/// Encodes a frame as the 160 bytes of a packet's payload, one byte a sample.
+/// Encodes a frame as the 160 bytes of a packet's payload, one byte per sample.
 pub fn encode_frame(law: Law, samples: &Frame) -> [u8; 160]
     ensures { result ≡ map (byte_of law) samples.now }
 {

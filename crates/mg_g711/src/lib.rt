@@ -4,7 +4,7 @@
 //! level and sign as one byte; [`decode`] returns the value of a byte's level. [`encode_frame`] and [`decode_frame`]
 //! convert the 160 samples of a [`Frame`] (20 ms), and [`halve_frame`] halves them. No call fails, and none allocates.
 //!
-//! The levels are those of ITU-T G.711 (tables 1 and 2), scaled to 16 bits: by 4 for mu-law, by 8 for A-law. A
+//! The levels are taken from ITU-T G.711 (tables 1 and 2), and scaled to 16 bits: by 4 for mu-law, by 8 for A-law. A
 //! magnitude at the border of two levels belongs to the upper one. That is this project's choice: other codecs may
 //! encode it as another byte.
 //!
@@ -16,9 +16,9 @@
 //! [`theorems`] states properties of the levels: which bytes survive a round trip, that decoding preserves order, and
 //! how far a sample moves.
 //!
-//! A type that stores frames keeps `IsFrame` of each in its invariant. [`decode_frame`] ensures it, and
-//! [`theorems::frames_are_whole`] shows it of any other frame. Lemmas on it, such as that 160 zeros are a frame, are
-//! in `proofs/Frames.antt`.
+//! A type that stores frames has `IsFrame` of each frame in its invariant. [`decode_frame`] ensures it, and
+//! [`theorems::frames_are_whole`] proves it for any other frame. Lemmas about it, for example that 160 zeros are a
+//! frame, are in `proofs/Frames.antt`.
 #![tactic(auto)]
 
 mod decoding;

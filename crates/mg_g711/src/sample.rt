@@ -6,14 +6,15 @@ use crate::law::Law;
 // What mu-law adds to a magnitude, so that each exponent starts at a power of two.
 const BIAS: u16 = 132;
 
-// The greatest magnitude, with mu-law's bias, that is not clipped.
+// The largest magnitude, with mu-law's bias, that is not clipped.
 const GREATEST: u16 = 32767;
 
 // The bits of a byte that A-law inverts.
 const INVERTED: u8 = 0x55;
 
-// A line is `16 * exponent + mantissa` at the magnitude's own exponent, and no less at the others. So the level is the
-// least line. It needs no branch and no variable shift, so the compiler vectorizes it when it encodes a frame.
+// Each exponent has a linear function ("line"). It equals `16 * exponent + mantissa` at the magnitude's own exponent,
+// and is never less than the level. So the level is the minimum of the lines. It needs no branch and no variable shift,
+// so the compiler vectorizes it when it encodes a frame.
 #[tactic(auto, using(crate::proofs::Lines::level_a_is))]
 fn level_a(magnitude: u16) -> u16
     requires { magnitude ≤ 32768 }
@@ -30,7 +31,7 @@ fn level_a(magnitude: u16) -> u16
         .min((limited >> 10) + 96)
 }
 
-// With the bias the levels are those of A-law, except for the first exponent, which has its own line.
+// With the bias, the levels are the same as for A-law, except for the first exponent, which has its own line.
 #[tactic(auto, using(crate::proofs::Lines::level_mu_is))]
 fn level_mu(magnitude: u16) -> u16
     requires { magnitude ≤ 32768 }
@@ -87,7 +88,7 @@ fn magnitude_a(level: u8) -> u16
 
 /// Decodes a byte: the magnitude of its level, with its sign.
 ///
-/// The greatest magnitude is 32124 in mu-law and 32256 in A-law.
+/// The largest magnitude is 32124 in mu-law and 32256 in A-law.
 #[tactic(auto, unfolding(crate::specs::Law::sample_of))]
 pub fn decode(law: Law, byte: u8) -> i16
     ensures value { result ≡ sample_of law byte }

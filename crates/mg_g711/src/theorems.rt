@@ -55,8 +55,8 @@ pub fn errors_are_bounded(law: Law, sample: i16)
 
 /// Every value of the type is a frame.
 ///
-/// A proof knows the range of a signed element only after the code has read that element. A caller that is passed a
-/// frame learns the range here, at no cost.
+/// A proof knows the range of a signed element only after the code has read that element. A function that receives a
+/// frame as an argument gets the range here, at no cost.
 pub fn frames_are_whole(samples: &Frame)
     ensures { IsFrame samples.now }
 {

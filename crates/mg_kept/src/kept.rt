@@ -77,7 +77,7 @@ impl Kept {
         self.len = drop_range(&mut self.places, self.len, sender, first, last);
     }
 
-    /// Drops the oldest reply if no more may be kept. Its place is reused next.
+    /// Drops the oldest reply if there is no room for another. Its place is reused next.
     fn make_room(&mut self)
         ensures value { self.new ≡ drop (length self.old + 1 - kept_limit) self.old }
         ensures room { length self.new < kept_limit }
@@ -89,7 +89,7 @@ impl Kept {
         self.len -= 1;
     }
 
-    /// Shows a proof the invariant of the kept replies. Has no effect.
+    /// Exposes the invariant of the kept replies to a proof. Has no effect.
     pub(crate) fn assert_invariant(&self)
         ensures { AreKept self.now }
     {
@@ -99,7 +99,7 @@ impl Kept {
 
 /// Removes the sender's replies in the range from the first `len` places.
 ///
-/// The others move to the front, in order. Returns their number.
+/// The other replies move to the front, in order. Returns how many there are.
 fn drop_range(places: &mut [Entry], len: usize, sender: &[u8], first: u32, last: u32) -> usize
     requires { len ≤ length places.old }
     ensures front { take result places.new ≡ without_range sender.now first last (take len places.old) }

@@ -31,7 +31,7 @@ pub fn only_oldest_is_dropped()
     ensures oldest { OldestIsDropped }
 {}
 
-/// An acknowledged reply is no longer found. Replies that the acknowledgement does not name still are.
+/// An acknowledged reply is no longer found. Replies that the acknowledgement does not name are still found.
 #[tactic(auto, using(crate::proofs::AckLemmas::acknowledged_is_dropped, crate::proofs::AckLemmas::other_senders_stay, crate::proofs::AckLemmas::other_numbers_stay))]
 pub fn only_acknowledged_is_dropped()
     ensures named { AcknowledgedIsDropped }
@@ -39,9 +39,9 @@ pub fn only_acknowledged_is_dropped()
     ensures numbers { OtherNumbersStay }
 {}
 
-/// A reply is kept until the limit of newer ones is reached, or until an acknowledgement names it.
+/// A reply is kept until there are [`KEPT_REPLIES`] newer ones, or until an acknowledgement names it.
 ///
-/// After that, only its own request brings it back.
+/// After that, it is kept again only if its own request is run again.
 pub fn replies_stay_while_few_are_newer()
     ensures few { FewNewerStay }
     ensures many { NewerRepliesEvict }

@@ -15,8 +15,8 @@ use std::marker::Model;
 
 /// The frame played last, and the frames that wait, by place. Place 0 is played next.
 ///
-/// The ring's first item is the last frame, followed by an item for each place. So a turn moves no frame: what was at
-/// place 0 becomes the last frame. Contracts see the record `KeptFrames` of `specs/Places.antt`.
+/// The ring's first item is the last frame, followed by an item for each place. So a tick moves no frame in memory: the
+/// frame at place 0 becomes the last frame. Contracts see the record `KeptFrames` of `specs/Places.antt`.
 #[derive(Drop)]
 pub struct Places {
     ring: HeapCircularBuffer<Option<Frame>>,
@@ -48,7 +48,7 @@ impl Places {
         Ok(Places { ring })
     }
 
-    /// Shows a proof the invariant of the frames. Has no effect.
+    /// Exposes the invariant of the frames to a proof. Has no effect.
     pub(crate) fn assert_invariant(&self)
         ensures last { IfSome self.now.last IsFrame }
         ensures places { ArePlaces self.now.places }
@@ -157,7 +157,7 @@ impl Places {
         append_empty(&mut self.ring, missing);
     }
 
-    /// Drops all frames, and returns to the depth of a new play list.
+    /// Drops all frames, and resets the depth to that of a new play list.
     pub(crate) fn clear(&mut self)
         ensures last { self.new.last ≡ None }
         ensures places { self.new.places ≡ empty_places FIRST_DEPTH }
@@ -167,7 +167,7 @@ impl Places {
     }
 }
 
-/// Returns what is played, by the frame that is due and the last frame.
+/// Returns what is played, given the frame that is due and the last frame.
 fn given(frame: Option<&Option<Frame>>, last: Option<&Option<Frame>>) -> Played
     ensures value { result ≡ given (option_flatten (option_copied frame.entry))
         (option_flatten (option_copied last.entry)) }

@@ -11,7 +11,7 @@ pub enum Played {
     Silence,
     /// The frame that is due.
     Frame(Frame),
-    /// The frame before a missing one, at half its level.
+    /// The frame before the missing one, at half its level.
     Concealed(Frame),
 }
 

@@ -44,7 +44,7 @@ impl Playout {
 
     /// Makes an idle play list without a source, with a depth of four places.
     ///
-    /// It allocates memory for the greatest depth. Fails only if the allocation does.
+    /// It allocates memory for the maximum depth. Fails only if the allocation does.
     pub fn new(alloc: Global) -> Result<Self, AllocError>
         ensures first { IfOk result (λ playout. playout ≡ first_list) }
     {
@@ -115,7 +115,7 @@ impl Playout {
         self.places.set_depth(depth);
     }
 
-    /// Returns to the state of a new play list, with its depth of four places.
+    /// Resets to a new play list, with a depth of four places.
     pub fn clear(&mut self)
         ensures first { self.new ≡ first_list }
     {
@@ -124,7 +124,7 @@ impl Playout {
         self.places.clear();
     }
 
-    /// Shows a proof the invariant of every play list. Has no effect.
+    /// Exposes the invariant of every play list to a proof. Has no effect.
     pub(crate) fn assert_invariant(&self)
         ensures { IsValidList self.now }
     {

@@ -54,9 +54,9 @@ pub fn other_frames_keep_their_numbers()
         frame_under (placed list ssrc sequence frame).0 other ≡ None }
 {}
 
-/// Without new frames, a running play list plays its frames in order of sequence number, one a tick.
+/// Without new frames, a running play list plays its frames in order of sequence number, one per tick.
 ///
-/// A place without a frame plays no frame of a packet. A waiting list does the same when its wait is over.
+/// A place without a frame plays no received frame. A waiting list does the same when its wait is over.
 pub fn ticks_give_frames_in_order()
     ensures run { (list : PlayList) (ticks : ℕ) → list.phase ≡ Phase.Run →
         given_after ticks list ≡ given_at list.places list.last ticks }
@@ -75,7 +75,7 @@ pub fn ticks_give_frames_in_order()
 
 /// One missing frame between two received ones is concealed by the one before it, halved.
 ///
-/// So is a missing frame at place 0, if there is a last frame.
+/// The same holds for a missing frame at place 0, if there is a last frame.
 pub fn one_missing_frame_is_concealed()
     ensures next { (places : FramePlaces) (last after : List ℤ) →
         frame_at places 0 ≡ None → frame_at places 1 ≡ Some after →

@@ -8,7 +8,7 @@ use std::marker::Model;
 
 /// A text buffer of fixed capacity.
 ///
-/// Contracts see the text and the room that is left, in bytes.
+/// Contracts see the text and the room that remains, in bytes.
 #[derive(Drop)]
 pub struct Bytes {
     /// The whole buffer, which starts with the text.
@@ -27,7 +27,7 @@ impl Model for Bytes {
     ghost invariant = { λ b. b.len ≤ length b.bytes.items };
 }
 
-/// Writes a name into a buffer, with all 16 bytes that it is stored in.
+/// Writes a name into a buffer: all 16 bytes of its storage.
 fn write_at(bytes: &mut [u8], at: usize, name: &RtpName)
     requires fits { at + 16 ≤ length bytes.old }
     ensures value { take (at + length name.now) bytes.new ≡ take at bytes.old ++ name.now }
@@ -47,7 +47,7 @@ impl Bytes {
         })
     }
 
-    /// Returns an empty buffer without room, with the allocator of another. It does not allocate.
+    /// Returns an empty buffer without room, with the allocator of another buffer. It does not allocate.
     pub(crate) fn empty_like(other: &Bytes) -> Self
         ensures value { result ≡ record { text = []; room = 0 } }
     {
@@ -65,7 +65,7 @@ impl Bytes {
         &self.bytes[..self.len]
     }
 
-    /// Returns the room that is left, in bytes.
+    /// Returns the room that remains, in bytes.
     pub fn room(&self) -> usize
         ensures value { result ≡ self.now.room }
     {
@@ -82,7 +82,7 @@ impl Bytes {
         self.len = end;
     }
 
-    /// Appends a name. If there is room, it copies all 16 bytes that the name is stored in.
+    /// Appends a name. If there is room, it copies all 16 bytes of the name's storage.
     pub(crate) fn push_name(&mut self, name: &RtpName)
         requires fits { length name.now ≤ self.old.room }
         ensures value { self.new ≡ appended self.old name.now }

@@ -1,6 +1,6 @@
 use mg_words::Mode;
 
-/// What a reply reports of a stream's LocalControl descriptor (RFC 3525, section 7.1.7).
+/// What a reply reports about a stream's LocalControl descriptor (RFC 3525, section 7.1.7).
 #[derive(Clone, Copy, Debug, PartialEq, Eq)]
 pub struct Control {
     /// The mode of the stream.

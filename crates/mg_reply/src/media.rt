@@ -1,7 +1,7 @@
 use crate::control::Control;
 use mg_sdp::Chosen;
 
-/// What a reply reports of a termination's stream (RFC 3525, sections 7.1.4 to 7.1.8).
+/// What a reply reports about a termination's stream (RFC 3525, sections 7.1.4 to 7.1.8).
 #[derive(Clone, Copy, Debug, PartialEq, Eq)]
 pub enum Media {
     /// Only the Local that the command set.

@@ -1,7 +1,7 @@
 use crate::media::Media;
 use mg_words::{ErrorNumber, Stats};
 
-/// What a reply reports of a command that was done. The default is nothing.
+/// What a reply reports about a successful command. The default is nothing.
 #[derive(Clone, Copy, Debug, Default, PartialEq, Eq)]
 pub struct Parts {
     pub media: Option<Media>,

@@ -77,7 +77,7 @@ fn put_next_remote(draft: &mut Draft, remote: Option<Chosen>)
     }
 }
 
-/// Appends the whole stream, as an audit asks for it, in braces.
+/// Appends the whole stream in braces, as an audit requests it.
 #[tactic(auto, using(crate::proofs::StreamLemmas::whole))]
 fn put_whole(draft: &mut Draft, control: Control, local: Option<Chosen>, remote: Option<Chosen>)
     ensures value { draft.new ≡ drafted draft.old (grouped (reported_stream (Media.Whole control local remote))) }

@@ -20,7 +20,7 @@ use mg_words::{ErrorNumber, address_text};
 #[derive(Clone, Copy, Debug, PartialEq, Eq)]
 pub struct TooLong;
 
-/// The greatest length in bytes of a message head.
+/// The maximum length of a message head, in bytes.
 pub const HEAD_LIMIT: usize = 33;
 
 /// Writes a port in decimal: at most 5 bytes.

@@ -1,4 +1,4 @@
-//! The single steps by which commands change terminations and contexts.
+//! The single steps with which commands change terminations and contexts.
 
 ghost use Rattle.std.specs.Prelude.{◌≡◌, ◌<◌, IfSome, Some, true, length, nat_le};
 ghost use Rattle.mg_words.specs.Limits.{last_termination};
@@ -54,7 +54,7 @@ impl Tables {
         }
     }
 
-    /// Lets a member leave its context, which ends if it has no other member.
+    /// Removes a member from its context, which ends if it has no other member.
     pub(crate) fn leave(&mut self, old: Member)
         ensures value { self.new ≡ left self.old old.record.context old.record.number }
     {
@@ -63,7 +63,7 @@ impl Tables {
         }
     }
 
-    /// Lets a termination enter at a free place.
+    /// Adds a termination to a context at a free place.
     pub(crate) fn enter(&mut self, place: EntryPlace, number: u32)
         requires can { CanEnter self.old place }
         ensures value { self.new ≡ entered self.old place number }
@@ -74,7 +74,7 @@ impl Tables {
         }
     }
 
-    /// Lets a termination enter an existing context.
+    /// Adds a termination to an existing context.
     fn join(&mut self, context: u32, number: u32)
         requires room { length (members_at self.old context) < MEMBERS }
         ensures value { self.new ≡ joined self.old context number }

@@ -1,7 +1,7 @@
-/// Where each number was last put in a table, by the last eight bits of the number.
+/// The places where numbers were last put in a table, indexed by the last eight bits of the number.
 ///
-/// Numbers that differ by 256 share a hint. So a hint is only the place to look first, and its user compares the
-/// number there.
+/// Numbers that differ by 256 share a hint. So a hint only says where to look first, and its user compares the number
+/// there.
 #[derive(Drop)]
 pub struct Hints {
     places: [u8; 256],

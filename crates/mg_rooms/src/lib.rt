@@ -4,11 +4,11 @@
 //!
 //! [`Rooms`] stores terminations by slot and contexts by room. A slot is for a termination and its media port, a room
 //! for a context, and a seat for a member of a context. Slots, rooms and seats are small numbers that are reused, so
-//! that the crates above can use tables of fixed size. The numbers of terminations and contexts rise, and none is used
-//! twice.
+//! that the crates above can use tables of fixed size. The numbers of terminations and contexts increase, and none is
+//! used twice.
 //!
-//! Each command names the action's context by a [`Target`] and, except for an Add, a termination by its number. It is
-//! either done, or rejected by the first check that fails; then nothing has changed:
+//! Each command names the action's context as a [`Target`] and, except for an Add, a termination by its number. It
+//! either succeeds, or is rejected by the first check that fails and changes nothing:
 //!
 //! ```rust
 //! let mut rooms = Rooms::new(alloc, limits)?;
@@ -20,8 +20,8 @@
 //! [`Rooms::new`] allocates all memory; no other call allocates.
 //!
 //! Contracts see a registry: the terminations and contexts in order of their numbers (`specs/Registry.antt`). The
-//! contract of each call has the outcome of its command on that registry (`specs/Outcome.antt`). It also says that the
-//! new registry is sound (`specs/Sound.antt`), and what the call leaves unchanged (`specs/Lasting.antt`). Each call
+//! contract of each call states the outcome of its command on that registry (`specs/Outcome.antt`). It also says that
+//! the new registry is sound (`specs/Sound.antt`), and what the call leaves unchanged (`specs/Lasting.antt`). Each call
 //! returns the termination with the room of its context. [`theorems`] states when a resource is exhausted.
 #![tactic(auto)]
 

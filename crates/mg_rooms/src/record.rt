@@ -20,9 +20,9 @@ pub struct Record {
     pub mode: Mode,
     /// The depth of its play list, in frames of 20 ms.
     pub depth: u8,
-    /// What the gateway receives, with the gateway's own address and the termination's own port.
+    /// What the gateway receives, at its own address and the termination's port.
     pub local: Option<Chosen>,
-    /// What the gateway sends, and to which address and port.
+    /// What the gateway sends, with its destination address and port.
     pub remote: Option<Chosen>,
 }
 

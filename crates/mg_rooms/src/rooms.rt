@@ -41,7 +41,7 @@ impl Model for Rooms {
 impl Rooms {
     ghost use Rattle.mg_rooms.specs.Consistent.{IsConsistent};
 
-    /// Makes a gateway without terminations and contexts.
+    /// Makes a gateway without terminations or contexts.
     ///
     /// Fails only if the allocation does. No other call allocates.
     pub fn new(alloc: Global, limits: Limits) -> Result<Rooms, AllocError>
@@ -103,7 +103,7 @@ impl Rooms {
         Some(record.number)
     }
 
-    /// Returns a member of the action's context, or the error of a command that names it.
+    /// Returns a member of the action's context, or the error for a command that names it.
     pub fn find(&self, target: Target, number: u32) -> Result<Record, ErrorNumber>
         ensures value { result ≡ member self.now target number }
     {
@@ -175,7 +175,7 @@ impl Rooms {
         Ok(Moved { from, to })
     }
 
-    /// Removes a member from the action's context, and ends it (RFC 3525, section 7.2.3).
+    /// Removes a member from the action's context, and ends the termination (RFC 3525, section 7.2.3).
     ///
     /// The context ends if it has no other member. Returns the termination before the command.
     #[tactic(auto, using(crate::proofs::RoomsLemmas::rules), unfolding(crate::specs::Outcome::subtract))]

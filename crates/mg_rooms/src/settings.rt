@@ -7,20 +7,20 @@ use crate::media_setting::MediaSetting;
 use mg_sdp::{Chosen, Sessions, choose, choose_remote};
 use mg_words::{ErrorNumber, MAX_DEPTH, MIN_DEPTH, Mode};
 
-/// The settings that a command names. What it does not name stays.
+/// The settings that a command names. All other settings are unchanged.
 #[derive(Debug, Default, Drop)]
 pub struct Settings {
     /// The mode of the stream.
     pub mode: Option<Mode>,
-    /// The depth of the play list in frames of 20 ms, brought to 2 to 16 (see [`depth_within`]).
+    /// The depth of the play list in frames of 20 ms, limited to 2–16 (see [`depth_within`]).
     pub depth: Option<u16>,
-    /// What the gateway is to receive.
+    /// What the gateway should receive.
     pub local: Option<MediaSetting>,
-    /// What the gateway is to send.
+    /// What the gateway should send.
     pub remote: Option<MediaSetting>,
 }
 
-/// Brings a depth in frames of 20 ms to [`MIN_DEPTH`] to [`MAX_DEPTH`].
+/// Limits a depth, in frames of 20 ms, to the range from [`MIN_DEPTH`] to [`MAX_DEPTH`].
 pub fn depth_within(depth: u16) -> u8
     ensures value { result ≡ depth_after (Some depth) depth }
     ensures at_least { MIN_DEPTH ≤ result }

@@ -14,8 +14,8 @@ use std::marker::Model;
 
 /// The terminations by slot and the contexts by room.
 ///
-/// Contracts see them in order of their numbers. The calls keep only what the tables need. That the members of
-/// contexts agree with the contexts of terminations is the invariant of [`Rooms`](crate::Rooms).
+/// Contracts see them in order of their numbers. The calls preserve only what the tables need. The invariant of
+/// [`Rooms`](crate::Rooms) says that the members of contexts agree with the contexts of terminations.
 #[derive(Drop)]
 pub struct Tables {
     pub(crate) limits: Limits,
@@ -115,7 +115,7 @@ impl Tables {
         }
     }
 
-    /// Returns the least free slot.
+    /// Returns the lowest free slot.
     pub(crate) fn free_slot(&self) -> Option<u8>
         ensures value { result ≡ free_slot self.now }
         ensures below { IfSome result (λ slot. slot < self.now.limits.slots) }
@@ -124,7 +124,7 @@ impl Tables {
         Some(slot as u8)
     }
 
-    /// Returns the least free seat of the context.
+    /// Returns the lowest free seat of the context.
     pub(crate) fn free_seat(&self, context: u32) -> Option<u8>
         ensures value { result ≡ free_seat self.now context }
     {

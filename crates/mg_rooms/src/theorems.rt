@@ -17,7 +17,7 @@ ghost use Rattle.mg_rooms.specs.Sound.{IsSound};
 
 /// A context that is not full has a free seat, and a gateway below the limit of contexts has a free room.
 ///
-/// So a context is reported full, or no context left, only if that is true.
+/// So the errors "context full" and "no context left" are reported only if they are true.
 pub fn tables_that_are_not_full_have_a_free_place()
     ensures seat { (w : Registry) (c : ℕ) → IsConsistent w → length (members_at w c) < MEMBERS →
         IsSome (free_seat w c) }
@@ -26,8 +26,7 @@ pub fn tables_that_are_not_full_have_a_free_place()
 
 /// A resource is reported exhausted exactly when it is.
 ///
-/// No slot is free or the numbers of terminations are used up; a context is full; the limit of contexts is reached or
-/// their numbers are used up.
+/// The resources are slots and the numbers of terminations, the seats of a context, and contexts and their numbers.
 pub fn exhausted_resources_are_refused()
     ensures slot { (w : Registry) → (new_slot w ≡ Err NoTerminationLeft) ↔
         ((free_slot w ≡ None) ⊎ (LAST_TERMINATION < w.next_termination)) }
@@ -37,8 +36,8 @@ pub fn exhausted_resources_are_refused()
         ((CONTEXTS ≤ length w.contexts) ⊎ (LAST_CONTEXT < w.next_context)) }
 {}
 
-/// A new gateway is consistent, and every command preserves that. So it holds after any commands, without the tables
-/// at hand.
+/// A new gateway is consistent, and every command preserves that. So it holds after any commands, and a proof needs no
+/// tables.
 pub fn outcomes_are_consistent()
     ensures start { (limits : Limits) → AreValidLimits limits → limits.first_termination ≤ LAST_TERMINATION →
         IsConsistent (start_of limits) }

@@ -1,4 +1,4 @@
-/// The size in bytes of the fixed header.
+/// The size of the fixed header, in bytes.
 pub(crate) const HEADER_LEN: usize = 12;
 
 /// The version of RTP that is read and written: 2.
@@ -11,7 +11,7 @@ pub struct Header {
     pub marker: bool,
     /// The payload type, below 128. In RFC 3551, 0 is PCMU and 8 is PCMA.
     pub payload_type: u8,
-    /// The sequence number, modulo 65536: one more for each packet of a source.
+    /// The sequence number, modulo 65536. It increases by one with each packet of a source.
     pub sequence: u16,
     /// The time of the payload's first sample, in samples, modulo 2^32.
     pub timestamp: u32,

@@ -10,7 +10,7 @@ use crate::packet::Packet;
 use crate::rtp_fault::RtpFault;
 use byteorder::{BigEndian, ByteOrder};
 
-/// The size in bytes of a contributing source, and of a word of the header extension.
+/// The size of a contributing source and of a word of the header extension, in bytes.
 const WORD_LEN: usize = 4;
 
 /// The padding bit of the first byte.

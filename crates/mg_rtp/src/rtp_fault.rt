@@ -10,7 +10,7 @@ pub enum RtpFault {
     Version,
     /// The datagram ends within the header extension.
     Extension,
-    /// The padding bit is set, but the last byte is no valid count of padding: it is missing, 0, or too great.
+    /// The padding bit is set, but the last byte is not a valid padding count: it is missing, 0, or too large.
     Padding,
 }
 

@@ -5,13 +5,13 @@ ghost use Rattle.mg_rtp.specs.Packet.{IsPacket};
 use crate::header::{HEADER_LEN, Header, RTP_VERSION};
 use byteorder::{BigEndian, ByteOrder};
 
-/// The size in bytes of the payload that is written: 20 ms of G.711, one byte for each of 160 samples.
+/// The size of a written payload, in bytes: 20 ms of G.711, one byte for each of 160 samples.
 pub const PAYLOAD_LEN: usize = 160;
 
-/// The size in bytes of a packet that is written: the header of 12 bytes and the payload.
+/// The size of a written packet, in bytes: the header of 12 bytes and the payload.
 pub const PACKET_LEN: usize = 172;
 
-/// Makes a packet, without padding, extension and contributing sources.
+/// Makes a packet without padding, extension or contributing sources.
 pub fn write(header: Header, payload: &[u8; PAYLOAD_LEN]) -> [u8; PACKET_LEN]
     requires seven_bits { header.payload_type < 128 }
     ensures bytes { result ≡ header_bytes plain header ++ payload.now }
@@ -24,7 +24,7 @@ pub fn write(header: Header, payload: &[u8; PAYLOAD_LEN]) -> [u8; PACKET_LEN]
     bytes
 }
 
-/// Overwrites a packet's header, without padding, extension and contributing sources. The payload stays.
+/// Overwrites a packet's header, with no padding, extension or contributing sources. The payload is unchanged.
 pub fn write_header(header: Header, bytes: &mut [u8; PACKET_LEN])
     requires seven_bits { header.payload_type < 128 }
     ensures bytes { bytes.new ≡ header_bytes plain header ++ drop 12 bytes.old }
@@ -40,7 +40,7 @@ pub fn write_payload(payload: &[u8; PAYLOAD_LEN], bytes: &mut [u8; PACKET_LEN])
     bytes[HEADER_LEN..].copy_from_slice(payload);
 }
 
-/// Writes the twelve bytes of a header without padding, extension and contributing sources.
+/// Writes the twelve bytes of a header without padding, extension or contributing sources.
 fn head_of(header: Header) -> [u8; HEADER_LEN]
     requires seven_bits { header.payload_type < 128 }
     ensures bytes { result ≡ header_bytes plain header }

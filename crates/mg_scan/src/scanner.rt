@@ -41,7 +41,7 @@ impl<'a> Scanner<'a> {
         }
     }
 
-    /// Returns the next token, or the fault in its place. Returns `None` at the end and after a fault.
+    /// Returns the next token, or the fault that is there instead. Returns `None` at the end and after a fault.
     pub fn next(&mut self) -> Option<Result<Token, ScanFault>>
         ensures source { self.new.source ≡ self.old.source }
         ensures answer { IsStep self.old result self.new }
@@ -73,7 +73,7 @@ impl<'a> Scanner<'a> {
     }
 }
 
-/// If a first token is found, the bytes are white space, the token's spelling, and the rest.
+/// If a first token is found, the bytes consist of white space, the token's spelling, and the rest.
 pub fn parts_join()
     ensures { (named : Bool) (bytes : List ℕ) (x : TokenAndRest) → first_token named bytes ≡ Some (Ok x) →
         (white : List ℕ) × IsWhite false white × (bytes ≡ white ++ (spelled x.piece.kind x.piece.text ++ x.rest)) }

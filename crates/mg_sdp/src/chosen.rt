@@ -33,21 +33,21 @@ fn is_own_port(asked: Option<u16>, own: u16) -> bool
     asked.is_none_or(|port| port == own)
 }
 
-/// Returns whether the gateway can receive by an offer at this address and port.
+/// Returns whether the gateway can receive what is offered, at this address and port.
 fn is_served_local(offer: &Offer, address: [u8; 4], port: u16) -> bool
     ensures value { result ≡ is_served_local address port offer.now }
 {
     is_own_address(offer.address, address) && is_own_port(offer.port, port)
 }
 
-/// Returns whether the gateway can send packets by an offer.
+/// Returns whether the gateway can send packets as offered.
 fn is_served_remote(offer: &Offer) -> bool
     ensures value { result ≡ is_served_remote offer.now }
 {
     offer.port.is_some_and(|port| port != 0) && offer.address.is_some() && offer.law.is_some()
 }
 
-/// Returns the first offer by which the gateway can receive.
+/// Returns the first offer that the gateway can receive.
 fn first_local(offers: &[Option<Offer>], address: [u8; 4], port: u16) -> Option<Offer>
     ensures value { result ≡ find (is_served_local address port) (offers_of offers.now) }
 {
@@ -57,7 +57,7 @@ fn first_local(offers: &[Option<Offer>], address: [u8; 4], port: u16) -> Option<
         .find(|offer| is_served_local(offer, address, port))
 }
 
-/// Returns the first offer by which the gateway can send.
+/// Returns the first offer that the gateway can send.
 fn first_remote(offers: &[Option<Offer>]) -> Option<Offer>
     ensures value { result ≡ find is_served_remote (offers_of offers.now) }
 {

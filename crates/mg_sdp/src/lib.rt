@@ -2,9 +2,10 @@
 //!
 //! The formats are those of RFC 4566 and RFC 3525, section 7.1.8.
 //!
-//! A content has one or more alternatives. [`read_sessions`] keeps what each of them offers, at most eight, and does
-//! not allocate. [`choose`] and [`choose_remote`] take the first offer that the gateway can serve: G.711 (RFC 3551,
-//! payload types 0 and 8) in packets of 20 ms over RTP. [`write_local`] and [`write_remote`] write the choice:
+//! The content of a descriptor has one or more alternatives. [`read_sessions`] returns what each of them offers, for at
+//! most eight, and does not allocate. [`choose`] and [`choose_remote`] return the first offer that the gateway can
+//! serve: G.711 (RFC 3551, payload types 0 and 8) in packets of 20 ms over RTP. [`write_local`] and [`write_remote`]
+//! write the choice:
 //!
 //! ```rust
 //! let sessions = read_sessions(b"v=0\nc=IN IP4 $\nm=audio $ RTP/AVP 18 8 0\n")?;
@@ -14,8 +15,8 @@
 //!
 //! A `$` as address, port or format leaves the choice to the gateway.
 //!
-//! [`theorems`] states that a written description is read back, and that lines divide into alternatives in exactly one
-//! way.
+//! [`theorems`] states that a written description reads back as itself, and that lines divide into alternatives in
+//! exactly one way.
 #![tactic(auto)]
 
 mod alternative;

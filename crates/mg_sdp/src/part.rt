@@ -1,4 +1,4 @@
-/// A part of an alternative, as far as its lines have been read.
+/// A part of an alternative, according to the lines read so far.
 #[derive(Clone, Copy, Debug, PartialEq, Eq)]
 pub enum AlternativePart<T> {
     /// No line so far has it.

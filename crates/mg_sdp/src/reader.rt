@@ -14,7 +14,7 @@ use arrayvec::ArrayVec;
 use mg_words::ALTERNATIVE_LIMIT;
 use std::marker::Model;
 
-/// The alternatives of a content, as far as its lines have been read.
+/// The alternatives of a content, according to the lines read so far.
 #[derive(Drop)]
 struct Reader {
     /// The offers of the complete alternatives, up to eight.

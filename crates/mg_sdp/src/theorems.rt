@@ -17,7 +17,7 @@ pub fn alternatives_are_distinguished()
         → AreAlternatives lines other → one ≡ other }
 {}
 
-/// A written description is read back as one alternative. A Local at that address and port chooses it, and so does a
+/// A written description reads back as one alternative. A Local at that address and port chooses it, and so does a
 /// Remote unless the port is 0.
 pub fn written_text_reads_back(chosen: &Chosen)
     ensures read { sessions_of (session_text chosen.now) ≡ Ok (Some (offer_written chosen.now) ∷ []) }

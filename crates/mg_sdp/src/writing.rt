@@ -7,7 +7,7 @@ use itoa::Buffer;
 use mg_g711::Law;
 use mg_words::address_text;
 
-/// The greatest length in bytes of a written description.
+/// The maximum length of a written description, in bytes.
 pub const TEXT_LIMIT: usize = 68;
 
 fn push(out: &mut ArrayVec<u8, TEXT_LIMIT>, text: &[u8])
@@ -38,7 +38,7 @@ fn payload_type(law: Law) -> &'static str
     }
 }
 
-/// Writes the description of a Local: four lines, each ended by CR LF, at most 68 bytes.
+/// Writes the description of a Local: four lines, each with CR LF at its end, at most 68 bytes.
 #[tactic(auto, using(crate::proofs::WrittenLemmas::lengths))]
 pub fn write_local(chosen: &Chosen) -> ArrayVec<u8, TEXT_LIMIT>
     ensures value { result.items ≡ session_text chosen.now }

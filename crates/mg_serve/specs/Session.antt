@@ -99,8 +99,8 @@ Ticks setup timing w trace next =
     (others : List TraceEntry) × (trace ≡ Called (BeginTick timing) ∷ others)
     × HandlesEvent setup events.Tick w others next
 
--- `poll` is a turn of the control socket and then of each media socket in rising order, `tick` is
--- one tick. `stats` prints a text, of which nothing is said here.
+-- `poll` is a turn of the control socket and then of each media socket in ascending order, `tick`
+-- is one tick. `stats` prints a text, of which nothing is said here.
 abbrev pub Performs : Setup → Command → World → List TraceEntry → World → Type 0
 Performs setup Poll w trace next =
     Each (SocketTurn setup) (range_with_len 0 (setup.config.slots + 1)) w trace next

@@ -1,4 +1,4 @@
-//! When ticks begin by a clock, and when steps of a pace are due.
+//! When ticks of a clock begin, and when the steps of `mg_pace` are due.
 
 use mg_clock::{
     ClockFailed, SystemWatch, TickSchedule, Timing, Watch, steps_due, time_to_step, time_to_tick,
@@ -37,8 +37,8 @@ fn begins_each_tick_when_it_is_due(rt: HostRuntime) {
         waited: 0,
     };
     let mut schedule = TickSchedule::new(1);
-    // The tick at 20 ms is waited for twice. At 90 ms those at 40, 60 and 80 ms are due, of which the first is late by
-    // more than one.
+    // The tick at 20 ms is waited for twice. At 90 ms the ticks at 40, 60 and 80 ms are due. The first of them is more
+    // than one tick late.
     for (timing, waited) in [
         (Timing::OnTime, 25 * MS),
         (Timing::Late, 25 * MS),
@@ -83,7 +83,7 @@ fn is_late_after_the_ticks_that_are_allowed(rt: HostRuntime) {
     }
 }
 
-/// By the system's clock three steps of 20 ms take at least 60 ms, and on any host less than ten seconds.
+/// With the system's clock, three steps of 20 ms take at least 60 ms, and less than ten seconds on any host.
 #[test]
 fn waits_by_the_system_clock(rt: HostRuntime) -> Result<(), Fail> {
     let begun = Instant::now(&rt)?;

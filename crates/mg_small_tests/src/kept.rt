@@ -64,7 +64,7 @@ fn acknowledged_range_is_dropped(rt: HostRuntime) -> Result<(), Fail> {
     let mut kept = Kept::new(rt.alloc())?;
     keep_all(&rt, &mut kept, 1, 32);
 
-    // A range whose first number exceeds its last names none.
+    // A range whose first number exceeds its last is empty.
     kept.ack(LOWER, 9, 7);
     assert!(rt; is_kept(&kept, LOWER, 8, &[8]));
     kept.ack(LOWER, 7, 9);

@@ -1,4 +1,4 @@
-//! Lines, and reading and writing whole.
+//! Lines, and reading and writing in full.
 
 use mg_lines::{READ_SIZE, read_some, without_return, write_whole};
 use std::test::Fail;

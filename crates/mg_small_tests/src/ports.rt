@@ -1,4 +1,4 @@
-//! Ports in memory.
+//! In-memory ports.
 
 use mg_ports::{Arrival, Call, FakePorts, Payload, Peer, PortFault, Ports, Receipt, Timing};
 use std::alloc::{AllocError, Global};

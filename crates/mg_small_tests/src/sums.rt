@@ -181,7 +181,7 @@ fn mix(
     Ok(first)
 }
 
-/// Makes three rows joined to a room: two of the greatest sample of mu-law, and one of the least.
+/// Makes three rows joined to a room: two of the largest sample of mu-law, and one of the smallest.
 fn conference(rt: &HostRuntime, room: Room) -> Result<Sums, Fail> {
     let mut sums = Sums::new(rt.alloc())?;
     let frames: [Frame; 3] = [

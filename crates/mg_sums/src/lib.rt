@@ -5,7 +5,7 @@
 //! keeps the sum of the joined frames, sample by sample, as 160 numbers of 32 bits. These totals are never limited: at
 //! most [`TERMINATIONS`] samples of 16 bits are added.
 //!
-//! So a listener's mix needs no sum over all talkers. It is the room's total less the rows that the listener must not
+//! So a listener's mix needs no sum over all talkers. It is the room's total minus the rows that the listener must not
 //! hear: its own (the base) and those silenced for it. It is limited once to 16 bits, and encoded as G.711.
 //!
 //! ```rust
@@ -20,12 +20,12 @@
 //! ```
 //!
 //! [`Sums::work`] counts the calls of three row kernels: add a row, subtract a row, and write the difference of two.
-//! Joining or leaving takes one call, and setting the frame of a joined row two. A mix takes one, and one more for
-//! each silenced row. Only module `rows` sees the fields of a row; other code reads frames and totals through
+//! Joining or leaving takes one call, and setting the frame of a joined row takes two. A mix takes one call, and one
+//! more for each silenced row. Only module `rows` sees the fields of a row; other code reads frames and totals through
 //! [`Sums::frame`] and [`Sums::total`].
 //!
 //! [`Sums::new`] allocates all memory; no other call allocates. `specs/Sums.antt` defines totals and mixes, and
-//! [`theorems`] states what follows. The vector code is in [`kernels`]; [`ranges`] shows proofs the ranges that a
+//! [`theorems`] states what follows. The vector code is in [`kernels`]; [`ranges`] exposes to proofs the ranges that a
 //! kernel requires.
 #![tactic(auto)]
 

@@ -7,7 +7,7 @@ ghost use Rattle.std.specs.Prelude.{EachIndex, FitsSigned};
 ghost use Rattle.std.specs.Int.{w16, w32};
 ghost use Rattle.mg_sums.specs.Samples.{sample};
 
-/// Shows that each sample of a row fits 16 bits.
+/// Proves that each sample of a row fits in 16 bits.
 pub fn assert_sample_range(row: &[i16])
     ensures { EachIndex row.now (λ i. FitsSigned w16 (sample row.now i)) }
 {
@@ -16,7 +16,7 @@ pub fn assert_sample_range(row: &[i16])
     }
 }
 
-/// Shows that each sum of a row fits 32 bits.
+/// Proves that each sum of a row fits in 32 bits.
 pub fn assert_sum_range(row: &[i32])
     ensures { EachIndex row.now (λ i. FitsSigned w32 (sample row.now i)) }
 {

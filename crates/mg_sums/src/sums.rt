@@ -66,7 +66,7 @@ impl Sums {
         })
     }
 
-    /// Joins a row to a room. The row must not be joined to any. Its frame then counts in the room's total.
+    /// Joins a row to a room. The row must not be joined to any room yet. Its frame then counts in the room's total.
     pub fn join(&mut self, room: Room, row: Row)
         requires free { room_of self.old row ≡ None }
         ensures joined { self.new ≡ record self.old {
@@ -112,7 +112,7 @@ impl Sums {
         self.frames[row.number()] = new;
     }
 
-    /// Returns the payload that a listener hears in a room: the total less the base and the rows of `minus`, limited
+    /// Returns the payload that a listener hears in a room: the total minus the base and the rows of `minus`, limited
     /// once.
     ///
     /// The base is the listener's own row, or `None` if the listener does not talk. `minus` has the rows that are
@@ -137,7 +137,7 @@ impl Sums {
 
     /// Returns sample `i` of a room's total, which is not limited.
     ///
-    /// Its magnitude is at most 32768 times the greatest number of terminations.
+    /// Its magnitude is at most 32768 times the maximum number of terminations.
     pub fn total(&self, room: Room, i: usize) -> &i32
         requires { i < 160 }
         ensures value { result.now ≡ total_of self.now room i }
@@ -177,7 +177,7 @@ impl Sums {
     }
 }
 
-/// Writes a total less the rows that are left out.
+/// Writes a total minus the rows that are left out.
 fn write_rest(
     rest: &mut SumRow,
     total: &SumRow,
@@ -200,7 +200,7 @@ fn write_rest(
     }
 }
 
-/// Writes a total less the base, if there is one.
+/// Writes a total minus the base, if there is one.
 fn write_without(
     rest: &mut SumRow,
     total: &SumRow,

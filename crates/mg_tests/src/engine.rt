@@ -187,7 +187,7 @@ fn drops_malformed_packets(rt: HostRuntime) -> Result<(), Fail> {
     drop_malformed_packets(&rt, &mut engine)
 }
 
-/// So is one from another address, or at a port without a termination.
+/// A datagram from another address, or at a port without a termination, is dropped.
 fn drop_datagrams_without_termination(rt: &impl Abort, engine: &mut Engine) -> Result<(), Fail> {
     let bytes = packet(0x80);
     let stranger = Peer {
@@ -302,12 +302,12 @@ fn crowd(alloc: Global, modes: &[Mode]) -> Result<Engine, Fail> {
     Ok(engine)
 }
 
-/// Returns how many rows a call took.
+/// Returns how many rows a call cost.
 fn rows_since(engine: &Engine, before: u32) -> u32 {
     engine.work().wrapping_sub(before)
 }
 
-/// Returns how many rows a tick takes.
+/// Returns how many rows a tick costs.
 fn tick_rows(engine: &mut Engine, outbox: &mut Outbox) -> u32 {
     let before = engine.work();
     engine.tick(outbox);
@@ -364,7 +364,7 @@ fn lends_the_frames_and_totals(rt: HostRuntime) -> Result<(), Fail> {
     lend_frames_and_totals(&rt, &mut engine, &mut Outbox::new())
 }
 
-/// Ticks, packets and edits take no more rows than their bounds.
+/// Ticks, packets and edits cost no more rows than their bounds.
 fn tick_at_a_price(rt: &impl Abort, engine: &mut Engine, outbox: &mut Outbox) -> Result<(), Fail> {
     speak(engine, outbox);
     assert!(rt; tick_rows(engine, outbox) <= 12);
@@ -392,9 +392,9 @@ fn speak_at_each_port(engine: &mut Engine) {
     }
 }
 
-/// A tick of a full context takes three rows for each member that talks.
+/// A tick of a full context costs three rows for each member that talks.
 ///
-/// The total is that of all, and each hears the loudest sample there is.
+/// The total is the sum over all members, and each hears the loudest possible sample.
 fn tick_with_many(
     rt: &impl Abort,
     alloc: Global,

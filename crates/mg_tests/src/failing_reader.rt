@@ -1,6 +1,6 @@
 use std::io::{self, Cursor, Error, ErrorKind, Read};
 
-/// A reader that returns at most a given number of bytes a call, and fails after a given number of calls.
+/// A reader that returns at most a given number of bytes per call, and fails after a given number of calls.
 #[derive(Drop)]
 pub struct FailingReader<'a> {
     pub inner: Cursor<&'a [u8]>,

@@ -1,7 +1,7 @@
 use std::alloc::Global;
 use std::io::{self, Error, ErrorKind, Write};
 
-/// A writer that takes at most a given number of bytes a call, and fails after a given number of calls.
+/// A writer that takes at most a given number of bytes per call, and fails after a given number of calls.
 #[derive(Drop)]
 pub struct FailingWriter {
     pub written: Vec<u8>,

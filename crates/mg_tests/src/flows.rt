@@ -1,4 +1,4 @@
-//! What a run reports of changes.
+//! How a run reports changes.
 
 use crate::scripts::run_script;
 use mg_core::{RunFault, Shown};

@@ -273,7 +273,7 @@ fn counts_each_answer_and_each_cause(rt: HostRuntime) -> Result<(), Fail> {
             script.extend_from_slice(line)?;
         }
     }
-    // It starts; places; finds a number again; is pushed on; and finds a number late.
+    // The play list starts, places a frame, gets a duplicate, is pushed on, and gets a late frame.
     push_frames(&mut script, b"0064", 1)?;
     push_frames(&mut script, b"0065", 1)?;
     push_frames(&mut script, b"0066", 5)?;
@@ -331,7 +331,7 @@ fn times(alloc: Global, text: &[u8], count: usize) -> Result<Vec<u8>, Fail> {
     Ok(whole)
 }
 
-/// Runs a script whose reader fails. Returns what it wrote, and how it ended.
+/// Runs a script with a reader that fails. Returns what it wrote, and how it ended.
 fn read_in_pieces(
     alloc: Global,
     script: &[u8],
@@ -348,7 +348,7 @@ fn read_in_pieces(
     (written, outcome)
 }
 
-/// Runs a script whose writer takes 50 bytes a call and fails. Returns what it wrote, and how it ended.
+/// Runs a script with a writer that takes 50 bytes per call and fails. Returns what it wrote, and how it ended.
 fn write_in_pieces(alloc: Global, script: &[u8], calls: usize) -> (Vec<u8>, Option<RunFault>) {
     let mut reader = Cursor::new(script);
     let mut writer = FailingWriter::new(alloc, 50, calls);
@@ -431,7 +431,7 @@ fn answers_all(
     }
 }
 
-/// The last termination has the greatest number of 32 bits.
+/// The last termination has the largest 32-bit number.
 #[test]
 fn termination_numbers_end(rt: HostRuntime) -> Result<(), Fail> {
     let config = Config {

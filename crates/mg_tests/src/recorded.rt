@@ -1,4 +1,4 @@
-//! Recorded sessions over ports in memory, and replays of their recordings.
+//! Recorded sessions over in-memory ports, and replays of their recordings.
 
 use crate::failing_writer::FailingWriter;
 use crate::serve::{HEARTBEAT, call_log, config, ports};

@@ -18,7 +18,7 @@ const CALLER: Peer = Peer {
     port: 40000,
 };
 
-/// The greatest address and port.
+/// The largest address and port.
 const LAST: Peer = Peer {
     address: [255; 4],
     port: 65535,

@@ -132,7 +132,7 @@ fn refuse_settings(rt: &impl Abort, rooms: &mut Rooms) {
     assert_eq!(rt; rooms.record(1), Some(FRESH));
 }
 
-/// The first supported codec is chosen, and a depth is brought within its limits.
+/// The first supported codec is chosen, and a depth is limited to its range.
 fn set_settings(rt: &impl Abort, rooms: &mut Rooms) {
     let served = Settings {
         mode: Some(Mode::SendOnly),
@@ -144,7 +144,7 @@ fn set_settings(rt: &impl Abort, rooms: &mut Rooms) {
     assert_eq!(rt; rooms.find(Target::Number(1), 1).ok(), Some(SET));
 }
 
-/// Blank content removes media, and what is not named stays.
+/// Blank content removes media, and settings that are not named are unchanged.
 fn clear_settings(rt: &impl Abort, rooms: &mut Rooms) {
     let cleared = Settings {
         mode: None,

@@ -1,4 +1,4 @@
-//! Sessions over ports in memory.
+//! Sessions over in-memory ports.
 
 use crate::failing_reader::FailingReader;
 use crate::failing_writer::FailingWriter;
@@ -82,7 +82,7 @@ struct Outcome {
     call_log: String,
 }
 
-/// Runs lines on a new gateway over ports in memory.
+/// Runs lines on a new gateway over in-memory ports.
 fn session(
     alloc: Global,
     waiting: &[(usize, &[u8])],

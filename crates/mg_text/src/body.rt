@@ -19,7 +19,7 @@ pub enum MessageItem {
 /// The part of a message after its head and sender.
 #[derive(Drop)]
 pub enum Body {
-    /// Items to act on, in order. Replies and Pending items among them are left out.
+    /// Items to act on, in order, without Replies and Pending items.
     Requests(TreeList<MessageItem>),
     /// Nothing to act on: an Error body, or only Reply and Pending items.
     Ignored,

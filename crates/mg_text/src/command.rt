@@ -9,11 +9,11 @@ pub struct Command {
     pub word: CommandWord,
     /// The prefix `O-`: if the command fails, the next ones are still tried.
     pub is_optional: bool,
-    /// The prefix `W-`, which may follow `O-`: one answer is wanted for all terminations that match.
+    /// The prefix `W-`, which may follow `O-`: it requests one answer for all matching terminations.
     pub wants_wildcard: bool,
     /// The span of the termination's name: a word of 1 to 64 bytes.
     pub term: Span,
-    /// The descriptors. A Subtract or AuditValue has at most one, an Audit. Those of a Notify, ServiceChange or
-    /// AuditCapability are not kept.
+    /// The descriptors. A Subtract or AuditValue has at most one, an Audit. The descriptors of a Notify, ServiceChange
+    /// or AuditCapability are not kept.
     pub descriptors: TreeList<Descriptor>,
 }

@@ -3,11 +3,11 @@ use std::alloc::{AllocError, AllocFailed};
 /// Why a datagram is not a valid message.
 #[derive(Clone, Copy, Debug, PartialEq, Eq)]
 pub enum ReadFault {
-    /// The bytes do not follow the grammar, as seen at this offset in bytes.
+    /// The bytes do not follow the grammar. The fault was found at this offset, in bytes.
     Syntax(usize),
     /// The head names a version of the protocol other than 1.
     Version(u8),
-    /// The datagram exceeds 8192 bytes, or its message has more than 4 requests or more than 64 commands in all.
+    /// The datagram exceeds 8192 bytes, or its message has more than 4 requests or more than 64 commands in total.
     TooMany,
     /// Memory ran out. The same datagram may be read later.
     NoMemory,

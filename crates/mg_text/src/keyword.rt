@@ -163,7 +163,7 @@ impl Keyword {
 
 /// Compares two words of equal length, ignoring case.
 ///
-/// It is kept out of [`same_word`], since the lengths of most words differ.
+/// It is a separate function from [`same_word`], because the lengths of most words differ.
 #[inline(never)]
 #[tactic(auto, using(crate::proofs::KeywordLemmas::exact))]
 fn same_letters(a: &[u8], b: &[u8]) -> bool
@@ -270,7 +270,7 @@ fn word_among(words: &[Keyword], text: &[u8]) -> Option<Keyword>
 
 /// Returns the keyword that a text is a form of.
 ///
-/// It compares only forms that start with the text's first letter, and only those of its length.
+/// It compares only forms that have the text's first letter and its length.
 pub fn keyword_of(text: &[u8]) -> Option<Keyword>
     ensures value { result ≡ keyword_of text.now }
 {

@@ -1,7 +1,7 @@
 //! The parser of control messages in text encoding (Megaco, RFC 3525, Annex B).
 //!
-//! [`read`] parses the bytes of a datagram as a [`Message`], or returns the reason why they are none. The tree keeps
-//! the spans of its texts in the source, and copies none of them. Replies are collected in a [`Reply`] and written by
+//! [`read`] parses the bytes of a datagram as a [`Message`], or returns the reason why they are not one. The tree keeps
+//! the spans of its texts in the source, and copies no text. Replies are collected in a [`Reply`] and written by
 //! [`write_reply`] to [`Bytes`]; these are types of the crate `mg_reply`:
 //!
 //! ```rust
@@ -10,8 +10,8 @@
 //! assert_eq!(rt; message.sender.text(source), b"[127.0.0.1]:2945".as_slice());
 //! ```
 //!
-//! A message is read completely or not at all. The tree keeps requests and acknowledgements in order, repeated ones
-//! too. Replies, Pending items and an Error body are parsed and left out.
+//! A message is read completely or not at all. The tree keeps requests and acknowledgements in order, including
+//! repeated ones. Replies, Pending items and an Error body are parsed but not kept.
 #![tactic(auto)]
 
 mod actions;

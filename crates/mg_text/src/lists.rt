@@ -11,7 +11,7 @@ use std::alloc::Global;
 
 /// A type that tokens of a message can be parsed as.
 pub trait FromTokens: Drop + Sized {
-    /// The result of parsing: a value and the tokens after it, or the place of a fault.
+    /// The result of parsing: a value and the tokens after it, or the position of a fault.
     ghost reading: { List ℕ → List Token → Result (Self × List Token) ℕ };
 
     fn from_tokens<'t>(

@@ -44,7 +44,7 @@ fn text_at(alloc: Global, source: &[u8], tokens: &[Token]) -> Result<Message, Re
     Ok(Message { sender, body })
 }
 
-/// Brings the place of a fault within a source of this length.
+/// Clamps the position of a fault to a source of this length.
 fn within(fault: ReadFault, len: usize) -> ReadFault
     ensures value { result ≡ fault_within len fault }
 {
@@ -73,7 +73,8 @@ fn versioned(
     text_at(alloc, source, rest)
 }
 
-/// Returns how many commands are left of `most` after those of the actions, or `None` if the actions have more.
+/// Returns how many of `most` commands remain after those of the actions, or `None` if the actions have more than
+/// `most`.
 #[tactic(auto, using(crate::proofs::CountSteps::action_steps))]
 fn left_after(most: usize, actions: &[Action]) -> Option<usize>
     ensures value { result ≡ left_after most (action_commands actions.now) }
@@ -89,7 +90,7 @@ fn left_after(most: usize, actions: &[Action]) -> Option<usize>
     Some(left)
 }
 
-/// Returns whether there are at most 4 requests among the items, with at most 64 commands in all.
+/// Returns whether there are at most 4 requests among the items, with at most 64 commands in total.
 #[tactic(auto, using(crate::proofs::CountSteps::item_steps))]
 fn is_within(items: &[MessageItem]) -> bool
     ensures value { result ≡ is_within request_limit command_limit items.now }
@@ -124,7 +125,7 @@ fn is_served(body: &Body) -> bool
     }
 }
 
-/// Checks the limits of a message, and brings the place of a fault within a source of this length.
+/// Checks the limits of a message, and clamps the position of a fault to a source of this length.
 fn answered(message: Result<Message, ReadFault>, len: usize) -> Result<Message, ReadFault>
     ensures value { result ≡ answer_of len message }
 {
@@ -142,9 +143,9 @@ fn answered(message: Result<Message, ReadFault>, len: usize) -> Result<Message, 
 
 /// Parses a datagram as a message. It allocates memory for the tokens and the tree.
 ///
-/// A datagram of more than 8192 bytes is `TooMany`. Then a head with a version other than 1 is `Version`, whatever
-/// follows it. Anything else that does not follow the grammar is `Syntax`. A message with more than 4 requests, or
-/// with more than 64 commands in all, is `TooMany`.
+/// A datagram of more than 8192 bytes gives `TooMany`. Otherwise a head with a version other than 1 gives `Version`,
+/// whatever follows it. Anything else that does not follow the grammar gives `Syntax`. A message with more than 4
+/// requests, or with more than 64 commands in total, gives `TooMany`.
 pub fn read(alloc: Global, source: &[u8]) -> Result<Message, ReadFault>
     // The result is a message.
     ensures found { IfOk result (λ m. IsMessage source.now m) }

@@ -3,7 +3,7 @@ use crate::context_property::ContextProperty;
 use crate::tree_list::TreeList;
 use mg_words::ContextId;
 
-/// An action on one context: properties and then commands, at least one in all.
+/// An action on one context: properties and then commands, at least one of either.
 #[derive(Drop)]
 pub struct Action {
     pub context: ContextId,

@@ -12,7 +12,7 @@ seat_limit = 64
 unfoldable pub has_seat : ℕ → ℕ → Bool
 has_seat mask seat = bit_at mask seat == 1
 
--- the seats of the set, in rising order
+-- the seats of the set, in ascending order
 unfoldable pub seats_of : ℕ → List ℕ
 seats_of mask = filter (has_seat mask) (range_with_len 0 seat_limit)
 

@@ -50,7 +50,7 @@ pub fn without_seat(mask: Mask, seat: usize) -> Mask
     requires { seat < SEATS }
     ensures seats { (s : ℕ) → has_seat result s ≡ (if s == seat then false else has_seat mask s) }
 
-    // So a loop that removes seat after seat ends, after as many steps as the set has seats.
+    // So a loop that removes one seat after another ends after as many steps as the set has seats.
     ensures smaller { IsTrue (has_seat mask seat) → result < mask }
     ensures fewer { IsTrue (has_seat mask seat) → seat_count mask ≡ seat_count result + 1 }
     ensures rest { IsLowest mask seat → seats_of mask ≡ seat ∷ seats_of result }
@@ -100,7 +100,7 @@ pub fn is_disjoint(a: Mask, b: Mask) -> bool
     intersection(a, b) == EMPTY
 }
 
-/// Returns an iterator over the seats of the set, in rising order. It takes one step for each seat.
+/// Returns an iterator over the seats of the set, in ascending order. It takes one step for each seat.
 pub fn seats(mask: Mask) -> Seats
     ensures value { result ≡ seats_of mask }
     ensures each { All (λ seat. (seat < seat_limit) × IsTrue (has_seat mask seat)) result }
@@ -111,7 +111,7 @@ pub fn seats(mask: Mask) -> Seats
 
 /// Returns the lowest seat of the set, or `None` if it is empty.
 ///
-/// To walk a set that changes on the way, remove its lowest seat with [`without_seat`] until none is left.
+/// To walk a set that changes meanwhile, remove its lowest seat with [`without_seat`] until none is left.
 pub fn first_seat(mask: Mask) -> Option<usize>
     ensures some { IfSome result (λ seat. IsLowest mask seat) }
     ensures none { IfNone result (IsEmpty mask) }

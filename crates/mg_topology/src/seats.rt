@@ -6,9 +6,9 @@ use crate::mask::{self, Mask};
 use std::iter::FusedIterator;
 use std::marker::Model;
 
-/// An iterator over the seats of a set in rising order; see [`mask::seats`].
+/// An iterator over the seats of a set in ascending order; see [`mask::seats`].
 ///
-/// Contracts see the list of the seats that are left.
+/// Contracts see the list of the seats that remain.
 #[derive(Debug, Drop)]
 pub struct Seats {
     left: Mask,

@@ -14,7 +14,7 @@ ghost use Rattle.mg_topology.specs.Mask.{seat_limit, has_seat, seats_of, seat_co
 ghost use Rattle.mg_topology.specs.Triple.{is_forward, mentions, overlaps, Overlaps};
 ghost use Rattle.mg_topology.specs.Edits.{TopologyEdit, Enter, Leave, Apply, is_held, last_word, may_hear, hears_in, touches};
 
-/// A newcomer and each member hear each other, whatever was said of the newcomer's seat before.
+/// A newcomer and each member hear each other, whatever triples named the newcomer's seat before.
 pub fn newcomer_hears_and_is_heard()
     ensures hears { (es : List TopologyEdit) (newcomer member : ℕ) →
         newcomer ≢ member → IsTrue (is_held es member) →
@@ -32,7 +32,7 @@ pub fn unmentioned_pair_hears()
         IsTrue (may_hear (newer ++ Enter newcomer ∷ older) a b) }
 {}
 
-/// The last triple that mentions a pair is its last word.
+/// The last triple that mentions a pair is the last word on it.
 pub fn last_triple_wins()
     ensures { (newer older : List TopologyEdit) (triple : Triple) (a b : ℕ) →
         IsTrue (mentions triple a b) →
@@ -58,7 +58,7 @@ pub fn associations()
         × IsTrue (may_hear (Apply triple ∷ es) second first) }
 {}
 
-/// An edit of others does not change what is heard between two members.
+/// An edit of other members does not change whether two members hear each other.
 pub fn others_are_unaffected()
     ensures enter { (es : List TopologyEdit) (newcomer a b : ℕ) → newcomer ≢ a → newcomer ≢ b →
         hears_in (Enter newcomer ∷ es) a b ≡ hears_in es a b }
@@ -94,12 +94,12 @@ pub fn masks_are_sets()
     ensures same { (a b : ℕ) → ((seat : ℕ) → has_seat a seat ≡ has_seat b seat) → a ≡ b }
 {}
 
-/// Each member of a context has a seat. A greater limit of members fails here.
+/// Each member of a context has a seat. A member limit that is too high fails here.
 pub fn each_member_has_a_seat()
     ensures { member_limit ≤ seat_limit }
 {}
 
-/// The list of a mask's seats has exactly its seats, in rising order.
+/// The list of a mask's seats has exactly its seats, in ascending order.
 ///
 /// Any test that agrees with the mask on each seat gives the same list.
 pub fn seats_are_listed()

@@ -7,8 +7,8 @@ use crate::mask::{self, Mask, SEATS};
 /// One triple of a topology descriptor: two sets of seats, and which of them hears the other (RFC 3525, section
 /// 7.1.18).
 ///
-/// It mentions each pair of a seat in the first set and a seat in the second. A wildcard is the set of all that it
-/// matches. A seat that nobody holds has no effect.
+/// It mentions each pair of a seat in the first set and a seat in the second. A wildcard is the set of all seats that
+/// it matches. A seat that nobody holds has no effect.
 #[derive(Clone, Copy, Debug, PartialEq, Eq, Hash)]
 pub struct Triple {
     /// The first term of the triple: the talkers of a Oneway triple.
@@ -50,7 +50,7 @@ impl Triple {
         }
     }
 
-    /// Returns the listener's row of talkers after the triple, by its row before.
+    /// Returns the listener's row of talkers after the triple, given its row before.
     pub(crate) fn row_after(&self, row: Mask, listener: usize) -> Mask
         requires { listener < SEATS }
         ensures { (talker : ℕ) →

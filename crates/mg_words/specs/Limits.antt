@@ -13,7 +13,7 @@ context_limit = 64
 abbrev pub termination_limit : ℕ
 termination_limit = 256
 
--- the least and the greatest depth of a play list, in frames, and the depth of a new one
+-- the least and the maximum depth of a play list, in frames, and the depth of a new one
 abbrev pub least_depth : ℕ
 least_depth = 2
 
@@ -58,10 +58,10 @@ reply_limit = 16000
 abbrev pub kept_limit : ℕ
 kept_limit = 32
 
--- the greatest number that a termination can have
+-- the largest number that a termination can have
 abbrev pub last_termination : ℕ
 last_termination = 4294967295
 
--- the greatest number that a context can have; the next two stand for $ and * (section 6.1.2)
+-- the largest number that a context can have; the next two stand for $ and * (section 6.1.2)
 abbrev pub last_context : ℕ
 last_context = 4294967293

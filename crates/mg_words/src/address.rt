@@ -6,7 +6,7 @@ use crate::parts::cut;
 use arrayvec::ArrayVec;
 use itoa::Buffer;
 
-/// The length in bytes of the longest IPv4 address in dotted decimal.
+/// The length of the longest IPv4 address in dotted decimal, in bytes.
 pub const ADDRESS_LIMIT: usize = 15;
 
 /// Parses an IPv4 address in dotted decimal: four numbers of one to three digits, each at most 255.

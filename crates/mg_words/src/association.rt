@@ -1,7 +1,8 @@
 ghost use Rattle.std.specs.Prelude.{◌≡◌};
 ghost use Rattle.mg_words.specs.Association.{association_text};
 
-/// Who hears whom between two terminations of a context, or between two sets of them (RFC 3525, section 7.1.18).
+/// The relation between two terminations of a context, or between two sets of them: who hears whom (RFC 3525, section
+/// 7.1.18).
 #[derive(Clone, Copy, Debug, PartialEq, Eq, Hash)]
 pub enum Association {
     /// Neither hears the other.

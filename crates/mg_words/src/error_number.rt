@@ -4,7 +4,7 @@ ghost use Rattle.mg_words.specs.ErrorNumber.{error_row, error_text};
 use arrayvec::ArrayVec;
 use itoa::Buffer;
 
-/// The length in bytes of the longest error descriptor.
+/// The length of the longest error descriptor, in bytes.
 pub const ERROR_LIMIT: usize = 64;
 
 /// Why a message, an action or a command was rejected. The numbers are from the standard's list of error codes (RFC
@@ -19,7 +19,7 @@ pub enum ErrorNumber {
     IdentifierNotAllowed,
     /// The action's context does not exist, or cannot be entered.
     UnknownContext,
-    /// The limit of contexts is reached, or their numbers are used up.
+    /// The limit of contexts is reached, or their numbers are exhausted.
     NoContextLeft,
     /// A Oneway triple has a termination on both sides.
     IllegalCombination,
@@ -27,7 +27,7 @@ pub enum ErrorNumber {
     UnknownTermination,
     /// A command names all terminations of a context that has none.
     WildcardMatchedNone,
-    /// No slot is free, or the numbers of terminations are used up.
+    /// No slot is free, or the numbers of terminations are exhausted.
     NoTerminationLeft,
     /// An Add names an existing termination, or a Move names the context that the termination is in.
     AlreadyInContext,
@@ -39,13 +39,13 @@ pub enum ErrorNumber {
     DescriptorNotServed,
     /// A property, or its value, is not supported.
     PropertyNotServed,
-    /// A keyword that may occur once occurs twice.
+    /// A keyword that may occur only once occurs twice.
     DescriptorTwice,
     /// The message exceeds a limit, or asks for a command, context, stream or reservation that is not supported.
     NotServed,
     /// No session description in Local or Remote can be served.
     NoMedia,
-    /// The reply would exceed the limit of its size. Its commands keep their effect.
+    /// The reply would exceed the size limit. Its commands stay in effect.
     ReplyTooLong,
 }
 

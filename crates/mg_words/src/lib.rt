@@ -1,10 +1,10 @@
 //! The protocol's keywords, names, numbers and errors, and the gateway's limits.
 //!
-//! Types for modes, associations, commands, contexts, terminations and errors (Megaco, RFC 3525), each with its text,
-//! and for a termination's counters. Parsers for the numbers, ports and IPv4 addresses of control messages, session
-//! descriptions and scripts.
+//! It has types for modes, associations, commands, contexts, terminations and errors (Megaco, RFC 3525), each with its
+//! text, and for a termination's counters. It also has parsers for the numbers, ports and IPv4 addresses in control
+//! messages, session descriptions and scripts.
 //!
-//! Each parser takes a whole text and returns its value, or `None` if it has none. Leading zeros are allowed; signs
+//! Each parser expects a whole text and returns its value, or `None` if it has none. Leading zeros are allowed; signs
 //! and spaces are not:
 //!
 //! ```rust

@@ -1,56 +1,56 @@
 ghost use Rattle.std.specs.Prelude.{◌≡◌, ◌≤◌, ◌^◌};
 ghost use Rattle.mg_words.specs.Limits.{member_limit, context_limit, termination_limit, least_depth, greatest_depth, first_depth, frame_samples, message_limit, request_limit, command_limit, name_limit, sender_limit, alternative_limit, reply_limit, kept_limit, last_termination, last_context};
 
-/// The greatest number of members of a context.
+/// The maximum number of members in a context.
 pub const MEMBERS: usize = 64;
 
-/// The greatest number of contexts of a gateway.
+/// The maximum number of contexts in a gateway.
 pub const CONTEXTS: usize = 64;
 
-/// The greatest number of terminations of a gateway.
+/// The maximum number of terminations in a gateway.
 pub const TERMINATIONS: usize = 256;
 
-/// The least depth of a play list, in frames of 20 ms.
+/// The minimum depth of a play list, in frames of 20 ms.
 pub const MIN_DEPTH: usize = 2;
 
-/// The greatest depth of a play list, in frames of 20 ms.
+/// The maximum depth of a play list, in frames of 20 ms.
 pub const MAX_DEPTH: usize = 16;
 
 /// The depth of a new play list, in frames of 20 ms.
 pub const FIRST_DEPTH: usize = 4;
 
-/// The samples of a frame: 20 ms at 8000 Hz. Its payload has as many bytes.
+/// The number of samples in a frame: 20 ms at 8000 Hz. Its payload has the same number of bytes.
 pub const SAMPLES: usize = 160;
 
-/// The greatest size in bytes of a datagram that is read.
+/// The maximum size of a datagram that is read, in bytes.
 pub const MESSAGE_LIMIT: usize = 8192;
 
-/// The greatest number of requests in a message.
+/// The maximum number of requests in a message.
 pub const REQUEST_LIMIT: usize = 4;
 
-/// The greatest number of commands in all requests of a message.
+/// The maximum number of commands in all requests of a message.
 pub const COMMAND_LIMIT: usize = 64;
 
-/// The greatest length in bytes of a termination's name.
+/// The maximum length of a termination's name, in bytes.
 pub const TERM_LIMIT: usize = 64;
 
-/// The greatest length in bytes of a sender's name: a domain name of 64 bytes in angle brackets, a colon and a port of
-/// five digits.
+/// The maximum length of a sender's name, in bytes: a domain name of 64 bytes in angle brackets, a colon and a
+/// five-digit port.
 pub const SENDER_LIMIT: usize = 72;
 
-/// The greatest number of alternatives in a session description.
+/// The maximum number of alternatives in a session description.
 pub const ALTERNATIVE_LIMIT: usize = 8;
 
-/// The greatest size in bytes of a reply.
+/// The maximum size of a reply, in bytes.
 pub const REPLY_LIMIT: usize = 16000;
 
-/// How many replies are kept, so that retransmitted requests are answered alike.
+/// How many replies are kept to answer retransmitted requests.
 pub const KEPT_REPLIES: usize = 32;
 
-/// The greatest number that a termination can have.
+/// The largest number that a termination can have.
 pub const LAST_TERMINATION: u32 = 4294967295;
 
-/// The greatest number that a context can have. The next two stand for `$` and `*` (RFC 3525, section 6.1.2).
+/// The largest number that a context can have. The next two numbers stand for `$` and `*` (RFC 3525, section 6.1.2).
 pub const LAST_CONTEXT: u32 = 4294967293;
 
 /// The constants equal the limits in the definitions.
@@ -71,8 +71,7 @@ pub fn constants_are_limits()
     ensures numbers { (LAST_TERMINATION ≡ last_termination) × (LAST_CONTEXT ≡ last_context) }
 {}
 
-/// What the crates above assume of the limits: rooms and slots are numbers of 8 bits. A limit that is too high fails
-/// here.
+/// What the crates above assume about the limits: rooms and slots fit in 8 bits. A limit that is too high fails here.
 pub fn limits_fit()
     ensures rooms { context_limit ≤ 2 ^ 8 }
     ensures slots { termination_limit ≤ 2 ^ 8 }

@@ -15,7 +15,7 @@ pub enum Mode {
     ReceiveOnly,
     /// Sends and receives.
     SendReceive,
-    /// Sends back what it receives, and takes no part in the context.
+    /// Sends back what it receives, and neither talks to the context nor hears it.
     Loopback,
 }
 

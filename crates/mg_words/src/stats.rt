@@ -1,5 +1,4 @@
-/// The counters of a termination (RFC 3525, annexes E.11.4 and E.12.4). A counter that reaches its greatest value
-/// stays there.
+/// The counters of a termination (RFC 3525, annexes E.11.4 and E.12.4). A counter that reaches its maximum stays there.
 #[derive(Clone, Copy, Debug, Default, PartialEq, Eq)]
 pub struct Stats {
     /// Packets sent (`rtp/ps`).

@@ -63,14 +63,14 @@ impl Term {
         Term::new(b"ROOT").unwrap()
     }
 
-    /// Returns `$`, by which an Add names a termination that the gateway is to make.
+    /// Returns `$`, with which an Add asks the gateway for a new termination.
     pub fn choose() -> Self
         ensures value { result ≡ codes "$" }
     {
         Term::new(b"$").unwrap()
     }
 
-    /// Returns `*`, by which a command names all terminations of a context.
+    /// Returns `*`, with which a command names all terminations of a context.
     pub fn all() -> Self
         ensures value { result ≡ codes "*" }
     {

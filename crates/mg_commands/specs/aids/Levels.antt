@@ -65,7 +65,7 @@ stream_of (media.Part x) = 1
 stream_of (media.Stream n xs) = n
 stream_of (media.TerminationState has_content) = 0
 
--- the greatest of these streams; 0 if there is no part
+-- the largest of these streams; 0 if there is no part
 abbrev pub greatest_stream : List MediaPart → ℕ
 greatest_stream [] = 0
 greatest_stream (x ∷ xs) = max (stream_of x) (greatest_stream xs)

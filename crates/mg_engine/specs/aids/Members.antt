@@ -9,20 +9,20 @@ use Rattle.mg_flow.specs.Place.{is_same_place, are_together}
 use Rattle.mg_flow.specs.Table.{RoomFlows, holds, talks_at, listens_at, hears, SetsPlace}
 use Rattle.mg_engine.specs.Place.{IsOnPlace}
 
--- a member enters on a place with a mode; it and each other member of the room hear each other
+-- a member enters at a place with a mode; it and each other member of the room hear each other
 pub record Enters (old new : List RoomFlows) (at : Place) (m : Mode) : Type 0 where
   pub place : SetsPlace old new at true (mode.talks m) (mode.listens m)
   pub hears : (t l : Place) → hears new t l
       ≡ (if is_same_place t at || is_same_place l at then are_together (holds new) t l
       else hears old t l)
 
--- the member on a place leaves
+-- the member at a place leaves
 pub record Leaves (old new : List RoomFlows) (at : Place) : Type 0 where
   pub place : SetsPlace old new at false false false
   pub hears : (t l : Place) → hears new t l
       ≡ (if is_same_place t at || is_same_place l at then false else hears old t l)
 
--- the member on a place has a new mode
+-- the member at a place has a new mode
 pub record TakesMode (old new : List RoomFlows) (at : Place) (m : Mode) : Type 0 where
   pub place : SetsPlace old new at true (mode.talks m) (mode.listens m)
   pub hears : (t l : Place) → hears new t l ≡ hears old t l

@@ -15,7 +15,7 @@ place_count = context_limit * seat_limit
 abbrev pub index_of : Place → ℕ
 index_of place = place.room * seat_limit + place.seat
 
--- the slot on a place
+-- the slot at a place
 abbrev pub slot_at : List ℕ → Place → ℕ
 slot_at seating place = slice_index_or seating (index_of place) 0
 

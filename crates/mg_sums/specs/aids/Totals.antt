@@ -4,7 +4,7 @@ use Rattle.mg_words.specs.Limits.{context_limit, termination_limit}
 use Rattle.mg_sums.specs.Samples.{sample}
 use Rattle.mg_sums.specs.Sums.{SumsState, AreValidSums, total_of}
 
--- the greatest magnitude of a total: a sum of this many samples, each at most 32768
+-- the largest magnitude of a total: a sum of this many samples, each at most 32768
 abbrev pub total_limit : ℕ
 total_limit = termination_limit * 32768
 

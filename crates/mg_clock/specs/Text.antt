@@ -12,11 +12,12 @@ tick_line = codes "tick\n"
 abbrev pub step_lines : ℕ → ℕ → List ℕ
 step_lines polls step = if step % polls == 0 then poll_line ++ tick_line else poll_line
 
--- 20 ms: the polls, and then the tick
+-- the lines of 20 ms: the polls, and then the tick
 abbrev pub period_lines : ℕ → List ℕ
 period_lines polls = repeat polls poll_line ++ tick_line
 
--- the lines of so many steps: those of whole 20 ms, and then the polls of the 20 ms that are begun
+-- the lines of this many steps: those of all complete periods of 20 ms, and then the polls of the
+-- current one
 unfoldable pub text : ℕ → ℕ → List ℕ
 text polls steps =
     repeat (steps / polls) (period_lines polls) ++ repeat (steps % polls) poll_line

@@ -1,4 +1,4 @@
--- When the ticks of a gateway begin by a clock.
+-- When the ticks of a gateway begin, given a clock.
 use Rattle.std.specs.Prelude.{◌≡◌, ℕ, ◌+◌, ◌*◌, ◌<◌, ◌≤◌, nat_lt, List, [], ◌∷◌, ◌++◌, length}
 use Rattle.std.specs.Prelude.{Option, if◌then◌else◌}
 use Rattle.std.specs.Io.KnownBytes.{Appends}
@@ -6,7 +6,7 @@ use Rattle.mg_clock.specs.declared.timing.Timing.{Timing}
 use Rattle.mg_clock.specs.declared.timing.Timing.TheVariants.{OnTime, Late}
 use Rattle.mg_clock.specs.Due.{period, ticks_due}
 
--- what is known of a clock's readings and waits
+-- what is known about a clock's readings and waits
 pub record ClockSeen : Type 0 where
   pub readings : Option (List ℕ)
   pub waits : Option (List ℕ)
@@ -14,14 +14,15 @@ pub record ClockSeen : Type 0 where
 abbrev pub clock_seen : Option (List ℕ) → Option (List ℕ) → ClockSeen
 clock_seen readings waits = record { readings = readings; waits = waits }
 
--- At none of these readings a tick is due, and after each the clock waits until it is.
+-- No tick is due at any of these readings, and after each reading the clock waits until the tick is
+-- due.
 abbrev pub WaitsForTick : (tick : ℕ) → (readings waits : List ℕ) → Type 0
 WaitsForTick tick [] [] = Unit {0}
 WaitsForTick tick (t ∷ ts) (d ∷ ds) =
     (t < tick * period) × (t + d ≡ tick * period) × WaitsForTick tick ts ds
 WaitsForTick tick readings waits = ⊥
 
--- A clock was read so many times before a tick was due.
+-- A clock was read this many times before a tick was due.
 pub record IsReadEarly (tick count : ℕ) (old new : ClockSeen) : Type 0 where
   pub early : List ℕ
   pub waits : List ℕ
@@ -30,7 +31,7 @@ pub record IsReadEarly (tick count : ℕ) (old new : ClockSeen) : Type 0 where
   pub readings : Appends old.readings new.readings early
   pub slept : Appends old.waits new.waits waits
 
--- A clock is read until a tick is due: at this reading it is, and at none before.
+-- A clock is read until a tick is due: it is due at this reading, and at no earlier one.
 pub record IsReadUntilDue (tick now : ℕ) (old new : ClockSeen) : Type 0 where
   pub count : ℕ
   pub before : Option (List ℕ)
@@ -38,7 +39,7 @@ pub record IsReadUntilDue (tick now : ℕ) (old new : ClockSeen) : Type 0 where
   pub last : Appends before new.readings (now ∷ [])
   pub due : tick ≤ ticks_due now
 
--- how a tick is timed that begins at a time, if it may be late by so many ticks
+-- whether a tick that begins at a time is late, if it may be this many ticks late
 abbrev pub timing_of : (tick allowed now : ℕ) → Timing
 timing_of tick allowed now = if nat_lt (tick + allowed) (ticks_due now) then Late else OnTime
 

@@ -26,7 +26,7 @@ item_but_received (Command word term outcome) = Command word term (outcome_but_r
 item_but_received (Fault e) = Fault e
 item_but_received (Action id) = Action id
 
--- If two gateways agree outside some terminations, they also do after the same request. The
+-- If two gateways agree outside some terminations, they also agree after the same request. The
 -- replies are equal, item by item, except for the received packets in statistics.
 abbrev pub RequestsKeepAgreement : Type 0
 RequestsKeepAgreement =

@@ -118,7 +118,7 @@ unfoldable pub audit_pairs : Gateway → List ℕ → List Item
 audit_pairs w [] = []
 audit_pairs w (a ∷ members) = map (audit_pair w a) members ++ audit_pairs w members
 
--- what the audit reports of a context, if the action has one
+-- what the audit reports about a context, if the action has one
 abbrev pub audit_items : List ContextProperty → Gateway → ℕ → List Item
 audit_items ps w c =
     if list_any is_context_audit ps then audit_pairs w (members_at w.rooms c) else []

@@ -28,7 +28,7 @@ same_other_word others.DigitMap others.DigitMap = true
 same_other_word others.EventBuffer others.EventBuffer = true
 same_other_word _ _ = false
 
--- the one supported property, compared without case
+-- the one supported property, ignoring case
 unfoldable pub is_jitter : List ℕ → Span → Bool
 is_jitter source name = str_eq_ignore_ascii_case (text_of source name) (codes "nt/jit")
 

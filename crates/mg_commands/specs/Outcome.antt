@@ -1,6 +1,6 @@
--- The outcome of a command: the error of the first check that fails, or what was done (RFC 3525,
--- section 7.2). The numbers of errors and the order of the checks are this project's own. The
--- order is: support, the descriptors, the properties, the name, then terminations and contexts.
+-- The outcome of a command: the error of the first check that fails, or the result (RFC 3525,
+-- section 7.2). The numbers of errors and the order of the checks are this project's own. The order
+-- is: support, the descriptors, the properties, the name, then terminations and contexts.
 use Rattle.std.specs.Prelude.{ℕ, ◌&&◌, not, Bool, true, false, List, [], ◌∷◌, map, Option, Some}
 use Rattle.std.specs.Prelude.{None, is_some, Result, Ok, Err, codes, if◌then◌else◌}
 use Rattle.std.specs.Option.{option_and_then, option_map}
@@ -51,8 +51,8 @@ is_served_word words.Subtract = true
 is_served_word words.AuditValue = true
 is_served_word _ = false
 
--- What a command asks for, if its text is supported. W-, one reply for all that match (RFC 3525,
--- section 8.2.2), is not.
+-- What a command asks for, if its text is supported. W-, one reply for all matches (RFC 3525,
+-- section 8.2.2), is not supported.
 abbrev pub check_command : List ℕ → Command → Result CommandParameters ErrorNumber
 check_command source c = do
   _ ← passes (is_served_word c.word && not c.wants_wildcard) errors.NotServed
@@ -89,7 +89,7 @@ names_for w target word name = Ok (name ∷ [])
 
 -- ## Checks of the name
 
--- an Add makes a new termination, so it names none
+-- an Add makes a new termination, so it does not name one
 abbrev pub check_new_name : Gateway → Name → Result (Unit {0}) ErrorNumber
 check_new_name w names.Choose = Ok tt
 check_new_name w (names.Number n) =
@@ -132,7 +132,7 @@ abbrev pub served_at : Target → List ℕ → Parts → Served
 served_at target term parts =
     record { target = target; made = None; term = term; parts = parts }
 
--- the same for a termination that was made
+-- the same for a new termination
 abbrev pub made_at : Target → ℕ → Parts → Served
 made_at target n parts = record (served_at target (rtp_name n) parts) { made = Some n }
 
@@ -168,7 +168,7 @@ subtract_outcome w target name parameters = do
   p ← engine.subtract w target n
   Ok (p.0, served_at target (rtp_name n) (reply_parts (descriptors_before parameters) w n))
 
--- ROOT can be audited in the null context, and nothing is reported of it
+-- ROOT can be audited in the null context, and nothing is reported about it
 abbrev pub audit_root : Target → Result Served ErrorNumber
 audit_root targets.Null =
     Ok (served_at targets.Null (codes "ROOT") (record { media = None; statistics = None }))
@@ -185,7 +185,7 @@ audit_outcome w target name parameters = do
 abbrev pub in_same_world : Gateway → Result Served ErrorNumber → CommandOutcome
 in_same_world w r = r >>= (λ s. Ok (w, s))
 
--- the outcome of a command for one name, after its text was checked
+-- the outcome of a command for one name, after its text has been checked
 unfoldable pub outcome : CommandWord → Gateway → Target → Name → CommandParameters
     → CommandOutcome
 outcome words.Add w target name parameters = add_outcome w target name parameters

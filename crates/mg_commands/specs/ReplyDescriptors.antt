@@ -1,4 +1,4 @@
--- What a reply reports of a termination (RFC 3525, sections 7.2 and 7.1.12).
+-- What a reply reports about a termination (RFC 3525, sections 7.2 and 7.1.12).
 use Rattle.std.specs.Prelude.{◌||◌, not, Bool, true, false, ◌∷◌, Option, Some}
 use Rattle.mg_rooms.specs.declared.media_setting.MediaSetting.{MediaSetting}
 use Rattle.mg_rooms.specs.declared.media_setting.MediaSetting.TheVariants as settings

@@ -40,7 +40,7 @@ RefusedNamesChangeNothing =
     → with_name source c parameters name run
     ≡ (with_error run c.word (written_as (text_of source c.term) name) e, false)
 
--- so does a command that is not tried at all
+-- the same holds for a command that is not tried at all
 abbrev pub RefusedCommandsChangeNothing : Type 0
 RefusedCommandsChangeNothing =
     (source : List ℕ) (c : Command) (run : ActionState) (e : ErrorNumber)
@@ -56,8 +56,8 @@ RefusedActionsChangeNothing =
     → with_action source a s
     ≡ (record s { items = s.items ++ replies.Fault e ∷ replies.Action a.context ∷ [] }, false)
 
--- an action whose topology is rejected after its commands changes nothing but what the commands
--- did
+-- an action whose topology is rejected after its commands changes nothing except through its
+-- commands
 abbrev pub RefusedTopologiesChangeNothing : Type 0
 RefusedTopologiesChangeNothing =
     (source : List ℕ) (a : Action) (s : TransactionState) (run : ActionState) (e : ErrorNumber)
@@ -76,7 +76,7 @@ OthersAreTried =
     with_names source c parameters (x ∷ xs) run
     ≡ ((with_names source c parameters xs reported).0, false)
 
--- whether an item reports a command that was done
+-- whether an item reports a successful command
 abbrev pub reports_success : Item → Bool
 reports_success (replies.Command word term (Done parts)) = true
 reports_success _ = false
@@ -87,7 +87,7 @@ abbrev pub depends_on_commands : Action → Bool
 depends_on_commands a =
     not (list_any is_topology a.properties) || list_any (λ c. not c.is_optional) a.commands
 
--- a request whose commands were all rejected, as far as they were tried, leaves the gateway
+-- if every command of a request that was tried was rejected, the request leaves the gateway
 -- unchanged
 abbrev pub RefusedRequestsChangeNothing : Type 0
 RefusedRequestsChangeNothing =

@@ -35,7 +35,7 @@ pub record ActionState : Type 0 where
   pub items : List Item
 
 -- the action after a command for one name, with that name's spelling in the reply, and whether the
--- command was done
+-- command succeeded
 abbrev pub after_outcome : CommandWord → List ℕ → ActionState → CommandOutcome → ActionState × Bool
 after_outcome word name run (Ok p) = (
   record {
@@ -55,11 +55,11 @@ with_name source c parameters name run =
     after_outcome c.word (written_as (text_of source c.term) name) run
     (outcome c.word run.gateway run.target name parameters)
 
--- the rest is tried whether or not the first was done; all were done if both were
+-- the rest is tried whether or not the first succeeded; all succeeded if both did
 abbrev pub and_then : (ActionState → ActionState × Bool) → ActionState × Bool → ActionState × Bool
 and_then rest (run, is_done) = ((rest run).0, is_done && (rest run).1)
 
--- The action after a command for each name, and whether all were done. A failure for one name does
+-- The action after a command for each name, and whether all succeeded. A failure for one name does
 -- not stop the others.
 unfoldable pub with_names : List ℕ → Command → CommandParameters → List Name → ActionState
     → ActionState × Bool
@@ -118,12 +118,12 @@ abbrev pub action_start : Action → TransactionState → ActionState
 action_start a s =
     record { gateway = s.gateway; target = target_of a.context; made = None; items = s.items }
 
--- the end of an action: what is reported of its context, and the context's number
+-- the end of an action: what is reported about its context, and the context's number
 abbrev pub end_of_action : ActionState → Gateway → List Item → TransactionState
 end_of_action run w items =
     record { gateway = w; items = run.items ++ items ++ replies.Action (id_of run.target) ∷ [] }
 
--- the action after its properties, and whether they were done
+-- the action after its properties, and whether they were applied
 abbrev pub after_properties : ActionState → Result (Gateway × List Item) ErrorNumber
     → TransactionState × Bool
 after_properties run (Ok p) = (end_of_action run p.0 p.1, true)

@@ -1,5 +1,5 @@
--- The number of edits that a request has done, by the items of its reply: each costs rows of
--- samples (this project's own).
+-- The number of edits that a request caused, by the items of its reply. Each costs rows of samples
+-- (this project's own rule).
 use Rattle.std.specs.Prelude.{ℕ, Bool, true, false, List, count_by}
 use Rattle.mg_words.specs.declared.command_word.CommandWord.{CommandWord}
 use Rattle.mg_words.specs.declared.command_word.CommandWord.TheVariants.{AuditValue}
@@ -7,12 +7,12 @@ use Rattle.mg_reply.specs.declared.item.Item.{Item}
 use Rattle.mg_reply.specs.declared.item.Item.TheVariants.{Command}
 use Rattle.mg_reply.specs.declared.outcome.Outcome.TheVariants.{Done}
 
--- a command that is done is an edit, except for an AuditValue, which only reports
+-- a successful command is an edit, except for an AuditValue, which only reports
 abbrev pub is_edit : CommandWord → Bool
 is_edit AuditValue = false
 is_edit word = true
 
--- whether an item reports an edit that was done
+-- whether an item reports a successful edit
 abbrev pub reports_edit : Item → Bool
 reports_edit (Command word term (Done parts)) = is_edit word
 reports_edit item = false

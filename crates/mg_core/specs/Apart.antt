@@ -93,7 +93,7 @@ UnheardChangesNothing =
     → Run a (to_first xs) s x → Run b (to_second xs) t y
     → AgreeOutside some x y × NextTickIsSame some port x y
 
--- It holds after two histories of gateways that were started alike ..
+-- This holds after two histories of gateways that started with the same configuration ..
 abbrev pub UnheardInHistories : Type 0
 UnheardInHistories =
     (some : List ℕ) (port : ℕ) (config : Config) (xs : List Happening) (s t : List Sent)
@@ -102,14 +102,14 @@ UnheardInHistories =
     → HasHistory config (to_first xs) s v one → HasHistory config (to_second xs) t w other
     → NextTickIsSame some port v w
 
--- The first events lead to the world w, where a tick follows: the datagrams sent are those of the
--- first events, of this tick, and of all that comes after it.
+-- The first events lead to the world w, and then comes a tick. The datagrams sent are those of the
+-- first events, of this tick, and of everything after it.
 abbrev pub HasTickAfter : Config → List Event → List Sent → World → Type 0
 HasTickAfter config events sent w =
     (before after : List Sent) × Run (start_of config) events before w
     × (sent ≡ before ++ (map Packet (packets_of w) ++ after))
 
--- .. and in each tick of two scripts that were run whole, whatever comes after the tick.
+-- .. and in each tick of two scripts that were run to the end, whatever comes after the tick.
 abbrev pub UnheardInScripts : Type 0
 UnheardInScripts =
     (some : List ℕ) (port : ℕ) (config : Config) (xs : List Happening) (rest others : List Event)

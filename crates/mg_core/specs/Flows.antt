@@ -110,13 +110,13 @@ abbrev pub changes_by : World → World → List ℕ
 changes_by w next =
     changes (capped next.tally.ticks) (listeners_of w.gateway) (listeners_of next.gateway)
 
--- ## All that changed, and nothing else
+-- ## Everything that changed, and nothing else
 
 -- a termination without its port, which stays the same as long as the termination exists
 abbrev pub but_port : Listener → Listener
 but_port x = record x { port = 0 }
 
--- The lines determine the outcome: if two outcomes of one state are reported alike, the same
+-- The lines determine the outcome: if two outcomes of one state have the same lines, the same
 -- terminations exist, in the same contexts and modes, and the same speech goes to each.
 abbrev pub ReportDeterminesOutcome : Type 0
 ReportDeterminesOutcome =

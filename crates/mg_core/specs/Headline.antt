@@ -72,7 +72,7 @@ GatewayDeterminesFuture =
 
 -- ## The order of terminations
 
--- a gateway can start with this configuration, and its first number fits 32 bits
+-- a gateway can start with this configuration, and its first number fits in 32 bits
 abbrev pub IsStart : Config → Type 0
 IsStart config = IsValidConfig config × (config.first_termination < 2 ^ 32)
 

@@ -66,7 +66,7 @@ RecordingsAreRead =
     (entries : List Entry) → All IsRecorded entries
     → events_of (lines_of true (recording_of entries)) ≡ Some (events_in entries)
 
--- If a recording is cut after any byte, its complete lines are a script of its first events.
+-- If a recording is truncated after any byte, its complete lines are a script of its first events.
 abbrev pub CutRecordingsAreRead : Type 0
 CutRecordingsAreRead =
     (entries : List Entry) (front rest : List ℕ) → All IsRecorded entries

@@ -21,15 +21,15 @@ use Rattle.mg_core.specs.Step.{Sent, Step, Run}
 use Rattle.mg_core.specs.World.{World, start_of, with_control}
 
 -- While the reply to a request is kept, it answers the request, whatever the request asks, and
--- nothing is done.
+-- nothing is executed.
 abbrev pub KeptRepliesAreSent : Type 0
 KeptRepliesAreSent =
     (source sender : List ℕ) (request : Request) (w : World) (text : List ℕ)
     → kept_text w.replies sender request.number ≡ Some text
     → request_replied source sender request w ≡ (text, w)
 
--- A retransmission is answered like the request: in a datagram of any form, with the sender's name
--- in any case. Nothing is done a second time.
+-- A retransmission gets the same answer as the request, in a datagram of any form, with the
+-- sender's name in any case. Nothing is executed a second time.
 abbrev pub RetransmissionsAreAnsweredAlike : Type 0
 RetransmissionsAreAnsweredAlike =
     (source other sender same : List ℕ) (request again : Request) (w : World)
@@ -90,8 +90,8 @@ AllPreserveReply sender number w (event ∷ events) n =
     × ((sent : List Sent) (next : World) → Step w event sent next
     → AllPreserveReply sender number next events others)
 
--- A request is answered with the same text, and nothing is done again, until an acknowledgement
--- names its reply or 32 other replies were kept. Time does not matter.
+-- A request is answered with the same text, and is not run again, until an acknowledgement names
+-- its reply or 32 other replies have been kept. Time does not matter.
 abbrev pub RepliesPersist : Type 0
 RepliesPersist =
     (sender text : List ℕ) (number : ℕ) (w last : World) (events : List Event) (sent : List Sent)
@@ -132,7 +132,7 @@ IsNotRequested sender number (Control source bytes) =
     → list_any (is_request_for sender number (text_of bytes m.sender)) (items_of m.body) ≡ false
 IsNotRequested sender number _ = Unit {0}
 
--- After that the request is run again if it is retransmitted, including its answer.
+-- After that, the request is run again if it is retransmitted, and answered again.
 abbrev pub DroppedRequestsAreRerun : Type 0
 DroppedRequestsAreRerun =
     (sender : List ℕ) (number : ℕ) (w last : World) (events : List Event) (sent : List Sent)

@@ -75,7 +75,7 @@ pub record Ran (shown : Shown) (w : World) (lines : List (List ℕ)) (last : Wor
   pub is_text : IsShownText shown w events sent text last
   pub written : Appends old new text
 
--- the same, but the writer has received only the front of that text, and not all of it
+-- the same, but the writer has received only a proper prefix of that text
 pub record RanInPart (shown : Shown) (w : World) (lines : List (List ℕ)) (last : World)
     (old new : Option (List ℕ)) : Type 0 where
   pub events : List Event

@@ -124,8 +124,8 @@ packets_of w = sent_in_tick w.gateway
 
 -- ## Which worlds a state represents
 
--- The engine represents the gateway, the kept replies are the world's, and the counts are those of
--- the events.
+-- The engine represents the gateway, the kept replies equal the world's, and the counts match the
+-- events.
 pub record StandsFor (state : CoreState) (w : World) : Type 0 where
   pub gateway : engine_stands.StandsFor state.engine w.gateway
   pub replies : w.replies ≡ state.kept

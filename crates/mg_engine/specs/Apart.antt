@@ -1,5 +1,4 @@
--- What some terminations receive, and what it leaves unchanged: packets to anyone who does not
--- hear them do not depend on it.
+-- What some terminations receive does not change the packets to anyone who does not hear them.
 use Rattle.std.specs.Prelude.{◌≡◌, ℕ, ◌&&◌, true, false, List, map, Some, Result, Ok, Err}
 use Rattle.std.specs.Prelude.{if◌then◌else◌}
 use Rattle.std.specs.Option.{option_map}
@@ -45,7 +44,7 @@ pub record AgreeOutside (some : List ℕ) (a b : Gateway) : Type 0 where
 
 -- ## What preserves agreement
 
--- both reject an edit with the same error, or both do it with the same result and then agree
+-- both reject an edit with the same error, or both apply it with the same result and then agree
 abbrev pub EndsAlike : {A : Type 0} → List ℕ → Result (Gateway × A) ErrorNumber
     → Result (Gateway × A) ErrorNumber → Type 0
 EndsAlike some (Ok p) (Ok q) = AgreeOutside some p.0 q.0 × (p.1 ≡ q.1)
@@ -97,13 +96,13 @@ SameTickKeepsAgreement =
 
 -- ## What agreement implies for counters and packets
 
--- the counters of every termination are equal, except for those of received packets
+-- the counters of every termination are equal, except for the counters of received packets
 abbrev pub SameStatsButReceived : Type 0
 SameStatsButReceived =
     (some : List ℕ) (a b : Gateway) (n : ℕ) → AgreeOutside some a b
     → option_map but_received (stats_of a n) ≡ option_map but_received (stats_of b n)
 
--- the listener hears none of these terminations, and is not one of them in a loopback
+-- the listener hears none of these terminations, and is not one of them in Loopback
 pub record HearsNone (some : List ℕ) (w : Gateway) (listener : ℕ) : Type 0 where
   pub others : (talker : ℕ) → has some talker ≡ true → flow w talker listener ≡ false
   pub own : (has some listener && hears_itself w listener) ≡ false

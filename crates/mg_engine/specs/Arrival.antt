@@ -47,7 +47,7 @@ law_for r source =
     if is_stray_source r.remote source then Err causes.Stray
     else option_map_or (λ local. Ok local.law) r.local (Err causes.NoLocal)
 
--- the frame that a datagram brings to a termination
+-- the frame that a termination gets from a datagram
 abbrev pub arrived : Record → List ℕ → Reading → Arrived
 arrived r source reading = do
   law ← law_for r source

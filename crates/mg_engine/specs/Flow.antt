@@ -45,7 +45,7 @@ abbrev pub hears : Gateway → ℕ → ℕ → Bool
 hears w talker listener = share_context w talker listener && may_hear w.edits talker listener
 
 -- whether the talker is silenced for the listener: they share a context, it talks, and the last
--- word keeps its speech from the listener
+-- word mutes it for the listener
 abbrev pub is_silenced : Gateway → ℕ → ℕ → Bool
 is_silenced w talker listener =
     share_context w talker listener
@@ -53,7 +53,7 @@ is_silenced w talker listener =
 
 -- The talker's speech flows to the listener: they are different members of the same context, the
 -- talker talks, the listener listens, and the last word allows it. A number that names no
--- termination has no flow, since it neither talks nor listens.
+-- termination has no flow, because it neither talks nor listens.
 abbrev pub flow : Gateway → ℕ → ℕ → Bool
 flow w talker listener =
     (context_of w talker == context_of w listener)

@@ -1,4 +1,4 @@
--- Who is not heard, in plain words: what follows from the definitions of flow, mix and packet.
+-- Who is not heard, in plain words: consequences of the definitions of flow, mix and packet.
 use Rattle.std.specs.Prelude.{◌≡◌, ℕ, ℤ, ◌+◌, ◌<◌, ◌==◌, ◌&&◌, ◌||◌, not, Bool, true, false, List}
 use Rattle.std.specs.Prelude.{◌∷◌, ◌++◌, map, slice_index, if◌then◌else◌}
 use Rattle.std.specs.List.{list_all}
@@ -24,11 +24,11 @@ replayed n frame s = if s.number == n then record s { frame = frame } else s
 abbrev pub with_frame : Gateway → ℕ → List ℤ → Gateway
 with_frame w n frame = record w { media = map (replayed n frame) w.media }
 
--- a termination is sent its own speech only in a loopback
+-- a termination is sent its own speech only in Loopback
 abbrev pub hears_itself : Gateway → ℕ → Bool
 hears_itself w n = is_loopback (mode_of w n)
 
--- Except in a loopback, no byte of a packet to a termination depends on what it says itself. (The
+-- Except in Loopback, no byte of a packet to a termination depends on what it says itself. (The
 -- definition of flow says that its speech does not flow to itself; this is the consequence.)
 abbrev pub OwnSpeechChangesNoPacket : Type 0
 OwnSpeechChangesNoPacket =
@@ -59,7 +59,7 @@ abbrev pub IsolatedAreNotHeard : Type 0
 IsolatedAreNotHeard =
     (w : Gateway) (a b : ℕ) → AreIsolated w a b → (flow w a b ≡ false) × (flow w b a ≡ false)
 
--- ## Who is not heard leaves no trace
+-- ## Unheard speech leaves no trace
 
 -- the progress of a termination's packets: its number, its ticks, the packets that it has sent,
 -- and whether its last tick sent one
@@ -68,7 +68,7 @@ progress_of s = (s.number, (s.ticks, (s.packets, s.sent_last)))
 
 -- A packet depends only on the configuration, the terminations and contexts, all edits, the
 -- progress of the listener's packets, and certain frames. These are the frames of those whose
--- speech flows to the listener; in a loopback, its own.
+-- speech flows to the listener; in Loopback, its own.
 abbrev pub PacketsDependOnHeard : Type 0
 PacketsDependOnHeard =
     (a b : Gateway) (r : Record) → a.config ≡ b.config → a.rooms ≡ b.rooms → a.edits ≡ b.edits
@@ -78,7 +78,7 @@ PacketsDependOnHeard =
     → packet_of a r ≡ packet_of b r
 
 -- Whatever a talker says, the packet to a listener to whom its speech does not flow is the same,
--- byte for byte. (In a loopback a termination is its own listener.)
+-- byte for byte. (In Loopback a termination is its own listener.)
 abbrev pub UnheardChangesNoPacket : Type 0
 UnheardChangesNoPacket =
     (w : Gateway) (talker : ℕ) (frame : List ℤ) (r : Record) → flow w talker r.number ≡ false

@@ -1,5 +1,5 @@
--- What is said in a context in this tick, and what each listener is sent (this project's own: sums
--- are plain, and a mix is limited once).
+-- What is said in a context in this tick, and what each listener is sent (this project's own:
+-- totals are plain sums, and a mix is limited once).
 use Rattle.std.specs.Prelude.{ℕ, ℤ, pos, Bool, true, false, List, map, ◌&&◌, nat_lt}
 use Rattle.std.specs.Prelude.{Option, Some, None, is_some, slice_index_or, if◌then◌else◌}
 use Rattle.std.specs.List.{range_with_len}
@@ -19,7 +19,7 @@ played_sample w n i = slice_index_or (frame_of w n) i (pos 0)
 abbrev pub part_of_total : Gateway → ℕ → ℕ → ℤ
 part_of_total w i n = if talks (mode_of w n) then played_sample w n i else pos 0
 
--- the plain sum of sample i over the members of a context that talk
+-- the plain sum of sample i over all talkers of a context
 abbrev pub total : Gateway → ℕ → ℕ → ℤ
 total w c i = sum_of (part_of_total w i) (members_at w.rooms c)
 
@@ -39,8 +39,8 @@ abbrev pub is_loopback : Mode → Bool
 is_loopback Loopback = true
 is_loopback _ = false
 
--- sample i of what a termination is sent: its own in a loopback, otherwise the sum of everyone
--- whose speech flows to it, limited once
+-- sample i of what a termination is sent: its own in Loopback, otherwise the sum of everyone whose
+-- speech flows to it, limited once
 abbrev pub mix : Gateway → ℕ → ℕ → ℤ
 mix w n i = if is_loopback (mode_of w n) then played_sample w n i else nearest_sample (heard w n i)
 

@@ -31,8 +31,8 @@ pub record EngineState : Type 0 where
 abbrev pub media_at : List media.SlotMedia → ℕ → media.SlotMedia
 media_at kept slot = slice_index_or kept slot media.idle
 
--- The stored media and frame are those of a termination. The timestamp and the sequence number
--- count its ticks and packets, modulo 2^32 and 2^16.
+-- The stored media and frame match a termination. The timestamp and the sequence number count its
+-- ticks and packets, modulo 2^32 and 2^16.
 pub record IsMediaOf (config : Config) (m : media.SlotMedia) (row : List ℤ)
     (s : TerminationMedia) : Type 0 where
   pub play : m.play ≡ s.play
@@ -42,16 +42,16 @@ pub record IsMediaOf (config : Config) (m : media.SlotMedia) (row : List ℤ)
   pub sequence : m.sequence ≡ (config.sequence + s.packets) % 2 ^ 16
   pub is_sending : m.is_sending ≡ s.sent_last
 
--- two different terminations are in the same context, on these places
+-- two different terminations are in the same context, at these places
 pub record ShareContext (w : rooms.Registry) (m n : ℕ) (a b : Record) (p q : Place) : Type 0 where
   pub first : IsOnPlace w m a p
   pub second : IsOnPlace w n b q
   pub same : a.context ≡ b.context
   pub apart : m ≢ n
 
--- The configuration, terminations and contexts are those of the gateway. Each termination's media
--- are those of its slot, and its frame is that of its slot's row. Between any two members of a
--- context, the table lets one hear the other exactly if the last word does.
+-- The configuration, terminations and contexts equal the gateway's. Each termination's media are
+-- stored in its slot, and its frame in its slot's row. Between any two members of a context, the
+-- table lets one hear the other exactly if the last word does.
 pub record StandsFor (kept : EngineState) (w : Gateway) : Type 0 where
   pub config : w.config ≡ kept.config
   pub rooms : w.rooms ≡ kept.rooms
@@ -63,7 +63,7 @@ pub record StandsFor (kept : EngineState) (w : Gateway) : Type 0 where
       → ShareContext kept.rooms talker listener t l p q
       → flow.hears kept.flows p q ≡ may_hear w.edits talker listener
 
--- the result of the call is the outcome; if the call was done, the engine represents the gateway
+-- the result of the call is the outcome; if the call succeeded, the engine represents the gateway
 -- after it
 abbrev pub IsOutcome : {A : Type 0} → EngineState → Result A ErrorNumber
     → Result (Gateway × A) ErrorNumber → Type 0

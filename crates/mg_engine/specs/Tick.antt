@@ -40,7 +40,7 @@ abbrev pub conceals : Gateway → ℕ → Bool
 conceals w n =
     option_map_or (λ s. is_concealed ((play_lists.ticked s.play).1)) (media_of w n) false
 
--- how many do so in this tick
+-- how many play lists conceal a missing frame in this tick
 abbrev pub concealed_in_tick : Gateway → ℕ
 concealed_in_tick w = count_by (conceals w) (numbers_of w)
 
@@ -54,7 +54,7 @@ sends ReceiveOnly = false
 sends SendReceive = true
 sends Loopback = true
 
--- where a termination sends to, if it sends
+-- the destination of a termination's packets, if it sends
 abbrev pub sent_to : Record → Option Chosen
 sent_to r = if sends r.mode then r.remote else None
 

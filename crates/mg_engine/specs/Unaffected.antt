@@ -35,13 +35,13 @@ pub record IsUnaffected (w next : Gateway) (c : ℕ) : Type 0 where
 
 -- ## Edits and datagrams elsewhere
 
--- a command is not about the context c: c is not the action's context, and the termination that
+-- a command does not concern the context c: c is not the action's context, and the termination that
 -- the command names is not a member of c
 abbrev pub IsElsewhere : Gateway → ℕ → Target → ℕ → Type 0
 IsElsewhere w c target n = (is_number target c ≡ false) × (is_member w c n ≡ false)
 
--- An edit is not about the context c. An Add names no termination, and triples name members of the
--- action's context, so only the action's context matters for these.
+-- An edit does not concern the context c. An Add names no termination, and triples name members of
+-- the action's context, so only the action's context matters for these.
 abbrev pub IsEditElsewhere : Gateway → ℕ → Edit → Type 0
 IsEditElsewhere w c (Add target settings) = is_number target c ≡ false
 IsEditElsewhere w c (Modify target n settings) = IsElsewhere w c target n
@@ -56,7 +56,7 @@ IsPortElsewhere w c port =
 
 -- ## The theorems
 
--- an edit does not affect an existing context that it is not about
+-- an edit does not affect an existing context that it does not concern
 abbrev pub EditsDoNotAffectOthers : Type 0
 EditsDoNotAffectOthers =
     (w next : Gateway) (edit : Edit) (done : Done) (c : ℕ) → IsConsistent w.rooms

@@ -14,18 +14,19 @@ abbrev pub silenced_for : Gateway → ℕ → ℕ
 silenced_for w listener = count_by (λ talker. is_silenced w talker listener) (numbers_of w)
 
 -- the maximum number of rows for what a termination is sent: one, and one for each talker silenced
--- for it; none of these in a loopback, where it is sent its own frame
+-- for it; none of these in Loopback, where it is sent its own frame
 abbrev pub mix_work : Gateway → Record → ℕ
 mix_work w r = 1 + (if is_loopback r.mode then 0 else silenced_for w r.number)
 
 abbrev pub sending_work : Gateway → Record → ℕ
 sending_work w r = if is_some (sent_to r) then mix_work w r else 0
 
--- the maximum number of rows in a tick: two for each termination's frame, and those of what is sent
+-- the maximum number of rows in a tick: two for each termination's frame, and the rows for what is
+-- sent
 abbrev pub tick_work : Gateway → ℕ
 tick_work w =
     2 * length w.rooms.terminations + sum_by (sending_work w) w.rooms.terminations
 
--- a number that is stored modulo 2^32 rises by at most `most`
+-- a number that is stored modulo 2^32 increases by at most `most`
 abbrev pub RisesAtMost : ℕ → ℕ → ℕ → Type 0
 RisesAtMost most old new = (rows : ℕ) × (rows ≤ most) × (new % 2 ^ 32 ≡ (old + rows) % 2 ^ 32)

@@ -76,7 +76,7 @@ flows_in es talker listener =
     talks_in es talker && (listens_in es listener && hears_in es talker listener)
 
 -- whether the talker is silenced for the listener: it talks in the same room, and the last word
--- keeps its speech from the listener
+-- mutes it for the listener
 abbrev pub is_silenced_in : List FlowEdit → Place → Place → Bool
 is_silenced_in es talker listener =
     talks_in es talker

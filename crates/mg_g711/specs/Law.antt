@@ -6,7 +6,7 @@ use Rattle.std.specs.List.{range_with_len}
 use Rattle.mg_g711.specs.declared.law.Law.{Law}
 use Rattle.mg_g711.specs.declared.law.Law.TheVariants.{Mu, A}
 
--- the least magnitude in a level: the decision values of tables 2 and 1 of G.711, times 4 in
+-- the smallest magnitude in a level: the decision values of tables 2 and 1 of G.711, times 4 in
 -- mu-law and times 8 in A-law
 abbrev pub least_of : Law → ℕ → ℕ
 least_of Mu k = if k == 0 then 0 else (16 + k % 16) * 2 ^ (k / 16 + 3) - 132

@@ -1,4 +1,4 @@
--- The replies that are kept, so that a retransmitted request is answered and not run twice (RFC
+-- The replies that are kept so that a retransmitted request is answered and not run twice (RFC
 -- 3525, section 8.2 and annex D.1). They are listed oldest first.
 use Rattle.std.specs.Prelude.{◌≡◌, ℕ, ◌-◌, ◌≤◌, Bool, false, not, ◌&&◌, ◌==◌, nat_le, List, [], ◌∷◌}
 use Rattle.std.specs.Prelude.{◌++◌, length, drop, filter, find, Option, option_map, if◌then◌else◌}
@@ -44,7 +44,7 @@ newest count replies = drop (length replies - count) replies
 abbrev pub with_reply : KeptReply → List KeptReply → List KeptReply
 with_reply reply replies = newest kept_limit (replies ++ reply ∷ [])
 
--- the replies left after a sender acknowledged the numbers from `first` to `last`
+-- the replies that remain after a sender acknowledged the numbers from `first` to `last`
 abbrev pub without_range : List ℕ → ℕ → ℕ → List KeptReply → List KeptReply
 without_range sender first last replies =
     filter (λ reply. not (is_in_range sender first last reply)) replies

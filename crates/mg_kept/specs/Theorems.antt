@@ -103,7 +103,7 @@ UnnamedStay =
     × (length (newer_than (without_range from first last replies) sender number)
     ≤ length (newer_than replies sender number))
 
--- Only its own request brings a dropped reply back.
+-- A dropped reply is kept again only if its own request is run again.
 abbrev pub DroppedStayDropped : Type 0
 DroppedStayDropped =
     (replies : List KeptReply) (sender : List ℕ) (number : ℕ)

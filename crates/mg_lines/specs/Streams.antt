@@ -5,14 +5,14 @@ use Rattle.std.specs.Io.KnownBytes.{Keeps, Appends, Consumes, IsAtEnd}
 use Rattle.mg_lines.specs.declared.read_failed.ReadFailed.{ReadFailed}
 use Rattle.mg_lines.specs.declared.write_failed.WriteFailed.{WriteFailed}
 
--- so many bytes were read, or the end was there, or reading failed
+-- this many bytes were read, or the input had ended, or reading failed
 abbrev pub ReadsSome : List ℕ → Option (List ℕ) → Option (List ℕ) → Result (Option ℕ) ReadFailed
     → Type 0
 ReadsSome buffer old new (Ok None) = Keeps old new × IsAtEnd new
 ReadsSome buffer old new (Ok (Some n)) = (n ≤ length buffer) × Consumes old new (take n buffer)
 ReadsSome buffer old new (Err failed) = Keeps old new
 
--- the front of a text was written, and not all of it
+-- a proper prefix of a text was written
 pub record WritesFront (text : List ℕ) (old new : Option (List ℕ)) : Type 0 where
   pub front : List ℕ
   pub rest : List ℕ
@@ -20,7 +20,7 @@ pub record WritesFront (text : List ℕ) (old new : Option (List ℕ)) : Type 0 
   pub cut : 0 < length rest
   pub written : Appends old new front
 
--- a text was written whole, or its front alone
+-- a whole text was written, or only a proper prefix of it
 abbrev pub Writes : List ℕ → Option (List ℕ) → Option (List ℕ) → Result (Unit {0}) WriteFailed
     → Type 0
 Writes text old new (Ok done) = Appends old new text

@@ -5,17 +5,17 @@ use Rattle.mg_clock.specs.Due.{IsTimeTo, steps_due}
 
 -- the progress of a run
 pub record Pace : Type 0 where
-  -- the polls in each 20 ms
+  -- the polls per 20 ms
   pub polls : ℕ
   -- the steps that were written
   pub steps : ℕ
-  -- the ticks that were left out, each with its polls
+  -- the ticks that were skipped, each with its polls
   pub left : ℕ
 
 abbrev pub start : ℕ → Pace
 start polls = record { polls = polls; steps = 0; left = 0 }
 
--- the steps that were written or left out
+-- the steps that were written or skipped
 abbrev pub steps_past : Pace → ℕ
 steps_past p = p.steps + p.polls * p.left
 
@@ -26,15 +26,15 @@ ticks p = p.steps / p.polls
 -- what happens at a reading t of the clock
 pub record Advances (old : Pace) (t : ℕ) (new : Pace) : Type 0 where
   pub polls : new.polls ≡ old.polls
-  -- everything due was written or left out
+  -- everything due was written or skipped
   pub all : steps_past new ≡ max (steps_past old) (steps_due old.polls t)
   pub more : (old.steps ≤ new.steps) × (old.left ≤ new.left)
   -- at most 50 ticks are written at once, with their polls
   pub few : new.steps ≤ old.steps + 50 * old.polls
-  -- more than 49 are written if a tick was left out
+  -- more than 49 are written if a tick was skipped
   pub needed : old.left < new.left → old.steps + 49 * old.polls < new.steps
 
--- the wait d after a reading t: the next step is due at its end, and none before
+-- the wait d after a reading t: the next step is due at its end, and no step is due before
 abbrev pub Waits : Pace → ℕ → ℕ → Type 0
 Waits p t d = IsTimeTo p.polls (steps_past p) t d
 

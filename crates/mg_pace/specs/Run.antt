@@ -21,8 +21,8 @@ seen readings waits written =
     record { readings = readings; waits = waits; written = written }
 
 -- How a run ends at a pace. All lines up to it were written, with the last wanted tick, or before
--- it if the clock failed or was read 2^64 - 1 times. If the output was closed, a front of these
--- lines was written. A run that left out no tick reports nothing, unless the clock failed.
+-- it if the clock failed or was read 2^64 - 1 times. If the output was closed, a prefix of these
+-- lines was written. A run that skipped no tick reports nothing, unless the clock failed.
 abbrev pub RunEnds : ℕ → Pace → (readings waits : ℕ) → (failed silent : Type 0) → Option (List ℕ)
     → Option (List ℕ) → Result (Unit {0}) PaceFault → Type 0
 RunEnds wanted p readings waits failed silent old new (Ok done) =
@@ -34,9 +34,9 @@ RunEnds wanted p readings waits failed silent old new (Err faults.Clock) =
 RunEnds wanted p readings waits failed silent old new (Err faults.Closed) =
     (readings ≡ waits + 1) × (p.left ≡ 0 → silent) × WritesFront (text_by wanted p) old new
 
--- A run: the clock's readings determine the waits and what was written. Since a run may end at
--- each of its readings, nothing is written before the reading that makes it due, and no wait is
--- out of turn.
+-- A run: the clock's readings determine the waits and what was written. A run may end at each of
+-- its readings. So nothing is written before the reading at which it is due, and each wait follows
+-- its reading.
 pub record Paced (options : Options) (failed silent : Type 0) (old new : Seen)
     (result : Result (Unit {0}) PaceFault) : Type 0 where
   pub readings : List ℕ

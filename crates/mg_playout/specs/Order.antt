@@ -1,5 +1,5 @@
--- Properties of play lists by sequence number, for the theorems (this project's own). No call is
--- defined by these words.
+-- Properties of play lists by sequence number, for the theorems (this project's own). They define
+-- no call.
 use Rattle.std.specs.Prelude.{◌≡◌, ℕ, zero, suc, ◌<◌, ℤ, List, drop, Option, Some, None, IfSome}
 use Rattle.std.specs.Prelude.{if◌then◌else◌}
 use Rattle.mg_g711.specs.Frame.{IsFrame}
@@ -36,7 +36,8 @@ abbrev pub frame_before : FramePlaces → Option (List ℤ) → ℕ → Option (
 frame_before places last zero = last
 frame_before places last (suc place) = frame_at places place
 
--- What is played for the place. Nothing is if neither this place nor a later one has a frame.
+-- What is played for the place. If neither this place nor a later one has a frame, nothing is
+-- played.
 abbrev pub given_at : FramePlaces → Option (List ℤ) → ℕ → Played
 given_at places last place =
     if has_no_frame (drop place places) then Silence

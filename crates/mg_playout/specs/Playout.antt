@@ -52,7 +52,7 @@ started list ssrc sequence frame = record {
 abbrev pub advanced : ℕ → Source → Source
 advanced count source = record { ssrc = source.ssrc; next = (source.next + count) % 65536 }
 
--- a shift by `count`: the next sequence number rises, and every frame moves down
+-- a shift by `count`: the next sequence number increases, and every frame moves down
 abbrev pub shifted : PlayList → ℕ → PlayList
 shifted list count = record list {
   source = option_map (advanced count) list.source;
@@ -63,7 +63,7 @@ shifted list count = record list {
 abbrev pub filled : PlayList → ℕ → List ℤ → PlayList
 filled list place frame = record list { places = slice_set list.places place (Some frame) }
 
--- where a frame belongs whose place is not below 0
+-- where a frame belongs if its place is not below 0
 abbrev pub turn_of_place : Phase → FramePlaces → ℕ → Turn
 turn_of_place Idle places place = Start
 turn_of_place phase places place =
@@ -78,7 +78,7 @@ turn_at list distance =
     else if int_lt distance (pos 0) then Late
     else turn_of_place list.phase list.places (nat_abs distance)
 
--- where a frame belongs: the first case that holds
+-- where a frame belongs: the first case that applies
 abbrev pub turn_of : PlayList → ℕ → ℕ → Turn
 turn_of list ssrc sequence =
     option_map_or (λ source. if ssrc == source.ssrc
@@ -97,9 +97,8 @@ placed_at (Push count) list ssrc sequence frame =
 abbrev pub placed : PlayList → ℕ → ℕ → List ℤ → PlayList × Placed
 placed list ssrc sequence frame = placed_at (turn_of list ssrc sequence) list ssrc sequence frame
 
--- A tick: the play list after it, and what it plays. The next turn finds as the last frame what
--- this turn had at place 0, a frame or none. An empty list has no turn, and forgets the last
--- frame.
+-- A tick: the play list after it, and what it plays. What was at place 0 in this tick, a frame or
+-- none, becomes the last frame. An empty list plays no place, and forgets the last frame.
 abbrev pub ticked_in : Phase → PlayList → PlayList × Played
 ticked_in Idle list = (list, Silence)
 ticked_in (Wait ticks) list =
@@ -114,6 +113,6 @@ ticked_in Run list =
 abbrev pub ticked : PlayList → PlayList × Played
 ticked list = ticked_in list.phase list
 
--- A change of depth. The phase stays, so a wait that has started keeps its length.
+-- A change of depth. The phase is unchanged, so a wait that has started keeps its length.
 abbrev pub with_depth : PlayList → ℕ → PlayList
 with_depth list depth = record list { places = resized list.places depth }

@@ -1,4 +1,4 @@
--- The address of a gateway, by its text.
+-- How the address of a gateway is spelled.
 use Rattle.std.specs.Prelude.{ℕ, Bool, nat_le, List, [], ◌∷◌, slice_index, ok_or, Result, Ok, Err}
 use Rattle.std.specs.Prelude.{if◌then◌else◌}
 use Rattle.std.specs.Str.{bytes_eq}
@@ -12,8 +12,8 @@ use Rattle.mg_program.specs.declared.address.AddressFault.TheVariants.{Multicast
 abbrev pub is_multicast : List ℕ → Bool
 is_multicast address = nat_le 224 (slice_index address 0)
 
--- The address that a text in dotted decimal names. Callers are told it, or the gateway is named by
--- it. So it isn't 0.0.0.0, and one machine's.
+-- The address that a text in dotted decimal names. It appears in session descriptions, or as the
+-- gateway's name. So it isn't 0.0.0.0, and it is unicast.
 abbrev pub own_address : List ℕ → Result (List ℕ) AddressFault
 own_address text = do
   address ← ok_or (address_of text) Unreadable

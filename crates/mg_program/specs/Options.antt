@@ -1,4 +1,4 @@
--- The command line, as the parser of its words knows it, and what words ask of the program.
+-- The command line, as the parser of arguments sees it, and what arguments ask of the program.
 use Rattle.std.specs.Prelude.{ℕ, Bool, true, false, if◌then◌else◌, List, [], ◌∷◌, Some, unwrap_or}
 use Rattle.std.specs.Prelude.{Result, Ok, Err, codes, fold}
 use Rattle.std.specs.Option.{option_map_or}
@@ -45,7 +45,7 @@ subcommand_line name = fold with_rule (new_app name) options
 abbrev pub controller_rule : Rule
 controller_rule = record (text_rule (codes "controller")) { action = Some Append }
 
--- an option with this name that takes nothing, and is set where it is given
+-- an option with this name and without a value, which is set if it is given
 abbrev pub flag_rule : Text → Rule
 flag_rule name = record (new_rule name) { long = Some name; action = Some SetTrue }
 
@@ -59,11 +59,11 @@ sockets_line name =
 abbrev pub replay_line : App
 replay_line = with_rule (subcommand_line (codes "replay")) (flag_rule (codes "flows"))
 
--- and the one that has a clock
+-- the subcommand that has a clock
 abbrev pub live_line : App
 live_line = with_rule (sockets_line (codes "live")) (number_rule (codes "late") 0 65535)
 
--- the command line: words of which one is a subcommand
+-- the command line: arguments of which one is a subcommand
 unfoldable pub command_line : App
 command_line =
     with_subcommand (with_subcommand (with_subcommand
@@ -72,8 +72,8 @@ command_line =
 
 -- ## The values of the options
 
--- the configuration that the options name, at these addresses for media and for control messages:
--- what isn't named is as in the standard one
+-- the configuration that the options name, at these addresses for media and for control messages;
+-- options that aren't given have the standard value
 unfoldable pub config_at : List ℕ → List ℕ → List Row → Config
 config_at address control found = record standard {
   address = address;
@@ -89,7 +89,7 @@ config_at address control found = record standard {
   timestamp = number_or 4294967296 (codes "timestamp") standard.timestamp found;
 }
 
--- the address that an option names, or another one where it isn't given
+-- the address that an option names, or another one if it isn't given
 abbrev pub address_in : Text → List ℕ → List Row → Result (List ℕ) AddressFault
 address_in name otherwise found = option_map_or own_address (first_of name found) (Ok otherwise)
 
@@ -102,9 +102,9 @@ is_set name found =
 abbrev pub controllers_in : List Row → Result (List (List ℕ)) ControllerFault
 controllers_in found = controllers_of (unwrap_or (all_of (codes "controller") found) [])
 
--- ## What words ask of the program
+-- ## What arguments ask of the program
 
--- what the options ask of a gateway on sockets: a report is due every so many seconds
+-- what the options ask of a gateway on sockets, including the seconds between reports
 abbrev pub service_of : List (List ℕ) → List Row → Service
 service_of controllers found = record {
   controllers = controllers;
@@ -112,7 +112,7 @@ service_of controllers found = record {
   records = is_set (codes "record") found;
 }
 
--- the run of a subcommand, with how late a tick may be whose packets are sent, in ticks
+-- the run of a subcommand, with the maximum lateness, in ticks, of a tick whose packets are sent
 abbrev pub run_of : Text → Config → List (List ℕ) → List Row → Invocation
 run_of name config controllers found =
     if bytes_eq name (codes "serve") then Serve config (service_of controllers found)
@@ -120,13 +120,13 @@ run_of name config controllers found =
     then Live config (service_of controllers found) (number_or 65536 (codes "late") 5 found)
     else Replay config (if is_set (codes "flows") found then SentAndFlows else Sent))
 
--- a text that names nothing is a fault of the words
+-- a text that doesn't name anything is a fault of the arguments
 abbrev pub valid : {A E : Type 0} → Result A E → Result A Kinds
 valid (Ok value) = Ok value
 valid (Err fault) = Err (ValueValidation ∷ [])
 
--- What a subcommand with these options asks for. Without an address of its own for control
--- messages a gateway has the one that callers are told.
+-- What a subcommand with these options asks for. A gateway without an address for control messages
+-- uses its address for media.
 abbrev pub run_in : Text → List Row → Result Invocation Kinds
 run_in name found = do
   address ← valid (address_in (codes "address") standard.address found)
@@ -134,8 +134,8 @@ run_in name found = do
   controllers ← valid (controllers_in found)
   Ok (run_of name (config_at address control found) controllers found)
 
--- A run of a subcommand, or none. There is none where the parser of words has a fault to tell, or
--- an address can't be a gateway's or a controller's.
+-- A run of a subcommand, or none. There is none if the parser reports an error, or if an address
+-- can't be a gateway's or a controller's.
 unfoldable pub requested : List Text → Result Invocation Kinds
 requested words = requested_by (fault_of command_line words) (option_map_or
     (λ found. run_in found.0 found.1) (subcommand_of command_line words) (Err []))

@@ -1,4 +1,4 @@
--- What a run of the program does (`EndsWith` of `mg_options` says how it ends on its words).
+-- What a run of the program does; `EndsWith` of `mg_options` says how it ends on its arguments.
 use Rattle.std.specs.Prelude.{◌≡◌, ℕ, List, Option}
 use Rattle.mg_options.specs.declared.status.Status.{Status}
 use Rattle.mg_options.specs.declared.status.Status.TheVariants.{Done}
@@ -7,8 +7,8 @@ use Rattle.mg_program.specs.declared.invocation.Invocation.TheVariants.{Replay, 
 use Rattle.mg_program.specs.Replay.{Replays}
 use Rattle.mg_program.specs.Serve.{Serves, ServesByClock}
 
--- A run was made as far as the status says, and one that is done prints no error. By the clock no
--- input is read.
+-- A run was made as far as the status says, and a successful run prints no error. A clock-driven
+-- run reads no input.
 abbrev pub Runs : {R W : Type 0} → (R → Option (List ℕ)) → (W → Option (List ℕ))
     → (silent : Type 0) → R → R → W → W → Invocation → Status → Type 0
 Runs remaining contents silent input rest old new (Replay config shown) status =

@@ -4,7 +4,7 @@ use Rattle.mio.specs.Event.{event_token}
 use Rattle.mg_words.specs.Limits.{termination_limit}
 use Rattle.mio.specs.declared.event.event.Event.{Event}
 
--- a receive at this slot may find something
+-- a receive at this slot may find a datagram
 abbrev pub IsReady : List Bool → ℕ → Type 0
 IsReady ready slot = slice_index_or ready slot false ≡ true
 
@@ -12,11 +12,12 @@ IsReady ready slot = slice_index_or ready slot false ≡ true
 abbrev pub AreStillReady : List Bool → List Bool → Type 0
 AreStillReady old new = (slot : ℕ) → IsReady old slot → IsReady new slot
 
--- those of the slots below this one do
+-- all sockets of the slots below this one count as ready
 abbrev pub AreReadyBelow : ℕ → List Bool → Type 0
 AreReadyBelow limit ready = (slot : ℕ) → slot < limit → IsReady ready slot
 
--- those that the system told of do: one is the control port's, and each other one a media port's
+-- all sockets that the system reported count as ready: the control socket, and a media socket for
+-- each termination
 abbrev pub AreReported : List Event → List Bool → Type 0
 AreReported [] ready = Unit {0}
 AreReported (event ∷ events) ready =

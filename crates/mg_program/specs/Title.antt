@@ -23,7 +23,7 @@ abbrev pub title_text : Config → List ℕ
 title_text config =
     codes "mg_bridge replay" ++ flat_map (λ option. codes " --" ++ option) (titled_options config)
 
--- the title of what is printed, if that is a recording
+-- the title of the output, if it is a recording
 abbrev pub if_recorded : (records : Bool) → List ℕ → Option (List ℕ)
 if_recorded true title = Some title
 if_recorded false title = None

@@ -14,7 +14,7 @@ use Rattle.mg_words.specs.ErrorNumber.{error_text}
 use Rattle.mg_reply.specs.Listed.{listed, grouped}
 use Rattle.mg_reply.specs.Media.{reported_parts}
 
--- the text after a command's termination: its error, or what is reported of it
+-- the text after a command's termination: its error, or what is reported about it
 abbrev pub outcome_text : Outcome → List ℕ
 outcome_text (Failed e) = grouped (error_text e ∷ [])
 outcome_text (Done parts) = grouped (reported_parts parts)

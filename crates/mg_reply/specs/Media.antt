@@ -1,4 +1,4 @@
--- What a reply reports of a command's termination (RFC 3525, Annex B.2, mediaDescriptor and
+-- What a reply reports about a command's termination (RFC 3525, Annex B.2, mediaDescriptor and
 -- statisticsDescriptor).
 use Rattle.std.specs.Prelude.{ℕ, ◌*◌, List, [], ◌∷◌, ◌++◌, Option, Some, None, codes, decimal}
 use Rattle.mg_sdp.specs.declared.chosen.Chosen.{Chosen}
@@ -11,7 +11,7 @@ use Rattle.mg_words.specs.declared.stats.Stats.{Stats}
 use Rattle.mg_reply.specs.declared.outcome.Parts.{Parts}
 use Rattle.mg_reply.specs.Listed.{grouped}
 
--- the mode, and the depth of the play list in milliseconds, 20 a frame
+-- the mode, and the depth of the play list in milliseconds, 20 per frame
 unfoldable pub control_text : Control → List ℕ
 control_text c =
     codes "LocalControl{Mode=" ++ (mode_text c.mode

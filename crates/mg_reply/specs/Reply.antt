@@ -41,7 +41,7 @@ IsWhole r = is_whole r ≡ true
 abbrev pub marked : Answered → Answered
 marked r = record r { is_long = true }
 
--- the reply with one more item, which takes `size` room
+-- the reply with one more item, which needs `size` room
 abbrev pub with_item : Answered → Item → ℕ → Answered
 with_item r item size =
     record r {
@@ -50,8 +50,8 @@ with_item r item size =
       has_pending = not (is_action item);
     }
 
--- The end of an action that has items takes no room. Any other item takes one place; if there is
--- none, it is dropped and the reply is marked.
+-- The end of an action that has items needs no room. Any other item needs one place; if there is
+-- none, it is dropped and the reply is marked as too long.
 abbrev pub after_put : Answered → Item → Answered
 after_put r item =
     if is_action item && r.has_pending then with_item r item 0

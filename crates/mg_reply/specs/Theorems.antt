@@ -36,7 +36,7 @@ abbrev pub is_too_long : Answered → Bool
 is_too_long r = r.is_long || nat_lt reply_limit (length (reply_text r.number r.items))
 
 -- Complete items, put into a new reply, make it too long exactly if their whole text exceeds the
--- limit, including those that found no room. If they do not, all of them are in the reply.
+-- limit, including those that found no room. Otherwise, all of them are in the reply.
 abbrev pub TooLongByText : Type 0
 TooLongByText =
     (n : ℕ) (xs : List Item) → list_all is_wide xs ≡ true

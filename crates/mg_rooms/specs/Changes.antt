@@ -15,7 +15,7 @@ change key n f (x ∷ xs) = if key x == n then option_to_list (f x) ++ xs else x
 
 -- ## Terminations
 
--- the termination r is made, and the next number is one higher
+-- the termination r is made, and the next number increases by one
 abbrev pub inserted : Registry → Record → Registry
 inserted w r =
     record w { terminations = w.terminations ++ r ∷ []; next_termination = w.next_termination + 1 }

@@ -7,7 +7,7 @@ use Rattle.mg_rooms.specs.declared.limits.Limits.{Limits}
 abbrev pub slot_port : Limits → ℕ → ℕ
 slot_port limits slot = limits.base_port + 2 * slot
 
--- there is a slot, there are not too many, and each has an even UDP port
+-- there is at least one slot, there are not too many, and each has an even UDP port
 pub record HasPool (limits : Limits) : Type 0 where
   pub some_slot : 0 < limits.slots
   pub few_slots : limits.slots ≤ termination_limit

@@ -45,20 +45,20 @@ members_at w c = option_map_or (λ x. x.members) (context_at w c) []
 
 -- ## Free slots, rooms and seats
 
--- the least number below n that passes the test
+-- the lowest number below n that passes the test
 abbrev pub least_below : ℕ → (ℕ → Bool) → Option ℕ
 least_below n test = find test (range_with_len 0 n)
 
--- the least slot without a termination
+-- the lowest slot without a termination
 abbrev pub free_slot : Registry → Option ℕ
 free_slot w =
     least_below w.limits.slots (λ slot. not (list_any (λ r. r.slot == slot) w.terminations))
 
--- the least room without a context
+-- the lowest room without a context
 abbrev pub free_room : Registry → Option ℕ
 free_room w = least_below context_limit (λ room. not (list_any (λ x. x.room == room) w.contexts))
 
--- the least seat of the context without a termination
+-- the lowest seat of the context without a termination
 abbrev pub free_seat : Registry → ℕ → Option ℕ
 free_seat w c =
     least_below member_limit (λ seat. not

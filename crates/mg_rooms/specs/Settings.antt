@@ -1,5 +1,5 @@
--- How a command changes a termination's settings (RFC 3525, section 7.1.4 to 7.1.8). What a
--- command does not name stays. The limits of the depth are this project's own.
+-- How a command changes a termination's settings (RFC 3525, section 7.1.4 to 7.1.8). Settings that
+-- a command does not name are unchanged. The limits on the depth are this project's own.
 use Rattle.std.specs.Prelude.{ℕ, min, max, List, [], ◌∷◌, Option, Some, None, Result, Ok, Err}
 use Rattle.std.specs.Option.{option_map_or}
 use Rattle.mg_sdp.specs.declared.offer.Offer.{Offer}
@@ -11,7 +11,7 @@ use Rattle.mg_rooms.specs.declared.media_setting.MediaSetting.{MediaSetting}
 use Rattle.mg_rooms.specs.declared.media_setting.MediaSetting.TheVariants.{Clear, Offer as Offered}
 use Rattle.mg_rooms.specs.declared.media_setting.MediaSetting.TheVariants.{Unreadable}
 
--- the depth in frames of 20 ms, brought to 2 to 16
+-- the depth in frames of 20 ms, limited to 2–16
 abbrev pub depth_after : Option ℕ → ℕ → ℕ
 depth_after None old = old
 depth_after (Some depth) old = min (max depth least_depth) greatest_depth

@@ -28,7 +28,7 @@ pub record IsNext (old : Scanning) (token : Token) (new : Scanning) : Type 0 whe
   pub is : first_token old.named (rest_of old)
       ≡ token_and_rest token.kind (text_of old.source token.span) (rest_of new)
 
--- One step: a token, a fault, or the end. After a fault or the end nothing is left.
+-- One step: a token, a fault, or the end. After a fault or the end, no bytes remain.
 abbrev pub IsStep : Scanning → Option (Result Token ScanFault) → Scanning → Type 0
 IsStep old None new = (first_token old.named (rest_of old) ≡ None) × (rest_of new ≡ [])
 IsStep old (Some (Err f)) new =

@@ -20,7 +20,7 @@ is_own_port own asked = option_map_or (λ port. port == own) asked true
 abbrev pub is_open_port : Option ℕ → Bool
 is_open_port asked = option_map_or (λ port. not (port == 0)) asked false
 
--- the gateway can receive by the offer, at its own address and port
+-- the gateway can receive what is offered, at its own address and port
 abbrev pub is_served_local : List ℕ → ℕ → Offer → Bool
 is_served_local address port offer =
     is_own_address address offer.address && is_own_port port offer.port
@@ -37,7 +37,7 @@ abbrev pub local_of : List ℕ → ℕ → Offer → Chosen
 local_of address port offer =
     record { address = address; port = port; law = unwrap_or offer.law Mu }
 
--- the first offer that the gateway can receive by; in mu-law if the law is left to it
+-- the first offer that the gateway can receive; in mu-law if the law is left to it
 abbrev pub local_choice : List ℕ → ℕ → List (Option Offer) → Option Chosen
 local_choice address port alternatives =
     option_map (local_of address port)
@@ -50,7 +50,7 @@ remote_of offer = do
   law ← offer.law
   Some (record { address = address; port = port; law = law })
 
--- the first offer that the gateway can send by
+-- the first offer that the gateway can send
 abbrev pub remote_choice : List (Option Offer) → Option Chosen
 remote_choice alternatives =
     option_and_then remote_of (find is_served_remote (offers_of alternatives))

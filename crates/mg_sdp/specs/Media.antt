@@ -34,7 +34,7 @@ requested_media port law = do
   law ← law
   Some (record { port = port; law = law })
 
--- media = "audio" port "RTP/AVP" 1*format, compared without case
+-- media = "audio" port "RTP/AVP" 1*format, ignoring case
 unfoldable pub media_in : List (List ℕ) → Option MediaLine
 media_in (kind ∷ port ∷ protocol ∷ formats) =
     if str_eq_ignore_ascii_case kind (codes "audio")

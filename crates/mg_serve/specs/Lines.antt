@@ -7,7 +7,7 @@ use Rattle.mg_clock.specs.declared.timing.Timing.TheVariants.{OnTime}
 use Rattle.mg_serve.specs.declared.form.Form.{Form}
 use Rattle.mg_serve.specs.declared.form.Form.TheVariants.{Plain, Recording}
 
--- What a line asks for, by its text. Whoever writes lines keeps the time, so no tick is late.
+-- The command of a line, by its text. Whoever writes the lines keeps the time, so no tick is late.
 abbrev pub line_command : List ℕ → Command
 line_command line =
     if bytes_eq line (codes "poll") then Poll
@@ -23,7 +23,7 @@ abbrev pub is_quit : Command → Bool
 is_quit Quit = true
 is_quit _ = false
 
--- Something is printed for a command: it is answered by a line, or its events are recorded.
+-- Something is printed for a command: a line in reply, or its events in a recording.
 abbrev pub prints : Form → Command → Bool
 prints form Poll = is_recording form
 prints form (Tick timing) = is_recording form

@@ -1,4 +1,4 @@
--- What is said of a server's whole run.
+-- The contract of a server's whole run.
 use Rattle.std.specs.Prelude.{◌≡◌, ◌⊎◌, ℕ, ◌+◌, ◌-◌, ◌^◌, ◌≤◌, Bool, true, false, List, [], ◌∷◌}
 use Rattle.std.specs.Prelude.{◌++◌, length, map, flat_map, Option, Some, None, Result, Ok, Err, codes}
 use Rattle.std.specs.Io.KnownBytes.{Appends, Consumes, IsAtEnd}
@@ -21,17 +21,17 @@ use Rattle.mg_serve.specs.Session.{Session}
 use Rattle.mg_serve.specs.Setup.{Setup}
 use Rattle.mg_serve.specs.Trace.{TraceEntry, Printed, Noted, calls_of, output_of}
 
--- Why no more of a text's lines are done. Of the text that was read these lines count and were done;
--- the others count and were not.
+-- Why no more lines of a text are executed. Of the lines that were read, `lines` were executed, and
+-- `others` should have been but were not.
 abbrev pub Exits : {T : Type 0} → Form → Result T RunFault → (ended : Bool) → (text : List ℕ)
     → (lines others : List (List ℕ)) → Option (List ℕ) → Type 0
--- no line is left: the input ended, or whatever follows is after a `quit`
+-- No line is left: the input ended, or everything that follows comes after a `quit`.
 Exits form (Ok value) ended text lines others left =
     (others ≡ []) × (((ended ≡ true) × IsAtEnd left)
     ⊎ ((more : List ℕ) → before_quit (lines_of true (text ++ more)) ≡ lines))
--- all lines that were read whole were done
+-- All lines that were read completely were executed.
 Exits form (Err faults.Read) ended text lines others left = (ended ≡ false) × (others ≡ [])
--- A print failed: of the last line that was done, or at the start.
+-- A print failed: for the last line that was executed, or at the start.
 Exits form (Err faults.Write) ended text lines others left =
     ((lines ≡ []) × (text ≡ [])) ⊎ LastPrints form (map line_command lines)
 -- nothing was read
@@ -39,8 +39,8 @@ Exits form (Err faults.NoMemory) ended text lines others left = (lines ≡ []) �
 Exits form (Err faults.BadConfig) ended text lines others left = (lines ≡ []) × (text ≡ [])
 Exits form (Err (faults.Script number)) ended text lines others left = ⊥
 
--- A text was read. The commands are those of its lines that count, which are the lines before the
--- first `quit`, or of the first of them where a print failed.
+-- A text was read. The commands are those of its lines before the first `quit`, or of the first of
+-- these lines if a print failed.
 pub record ReadCommands {T : Type 0} (form : Form) (old new : Option (List ℕ))
     (result : Result T RunFault) (commands : List Command) : Type 0 where
   pub text : List ℕ
@@ -52,11 +52,11 @@ pub record ReadCommands {T : Type 0} (form : Form) (old new : Option (List ℕ))
   pub are : commands ≡ map line_command lines
   pub exits : Exits form result ended text lines others new
 
--- the commands of ticks: in each 20 ms a poll and then the tick
+-- the commands of ticks: for each 20 ms a poll and then the tick
 abbrev pub commands_at : List Timing → List Command
 commands_at timings = flat_map (λ timing. Poll ∷ Tick timing ∷ []) timings
 
--- Why no more is done by a clock, where these ticks began and these commands were done.
+-- Why a clock stops, after these ticks began and these commands were executed.
 abbrev pub ClockExits : Form → RunFault → (fails : Type 0) → List Timing → List Command → ClockSeen
     → ClockSeen → Type 0
 -- the clock can't be read, or will never reach the next tick
@@ -64,20 +64,20 @@ ClockExits form faults.Read fails timings commands now new =
     (commands ≡ commands_at timings)
     × (fails ⊎ (length timings ≡ 2 ^ 64 - 1
     ⊎ IsReadEarly (length timings + 1) (2 ^ 64 - 1) now new))
--- A print failed: of the last command that was done, after which at most a tick is left; or at the
--- start.
+-- A print failed: for the last command that was executed, after which at most a tick is left; or at
+-- the start.
 ClockExits form faults.Write fails timings commands now new =
     (new ≡ now) × ((timings ≡ []) × (commands ≡ [])
     ⊎ ((left : List Command) × (commands_at timings ≡ commands ++ left) × (length left ≤ 1)
     × LastPrints form commands))
--- nothing was done
+-- nothing was executed
 ClockExits form faults.NoMemory fails timings commands now new =
     (new ≡ now) × (timings ≡ []) × (commands ≡ [])
 ClockExits form faults.BadConfig fails timings commands now new =
     (new ≡ now) × (timings ≡ []) × (commands ≡ [])
 ClockExits form (faults.Script number) fails timings commands now new = ⊥
 
--- The commands are those of the ticks that began by a clock, each when it was due.
+-- The commands are those of the ticks that a clock began, each when it was due.
 pub record ClockCommands (form : Form) (allowed : ℕ) (old new : ClockSeen) (fails : Type 0)
     (fault : RunFault) (commands : List Command) : Type 0 where
   pub timings : List Timing
@@ -90,7 +90,7 @@ abbrev pub AreCounted : Result Counts RunFault → World → Type 0
 AreCounted (Ok counts) w = record counts { lines = 0; sent = 0; failed = 0 } ≡ counts_of w.tally
 AreCounted (Err fault) w = Unit {0}
 
--- a recording is what has a title
+-- with a title, the output is a recording
 abbrev pub form_of : Option (List ℕ) → Form
 form_of None = Plain
 form_of (Some title) = Recording
@@ -106,13 +106,13 @@ Opens title (Err faults.NoMemory) first = first ≡ []
 Opens title (Err faults.BadConfig) first = first ≡ []
 Opens title result first = first ≡ opening title
 
--- what was to be printed was, or where a print failed its front and not all of it
+-- Everything to be printed was printed or, if a print failed, a proper prefix of it.
 abbrev pub IsOutput : Result Counts RunFault → List ℕ → Option (List ℕ) → Option (List ℕ) → Type 0
 IsOutput (Err faults.Write) text old new = WritesFront text old new
 IsOutput _ text old new = Appends old new text
 
--- A run on a new gateway by commands that a source gave: they are a session, whose calls the ports
--- told, and whose output was printed.
+-- A run of a new gateway with commands from a source. They form a session; the ports logged its
+-- calls, and its output was printed.
 pub record Served (setup : Setup) (title : Option (List ℕ)) (Gave : List Command → Type 0)
     (before logged : Option (List Call)) (held written : Option (List ℕ))
     (result : Result Counts RunFault) : Type 0 where
@@ -127,14 +127,14 @@ pub record Served (setup : Setup) (title : Option (List ℕ)) (Gave : List Comma
   pub printed : IsOutput result (output_of (form_of title) (first ++ trace)) held written
   pub counts : AreCounted result last
 
--- a run by the lines of an input
+-- a run driven by the lines of an input
 abbrev pub ServedSession : Setup → Option (List ℕ) → (old new : Option (List ℕ))
     → (before logged : Option (List Call)) → (held written : Option (List ℕ))
     → Result Counts RunFault → Type 0
 ServedSession setup title old new before logged held written result =
     Served setup title (ReadCommands (form_of title) old new result) before logged held written result
 
--- a run by a clock, which ends with a fault alone
+-- a run driven by a clock, which ends only on a fault
 abbrev pub ServedByClock : Setup → Option (List ℕ) → (allowed : ℕ) → (old new : ClockSeen)
     → (fails : Type 0) → (before logged : Option (List Call)) → (held written : Option (List ℕ))
     → RunFault → Type 0

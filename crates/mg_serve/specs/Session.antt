@@ -1,4 +1,4 @@
--- A session: commands, and what is done for them.
+-- A session: commands and their effects.
 use Rattle.std.specs.Prelude.{◌≡◌, ◌⊎◌, ℕ, zero, suc, ◌+◌, ◌-◌, ◌*◌, ◌/◌, ◌<◌, Bool, true, false}
 use Rattle.std.specs.Prelude.{List, [], ◌∷◌, ◌++◌, length, map, codes}
 use Rattle.std.specs.List.{range_with_len}
@@ -17,7 +17,7 @@ use Rattle.mg_serve.specs.declared.command.Command.TheVariants.{Poll, Tick, Stat
 use Rattle.mg_serve.specs.Setup.{Setup, is_admitted}
 use Rattle.mg_serve.specs.Trace.{TraceEntry, Called, Happened, Printed, Noted}
 
--- For each of these in turn, what is done, from the world that the one before it left.
+-- The effects of several items, one after another, each in the world that the previous one left.
 abbrev pub Each : {A : Type 0} → (A → World → List TraceEntry → World → Type 0) → List A → World
     → List TraceEntry → World → Type 0
 Each R [] w trace next = (trace ≡ []) × (next ≡ w)
@@ -28,7 +28,7 @@ Each R (x ∷ xs) w trace next =
 
 -- ## One event
 
--- A datagram is sent by one call: an answer on socket 0, a packet on the socket of its port.
+-- A datagram is sent with one call: an answer on socket 0, a packet on the socket of its port.
 abbrev pub send_of : Setup → Sent → Call
 send_of setup (Reply to text) = Send 0 to text
 send_of setup (Packet packet) =
@@ -37,23 +37,23 @@ send_of setup (Packet packet) =
 abbrev pub sends_of : Setup → List Sent → List TraceEntry
 sends_of setup sent = map (λ datagram. Called (send_of setup datagram)) sent
 
--- an event, and then a send for each datagram of it, in order
+-- an event, and then a send for each of its datagrams, in order
 abbrev pub HandlesEvent : Setup → Event → World → List TraceEntry → World → Type 0
 HandlesEvent setup event w trace next =
     (sent : List Sent) × Step w event sent next
     × (trace ≡ Happened event ∷ sends_of setup sent)
 
--- the event of a datagram that came at a socket
+-- the event of a datagram that arrived at a socket
 abbrev pub event_at : Setup → ℕ → Peer → List ℕ → Event
 event_at setup zero source bytes = events.Control source bytes
 event_at setup (suc s) source bytes = events.Media (setup.config.base_port + 2 * s) source bytes
 
--- A control datagram for whose reading there was no memory is no event, and that is noted.
+-- If there is no memory to read a control datagram, it is not an event, and this is noted.
 abbrev pub LacksMemory : ℕ → World → List TraceEntry → World → Type 0
 LacksMemory socket w trace next =
     (socket ≡ 0) × (trace ≡ Noted (codes "no memory for a control datagram") ∷ []) × (next ≡ w)
 
--- What becomes of a datagram: its event if its sender is admitted, and nothing otherwise.
+-- What happens to a datagram: it is an event if its sender is admitted, and is ignored otherwise.
 abbrev pub Becomes : (admitted : Bool) → Setup → ℕ → Peer × List ℕ → World → List TraceEntry → World
     → Type 0
 Becomes true setup socket datagram w trace next =
@@ -61,7 +61,7 @@ Becomes true setup socket datagram w trace next =
     ⊎ LacksMemory socket w trace next
 Becomes false setup socket datagram w trace next = (trace ≡ []) × (next ≡ w)
 
--- the receive that gave a datagram, and what becomes of it
+-- the receive that returned a datagram, and what happens to it
 abbrev pub ReceivesDatagram : Setup → ℕ → Peer × List ℕ → World → List TraceEntry → World → Type 0
 ReceivesDatagram setup socket datagram w trace next =
     (others : List TraceEntry) × IsDatagram datagram.0 datagram.1
@@ -70,18 +70,18 @@ ReceivesDatagram setup socket datagram w trace next =
 
 -- ## A poll
 
--- a receive that gave no datagram
+-- a receive that returned no datagram
 abbrev pub ReceivesNothing : ℕ → List TraceEntry → Type 0
 ReceivesNothing socket trace =
     (trace ≡ Called (Receive socket Nothing) ∷ [])
     ⊎ (trace ≡ Called (Receive socket Failed) ∷ [])
 
--- What ends a socket's turn: 64 datagrams came, or a receive gave none or failed.
+-- What ends a socket's turn: 64 datagrams, or a receive that returned none or failed.
 abbrev pub EndsTurn : ℕ → ℕ → List TraceEntry → Type 0
 EndsTurn socket arrived last =
     ((arrived ≡ 64) × (last ≡ [])) ⊎ ((arrived < 64) × ReceivesNothing socket last)
 
--- a socket's turn: datagrams one after another, and what ends it
+-- a socket's turn: one datagram after another, and then what ends it
 pub record SocketTurn (setup : Setup) (socket : ℕ) (w : World) (trace : List TraceEntry) (next : World)
     : Type 0 where
   pub datagrams : List (Peer × List ℕ)
@@ -93,14 +93,14 @@ pub record SocketTurn (setup : Setup) (socket : ℕ) (w : World) (trace : List T
 
 -- ## Commands
 
--- a tick begins, and then it happens
+-- a tick begins, and then the event happens
 abbrev pub Ticks : Setup → Timing → World → List TraceEntry → World → Type 0
 Ticks setup timing w trace next =
     (others : List TraceEntry) × (trace ≡ Called (BeginTick timing) ∷ others)
     × HandlesEvent setup events.Tick w others next
 
--- `poll` is a turn of the control socket and then of each media socket in ascending order, `tick`
--- is one tick. `stats` prints a text, of which nothing is said here.
+-- `poll` is a turn of the control socket and then of each media socket in ascending order. `tick`
+-- is one tick. `stats` prints a text, which is not specified here.
 abbrev pub Performs : Setup → Command → World → List TraceEntry → World → Type 0
 Performs setup Poll w trace next =
     Each (SocketTurn setup) (range_with_len 0 (setup.config.slots + 1)) w trace next
@@ -110,6 +110,6 @@ Performs setup Quit w trace next = (trace ≡ []) × (next ≡ w)
 Performs setup Unknown w trace next =
     (trace ≡ Printed (codes "unknown command") ∷ []) × (next ≡ w)
 
--- commands one after another, and what is done for them
+-- commands one after another, with their effects
 abbrev pub Session : Setup → List Command → World → List TraceEntry → World → Type 0
 Session setup commands w trace next = Each (Performs setup) commands w trace next

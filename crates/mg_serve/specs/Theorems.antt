@@ -1,4 +1,4 @@
--- What a session is, by the runs of a gateway and by scripts.
+-- Sessions in terms of runs of a gateway and of scripts.
 use Rattle.std.specs.Prelude.{◌≡◌, ℕ, Bool, true, false, List, ◌++◌, map, Option, Some}
 use Rattle.std.specs.Io.KnownBytes.{Appends}
 use Rattle.std.specs.List.{filter}
@@ -25,14 +25,14 @@ is_send (Receive socket receipt) = false
 is_send (Send socket to bytes) = true
 is_send (BeginTick timing) = false
 
--- The sends of a session are the datagrams of the run of its events, no more, no fewer, in order.
+-- A session sends exactly the datagrams that a run over its events sends, in order.
 pub record SendsAreARun (setup : Setup) (w : World) (trace : List TraceEntry) (next : World)
     : Type 0 where
   pub sent : List Sent
   pub run : Run w (events_of_trace trace) sent next
   pub sends : filter is_send (calls_of trace) ≡ map (send_of setup) sent
 
--- It is so of every session.
+-- This holds for every session.
 abbrev pub SessionsAreRuns : Type 0
 SessionsAreRuns =
     (setup : Setup) (commands : List Command) (w next : World) (trace : List TraceEntry)
@@ -42,8 +42,8 @@ SessionsAreRuns =
 abbrev pub recorded : List ℕ → List TraceEntry → List ℕ
 recorded title trace = output_of Recording (opening (Some title) ++ trace)
 
--- What is recorded of a session is a script of its events. Where it was cut, whatever the byte, the
--- lines that are whole are a script of its first events.
+-- A recording of a session is a script of its events. If it is truncated after any byte, its
+-- complete lines are a script of its first events.
 abbrev pub SessionsAreReadBack : Type 0
 SessionsAreReadBack =
     (setup : Setup) (title : List ℕ) (commands : List Command) (next : World) (trace : List TraceEntry)
@@ -58,15 +58,15 @@ CutSessionsAreReadBack =
     → (first : List Event) × (others : List Event) × (events_of_trace trace ≡ first ++ others)
     × (script.events_of (lines_of false front) ≡ Some first)
 
--- A run over a script wrote the lines of the datagrams that the run of a session's events sends,
--- which are those of the session, and came to its world.
+-- A run over a script wrote the lines of the datagrams that a run over a session's events sends,
+-- which are those that the session sent. It ended in the session's world.
 pub record WroteWhatWasSent (setup : Setup) (trace : List TraceEntry) (next last : World)
     (old new : Option (List ℕ)) : Type 0 where
   pub session : SendsAreARun setup (start_of setup.config) trace next
   pub written : Appends old new (lines_for session.sent)
   pub same : last ≡ next
 
--- A run over what was recorded of a session is the session again.
+-- A run over a recording repeats the session.
 abbrev pub ReplaysAreTheSession : Type 0
 ReplaysAreTheSession =
     (setup : Setup) (title : List ℕ) (commands : List Command) (next : World) (trace : List TraceEntry)

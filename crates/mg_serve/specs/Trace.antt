@@ -1,4 +1,4 @@
--- What a gateway does, in order, and what is printed of it.
+-- What a gateway does, in order, and what is printed about it.
 use Rattle.std.specs.Prelude.{ℕ, ◌==◌, not, List, [], ◌∷◌, ◌++◌, codes, flat_map, take}
 use Rattle.std.specs.List.{filter}
 use Rattle.mg_core.specs.declared.event.Event.{Event}
@@ -8,8 +8,8 @@ use Rattle.mg_ports.specs.declared.call.Call.{Call}
 use Rattle.mg_serve.specs.declared.form.Form.{Form}
 use Rattle.mg_serve.specs.declared.form.Form.TheVariants.{Plain, Recording}
 
--- It calls its ports, an event happens, it prints a text for whoever drives it, or it notes one
--- that a recording alone has.
+-- It calls its ports, an event happens, it prints a text for whoever drives it, or it notes a text
+-- that is printed only in a recording.
 pub data TraceEntry : Type 0 where
   Called : (call : Call) → TraceEntry
   Happened : (event : Event) → TraceEntry
@@ -26,12 +26,12 @@ events_of_trace [] = []
 events_of_trace (Happened event ∷ trace) = event ∷ events_of_trace trace
 events_of_trace (_ ∷ trace) = events_of_trace trace
 
--- a text as one line: without line feeds, and the first 1,000 bytes at most
+-- a text as one line: without line feeds, and at most its first 1,000 bytes
 abbrev pub one_line : List ℕ → List ℕ
 one_line text = take 1000 (filter (λ b. not (b == 10)) text)
 
--- What is printed: for whoever drives the gateway, the texts for him; and of a recording, a line of
--- a script for each event, and comments.
+-- What is printed. In plain form, the texts for whoever drives the gateway. In a recording, a
+-- script line for each event, and comments.
 abbrev pub printed_text : Form → TraceEntry → List ℕ
 printed_text Plain (Printed text) = one_line text ++ codes "\n"
 printed_text Plain _ = []

@@ -15,7 +15,7 @@ pub record SumsState : Type 0 where
   pub rooms : List (Option ℕ)
   pub work : ℕ
 
--- a silent row for each termination that there can be, joined to no room
+-- a silent row for each possible termination, joined to no room
 unfoldable pub first_sums : SumsState
 first_sums =
     record {
@@ -73,12 +73,12 @@ abbrev pub left_out_by : Option ℕ → List ℕ → List ℕ
 left_out_by None minus = minus
 left_out_by (Some base) minus = base ∷ minus
 
--- these rows are joined to the room, and no two are the same
+-- these rows are joined to the room, and no two of them are the same
 pub record AreOfRoom (rooms : List (Option ℕ)) (room : ℕ) (rows : List ℕ) : Type 0 where
   pub joined : All (λ row. IsTrue (is_joined rooms room row)) rows
   pub different : AllPairs (λ a b. a ≢ b) rows
 
--- they are all the rows joined to the room
+-- they are all of the rows joined to the room
 pub record AreAllOfRoom (rooms : List (Option ℕ)) (room : ℕ) (rows : List ℕ) : Type 0 where
   pub are : AreOfRoom rooms room rows
   pub all : (row : ℕ) → IsTrue (is_joined rooms room row) → Contains rows row
@@ -92,7 +92,7 @@ abbrev pub frame_calls : Option ℕ → ℕ
 frame_calls None = 0
 frame_calls (Some room) = 2
 
--- a row for each termination that there can be, with a frame, joined to a room or to none
+-- a row for each possible termination, with a frame, joined to a room or to none
 pub record AreValidSums (kept : SumsState) : Type 0 where
   pub frames : length kept.frames ≡ termination_limit
   pub rooms : length kept.rooms ≡ termination_limit

@@ -288,7 +288,7 @@ fn poll_and_ticks(alloc: Global, ticks: u64) -> Result<String, AllocError> {
     Ok(lines)
 }
 
-/// Returns the reports of a session of this many ticks, with one every `seconds`, or none.
+/// Returns the reports of a session of this many ticks, with one report every `seconds`; 0 is never.
 fn reported(alloc: Global, seconds: u16, ticks: u64) -> Result<Vec<u8>, AllocError> {
     let mut ports = ports(alloc, &[(0, ADD), (1, b"x"), (2, b"x")], &[])?;
     let lines = poll_and_ticks(alloc, ticks)?;

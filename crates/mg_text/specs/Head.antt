@@ -4,7 +4,7 @@ use Rattle.std.specs.Option.{option_and_then, option_or}
 use Rattle.mg_words.specs.Numbers.{version_in_digits}
 use Rattle.mg_words.specs.Cut.{after_prefix}
 
--- the version after a name of the protocol, which is compared without case
+-- the version after a name of the protocol, ignoring case
 unfoldable pub version_after : List ℕ → List ℕ → Option ℕ
 version_after name text = option_and_then version_in_digits (after_prefix name text)
 

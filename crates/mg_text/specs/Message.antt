@@ -38,7 +38,7 @@ pub record IsTree (source : List ℕ) (m : Message) : Type 0 where
   pub are : AreTokens source tokens None
   pub is : IsText source m tokens
 
--- the number of requests among items, and the number of commands in all of them
+-- the number of requests among items, and the total number of commands in them
 abbrev pub requests_in : List MessageItem → ℕ
 requests_in [] = 0
 requests_in (items.Request x ∷ xs) = 1 + requests_in xs
@@ -57,7 +57,7 @@ abbrev pub items_of : Body → List MessageItem
 items_of (bodies.Requests xs) = xs
 items_of bodies.Ignored = []
 
--- The bytes are a message with this tree, of at most 4 requests and at most 64 commands in all.
+-- The bytes are a message with this tree, of at most 4 requests and at most 64 commands in total.
 pub record IsMessage (source : List ℕ) (m : Message) : Type 0 where
   pub tree : IsTree source m
   pub requests : requests_in (items_of m.body) ≤ request_limit

@@ -4,7 +4,8 @@ use Rattle.mg_words.specs.Limits.{message_limit}
 use Rattle.mg_text.specs.declared.message.Message.{Message}
 use Rattle.mg_text.specs.Message.{IsTree, IsMessage, IsTooMany, HasOtherVersion}
 
--- A message with its tree, a datagram that exceeds a limit, one of another version, or no message.
+-- A message with its tree, a datagram that exceeds a limit, a message of another version, or not a
+-- message.
 pub data MessageReading : Type 0 where
   Read : (message : Message) → MessageReading
   TooMany : MessageReading

@@ -1,4 +1,4 @@
--- What reading ensures of requests: each has an action, and each name of a termination is a word
+-- What reading ensures about requests: each has an action, and each name of a termination is a word
 -- of 1 to 64 bytes.
 use Rattle.std.specs.Prelude.{ℕ, ◌==◌, Bool, true, ◌&&◌, not, List, length}
 use Rattle.std.specs.List.{list_all}

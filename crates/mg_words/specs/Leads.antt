@@ -1,4 +1,4 @@
--- How a step of the program moves the worlds that its state represents.
+-- How a step of the program changes the worlds that its state represents.
 
 -- Every world that the old state represents steps, by the relation, to a world that the new state
 -- represents.

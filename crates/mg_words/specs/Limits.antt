@@ -2,18 +2,18 @@
 -- these numbers.
 use Rattle.std.specs.Prelude.{ℕ}
 
--- members of a context
+-- the members of a context
 abbrev pub member_limit : ℕ
 member_limit = 64
 
--- contexts of the gateway, and terminations in all of them
+-- the contexts of the gateway, and the terminations in all of them
 abbrev pub context_limit : ℕ
 context_limit = 64
 
 abbrev pub termination_limit : ℕ
 termination_limit = 256
 
--- the least and the maximum depth of a play list, in frames, and the depth of a new one
+-- the minimum and maximum depth of a play list, in frames, and the depth of a new one
 abbrev pub least_depth : ℕ
 least_depth = 2
 
@@ -42,7 +42,7 @@ command_limit = 64
 abbrev pub name_limit : ℕ
 name_limit = 64
 
--- bytes of a sender's name: a domain name in angle brackets, a colon and a port of five digits
+-- bytes of a sender's name: a domain name in angle brackets, a colon and a five-digit port
 abbrev pub sender_limit : ℕ
 sender_limit = 72
 
@@ -62,6 +62,7 @@ kept_limit = 32
 abbrev pub last_termination : ℕ
 last_termination = 4294967295
 
--- the largest number that a context can have; the next two stand for $ and * (section 6.1.2)
+-- the largest number that a context can have; the next two numbers stand for $ and * (section
+-- 6.1.2)
 abbrev pub last_context : ℕ
 last_context = 4294967293

@@ -19,11 +19,11 @@ decimal_of most limit text =
     if are_digits most text && nat_le (value_of_digits text) limit
     then Some (value_of_digits text) else None
 
--- a number of one to ten digits that fits 32 bits
+-- a number of one to ten digits that fits in 32 bits
 abbrev pub number_of : List ℕ → Option ℕ
 number_of text = decimal_of 10 4294967295 text
 
--- a number of one to five digits that fits 16 bits
+-- a number of one to five digits that fits in 16 bits
 abbrev pub uint16_of : List ℕ → Option ℕ
 uint16_of text = decimal_of 5 65535 text
 

@@ -1,5 +1,5 @@
 -- The program's state in an action and in a transaction, and which states of the definitions it
--- represents: the engine represents the gateway, and the reply the items that were put into it.
+-- represents: the engine represents the gateway, and the reply has the items that were put into it.
 use Rattle.std.specs.Prelude.{◌≡◌, ℕ, ◌*◌, Bool, true, false, List, Result, Ok, Err}
 use Rattle.mg_words.specs.ResultSteps.{◌>>=◌}
 use Rattle.mg_words.specs.declared.error_number.ErrorNumber.{ErrorNumber}
@@ -21,7 +21,7 @@ pub record Base : Type 0 where
   pub reply : Answered
   pub work : ℕ
 
--- the counter of work rose by at most four for each edit that the items report
+-- the counter of work increased by at most four for each edit that the items report
 abbrev pub IsPaid : Base → List Item → EngineState → Type 0
 IsPaid base items engine = RisesAtMost (4 * edits_reported items) base.work engine.sums.work
 
@@ -41,7 +41,7 @@ pub record IsActionRun (base : Base) (kept : ActionKept) (run : ActionState) : T
   pub reply : kept.reply ≡ after_all base.reply run.items
   pub work : IsPaid base run.items kept.engine
 
--- an action after a command for all members, whose text was checked
+-- an action after a command for all members, whose text has been checked
 abbrev pub with_all : List ℕ → Command → CommandParameters → ActionState → ActionState × Bool
 with_all source c parameters run =
     with_trial source c run (do
@@ -61,8 +61,8 @@ pub record IsTransaction (base : Base) (kept : TransactionKept) (s : Transaction
   pub reply : kept.reply ≡ after_all base.reply s.items
   pub work : IsPaid base s.items kept.engine
 
--- The properties of an action were reported, and the engine represents the gateway after them, by
--- their outcome.
+-- The properties of an action were reported, and the engine represents the gateway after them,
+-- according to their outcome.
 abbrev pub ReportsProperties : EngineState → Answered → Answered → Bool → Gateway
     → Result (Gateway × List Item) ErrorNumber → Type 0
 ReportsProperties kept before reported is_done w (Ok p) =

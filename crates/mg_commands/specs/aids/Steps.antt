@@ -59,7 +59,7 @@ audit_termination w target name parameters = do
   _ ← member w.rooms target n
   Ok (served_at target (rtp_name n) (reply_parts (descriptors_by_audit parameters) w n))
 
--- an action, by whether it is rejected as a whole
+-- an action, given whether it is rejected as a whole
 abbrev pub action_unless : Option ErrorNumber → List ℕ → Action → TransactionState
     → TransactionState × Bool
 action_unless fault source a s =

@@ -35,7 +35,7 @@ use Rattle.mg_core.specs.Step.{Sent, Step}
 use Rattle.mg_core.specs.Run.{Ran, RanInPart, HasRead, HasBadAfter, RanToBadLine, RanAllRead}
 use Rattle.mg_core.specs.Run.{RanToCutLine, RanToUnrunLine, lines_for}
 
--- the text grew by what was written
+-- the text grew by the part that was written
 abbrev pub TextGrows : CoreState → CoreState → List ℕ → List ℕ → (World → List ℕ × World) → Type 0
 TextGrows old new before text f =
     Leads StandsFor old new (λ w next. (out : List ℕ) × (f w ≡ (out, next))
@@ -72,7 +72,7 @@ pub record EventDone (shown : Shown) (event : Event) (w next : World) (n m : ℕ
   pub written : Appends old new (event_text shown w sent next)
   pub counted : m ≡ after_sent n sent
 
--- an event was run, and the front of its text was written
+-- an event was run, and a prefix of its text was written
 pub record EventCut (shown : Shown) (event : Event) (w next : World) (old new : Option (List ℕ))
     : Type 0 where
   pub sent : List Sent
@@ -85,7 +85,7 @@ EventRan shown event w next n m old new (Ok done) = EventDone shown event w next
 EventRan shown event w next n m old new (Err events.Write) = EventCut shown event w next old new
 EventRan shown event w next n m old new (Err events.NoMemory) = Keeps old new × (next ≡ w)
 
--- The changes of an event were written, if changes are shown, or the front of their text was.
+-- The changes of an event were written, if changes are shown, or a prefix of their text was.
 abbrev pub ChangesWritten : Shown → World → World → Option (List ℕ) → Option (List ℕ)
     → Result (Unit {0}) EventFault → Type 0
 ChangesWritten shows.Sent w next old new result = (result ≡ Ok tt) × Keeps old new
@@ -94,7 +94,7 @@ ChangesWritten shows.SentAndFlows w next old new (Err events.Write) =
     WritesFront (changes_by w next) old new
 ChangesWritten shows.SentAndFlows w next old new (Err events.NoMemory) = ⊥
 
--- the stored terminations are those of the world, if changes are shown
+-- the stored terminations match the world, if changes are shown
 abbrev pub AreKeptListeners : Shown → Option (List Listener) → World → Type 0
 AreKeptListeners shows.Sent kept w = kept ≡ None
 AreKeptListeners shows.SentAndFlows kept w = kept ≡ Some (listeners_of w.gateway)
@@ -105,7 +105,7 @@ pub record Follows (shown : Shown) (state : CoreState) (kept : Option (List List
   pub stands : StandsFor state w
   pub same : AreKeptListeners shown kept w
 
--- Every world that was followed leads to a next one, which is followed if everything was done.
+-- Every world that was followed leads to a next one, which is followed if everything succeeded.
 abbrev pub LeadsOn : {E : Type 0} → (World → Type 0) → (World → Type 0) → Result (Unit {0}) E
     → (World → World → Type 0) → Type 0
 LeadsOn Old New result Comes =

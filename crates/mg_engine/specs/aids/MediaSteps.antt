@@ -67,7 +67,7 @@ header m payload_type ssrc =
       ssrc = ssrc;
     }
 
--- the end of a tick in which a packet was sent, or none
+-- the end of a tick, given whether a packet was sent in it
 abbrev pub slot_ended : Bool → SlotMedia → SlotMedia
 slot_ended true m =
     record m {

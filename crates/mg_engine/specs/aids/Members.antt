@@ -27,7 +27,7 @@ pub record TakesMode (old new : List RoomFlows) (at : Place) (m : Mode) : Type 0
   pub place : SetsPlace old new at true (mode.talks m) (mode.listens m)
   pub hears : (t l : Place) → hears new t l ≡ hears old t l
 
--- what a table says of the place of a member with this record
+-- what a table says about the place of a member with this record
 pub record SaysOf (table : List RoomFlows) (r : Record) (p : Place) : Type 0 where
   pub held : IsTrue (holds table p)
   pub talks : talks_at table p ≡ mode.talks r.mode

@@ -1,4 +1,4 @@
--- What is sent in a tick, by the state of an engine.
+-- What is sent in a tick, according to the state of an engine.
 use Rattle.std.specs.Prelude.{◌≡◌, ℕ, ℤ, pos, ◌+◌, ◌%◌, ◌^◌, Bool, false, List, ◌++◌, map}
 use Rattle.std.specs.Prelude.{filter_map, Option, Some, None, slice_set, drop, Ok, Err}
 use Rattle.std.specs.Prelude.{if◌then◌else◌, is_some, count_by}
@@ -39,7 +39,7 @@ flows_between table (Some p) (Some q) = flow.flows table p q
 flows_between table (Some p) None = false
 flows_between table None q = false
 
--- whether the talker on one place is silenced for the listener on another
+-- whether the talker at one place is silenced for the listener at another
 abbrev pub is_silenced_between : List flow.RoomFlows → Option Place → Option Place → Bool
 is_silenced_between table (Some p) (Some q) = flow.is_silenced table p q
 is_silenced_between table (Some p) None = false

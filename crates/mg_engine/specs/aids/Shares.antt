@@ -40,7 +40,7 @@ abbrev pub is_seated_in : ℕ → ℕ → Option Place → Bool
 is_seated_in room mask None = false
 is_seated_in room mask (Some p) = (p.room == room) && has_seat mask p.seat
 
--- whether a termination is on one of these seats
+-- whether a termination is in one of these seats
 abbrev pub sits_among : rooms.Registry → ℕ → ℕ → Record → Bool
 sits_among w room mask t = is_seated_in room mask (place_of w t)
 

@@ -14,8 +14,8 @@ use Rattle.mg_engine.specs.aids.Seating.{AreSeated, place_count}
 
 -- Lookups of terminations and contexts are sound, and all parts have the same configuration. Each
 -- slot has its media, and held slots are in order of their terminations' numbers. Each member is at
--- its place. There is a row for each termination that there can be, and the rows of those who talk
--- are joined to their rooms.
+-- its place. There is a row for each possible termination, and the rows of those who talk are
+-- joined to their rooms.
 pub record IsWholeEngine (config : Config) (rooms : rooms.Registry) (pool : Limits)
     (kept : List media.SlotMedia) (slots : List ℕ) (flows : List flow.RoomFlows)
     (seating : List ℕ) (rows : List (Option ℕ)) : Type 0 where

@@ -36,7 +36,7 @@ closed_text front room None new is_full =
 abbrev pub closed : Drafted → Written → Bool → Type 0
 closed d new is_full = closed_text d.front d.room d.text new is_full
 
--- the invariant of a draft: where the reply starts, and how many bytes it may still take
+-- the invariant of a draft: where the reply starts, and how many more bytes it may have
 pub record IsDraft (bytes : Written) (start left : ℕ) (is_full : Bool) : Type 0 where
   pub start_within : start ≤ length bytes.text
   pub room_left : left ≤ bytes.room

@@ -1,4 +1,4 @@
--- The room that a reply's items take.
+-- The room that a reply's items need.
 use Rattle.std.specs.Prelude.{◌≡◌, ℕ, ◌+◌, ◌*◌, ◌^◌, ◌<◌, ◌≤◌, Bool, true, false, not, List, [], ◌∷◌, length}
 use Rattle.std.specs.Prelude.{Option, Some, None, if◌then◌else◌}
 use Rattle.mg_words.specs.declared.context_id.ContextId.{ContextId}
@@ -6,7 +6,7 @@ use Rattle.mg_reply.specs.declared.item.Item.{Item}
 use Rattle.mg_reply.specs.declared.item.Item.TheVariants.{Action}
 use Rattle.mg_reply.specs.Reply.{last_is_action}
 
--- the context of the action that ends with this item, if one does
+-- the context of the action that ends with this item, if any
 abbrev pub action_id : Item → Option ContextId
 action_id (Action id) = Some id
 action_id _ = None

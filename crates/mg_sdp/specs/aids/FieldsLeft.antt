@@ -1,4 +1,4 @@
--- The fields that an iterator has left.
+-- The fields that remain in an iterator.
 use Rattle.std.specs.Prelude.{ℕ, List}
 use Rattle.mg_sdp.specs.declared.fields.Fields.{Fields}
 use Rattle.mg_sdp.specs.Fields.{fields_of}

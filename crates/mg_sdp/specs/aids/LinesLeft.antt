@@ -1,4 +1,4 @@
--- The lines that an iterator has left.
+-- The lines that remain in an iterator.
 use Rattle.std.specs.Prelude.{ℕ, List}
 use Rattle.mg_sdp.specs.declared.lines.Lines.{Lines}
 use Rattle.mg_sdp.specs.Lines.{content_lines}

@@ -1,4 +1,4 @@
--- What the steps of a server do: a receive, some bytes of its input, and the last line.
+-- The steps of a server: a receive, some bytes of its input, and the last line.
 use Rattle.std.specs.Prelude.{◌≡◌, ℕ, ◌≤◌, Bool, true, false, List, [], ◌∷◌, ◌++◌, length, take, map}
 use Rattle.std.specs.Prelude.{Option, Result, Ok, Err}
 use Rattle.mg_clock.specs.declared.timing.Timing.{Timing}
@@ -24,8 +24,8 @@ Received setup socket true w trace next =
     (datagram : Peer × List ℕ) × ReceivesDatagram setup socket datagram w trace next
 Received setup socket false w trace next = ReceivesNothing socket trace × (next ≡ w)
 
--- The lines that end in some bytes were done, and the line after them is begun, of which the first
--- 8 bytes are kept; or a line was the last, or a print of it failed.
+-- The lines that end in these bytes were executed, and the first 8 bytes of the partial line after
+-- them are kept. Or a line was the last one, or a print for a line failed.
 abbrev pub BytesTaken : Form → Setup → List ℕ → List ℕ → List ℕ → Result Bool WriteFailed → World
     → List TraceEntry → World → Type 0
 BytesTaken form setup partial bytes kept (Ok false) w trace next =
@@ -44,12 +44,12 @@ BytesTaken form setup partial bytes kept (Err failed) w trace next =
     × (before_quit (lines_after ended partial (bytes ++ more)) ≡ lines ++ others))
     × LastPrints form (map line_command lines) × Session setup (map line_command lines) w trace next
 
--- the line that was begun is the last, if there is one
+-- the partial line is the last, if there is one
 abbrev pub Finished : Setup → List ℕ → World → List TraceEntry → World → Type 0
 Finished setup [] w trace next = (trace ≡ []) × (next ≡ w)
 Finished setup (b ∷ bs) w trace next = Performs setup (line_command (b ∷ bs)) w trace next
 
--- a run ends with `Write` where a print has failed, and only there
+-- a run ends with `Write` exactly if a print has failed
 abbrev pub EndsBy : {T : Type 0} → Result T RunFault → (has_failed : Bool) → Type 0
 EndsBy (Ok value) has_failed = has_failed ≡ false
 EndsBy (Err faults.Read) has_failed = has_failed ≡ false
@@ -61,7 +61,7 @@ EndsBy (Err (faults.Script number)) has_failed = ⊥
 abbrev pub EndsByFault : RunFault → (has_failed : Bool) → Type 0
 EndsByFault fault has_failed = EndsBy {T = Unit {0}} (Err fault) has_failed
 
--- the commands that a source gave are a session
+-- the commands from a source form a session
 abbrev pub RanBy : Setup → (List Command → Type 0) → World → List TraceEntry → World → Type 0
 RanBy setup Gave w trace next =
     (commands : List Command) × Gave commands × Session setup commands w trace next
@@ -76,7 +76,7 @@ abbrev pub RanByClock : Form → Setup → ℕ → ClockSeen → ClockSeen → (
 RanByClock form setup allowed old new fails fault w trace next =
     RanBy setup (ClockCommands form allowed old new fails fault) w trace next
 
--- a poll and a tick were done, or a print of one of them failed
+-- a poll and a tick were executed, or a print for one of them failed
 abbrev pub TickTaken : Form → Setup → Timing → Result (Unit {0}) WriteFailed → World → List TraceEntry
     → World → Type 0
 TickTaken form setup timing (Ok done) w trace next =
@@ -86,7 +86,7 @@ TickTaken form setup timing (Err failed) w trace next =
     × (Poll ∷ Tick timing ∷ [] ≡ commands ++ left) × (length left ≤ 1)
     × LastPrints form commands × Session setup commands w trace next
 
--- so many ticks were done by a clock
+-- this many ticks of a clock were executed
 abbrev pub TicksDone : Setup → ℕ → ℕ → ClockSeen → ClockSeen → World → List TraceEntry → World → Type 0
 TicksDone setup allowed count old now w trace next =
     (timings : List Timing) × (length timings ≡ count) × TicksBegin allowed 1 timings old now

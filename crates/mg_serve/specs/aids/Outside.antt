@@ -1,4 +1,4 @@
--- Steps of the code, by what they make of each world.
+-- Steps of the code, in terms of the worlds that its state represents.
 use Rattle.std.specs.Prelude.{ℕ, List, Option}
 use Rattle.mg_core.specs.declared.state.CoreState.{CoreState}
 use Rattle.mg_core.specs.World.{World, StandsFor}
@@ -7,7 +7,7 @@ use Rattle.mg_ports.specs.Calls.{Logged}
 use Rattle.mg_serve.specs.Trace.{TraceEntry, calls_of}
 use Rattle.mg_serve.specs.aids.Printing.{PrinterView, Prints}
 
--- what is seen of a server from outside: the calls that its ports told, what its writer holds, and
+-- a server as seen from outside: the calls that its ports logged, the content of its writer, and
 -- its printer
 pub record Outside : Type 0 where
   pub calls : Option (List Call)
@@ -18,13 +18,13 @@ abbrev pub outside : Option (List Call) → Option (List ℕ) → PrinterView �
 outside calls written printer =
     record { calls = calls; written = written; printer = printer }
 
--- from outside, these things were done
+-- the effects of a trace, as seen from outside
 pub record LogsTrace (old new : Outside) (trace : List TraceEntry) : Type 0 where
   pub logged : Logged old.calls new.calls (calls_of trace)
   pub prints : Prints old.printer new.printer old.written new.written trace
 
--- From each world that the core stood for a step leads, by what was done, to a world that the core
--- stands for afterwards.
+-- Every world that the old core represents steps, with this trace, to a world that the new core
+-- represents.
 abbrev pub LeadsByTrace : CoreState → CoreState → Outside → Outside
     → (World → List TraceEntry → World → Type 0) → Type 0
 LeadsByTrace old new before after R =

@@ -1,24 +1,24 @@
--- Steps of a printer, which prints nothing more after a print that failed.
+-- Steps of a printer, which prints nothing more after a failed print.
 use Rattle.std.specs.Prelude.{◌≡◌, ◌≢◌, ℕ, Bool, true, false, List, [], Option}
 use Rattle.std.specs.Io.KnownBytes.{Keeps, Appends}
 use Rattle.mg_lines.specs.Streams.{WritesFront}
 use Rattle.mg_serve.specs.declared.form.Form.{Form}
 use Rattle.mg_serve.specs.Trace.{TraceEntry, output_of}
 
--- what it prints, and whether a print has failed
+-- the form of the output, and whether a print has failed
 pub record PrinterView : Type 0 where
   pub form : Form
   pub has_failed : Bool
 
--- A text was to be printed, by whether a print had failed before and has failed now: it was, or its
--- front was, or nothing was.
+-- A text was printed or, if a print fails now, a proper prefix of it; if a print had failed before,
+-- nothing was printed.
 abbrev pub Puts : Bool → Bool → List ℕ → Option (List ℕ) → Option (List ℕ) → Type 0
 Puts false false text old new = Appends old new text
 Puts false true text old new = (text ≢ []) × WritesFront text old new
 Puts true false text old new = ⊥
 Puts true true text old new = Keeps old new
 
--- what was done was printed
+-- the trace was printed
 pub record Prints (old new : PrinterView) (before after : Option (List ℕ)) (trace : List TraceEntry)
     : Type 0 where
   pub form : new.form ≡ old.form

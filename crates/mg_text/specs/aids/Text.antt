@@ -34,7 +34,7 @@ text_at source ts = do
   body ← body_at source sender.1
   Ok (message_of sender.0 body)
 
--- a fault with its place brought within a source of this length
+-- a fault with its position clamped to a source of this length
 abbrev pub fault_within : ℕ → ReadFault → ReadFault
 fault_within len NoMemory = NoMemory
 fault_within len (Syntax place) = Syntax (min place len)
@@ -45,7 +45,7 @@ fault_within len TooMany = TooMany
 abbrev pub left_after : ℕ → ℕ → Option ℕ
 left_after most n = if nat_le n most then Some (most - n) else None
 
--- there are at most this many requests, with at most this many commands in all
+-- there are at most this many requests, with at most this many commands in total
 abbrev pub is_within : ℕ → ℕ → List MessageItem → Bool
 is_within requests commands xs =
     nat_le (requests_in xs) requests && nat_le (commands_in xs) commands
@@ -64,8 +64,8 @@ UnlessNoMemory (Err (Syntax place)) P = P
 UnlessNoMemory (Err (Version n)) P = P
 UnlessNoMemory (Err TooMany) P = P
 
--- The result of parsing after a head with a version. A version other than 1 is a fault of its own.
--- After version 1, a source with a scan fault is a syntax fault.
+-- The result of parsing after a head with a version. A version other than 1 is a separate fault.
+-- After version 1, a scan fault in the source is a syntax fault.
 abbrev pub AgreesText : Result Message ReadFault → Bool → Bool → ℕ → Result Message ℕ → Type 0
 AgreesText result false faulty n text = result ≡ Err (Version n)
 AgreesText result true true n text = (place : ℕ) × (result ≡ Err (Syntax place))

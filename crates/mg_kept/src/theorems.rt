@@ -39,7 +39,7 @@ pub fn only_acknowledged_is_dropped()
     ensures numbers { OtherNumbersStay }
 {}
 
-/// A reply is kept until there are [`KEPT_REPLIES`] newer ones, or until an acknowledgement names it.
+/// A reply is kept until the limit on newer replies is reached, or until an acknowledgement names it.
 ///
 /// After that, it is kept again only if its own request is run again.
 pub fn replies_stay_while_few_are_newer()

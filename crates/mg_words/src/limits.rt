@@ -34,8 +34,7 @@ pub const COMMAND_LIMIT: usize = 64;
 /// The maximum length of a termination's name, in bytes.
 pub const TERM_LIMIT: usize = 64;
 
-/// The maximum length of a sender's name, in bytes: a domain name of 64 bytes in angle brackets, a colon and a
-/// five-digit port.
+/// The maximum length of a sender's name, in bytes: a domain name in angle brackets, a colon and a five-digit port.
 pub const SENDER_LIMIT: usize = 72;
 
 /// The maximum number of alternatives in a session description.

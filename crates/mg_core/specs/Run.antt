@@ -127,7 +127,7 @@ pub record HasBadAfter (lines all : List (List ℕ)) : Type 0 where
   pub parts : all ≡ lines ++ bad ∷ others
   pub is_bad : event_of bad ≡ None
 
--- The lines before the first bad one, which has this number, were run. It is bad whatever may
+-- The lines before the first bad one, which has this number, were run. It is bad, whatever text may
 -- follow the text that was read; nothing follows the end.
 pub record RanToBadLine (config : Config) (shown : Shown) (input rest : Option (List ℕ))
     (number : ℕ) (old new : Option (List ℕ)) : Type 0 where

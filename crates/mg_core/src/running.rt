@@ -25,7 +25,7 @@ use std::io::{Read, Write};
 /// - `Read`: exactly the lines were run whose ends had been read. It also ends a run after 4,294,967,295 reads.
 /// - `Write`: the lines before one were run, and the output of that line was written in part.
 /// - `NoMemory`: the lines before one were run, and that line had no effect; or nothing was read.
-/// - `BadConfig`: returned exactly if the configuration is invalid. Nothing was read.
+/// - `BadConfig`: returned exactly when the configuration is invalid. Nothing was read.
 pub fn run<R: Read, W: Write>(
     alloc: Global,
     config: Config,

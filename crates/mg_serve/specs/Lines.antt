@@ -7,7 +7,8 @@ use Rattle.mg_clock.specs.declared.timing.Timing.TheVariants.{OnTime}
 use Rattle.mg_serve.specs.declared.form.Form.{Form}
 use Rattle.mg_serve.specs.declared.form.Form.TheVariants.{Plain, Recording}
 
--- The command of a line, by its text. Whoever writes the lines keeps the time, so no tick is late.
+-- The command that a line's text denotes. Whoever writes the lines keeps the time, so no tick is
+-- late.
 abbrev pub line_command : List ℕ → Command
 line_command line =
     if bytes_eq line (codes "poll") then Poll

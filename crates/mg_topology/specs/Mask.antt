@@ -3,8 +3,8 @@ use Rattle.std.specs.Prelude.{ℕ, ◌<◌, Bool, ◌==◌, bit_and, List, lengt
 use Rattle.std.specs.Int.{bit_at}
 use Rattle.std.specs.List.{filter, range_with_len}
 
--- Seats are the numbers below this limit. A mask has as many bits, and a context at most as many
--- members (`each_member_has_a_seat` in src/theorems.rt).
+-- Seats are the numbers below this limit. A mask has this many bits, and a context has at most this
+-- many members (`each_member_has_a_seat` in src/theorems.rt).
 abbrev pub seat_limit : ℕ
 seat_limit = 64
 

@@ -1,5 +1,5 @@
--- Isolation over time: in each tick, the packet to a listener does not depend on what was ever
--- received from terminations that it does not hear in that tick.
+-- Isolation over time: in each tick, the packet to a listener does not depend on anything received,
+-- at any time, from terminations that it does not hear then.
 use Rattle.std.specs.Prelude.{◌≡◌, ℕ, ◌==◌, List, [], ◌∷◌, ◌++◌, filter, map, Option}
 use Rattle.std.specs.List.{AllByRecursion}
 use Rattle.mg_kept.specs.KeptReplies.{KeptReply}

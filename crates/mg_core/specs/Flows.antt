@@ -116,7 +116,7 @@ changes_by w next =
 abbrev pub but_port : Listener → Listener
 but_port x = record x { port = 0 }
 
--- The lines determine the outcome: if two outcomes of one state have the same lines, the same
+-- The lines determine the outcome. If two outcomes of one state have the same lines, the same
 -- terminations exist, in the same contexts and modes, and the same speech goes to each.
 abbrev pub ReportDeterminesOutcome : Type 0
 ReportDeterminesOutcome =

@@ -104,8 +104,8 @@ pub fn port_order_is_irrelevant()
     mg_commands::theorems::requests_are_consistent();
 }
 
-/// In each tick, the packet to a listener does not depend on what was ever received from terminations that it does not
-/// hear in that tick. Two gateways receive the same events, except for RTP datagrams at ports of some terminations. In
+/// In each tick, the packet to a listener does not depend on anything received, at any time, from terminations that it
+/// does not hear then. Two gateways receive the same events, except for RTP datagrams at ports of some terminations. In
 /// the next tick both send the same bytes to each listener who then hears none of these terminations, whatever it heard
 /// before.
 pub fn unheard_changes_nothing()

@@ -34,8 +34,8 @@ without_arrivals s =
 abbrev pub unless_among : List ℕ → TerminationMedia → TerminationMedia
 unless_among some s = if has some s.number then without_arrivals s else s
 
--- Two gateways agree outside some terminations if they differ only in what these received: in
--- their play lists, their current frames, and their counters of received packets.
+-- Two gateways agree outside some terminations if they differ only in what these received. These
+-- are their play lists, their current frames, and their counters of received packets.
 pub record AgreeOutside (some : List ℕ) (a b : Gateway) : Type 0 where
   pub config : a.config ≡ b.config
   pub rooms : a.rooms ≡ b.rooms

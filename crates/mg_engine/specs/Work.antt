@@ -13,8 +13,8 @@ use Rattle.mg_engine.specs.Tick.{sent_to}
 abbrev pub silenced_for : Gateway → ℕ → ℕ
 silenced_for w listener = count_by (λ talker. is_silenced w talker listener) (numbers_of w)
 
--- the maximum number of rows for what a termination is sent: one, and one for each talker silenced
--- for it; none of these in Loopback, where it is sent its own frame
+-- The maximum number of rows for what a termination is sent: one, and one for each talker silenced
+-- for it. In Loopback it is sent its own frame, which costs none.
 abbrev pub mix_work : Gateway → Record → ℕ
 mix_work w r = 1 + (if is_loopback r.mode then 0 else silenced_for w r.number)
 

@@ -77,7 +77,7 @@ pub record SetsPlace (old new : List RoomFlows) (place : Place)
   pub listeners : (p : Place) →
       listens_at new p ≡ (if is_same_place p place then does_listen else listens_at old p)
 
--- which places are held, talk and listen is unchanged
+-- which places are held, which talk, and which listen is unchanged
 pub record KeepsPlaces (old new : List RoomFlows) : Type 0 where
   pub held : (p : Place) → holds new p ≡ holds old p
   pub talkers : (p : Place) → talks_at new p ≡ talks_at old p

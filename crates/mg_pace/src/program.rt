@@ -36,9 +36,9 @@ fn run<K: Watch, W: Write, E: Write>(
 
 /// Runs the program on its arguments, which come without its name. Returns its exit status.
 ///
-/// It is 0 at the end of the run, if the output is closed, and after help or the version; 2 for invalid arguments; 3 if
-/// the clock failed; 4 if memory ran out. The text for a status other than 0 goes to `errors`, and so does a line if
-/// ticks are skipped.
+/// The status is 0 at the end of the run, if the output is closed, and after help or the version. It is 2 for invalid
+/// arguments, 3 if the clock failed, and 4 if memory ran out. The text for a status other than 0 goes to `errors`, and
+/// so does a line if ticks are skipped.
 pub fn program<'a, S: AsStr, K: Watch, W: Write, E: Write>(
     alloc: Global,
     words: &'a [S],

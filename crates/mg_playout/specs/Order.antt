@@ -1,5 +1,5 @@
--- Properties of play lists by sequence number, for the theorems (this project's own). They define
--- no call.
+-- Properties of play lists by sequence number, for the theorems (this project's own). The
+-- definitions of the calls do not use them.
 use Rattle.std.specs.Prelude.{◌≡◌, ℕ, zero, suc, ◌<◌, ℤ, List, drop, Option, Some, None, IfSome}
 use Rattle.std.specs.Prelude.{if◌then◌else◌}
 use Rattle.mg_g711.specs.Frame.{IsFrame}

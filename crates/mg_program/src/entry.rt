@@ -17,9 +17,9 @@ use std::time::Clock;
 
 /// Runs the program on its arguments, which come without its name. Returns its exit status.
 ///
-/// The status is 0 on success, 1 for a bad script line, 2 for invalid arguments or an invalid configuration, 3 if a
-/// read or a write failed, 4 if memory ran out, and 5 for a port that can't be bound. The text for a status other than
-/// 0 goes to `errors`, and a gateway's periodic reports go to `reports`.
+/// The status is 0 on success, 1 for a bad script line, and 2 for invalid arguments or an invalid configuration. It is
+/// 3 if a read or a write failed, 4 if memory ran out, and 5 for a port that can't be bound. The text for a status
+/// other than 0 goes to `errors`, and a gateway's periodic reports go to `reports`.
 pub fn program<'a, N: Net, C: Clock, S: AsStr, R: Read, W: Write, E: Write, T: Write>(
     net: &N,
     clock: &C,

@@ -8,8 +8,8 @@ use Rattle.mg_ports.specs.declared.call.Call.{Call}
 use Rattle.mg_serve.specs.declared.form.Form.{Form}
 use Rattle.mg_serve.specs.declared.form.Form.TheVariants.{Plain, Recording}
 
--- It calls its ports, an event happens, it prints a text for whoever drives it, or it notes a text
--- that is printed only in a recording.
+-- It calls its ports, an event happens, or it prints a text for whoever drives it. Or it notes a
+-- text that is printed only in a recording.
 pub data TraceEntry : Type 0 where
   Called : (call : Call) → TraceEntry
   Happened : (event : Event) → TraceEntry

@@ -1,7 +1,7 @@
 //! A gateway on UDP ports, driven by lines or by a clock.
 //!
-//! The line `poll` receives what arrived at the ports, `tick` advances by 20 ms and sends the packets, `stats` prints
-//! the counts, and `quit` ends the run. Whoever writes the lines is the gateway's clock.
+//! The line `poll` receives what arrived at the ports, and `tick` advances by 20 ms and sends the packets. `stats`
+//! prints the counts, and `quit` ends the run. Whoever writes the lines is the gateway's clock.
 //!
 //! ```rust
 //! let counts = serve(alloc, Config::default(), None, &mut ports, &mut input, &mut output, 0, &mut reports)?;

@@ -1,5 +1,5 @@
--- The frames of rows, the rooms that rows are joined to, and the sums of a room's frames (this
--- project's own: a total is never limited, and a mix is limited once).
+-- The frames of rows, the rooms that rows are joined to, and the sums of a room's frames. This
+-- project's own rule: a total is never limited, and a mix is limited once.
 use Rattle.std.specs.Prelude.{◌≡◌, ◌≢◌, ℕ, ◌+◌, ◌%◌, ◌^◌, ◌<◌, ℤ, Bool, false, not, ◌==◌, Option}
 use Rattle.std.specs.Prelude.{Some, None, List, [], ◌∷◌, length, map, filter, replicate}
 use Rattle.std.specs.Prelude.{slice_index_or, AllPairs, Contains, IsTrue, IfSome, All}

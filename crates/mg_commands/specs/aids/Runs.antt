@@ -1,5 +1,5 @@
 -- The program's state in an action and in a transaction, and which states of the definitions it
--- represents: the engine represents the gateway, and the reply has the items that were put into it.
+-- represents. The engine represents the gateway, and the reply has the items that were put into it.
 use Rattle.std.specs.Prelude.{◌≡◌, ℕ, ◌*◌, Bool, true, false, List, Result, Ok, Err}
 use Rattle.mg_words.specs.ResultSteps.{◌>>=◌}
 use Rattle.mg_words.specs.declared.error_number.ErrorNumber.{ErrorNumber}

@@ -129,7 +129,7 @@ LineRan shown number line w next n m old new (Err stops.Write) =
 LineRan shown number line w next n m old new (Err stops.NoMemory) = Keeps old new × (next ≡ w)
 
 -- The lines that end in these bytes were run, and the next line was started, whatever follows the
--- bytes; or the reason why they were not.
+-- bytes. Otherwise, the reason why they were not.
 abbrev pub BytesRan : Shown → ℕ → ℕ → List ℕ → List ℕ → List ℕ → World → World → ℕ → ℕ
     → Option (List ℕ) → Option (List ℕ) → Result (Unit {0}) LineFault → Type 0
 BytesRan shown count counted partial bytes left w next n m old new (Ok done) =

@@ -16,8 +16,8 @@ step_lines polls step = if step % polls == 0 then poll_line ++ tick_line else po
 abbrev pub period_lines : ℕ → List ℕ
 period_lines polls = repeat polls poll_line ++ tick_line
 
--- the lines of this many steps: those of all complete periods of 20 ms, and then the polls of the
--- current one
+-- the lines of this many steps: the lines of all complete periods of 20 ms, and then the polls of
+-- the current one
 unfoldable pub text : ℕ → ℕ → List ℕ
 text polls steps =
     repeat (steps / polls) (period_lines polls) ++ repeat (steps % polls) poll_line

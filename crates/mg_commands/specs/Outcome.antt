@@ -79,8 +79,8 @@ abbrev pub unless_empty : List Name → Result (List Name) ErrorNumber
 unless_empty [] = Err errors.WildcardMatchedNone
 unless_empty (x ∷ xs) = Ok (x ∷ xs)
 
--- The names that a command is tried on, in order: its own or, for *, those of the current members
--- when the command starts (RFC 3525, section 6.2.2).
+-- The names that a command is tried on, in order: its own or, for *, the names of the current
+-- members when the command starts (RFC 3525, section 6.2.2).
 abbrev pub names_for : Gateway → Target → CommandWord → Name → Result (List Name) ErrorNumber
 names_for w target word names.All =
     if takes_all word then unless_empty (map names.Number (members_in w target))

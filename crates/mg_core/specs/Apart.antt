@@ -102,8 +102,8 @@ UnheardInHistories =
     → HasHistory config (to_first xs) s v one → HasHistory config (to_second xs) t w other
     → NextTickIsSame some port v w
 
--- The first events lead to the world w, and then comes a tick. The datagrams sent are those of the
--- first events, of this tick, and of everything after it.
+-- The first events lead to the world w, and then comes a tick. The datagrams are sent by the first
+-- events, by this tick, and by everything after it.
 abbrev pub HasTickAfter : Config → List Event → List Sent → World → Type 0
 HasTickAfter config events sent w =
     (before after : List Sent) × Run (start_of config) events before w

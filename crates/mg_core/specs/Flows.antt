@@ -112,7 +112,7 @@ changes_by w next =
 
 -- ## Everything that changed, and nothing else
 
--- a termination without its port, which stays the same as long as the termination exists
+-- a termination without its port, which never changes while the termination exists
 abbrev pub but_port : Listener → Listener
 but_port x = record x { port = 0 }
 

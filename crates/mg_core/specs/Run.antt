@@ -41,7 +41,7 @@ abbrev pub lines_for : List Sent → List ℕ
 lines_for sent = flat_map line_of sent
 
 -- Events run one after another, each in the world that the previous one left. For each, the lines
--- of what it sends are written, followed by those of what it changed.
+-- of what it sends are written, followed by the lines of what it changed.
 abbrev pub ReportsChanges : World → List Event → List ℕ → World → Type 0
 ReportsChanges w [] text last = (text ≡ []) × (last ≡ w)
 ReportsChanges w (event ∷ events) text last =

@@ -77,8 +77,8 @@ PacketsDependOnHeard =
     → (hears_itself a r.number ≡ true → frame_of a r.number ≡ frame_of b r.number)
     → packet_of a r ≡ packet_of b r
 
--- Whatever a talker says, the packet to a listener to whom its speech does not flow is the same,
--- byte for byte. (In Loopback a termination is its own listener.)
+-- Whatever a talker says, a listener that does not get its speech is sent the same packet, byte for
+-- byte. (In Loopback a termination is its own listener.)
 abbrev pub UnheardChangesNoPacket : Type 0
 UnheardChangesNoPacket =
     (w : Gateway) (talker : ℕ) (frame : List ℤ) (r : Record) → flow w talker r.number ≡ false

@@ -9,8 +9,8 @@ use Rattle.mg_engine.specs.Flow.{flow, is_silenced}
 use Rattle.mg_engine.specs.Place.{IsOnPlace}
 use Rattle.mg_engine.specs.Stands.{ShareContext}
 
--- Exactly the places of members are held. Between any two members of a context, the flows and who
--- is silenced match the gateway.
+-- The held places are exactly the places of members. Between any two members of a context, the
+-- flows and who is silenced match the gateway.
 pub record RepresentsFlows (w : Gateway) (rooms : List table.RoomFlows) : Type 0 where
   pub held : (n : ℕ) (r : Record) (p : Place) → IsOnPlace w.rooms n r p
       → IsTrue (table.holds rooms p)

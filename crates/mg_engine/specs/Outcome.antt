@@ -33,7 +33,7 @@ media_without n list = change (λ s. s.number) n (λ _. None) list
 
 -- ## Commands on a termination
 
--- the outcome, given that of the terminations and contexts
+-- the outcome, given the outcome for the terminations and contexts
 abbrev pub done_with : (rooms.Registry → Record → Gateway)
     → Result (rooms.Registry × Record) ErrorNumber → Result (Gateway × Record) ErrorNumber
 done_with f (Ok p) = Ok (f p.0 p.1, p.1)
@@ -99,7 +99,7 @@ apply_triples w target xs = do
 abbrev pub Outcome : Type 0
 Outcome = Result (Gateway × Done) ErrorNumber
 
--- what was done, as the result of an edit
+-- the change that was made, as the result of an edit
 abbrev pub done_as : {A : Type 0} → (A → Done) → Result (Gateway × A) ErrorNumber → Outcome
 done_as f (Ok p) = Ok (p.0, f p.1)
 done_as f (Err e) = Err e

@@ -63,7 +63,7 @@ EditsDoNotAffectOthers =
     → outcome w edit ≡ Ok (next, done) → IsSome (context_at w.rooms c) → IsEditElsewhere w c edit
     → IsUnaffected w next c
 
--- an RTP datagram does not affect a context of which no member has the datagram's port
+-- an RTP datagram does not affect a context in which no member has the datagram's port
 abbrev pub DatagramsDoNotAffectOthers : Type 0
 DatagramsDoNotAffectOthers =
     (w next : Gateway) (port : ℕ) (source bytes : List ℕ) (result : Taken) (c : ℕ)

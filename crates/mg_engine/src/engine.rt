@@ -843,7 +843,7 @@ fn begin(media: &mut Vec<HeldMedia>, sums: &mut Sums, slot: u8, config: &Config)
     sums.set_frame(Row::new(slot), None);
 }
 
-/// Removes a slot from those that are held.
+/// Removes a slot from the list of held slots.
 fn without(held: &mut ArrayVec<u8, TERMINATIONS>, slot: u8)
     ensures value { held.new.items ≡ filter (λ s. not (s == slot)) held.old.items }
 {

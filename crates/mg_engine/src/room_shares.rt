@@ -45,8 +45,8 @@ impl RoomShares {
 
     /// Finds a packet whose payload is what these seats say, in this law, among the newest packets.
     ///
-    /// Each talker hears a different sum. So a room of talkers has as many of these packets as members, and a full
-    /// search would be quadratic. Members that only listen find theirs among the newest.
+    /// Each talker hears a different sum. So a room of talkers has one of these packets per member, and a full search
+    /// would be quadratic. Members that only listen find theirs among the newest.
     pub fn find(&self, talkers: Mask, law: Law) -> Option<u8>
         ensures found { IfSome result
             (λ packet. Contains self.now (record { talkers = talkers; law = law; packet = packet })) }

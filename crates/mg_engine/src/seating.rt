@@ -25,7 +25,7 @@ impl Model for Seating {
     ghost invariant = { λ seating. length seating.slots.items ≡ place_count };
 }
 
-/// Returns the index of a place among those of all rooms.
+/// Returns the index of a place among the places of all rooms.
 fn index_of(place: Place) -> usize
     requires within { IsWithinLimits place }
     ensures value { result ≡ index_of place }

@@ -21,7 +21,7 @@ pub enum DropCause {
     NoLocal,
     /// The datagram is not a valid packet.
     Rtp(RtpFault),
-    /// The payload type is not that of the Local's law.
+    /// The payload type does not match the Local's law.
     PayloadType,
     /// The payload does not have 160 bytes.
     Length,

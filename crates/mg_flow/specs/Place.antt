@@ -17,7 +17,7 @@ is_same_place a b = (a.room == b.room) && (a.seat == b.seat)
 abbrev pub sibling_place : Place → ℕ → Place
 sibling_place place seat = record { room = place.room; seat = seat }
 
--- whether two places are held, by the test, and are different seats of one room
+-- whether two places are held, according to the test, and are different seats of one room
 abbrev pub are_together : (Place → Bool) → Place → Place → Bool
 are_together is_held a b =
     is_held a && (is_held b && ((a.room == b.room) && not (a.seat == b.seat)))

@@ -56,7 +56,7 @@ impl FlowTable {
         Ok(FlowTable { rooms })
     }
 
-    /// Returns whether the place is held. A place beyond the limits is not.
+    /// Returns whether the place is held. A place beyond the limits is not held.
     pub fn holds(&self, place: Place) -> bool
         ensures kept { result ≡ holds self.now place }
         ensures edits { (es : List FlowEdit) → StandsFor self.now es → result ≡ is_held es place }

@@ -68,7 +68,7 @@ OtherNumbersStay =
 
 -- ## From one change to the next
 
--- A reply stays while fewer than 32 are newer; keeping one more adds one newer reply.
+-- A reply is kept while fewer than 32 are newer; keeping one more adds one newer reply.
 abbrev pub FewNewerStay : Type 0
 FewNewerStay =
     (replies : List KeptReply) (reply : KeptReply) (sender text : List ℕ) (number : ℕ)

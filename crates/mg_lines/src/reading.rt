@@ -3,7 +3,7 @@ ghost use Rattle.mg_lines.specs.Streams.{ReadsSome};
 use crate::read_failed::ReadFailed;
 use std::io::{ErrorKind, Read};
 
-/// The maximum number of bytes that one read asks for.
+/// The maximum number of bytes that one read requests.
 pub const READ_SIZE: usize = 4096;
 
 /// Reads some bytes. Returns how many: 0 if the read was interrupted, and `None` at the end.

@@ -21,7 +21,7 @@ has_no_frame places = list_all is_none places
 abbrev pub empty_places : ℕ → FramePlaces
 empty_places depth = replicate depth None
 
--- this many places, of which only the first holds a frame
+-- this many places, with a frame only in the first
 abbrev pub started_with : List ℤ → ℕ → FramePlaces
 started_with frame depth = Some frame ∷ empty_places (depth - 1)
 

@@ -157,7 +157,7 @@ impl Places {
         append_empty(&mut self.ring, missing);
     }
 
-    /// Drops all frames, and resets the depth to that of a new play list.
+    /// Drops all frames, and resets the depth to the initial one.
     pub(crate) fn clear(&mut self)
         ensures last { self.new.last ≡ None }
         ensures places { self.new.places ≡ empty_places FIRST_DEPTH }

@@ -178,7 +178,7 @@ impl Playout {
         self.places.start(frame);
     }
 
-    /// Raises the next sequence number, and moves every frame down by as many places.
+    /// Increases the next sequence number by `count`, and moves every frame down by as many places.
     fn shift(&mut self, count: usize)
         requires { count < 65536 }
         ensures { self.new ≡ shifted self.old count }

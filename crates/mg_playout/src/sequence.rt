@@ -5,13 +5,12 @@ ghost use Rattle.mg_playout.specs.Sequence.{distance_of};
 
 /// The minimum distance ahead of the next sequence number at which a packet restarts a play list.
 ///
-/// The name and the value are those of RFC 3550, appendix A.1, which waits for a second packet first.
+/// The name and the value are from RFC 3550, appendix A.1, which waits for a second packet first.
 pub const MAX_DROPOUT: i16 = 3000;
 
 /// The maximum distance behind the next sequence number at which a packet is late and does not restart a play list.
 ///
-/// The name and the value are those of RFC 3550, appendix A.1, where a packet at exactly this distance counts as a
-/// jump.
+/// The name and the value are from RFC 3550, appendix A.1, where a packet at exactly this distance counts as a jump.
 pub const MAX_MISORDER: i16 = 100;
 
 /// Returns how far a sequence number is ahead of the next one: negative if it is behind.

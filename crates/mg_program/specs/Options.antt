@@ -63,7 +63,7 @@ replay_line = with_rule (subcommand_line (codes "replay")) (flag_rule (codes "fl
 abbrev pub live_line : App
 live_line = with_rule (sockets_line (codes "live")) (number_rule (codes "late") 0 65535)
 
--- the command line: arguments of which one is a subcommand
+-- the command line, with one of the subcommands
 unfoldable pub command_line : App
 command_line =
     with_subcommand (with_subcommand (with_subcommand

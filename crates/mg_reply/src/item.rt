@@ -34,7 +34,7 @@ impl Item {
         }
     }
 
-    /// Returns the context of the action that ends with this item, if one does.
+    /// Returns the context of the action that ends with this item, if any.
     pub(crate) fn action_id(&self) -> Option<ContextId>
         ensures value { result ≡ action_id self.now }
     {

@@ -89,7 +89,7 @@ impl Reply {
         self.number
     }
 
-    /// Returns the items that were put.
+    /// Returns the items so far.
     pub fn items(&self) -> &[Item]
         ensures value { result.now ≡ self.now.items }
     {

@@ -1,5 +1,5 @@
 -- Why bytes are not a packet. The faults and their order are this project's own. A fault names the
--- first part, from the front, that is not as section 5.1 of RFC 3550 requires.
+-- first part that is not as section 5.1 of RFC 3550 requires.
 use Rattle.std.specs.Prelude.{◌≡◌, ◌≢◌, ℕ, ◌+◌, ◌-◌, ◌*◌, ◌/◌, ◌<◌, ◌≤◌, IsTrue, List, [], ◌++◌}
 use Rattle.std.specs.Prelude.{length, drop, slice_index, codes, ◌⊎◌}
 use Rattle.byteorder.specs.Endian.{big_number}
@@ -28,7 +28,7 @@ pub record LacksSources (bytes : List ℕ) : Type 0 where
   pub begins : Begins bytes layout header rest
   pub few : length rest < 4 * layout.source_count
 
--- a header and its sources, but no whole extension
+-- a header and its sources, but no complete extension
 pub record LacksExtension (bytes : List ℕ) : Type 0 where
   pub layout : Layout
   pub header : Header

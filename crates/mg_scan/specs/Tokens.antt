@@ -68,7 +68,7 @@ token_at (b ∷ bs) =
     else Some (Err BadByte))))))
 
 -- The number of bytes before the brace that closes a session description: the first one without a
--- backslash before it. Whether the byte before the list is a backslash is given.
+-- backslash before it. The flag says whether the byte before the list is a backslash.
 unfoldable pub content_len : Bool → List ℕ → Option ℕ
 content_len escaped [] = None
 content_len escaped (b ∷ bs) =

@@ -3,7 +3,7 @@ use Rattle.std.specs.Prelude.{◌≡◌, ℕ, Bool, true, false, List, [], ◌�
 use Rattle.mg_words.specs.LineEnd.{is_line_end}
 use Rattle.mg_scan.specs.Tokens.{is_blank}
 
--- Blanks and comments, one after another. A comment goes from a semicolon to the end of its line
+-- Blanks and comments, one after another. A comment extends from a semicolon to the end of its line
 -- or of the text. White space may start inside a comment.
 pub data IsWhite : Bool → List ℕ → Type 0 where
   nothing : (inside : Bool) → IsWhite inside []

@@ -1,6 +1,6 @@
 //! Session descriptions (SDP) in Local and Remote descriptors: parsing, choice, writing.
 //!
-//! The formats are those of RFC 4566 and RFC 3525, section 7.1.8.
+//! The formats follow RFC 4566 and RFC 3525, section 7.1.8.
 //!
 //! The content of a descriptor has one or more alternatives. [`read_sessions`] returns what each of them offers, for at
 //! most eight, and does not allocate. [`choose`] and [`choose_remote`] return the first offer that the gateway can

@@ -39,8 +39,8 @@ Exits form (Err faults.NoMemory) ended text lines others left = (lines ≡ []) �
 Exits form (Err faults.BadConfig) ended text lines others left = (lines ≡ []) × (text ≡ [])
 Exits form (Err (faults.Script number)) ended text lines others left = ⊥
 
--- A text was read. The commands are those of its lines before the first `quit`, or of the first of
--- these lines if a print failed.
+-- A text was read. The commands come from its lines before the first `quit`, or, if a print failed,
+-- from the first of these lines.
 pub record ReadCommands {T : Type 0} (form : Form) (old new : Option (List ℕ))
     (result : Result T RunFault) (commands : List Command) : Type 0 where
   pub text : List ℕ
@@ -64,8 +64,8 @@ ClockExits form faults.Read fails timings commands now new =
     (commands ≡ commands_at timings)
     × (fails ⊎ (length timings ≡ 2 ^ 64 - 1
     ⊎ IsReadEarly (length timings + 1) (2 ^ 64 - 1) now new))
--- A print failed: for the last command that was executed, after which at most a tick is left; or at
--- the start.
+-- A print failed: for the last command that was executed, with at most one tick left; or at the
+-- start.
 ClockExits form faults.Write fails timings commands now new =
     (new ≡ now) × ((timings ≡ []) × (commands ≡ [])
     ⊎ ((left : List Command) × (commands_at timings ≡ commands ++ left) × (length left ≤ 1)
@@ -77,7 +77,7 @@ ClockExits form faults.BadConfig fails timings commands now new =
     (new ≡ now) × (timings ≡ []) × (commands ≡ [])
 ClockExits form (faults.Script number) fails timings commands now new = ⊥
 
--- The commands are those of the ticks that a clock began, each when it was due.
+-- The commands belong to the ticks that a clock began, each when it was due.
 pub record ClockCommands (form : Form) (allowed : ℕ) (old new : ClockSeen) (fails : Type 0)
     (fault : RunFault) (commands : List Command) : Type 0 where
   pub timings : List Timing

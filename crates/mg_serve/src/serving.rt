@@ -17,8 +17,8 @@ use std::io::{Read, Write};
 
 /// Serves a new gateway on some ports, driven by lines.
 ///
-/// It prints `ready`, and executes the lines of the input up to the first `quit` or the end of the input. Sockets
-/// beyond those of the configuration are not used.
+/// It prints `ready`, and executes the lines of the input up to the first `quit` or the end of the input. Sockets that
+/// the configuration does not include are not used.
 ///
 /// - `poll` reads the control socket, then each media socket in ascending order, at most 64 datagrams from each. A
 ///   control message is answered at once; a message from an address that isn't a controller's is dropped. A failed
@@ -29,9 +29,9 @@ use std::io::{Read, Write};
 /// - Any other line prints `unknown command`.
 ///
 /// With a title, the output is a recording: a script with one line for each event (`control`, `rtp` or `tick`), in
-/// order. Its first line is the title, as a comment. Everything else that is printed is a comment too, also a control
-/// datagram for which there was no memory. `run` of `mg_core` runs such a script again. If a print fails, the current
-/// input line is still executed in full, and nothing more is printed.
+/// order. Its first line is the title, as a comment. Everything else that is printed is a comment too, including a
+/// control datagram for which there was no memory. `run` of `mg_core` runs such a script again. If a print fails, the
+/// current input line is still executed in full, and nothing more is printed.
 ///
 /// At the given interval it reports to an operator: the totals since the start, and each media port that had trouble
 /// since the last report. A report that can't be printed is skipped.

@@ -68,7 +68,7 @@ heard_of kept room out i = sum_of (sample_in kept.frames i) (heard_rows kept.roo
 unfoldable pub mix_of : SumsState → ℕ → List ℕ → List ℤ
 mix_of kept room out = map (λ i. nearest_sample (heard_of kept room out i)) (range_with_len 0 160)
 
--- the rows that a mix leaves out: the base, if there is one, and those of `minus`
+-- the rows that a mix leaves out: the base, if there is one, and the rows of `minus`
 abbrev pub left_out_by : Option ℕ → List ℕ → List ℕ
 left_out_by None minus = minus
 left_out_by (Some base) minus = base ∷ minus
@@ -87,7 +87,7 @@ pub record AreAllOfRoom (rooms : List (Option ℕ)) (room : ℕ) (rows : List �
 abbrev pub work_after : ℕ → ℕ → ℕ
 work_after calls work = (work + calls) % 2 ^ 32
 
--- how many kernel calls it takes to set a row's frame: two if it is joined to a room
+-- how many kernel calls are needed to set a row's frame: two if it is joined to a room
 abbrev pub frame_calls : Option ℕ → ℕ
 frame_calls None = 0
 frame_calls (Some room) = 2

@@ -10,7 +10,7 @@ pub record TopologyState : Type 0 where
   pub held : ℕ
   pub rows : List ℕ
 
--- whether the seat is held; no seat at or above the limit is
+-- whether the seat is held; no seat at or above the limit is held
 abbrev pub holds : TopologyState → ℕ → Bool
 holds kept seat = nat_lt seat seat_limit && has_seat kept.held seat
 

@@ -1,7 +1,7 @@
 use super::run_program;
 use std::test::Fail;
 
-/// Asks for a termination with a session description that the gateway completes.
+/// Requests a termination with a session description that the gateway completes.
 const OFFER: &[u8] =
     b"say 10.0.0.9:2945 MEGACO/1 [10.0.0.9]:2945 Transaction=1{Context=${Add=${Media{Local{v=0\\n\
     c=IN IP4 $\\nm=audio $ RTP/AVP 0\\n}}}}}\n";

@@ -9,8 +9,8 @@ use std::time::{Clock, Duration};
 
 const MESSAGE: &[u8] = b"MEGACO/2";
 
-/// A stranger and a controller, who each send messages to a gateway once it runs: when it reads its input first, or
-/// first waits. The stranger sends before the controller and after it.
+/// A stranger and a controller, who each send messages to a gateway once it runs: when it first reads its input, or
+/// first waits. The stranger sends before and after the controller.
 #[derive(Drop)]
 struct Senders<'a> {
     stranger: &'a UdpSocket,
@@ -63,7 +63,7 @@ impl<'a> Clock for Senders<'a> {
     }
 }
 
-/// A socket of a host of the loopback network, which doesn't wait.
+/// Returns a non-blocking socket of a host in the loopback network.
 fn sender(rt: &HostRuntime, host: u8, port: u16) -> io::Result<UdpSocket> {
     let address = IpAddr::V4(Ipv4Addr::new(127, 0, 0, host));
     let socket = UdpSocket::bind(rt, SocketAddr::new(address, port))?;
@@ -71,7 +71,7 @@ fn sender(rt: &HostRuntime, host: u8, port: u16) -> io::Result<UdpSocket> {
     Ok(socket)
 }
 
-/// How many answers wait at a socket.
+/// Returns how many answers wait at a socket.
 fn answers(socket: &UdpSocket) -> usize {
     let mut buffer = [0; 200];
     let mut count = 0;
@@ -83,8 +83,8 @@ fn answers(socket: &UdpSocket) -> usize {
     count
 }
 
-/// How many answers a stranger and a controller get from the program by these words: the controller is 127.0.0.2, and
-/// the control port is this one.
+/// Returns how many answers a stranger and a controller get from the program with these arguments. The controller is
+/// 127.0.0.2, and the control port is this one.
 fn answered(rt: &HostRuntime, port: u16, words: &[&str]) -> Result<(usize, usize), Fail> {
     let alloc = rt.alloc();
     let stranger = sender(rt, 1, port + 8)?;

@@ -72,7 +72,7 @@ fn lines(alloc: Global) -> Result<String, AllocError> {
     Ok(lines)
 }
 
-/// Serves a gateway on these ports by these lines. Returns its counts, and what it printed.
+/// Serves a gateway on these ports, driven by these lines. Returns its counts, and what it printed.
 fn serve_lines<P: Ports>(
     alloc: Global,
     config: Config,
@@ -105,7 +105,7 @@ fn carries(socket: &UdpSocket, before: usize, payload: &[u8]) -> io::Result<bool
     Ok(n == 172 && &buffer[12..172] == payload)
 }
 
-/// What each of two callers says goes to the other.
+/// Each of two callers hears the other.
 fn carry_speech(
     rt: &impl Abort,
     alloc: Global,
@@ -238,7 +238,7 @@ fn binds_only_its_addresses(rt: HostRuntime) -> Result<(), Fail> {
     take_at_two_addresses(&rt, rt.alloc(), config, &mut ports, &caller)
 }
 
-/// A waiting datagram is received; if none waits, none is.
+/// A waiting datagram is received; if none waits, the receive returns none.
 fn receive_what_waits(
     rt: &impl Abort,
     ports: &mut UdpPorts,
@@ -278,7 +278,7 @@ fn receives_without_waiting(rt: HostRuntime) -> Result<(), Fail> {
 const HEARTBEAT: &[u8] =
     b"MEGACO/1 [127.0.0.1]:29910 Transaction=1{Context=-{AuditValue=ROOT{Audit{}}}}";
 
-/// Returns a heartbeat with spaces after it, `length` bytes in all.
+/// Returns a heartbeat with spaces after it, `length` bytes in total.
 fn padded(alloc: Global, length: usize) -> Result<Vec<u8>, AllocError> {
     let mut message = HEARTBEAT.to_vec(alloc)?;
     message.resize(length, b' ')?;

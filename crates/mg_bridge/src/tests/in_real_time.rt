@@ -13,8 +13,8 @@ const MS: u64 = 1_000_000;
 const ONE_CALLER: &[u8] = b"MEGACO/1 [127.0.0.1]:28912 Transaction=1{Context=${\
     Add=${Media{LocalControl{Mode=SendOnly},Remote{v=0\nc=IN IP4 127.0.0.1\nm=audio 28912 RTP/AVP 0\n}}}}}";
 
-/// A clock that advances only by its waits. At its first wait a caller asks for a termination, and the wait up to 100
-/// ms takes two seconds more. It fails after 400 readings.
+/// A clock that advances only by its waits. At its first wait a caller requests a termination, and the wait that ends
+/// at 100 ms is two seconds too long. It fails after 400 readings.
 #[derive(Drop)]
 struct StallingClock<'a> {
     now: Cell<u64>,
@@ -57,7 +57,7 @@ fn next_packet(socket: &UdpSocket) -> io::Result<(u16, u32)> {
     Ok((sequence, timestamp))
 }
 
-/// Of the ticks due at 2100 ms, those from the hundredth on are at most five ticks late.
+/// Of the ticks due at 2100 ms, the hundredth and later ones are at most five ticks late.
 #[test]
 fn turns_a_stall_into_a_gap(rt: HostRuntime) -> Result<(), Fail> {
     let caller = UdpSocket::bind(&rt, local(28912))?;

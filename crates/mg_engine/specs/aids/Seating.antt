@@ -11,7 +11,7 @@ use Rattle.mg_engine.specs.Place.{IsOnPlace}
 abbrev pub place_count : ℕ
 place_count = context_limit * seat_limit
 
--- the index of a place among those of all rooms
+-- the index of a place among the places of all rooms
 abbrev pub index_of : Place → ℕ
 index_of place = place.room * seat_limit + place.seat
 

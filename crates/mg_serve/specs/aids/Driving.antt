@@ -18,7 +18,7 @@ use Rattle.mg_serve.specs.declared.command.Command.{Command}
 use Rattle.mg_serve.specs.declared.command.Command.TheVariants.{Poll, Tick}
 use Rattle.mg_serve.specs.Trace.{TraceEntry}
 
--- a receive, and whether a datagram came
+-- a receive, and whether it returned a datagram
 abbrev pub Received : Setup → ℕ → Bool → World → List TraceEntry → World → Type 0
 Received setup socket true w trace next =
     (datagram : Peer × List ℕ) × ReceivesDatagram setup socket datagram w trace next

@@ -50,7 +50,7 @@ headed optional wildcard keyword =
     option_map (λ word. record { word = word; is_optional = optional; wants_wildcard = wildcard })
     (command_named keyword)
 
--- the command after a prefix, or else another result
+-- the command after a prefix; otherwise another result
 abbrev pub prefixed : Bool → Bool → Option (List ℕ) → Option CommandHead → Option CommandHead
 prefixed optional wildcard (Some rest) other = by_keyword (headed optional wildcard) rest
 prefixed optional wildcard None other = other

@@ -99,7 +99,7 @@ lines_of_new ticks (Some old) x =
     ((if is_same_mode old.mode x.mode then [] else in_mode ticks x) ++
     (if bytes_eq old.talkers x.talkers then [] else hearing ticks x))
 
--- all changes between the terminations before and those after
+-- all changes from the earlier to the later state of the terminations
 abbrev pub changes : ℕ → List Listener → List Listener → List ℕ
 changes ticks before after =
     flat_map (lines_of_old ticks after) before

@@ -8,8 +8,8 @@ use Rattle.mg_engine.specs.Flow.{is_silenced}
 use Rattle.mg_engine.specs.Mix.{is_loopback}
 use Rattle.mg_engine.specs.Tick.{sent_to}
 
--- how many talkers are silenced for a listener: other members of its context that talk, and whose
--- speech the last word keeps from it
+-- how many talkers are silenced for a listener: other members of its context that talk and that the
+-- last word mutes for it
 abbrev pub silenced_for : Gateway → ℕ → ℕ
 silenced_for w listener = count_by (λ talker. is_silenced w talker listener) (numbers_of w)
 

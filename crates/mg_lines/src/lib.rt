@@ -7,8 +7,8 @@
 //! }
 //! ```
 //!
-//! Contracts apply to readers whose remaining input is known, and to writers whose content is known, as it is for those
-//! in memory. `specs/Lines.antt` defines the lines of a text.
+//! Contracts apply to readers whose remaining input is known, and to writers whose content is known. Both are known for
+//! in-memory ones. `specs/Lines.antt` defines the lines of a text.
 #![tactic(auto)]
 
 mod line;

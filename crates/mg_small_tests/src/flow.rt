@@ -55,7 +55,7 @@ fn only_talkers_are_silenced(rt: HostRuntime) -> Result<(), Fail> {
     assert_masks(&rt, &table, SECOND, 0b001, 0);
     assert_masks(&rt, &table, THIRD, 0b010, 0b001);
 
-    // The first moves to a context of its own, and comes back.
+    // The first moves to a separate context, and returns.
     leave(&rt, &mut table, FIRST);
     enter(&rt, &mut table, ELSEWHERE, true, true);
     assert_masks(&rt, &table, ELSEWHERE, 0, 0);

@@ -5,8 +5,8 @@ use mg_core::{RunFault, Shown};
 use std::alloc::Global;
 use std::io::Cursor;
 
-/// Three callers are in a conference; the first and the third are isolated; the third moves to a context of its own;
-/// the second is subtracted.
+/// Three callers are in a conference. The first and the third are isolated, the third moves to a new context, and the
+/// second is subtracted.
 const SCRIPT: &[u8] = b"tick\n\
     say 127.0.0.1:2945 !/1 [127.0.0.1]:2945 T=1{C=${A=${M{O{MO=SR}}},A=${M{O{MO=SR}}},A=${M{O{MO=SR}}}}}\n\
     tick\n\

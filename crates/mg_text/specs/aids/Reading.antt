@@ -1,5 +1,5 @@
--- Parsing from left to right, up to the first fault, as the code does. The grammar is a relation
--- of its own; lemmas connect the two.
+-- Parsing from left to right, up to the first fault, as the code does. The grammar is a separate
+-- relation; lemmas connect the two.
 use Rattle.std.specs.Prelude.{◌≡◌, ℕ, zero, suc, ◌-◌, ◌==◌, Bool, true, false, List, [], ◌∷◌}
 use Rattle.std.specs.Prelude.{length, Option, Some, None, Result, Ok, Err, if◌then◌else◌}
 use Rattle.mg_scan.specs.declared.kind.TokenKind.{TokenKind}

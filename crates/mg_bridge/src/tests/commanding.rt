@@ -63,10 +63,10 @@ impl<'a> Clock for Senders<'a> {
     }
 }
 
-/// Returns a non-blocking socket of a host in the loopback network.
-fn sender(rt: &HostRuntime, host: u8, port: u16) -> io::Result<UdpSocket> {
+/// Returns a non-blocking socket of a host in the loopback network. The system chooses its port.
+fn sender(rt: &HostRuntime, host: u8) -> io::Result<UdpSocket> {
     let address = IpAddr::V4(Ipv4Addr::new(127, 0, 0, host));
-    let socket = UdpSocket::bind(rt, SocketAddr::new(address, port))?;
+    let socket = UdpSocket::bind(rt, SocketAddr::new(address, 0))?;
     socket.set_nonblocking(true)?;
     Ok(socket)
 }
@@ -74,10 +74,10 @@ fn sender(rt: &HostRuntime, host: u8, port: u16) -> io::Result<UdpSocket> {
 /// Returns how many answers wait at a socket.
 fn answers(socket: &UdpSocket) -> usize {
     let mut buffer = [0; 200];
-    let mut count = 0;
+    let mut count: usize = 0;
     for _ in 0..10 {
         if socket.recv_from(&mut buffer).is_ok() {
-            count += 1;
+            count = count.saturating_add(1);
         }
     }
     count
@@ -87,8 +87,8 @@ fn answers(socket: &UdpSocket) -> usize {
 /// 127.0.0.2, and the control port is this one.
 fn answered(rt: &HostRuntime, port: u16, words: &[&str]) -> Result<(usize, usize), Fail> {
     let alloc = rt.alloc();
-    let stranger = sender(rt, 1, port + 8)?;
-    let controller = sender(rt, 2, port + 8)?;
+    let stranger = sender(rt, 1)?;
+    let controller = sender(rt, 2)?;
     let mut senders = Senders {
         stranger: &stranger,
         controller: &controller,

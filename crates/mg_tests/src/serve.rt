@@ -508,10 +508,10 @@ fn begins_ticks_by_the_clock_until_it_fails(rt: HostRuntime) -> Result<(), Fail>
         call_log(alloc, &ports)?.as_str(),
         "c0a0n0n1n2p1n0n1n2p1n0n1n2p1n0n1n2p1"
     );
-    let mut late = 0;
+    let mut late: usize = 0;
     for call in ports.calls().unwrap_or(&[]) {
         if let Call::BeginTick(Timing::Late) = call {
-            late += 1;
+            late = late.saturating_add(1);
         }
     }
     assert_eq!(rt; late, 1);

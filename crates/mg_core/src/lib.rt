@@ -10,9 +10,9 @@
 //! }
 //! ```
 //!
-//! [`run`] does this for each line of a script. Contracts speak of the worlds that a core's state represents
-//! (`StandsFor` in `specs/World.antt`). A call with an event is a step from each of these worlds to the next (`Step` in
-//! `specs/Step.antt`). So after any list of events, its flows, totals and packets equal the recomputed ones
+//! [`run`] does this for each line of a script. Contracts describe the worlds that a core's state represents
+//! (`StandsFor` in `specs/World.antt`). When a core handles an event, each of these worlds takes the step that `Step` in
+//! `specs/Step.antt` defines. So after any list of events, its flows, totals and packets equal the recomputed ones
 //! (`specs/Headline.antt`). A retransmitted request is answered with its kept reply, and is not run twice
 //! (`specs/Retransmissions.antt`).
 #![tactic(auto)]

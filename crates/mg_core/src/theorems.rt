@@ -91,8 +91,8 @@ pub fn worlds_are_consistent()
 
 /// The order of packets from different callers does not matter.
 ///
-/// Take two lists of events with the same control datagrams and ticks. Between any two of these, each port has the same
-/// RTP datagrams in the same order. Then both lists send the same datagrams and end in the same world.
+/// Suppose two lists of events have the same control datagrams and ticks, and each port receives the same RTP datagrams
+/// in the same order between them. Then both lists send the same datagrams and end in the same world.
 pub fn port_order_is_irrelevant()
     ensures events { PortOrderIsIrrelevant }
     ensures histories { PortOrderInHistories }
@@ -104,10 +104,11 @@ pub fn port_order_is_irrelevant()
     mg_commands::theorems::requests_are_consistent();
 }
 
-/// In each tick, the packet to a listener does not depend on anything received, at any time, from terminations that it
-/// does not hear then. Two gateways receive the same events, except for RTP datagrams at ports of some terminations. In
-/// the next tick both send the same bytes to each listener who then hears none of these terminations, whatever it heard
-/// before.
+/// In each tick, a listener's packet is independent of the terminations that it does not hear in that tick.
+///
+/// Suppose two gateways receive the same events, except for RTP datagrams at the ports of some terminations. In the next
+/// tick, both send the same bytes to every listener that hears none of those terminations in that tick. What the
+/// listener heard earlier makes no difference.
 pub fn unheard_changes_nothing()
     ensures lists { UnheardChangesNothing }
     ensures histories { UnheardInHistories }

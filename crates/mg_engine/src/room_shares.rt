@@ -43,10 +43,10 @@ impl RoomShares {
         self.shares.clear();
     }
 
-    /// Finds a packet whose payload is what these seats say, in this law, among the newest packets.
+    /// Finds a packet with the sum of these talkers in this law, among the newest packets.
     ///
-    /// Each talker hears a different sum. So a room of talkers has one of these packets per member, and a full search
-    /// would be quadratic. Members that only listen find theirs among the newest.
+    /// If everybody in a room talks, no two members hear the same sum. The room then has a packet for each member, and
+    /// searching all of them for every member would be quadratic. Members that only listen find theirs among the newest.
     pub fn find(&self, talkers: Mask, law: Law) -> Option<u8>
         ensures found { IfSome result
             (λ packet. Contains self.now (record { talkers = talkers; law = law; packet = packet })) }
@@ -67,7 +67,7 @@ impl RoomShares {
     }
 }
 
-/// Returns the first of these packets whose payload is what these seats say, in this law.
+/// Returns the first packet with the sum of these talkers in this law.
 fn packet_among(shares: &[Share], talkers: Mask, law: Law) -> Option<u8>
     ensures found { IfSome result (λ packet. Contains shares.now
         (record { talkers = talkers; law = law; packet = packet })) }

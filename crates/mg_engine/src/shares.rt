@@ -47,7 +47,7 @@ impl Shares {
         clear_all(&mut self.rooms);
     }
 
-    /// Finds a packet to this room whose payload is what these seats say, in this law.
+    /// Finds a packet to this room with the sum of these talkers in this law.
     pub fn find(&self, room: u8, talkers: Mask, law: Law) -> Option<u8>
         requires room { room < context_limit }
         ensures found { IfSome result (λ packet. Contains (shares_in self.now room)

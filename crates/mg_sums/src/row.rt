@@ -22,7 +22,7 @@ impl Model for Row {
     ghost inverse = { λ number. record { number = number } };
 }
 
-/// Returns row 0.
+/// The default is the row of the first slot.
 impl Default for Row {
     ghost use Rattle.std.specs.Prelude.{◌≡◌};
 

@@ -42,7 +42,7 @@ RunTaking w (Tick ∷ events) taken concealed last =
 
 -- ## Numbers of each
 
--- the result is the one of a play list that counter k counts
+-- the result is that of placing a frame, and counter k counts it
 abbrev pub is_placed_as : ℕ → Taken → Bool
 is_placed_as k (Placed p) = placed_counter p == k
 is_placed_as k (Dropped cause) = false

@@ -20,7 +20,7 @@ use Rattle.mg_engine.specs.Flow.{has}
 abbrev pub triple_limit : ℕ
 triple_limit = 1200
 
--- a triple that makes its edit fail
+-- a triple that causes its edit to fail
 abbrev pub barred_triple : TopologyTriple
 barred_triple = record { first = Barred; second = Barred; association = Isolate }
 

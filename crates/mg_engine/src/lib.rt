@@ -14,9 +14,9 @@
 //! of 160 samples that is added to a total, subtracted from one, or written ([`Engine::work`]).
 //!
 //! A tick costs two rows for each termination that talks: its old frame is subtracted from the total, and its new frame
-//! is added. A packet costs one row, the total without the listener itself, and one more for each talker that the
-//! topology silences for the listener. In Loopback a termination is sent its own frame, which costs none. Listeners of
-//! one context that hear the same in the same law share a payload, if it is among the newest eight of their context.
+//! is added. A packet costs one row (the total without the listener itself), plus one for each talker that the topology
+//! silences for the listener. In Loopback a termination is sent its own frame, which costs none. Listeners of one
+//! context that hear the same in the same law share a payload, if it is among the newest eight of their context.
 //! `specs/Work.antt` has the proved bound for a tick. An edit costs at most four rows, and an RTP datagram none.
 //!
 //! The engine keeps no history, and its state may hold less than what it represents. So its contracts speak of every

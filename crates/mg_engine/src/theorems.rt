@@ -42,8 +42,8 @@ pub fn none_hears_itself()
 
 /// An isolated participant is not heard.
 ///
-/// After an Isolate on two, neither's speech flows to the other, until one of them enters a context or another triple
-/// mentions the two. The packets to one of them are the same, whatever the other says.
+/// After an Isolate on two terminations, neither's speech flows to the other until one of them enters a context or
+/// another triple mentions the two. The packets to one of them are the same, whatever the other says.
 pub fn isolated_are_not_heard()
     ensures flow { IsolatedAreNotHeard }
     ensures packets { UnheardChangesNoPacket }
@@ -63,7 +63,7 @@ pub fn triples_are_limited()
 
 /// The terminations and contexts of a new gateway are consistent, and each edit and RTP datagram preserves that.
 ///
-/// So it holds after any of these, and a proof needs no engine.
+/// So it holds after any edits and datagrams, and a proof needs no engine.
 pub fn worlds_are_consistent()
     ensures start { (config : Config) → IsValidConfig config → config.first_termination ≤ LAST_TERMINATION →
         IsConsistent (start_of config).rooms }
@@ -97,6 +97,10 @@ pub fn port_order_is_irrelevant()
 /// Their members and order are unchanged, and so are the members' records and media, who hears whom, the flows, and the
 /// total. An edit concerns only the action's context and the context of the termination that it names. A datagram
 /// concerns only the context of the termination with its port.
+///
+/// It uses the relations of two clauses: `outcome` of [`Engine::edit`](crate::Engine::edit) and `taken` of
+/// [`Engine::media`](crate::Engine::media). What an engine represents is consistent
+/// ([`Engine::terminations`](crate::Engine::terminations)).
 pub fn other_contexts_are_unaffected()
     ensures edits { EditsDoNotAffectOthers }
     ensures media { DatagramsDoNotAffectOthers }

@@ -16,7 +16,7 @@ pub struct TopologyTriple {
     pub association: Association,
 }
 
-/// Makes a triple that makes its edit fail.
+/// Makes a triple that causes its edit to fail.
 impl Default for TopologyTriple {
     ghost use Rattle.std.specs.Prelude.{◌≡◌};
     ghost use Rattle.mg_engine.specs.Triples.{barred_triple};

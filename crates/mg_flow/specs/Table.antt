@@ -83,7 +83,7 @@ pub record KeepsPlaces (old new : List RoomFlows) : Type 0 where
   pub talkers : (p : Place) → talks_at new p ≡ talks_at old p
   pub listeners : (p : Place) → listens_at new p ≡ listens_at old p
 
--- whether the listener hears the talker after the triples in order, by whether it did before
+-- whether the listener hears the talker after the triples in order, given whether it did before
 abbrev pub hears_after : List Triple → ℕ → ℕ → Bool → Bool
 hears_after [] talker listener did = did
 hears_after (x ∷ xs) talker listener did =

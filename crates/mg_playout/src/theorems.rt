@@ -67,13 +67,13 @@ pub fn ticks_give_frames_in_order()
     ensures frames { (places : FramePlaces) (last : Option (List ℤ)) (place : ℕ) →
         frame_from_packet (given_at places last place) ≡ frame_at places place }
 
-    // The frame at a place is the one under the next sequence number plus the place.
+    // The frame at a place waits under the next sequence number plus the place.
     ensures numbers { (list : PlayList) (source : Source) (place : ℕ) →
         IsValidList list → list.source ≡ Some source → place < 65536 →
         frame_at list.places place ≡ frame_under list ((source.next + place) % 65536) }
 {}
 
-/// One missing frame between two received ones is concealed by the one before it, halved.
+/// A single missing frame between two received frames is replaced by the frame before it, halved.
 ///
 /// The same holds for a missing frame at place 0, if there is a last frame.
 pub fn one_missing_frame_is_concealed()

@@ -112,7 +112,8 @@ service_of controllers found = record {
   records = is_set (codes "record") found;
 }
 
--- the run of a subcommand, with the maximum lateness, in ticks, of a tick whose packets are sent
+-- the run that a subcommand asks for, with the maximum lateness, in ticks, of a tick whose packets
+-- are sent
 abbrev pub run_of : Text → Config → List (List ℕ) → List Row → Invocation
 run_of name config controllers found =
     if bytes_eq name (codes "serve") then Serve config (service_of controllers found)

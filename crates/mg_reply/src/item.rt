@@ -16,8 +16,8 @@ pub enum Item {
     Command(CommandWord, Term, Outcome),
     /// The error of an action, or of the whole request if it is the only item.
     Fault(ErrorNumber),
-    /// The end of an action in this context. The action has the items since the previous one. They are written as
-    /// topology, commands and errors, in whatever order they were put.
+    /// The end of an action in this context. The action has the items since the end of the previous action. They are
+    /// written as topology, commands and errors, in whatever order they were put.
     Action(ContextId),
 }
 

@@ -1,6 +1,6 @@
 /// The places where numbers were last put in a table, indexed by the last eight bits of the number.
 ///
-/// Numbers that differ by 256 share a hint. So a hint only says where to look first, and its user compares the number
+/// Numbers that differ by 256 share a hint. So a hint only says where to look first, and the caller compares the number
 /// there.
 #[derive(Drop)]
 pub struct Hints {

@@ -69,7 +69,7 @@ fn first_remote(offers: &[Option<Offer>]) -> Option<Offer>
 
 /// Chooses from the alternatives of a Local: the first that allows the gateway's address and the termination's port.
 ///
-/// If the law is left to the gateway, it is mu-law. Returns `None` if no alternative can be served.
+/// If the law is left to the gateway, it chooses mu-law. Returns `None` if no alternative can be served.
 pub fn choose(sessions: &Sessions, address: [u8; 4], port: u16) -> Option<Chosen>
     ensures value { result ≡ local_choice address port sessions.now }
 {

@@ -9,7 +9,7 @@ use mg_options::{
 use std::alloc::Global;
 use std::test::Fail;
 
-/// Returns the values that these arguments give two options, or the kind of the error.
+/// Returns the values that these arguments give to two options, or the kind of the error.
 fn given(alloc: Global, words: &[&str]) -> Result<(Option<u16>, Option<u32>), ErrorKind> {
     let command = Command::new(alloc, "gateway")
         .no_binary_name(true)

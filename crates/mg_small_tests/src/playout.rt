@@ -5,7 +5,7 @@ use mg_playout::{Placed, Played, Playout};
 use std::process::Abort;
 use std::test::Fail;
 
-/// Returns a frame that differs from the frames of other samples.
+/// Returns a frame whose samples all have this value.
 fn frame(sample: i16) -> Frame {
     [sample; 160]
 }

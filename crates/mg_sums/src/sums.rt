@@ -154,7 +154,7 @@ impl Sums {
         self.frames[row.number()].frame()
     }
 
-    /// Returns whether a row is known to be silent: its last setting was `None`, or it has had none.
+    /// Returns whether a row is known to be silent: it was last set to `None`, or never set.
     pub fn is_silent(&self, row: Row) -> bool
         ensures value { IsTrue result → frame_of_row self.now row ≡ silence }
     {

@@ -17,7 +17,7 @@ is_forward triple talker listener = has_seat triple.first talker && has_seat tri
 abbrev pub mentions : Triple → ℕ → ℕ → Bool
 mentions triple a b = is_forward triple a b || is_forward triple b a
 
--- whether an association lets the listener hear the talker, by whether the pair is forward
+-- whether an association lets the listener hear the talker, given whether the pair is forward
 abbrev pub permits : Association → Bool → Bool
 permits Isolate forward = false
 permits Oneway forward = forward

@@ -199,7 +199,7 @@ fn sends_to_unicast_addresses_only(rt: HostRuntime) -> Result<(), Fail> {
     send_to_unicast_addresses(&rt, rt.alloc(), config, &mut ports, &caller)
 }
 
-/// Control messages arrive at one address and media at another, at ports that others use at a third.
+/// Control messages arrive at one address and media at another. At a third address, other sockets use the same ports.
 fn take_at_two_addresses(
     rt: &impl Abort,
     alloc: Global,

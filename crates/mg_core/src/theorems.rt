@@ -137,8 +137,8 @@ pub fn events_are_counted()
 
 /// A recording is a script of its events.
 ///
-/// The line of an event is read as that event, any other line as a comment. If a recording is cut after any byte, its
-/// complete lines are a script of its first events.
+/// The line of an event is read as that event, and any other line is read as a comment. If a recording is cut after any
+/// byte, its complete lines are a script of its first events.
 pub fn recordings_are_read()
     ensures theorem { RecordingsAreRead }
     ensures cut { CutRecordingsAreRead }

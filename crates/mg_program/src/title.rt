@@ -10,7 +10,7 @@ use mg_words::address_text;
 /// The room for a title, in bytes: the longest title and a margin.
 const TITLE_LIMIT: usize = 512;
 
-/// The first line of a recording, without its end.
+/// The first line of a recording, without its line feed.
 pub type Title = ArrayVec<u8, TITLE_LIMIT>;
 
 /// Appends a text.

@@ -5,7 +5,7 @@ use std::io::Write;
 /// A line that is built before it is printed.
 pub type Text = ArrayVec<u8, 512>;
 
-/// Returns the counts as a line, without its end.
+/// Returns the counts as a line, without a line feed.
 ///
 /// They are the control datagrams, the RTP datagrams, the ticks, the sends, the failures, the dropped RTP datagrams by
 /// cause, and the concealed frames.

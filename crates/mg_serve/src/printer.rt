@@ -47,7 +47,8 @@ fn put<W: Write>(has_failed: &mut bool, text: &[u8], writer: &mut W)
     }
 }
 
-/// Appends a text as one line, without its end. Line feeds are left out, and only the first 1,000 bytes are kept.
+/// Appends a text as one line, without a line feed at the end. Line feeds in the text are left out, and only the first
+/// 1,000 bytes are kept.
 #[tactic(auto, using(crate::proofs::OneLine::short))]
 fn push_line(text: &[u8], out: &mut Bytes)
     requires room { 1000 ≤ out.old.room }

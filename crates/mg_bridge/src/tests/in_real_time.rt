@@ -9,7 +9,7 @@ use std::time::{Clock, Duration};
 
 const MS: u64 = 1_000_000;
 
-/// Makes a termination that sends to a caller at 28912.
+/// Makes a termination that sends to a caller at port 28912.
 const ONE_CALLER: &[u8] = b"MEGACO/1 [127.0.0.1]:28912 Transaction=1{Context=${\
     Add=${Media{LocalControl{Mode=SendOnly},Remote{v=0\nc=IN IP4 127.0.0.1\nm=audio 28912 RTP/AVP 0\n}}}}}";
 

@@ -471,7 +471,7 @@ impl Engine {
 
     /// Returns the members of a context with their places, in order of entry.
     ///
-    /// It is for callers that ask about many pairs.
+    /// For callers that ask about many pairs.
     pub fn seated(&self, context: u32) -> ArrayVec<SeatedMember, MEMBERS>
         ensures numbers { (w : Gateway) → StandsFor self.now w →
             map (λ m. m.number) result.items ≡ members_at w.rooms context }
@@ -560,7 +560,7 @@ impl Engine {
         fill(self, count, outbox);
     }
 
-    /// Ends a tick for all terminations. The packet of each that sends is already in the outbox.
+    /// Ends a tick for all terminations. Every packet that they send is already in the outbox.
     fn end_all(&mut self)
         ensures after { (w : Gateway) → StandsFor self.old w → StandsFor self.new (all_ended w) }
         ensures sums { self.new.sums ≡ self.old.sums }
@@ -598,7 +598,7 @@ impl Engine {
         self.address(&sender, to, outbox);
     }
 
-    /// Completes the last packet of an outbox, which already has its payload, as a packet from a termination to its
+    /// Completes the last packet of an outbox, whose payload is already set, as a packet from a termination to its
     /// peer.
     fn address(&self, sender: &Record, to: Chosen, outbox: &mut Outbox)
         requires member { record_at self.now.rooms sender.now.number ≡ Some sender.now }
@@ -775,7 +775,7 @@ fn end_slot(rooms: &Rooms, media: &mut Vec<HeldMedia>, slot: u8)
     media[usize::from(slot)].end_tick(is_sent);
 }
 
-/// Ends a tick for the terminations in these slots. The packet of each that sends is already in the outbox.
+/// Ends a tick for the terminations in these slots. Every packet that they send is already in the outbox.
 fn end_slots(rooms: &Rooms, held: &[u8], media: &mut Vec<HeldMedia>)
     requires slots { EachIndex held.now (λ i. slice_index_or held.now i 0 < length media.old.items) }
     requires apart { AreApart held.now }

@@ -56,7 +56,7 @@ pub fn other_frames_keep_their_numbers()
 
 /// Without new frames, a running play list plays its frames in order of sequence number, one per tick.
 ///
-/// A place without a frame plays no received frame. A waiting list does the same when its wait is over.
+/// At a place without a frame, no received frame is played. A waiting list does the same when its wait is over.
 pub fn ticks_give_frames_in_order()
     ensures run { (list : PlayList) (ticks : ℕ) → list.phase ≡ Phase.Run →
         given_after ticks list ≡ given_at list.places list.last ticks }

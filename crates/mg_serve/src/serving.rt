@@ -38,8 +38,8 @@ use std::io::{Read, Write};
 ///
 /// Whenever it returns, the commands on the lines it has read completely, with their effects, form a session of a new
 /// gateway. `Read` and `Write` mean that the input or the output failed; it also returns `Read` after 4,294,967,295
-/// reads without an end of input. It returns `BadConfig` exactly when the configuration is invalid. It returns
-/// `NoMemory` only before it has read anything.
+/// reads that did not reach the end of the input. It returns `BadConfig` if and only if the configuration is invalid.
+/// It returns `NoMemory` only before it has read anything.
 pub fn serve<P: Ports, R: Read, W: Write, E: Write>(
     alloc: Global,
     setup: &Setup<'_>,

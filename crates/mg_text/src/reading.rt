@@ -73,8 +73,7 @@ fn versioned(
     text_at(alloc, source, rest)
 }
 
-/// Returns how many of `most` commands remain after those of the actions, or `None` if the actions have more than
-/// `most`.
+/// Returns `most` minus the number of commands in the actions, or `None` if the actions have more than `most` commands.
 #[tactic(auto, using(crate::proofs::CountSteps::action_steps))]
 fn left_after(most: usize, actions: &[Action]) -> Option<usize>
     ensures value { result ≡ left_after most (action_commands actions.now) }

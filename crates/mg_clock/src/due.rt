@@ -19,7 +19,7 @@ pub fn steps_due(polls: u64, now: u64) -> u64
     (u128::from(now) * u128::from(polls) / PERIOD) as u64
 }
 
-/// Returns how long after a time the next step is due, if `before` steps came before it: zero if it is already due.
+/// Returns the time from `now` until the next step is due, after `before` steps: zero if it is already due.
 #[tactic(auto, using(crate::proofs::DueLemmas::soon))]
 pub fn time_to_step(polls: u64, before: u64, now: u64) -> Duration
     requires some { 0 < polls }
@@ -31,7 +31,7 @@ pub fn time_to_step(polls: u64, before: u64, now: u64) -> Duration
     Duration::from_nanos_u128(point.saturating_sub(u128::from(now)))
 }
 
-/// Returns how long after a time a tick is due, or `None` if it is already due.
+/// Returns the time from `now` until a tick is due, or `None` if it is already due.
 pub fn time_to_tick(tick: u64, now: u64) -> Option<Duration>
     ensures later { IfSome result (λ time. (now < tick * period) × (now + as_nanos time ≡ tick * period)) }
     ensures due { IfNone result (tick ≤ ticks_due now) }

@@ -53,7 +53,7 @@ abbrev pub is_topology_word : ContextWord → Bool
 is_topology_word words.Topology = true
 is_topology_word _ = false
 
--- the error of a property after those before it: it is repeated, or not supported
+-- the error of a property, given the properties before it: it is repeated, or not supported
 abbrev pub context_property_fault : List ContextProperty → ContextProperty
     → Option ErrorNumber
 context_property_fault before (properties.Topology xs) =

@@ -24,7 +24,8 @@ name_of text =
     else (if bytes_eq text (codes "*") then All
     else option_map_or name_in_rtp (after_prefix (codes "RTP/") text) Other))
 
--- the spelling of a name in a reply: the gateway's own if it has a meaning, otherwise as received
+-- the spelling of a name in a reply: the gateway's own spelling if the name has a meaning,
+-- otherwise the name as received
 abbrev pub written_as : List ℕ → Name → List ℕ
 written_as text Root = codes "ROOT"
 written_as text Choose = codes "$"

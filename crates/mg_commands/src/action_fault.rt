@@ -24,7 +24,7 @@ pub fn has_context_audit(properties: &[ContextProperty]) -> bool
     properties.iter().any(|property| matches!(property, ContextProperty::ContextAudit(_)))
 }
 
-/// Returns the error of a Topology after other properties.
+/// Returns the error of a Topology, given the properties before it.
 fn topology_fault(before: &[ContextProperty], triples: &[NamedTriple]) -> Option<ErrorNumber>
     ensures value { result ≡ topology_fault before.now triples.now }
 {
@@ -43,7 +43,7 @@ fn audits_more(words: &[ContextWord]) -> bool
         .any(|word| !matches!(word, ContextWord::Topology))
 }
 
-/// Returns the error of a ContextAudit after other properties.
+/// Returns the error of a ContextAudit, given the properties before it.
 fn audit_fault(before: &[ContextProperty], words: &[ContextWord]) -> Option<ErrorNumber>
     ensures value { result ≡ audit_fault before.now words.now }
 {
@@ -53,7 +53,7 @@ fn audit_fault(before: &[ContextProperty], words: &[ContextWord]) -> Option<Erro
     audits_more(words).then_some(ErrorNumber::DescriptorNotServed)
 }
 
-/// Returns the error of a property after those before it: it is repeated, or not supported.
+/// Returns the error of a property, given the properties before it: it is repeated, or not supported.
 fn context_property_fault(
     before: &[ContextProperty],
     property: &ContextProperty,

@@ -54,7 +54,8 @@ pub fn name_of(text: &[u8]) -> Name
     }
 }
 
-/// Returns the spelling of a name in a reply: the gateway's own if it has a meaning, otherwise as received.
+/// Returns the spelling of a name in a reply: the gateway's own spelling if the name has a meaning, otherwise the name
+/// as received.
 pub fn written_as(text: &[u8], name: Name) -> Term
     requires term { is_term text.now ≡ true }
     ensures value { result ≡ written_as text.now name }

@@ -3,6 +3,6 @@
 pub enum Shown {
     /// The datagrams that it sends.
     Sent,
-    /// The same, followed by comment lines that report changes of the terminations and of who hears whom.
+    /// The datagrams, followed by comment lines that report changes to the terminations and to who hears whom.
     SentAndFlows,
 }

@@ -14,7 +14,7 @@ use mg_sums::Row;
 use mg_topology::SEATS;
 use mg_topology::mask::{self, Mask};
 
-/// Returns the row of a listener that talks, because it must not hear itself.
+/// Returns the listener's own row if it talks, because it must not hear itself.
 pub fn own_row(listener: &Record) -> Option<Row>
     requires slot { listener.now.slot < termination_limit }
     ensures value { result ≡ (if talks listener.now.mode then Some listener.now.slot else None) }

@@ -123,7 +123,7 @@ pub fn agreement_lasts()
     one_reading(b"");
 }
 
-/// A packet is a function of what its listener hears and of the progress of the listener's packets.
+/// A packet depends only on what its listener hears and on the progress of the listener's packets.
 ///
 /// So two gateways that agree outside some terminations send each listener that hears none of these the same packet in
 /// a tick, byte for byte.

@@ -51,7 +51,7 @@ pub fn edits_change_last_words()
         else may_hear es a b) }
 {}
 
-/// Each other talker of a listener's room is either open or silenced for it.
+/// Every other talker in a listener's room is either open or silenced for it.
 pub fn talkers_are_open_or_silenced()
     ensures one { (es : List FlowEdit) (talker listener : Place) → IsTrue (listens_in es listener) →
         (flows_in es talker listener || is_silenced_in es talker listener) ≡

@@ -13,10 +13,10 @@ use std::simd::prelude::*;
 /// How many bytes are decoded at a time.
 pub const LANES: usize = 16;
 
-// By exponent, the factor of mu-law. The last eight are not used.
+// For each exponent, the factor of mu-law. The last eight are not used.
 const MU_FACTORS: [u8; LANES] = [1, 2, 4, 8, 16, 32, 64, 128, 0, 0, 0, 0, 0, 0, 0, 0];
 
-// By exponent, what A-law adds to eight times the mantissa before it multiplies.
+// For each exponent, what A-law adds to eight times the mantissa before it multiplies.
 const A_STARTS: [u8; LANES] = [4, 132, 132, 132, 132, 132, 132, 132, 0, 0, 0, 0, 0, 0, 0, 0];
 
 const A_FACTORS: [u8; LANES] = [2, 2, 4, 8, 16, 32, 64, 128, 0, 0, 0, 0, 0, 0, 0, 0];

@@ -34,7 +34,7 @@ pub fn bytes_come_back(law: Law, byte: u8)
     ensures sample { quantized_of law (sample_of law byte) ≡ sample_of law byte }
 {}
 
-/// Encoding and decoding preserve the order of samples: a greater one never becomes a smaller one.
+/// Encoding and decoding preserve the order of samples: the greater of two samples never becomes the smaller one.
 pub fn order_is_kept(law: Law, lower: i16, upper: i16)
     ensures { lower ≤ℤ upper → quantized_of law lower ≤ℤ quantized_of law upper }
 {}

@@ -7,7 +7,7 @@ pub enum Placed {
     Placed,
     /// The frame is at the last place. Frames at the first places were dropped to make room.
     Pushed,
-    /// A frame with this sequence number is already there and stays. This one was dropped.
+    /// A frame with this sequence number is already there. The new one was dropped.
     Again,
     /// This sequence number's turn is over. The frame was dropped.
     Late,

@@ -14,7 +14,7 @@ use std::time::Duration;
 /// The number of sockets of a gateway: the control socket, and one media socket for each termination.
 pub const SOCKETS: usize = TERMINATIONS + 1;
 
-/// Which sockets may have a datagram, as the system reports.
+/// Which sockets may have a datagram, according to the system.
 ///
 /// The system reports a socket when a datagram arrives, and only once. So the socket counts as ready from then on,
 /// until a receive finds it empty. Nothing else ends this: neither a limit on datagrams per poll nor a failed receive.

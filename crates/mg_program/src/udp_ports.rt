@@ -16,7 +16,7 @@ pub struct UdpPorts {
 }
 
 /// Returns whether an address cannot be a caller's. 0.0.0.0, which puts a call on hold, would be this machine's own
-/// address, and others are multicast.
+/// address, and the others are multicast addresses.
 fn is_unusable_destination(address: [u8; 4]) -> bool {
     address == [0; 4] || is_multicast(address)
 }

@@ -2,8 +2,8 @@
 //!
 //! See RFC 3525, section 6.
 //!
-//! [`Rooms`] stores terminations by slot and contexts by room. A slot is for a termination and its media port, a room
-//! for a context, and a seat for a member of a context. Slots, rooms and seats are small numbers that are reused, so
+//! [`Rooms`] stores terminations by slot and contexts by room. A slot belongs to a termination and its media port, a
+//! room to a context, and a seat to a member of a context. Slots, rooms and seats are small numbers that are reused, so
 //! that the crates above can use tables of fixed size. The numbers of terminations and contexts increase, and none is
 //! used twice.
 //!

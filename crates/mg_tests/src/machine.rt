@@ -449,7 +449,7 @@ const ADD_AGAIN: &[u8] = b"!/1 [127.0.0.1]:2945 T=3{C=${A=$}}";
 const NO_CONTEXT: &[u8] =
     b"MEGACO/1 [127.0.0.1]:2944\nReply=3{Context=${Add=${Error=412{\"no context left\"}}}}";
 
-/// The last context has the number below those of a new context and of all contexts.
+/// The last context's number is just below the numbers that denote a new context and all contexts.
 #[test]
 fn context_numbers_end(rt: HostRuntime) -> Result<(), Fail> {
     let config = Config {

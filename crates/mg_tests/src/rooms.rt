@@ -26,7 +26,7 @@ fn numbers(member: Member) -> (u32, u32)
     (member.record.context, member.record.number)
 }
 
-/// The slots that a full context and one with two members need.
+/// The slots that a full context and a context with two members need.
 const CROWDED: Limits = Limits {
     slots: MEMBERS as u16 + 2,
     ..LIMITS
@@ -91,7 +91,7 @@ const FRESH: Record = Record {
     remote: None,
 };
 
-/// The same with settings that can be served.
+/// The first termination, with settings that can be served.
 const SET: Record = Record {
     mode: Mode::SendOnly,
     depth: 2,
@@ -108,7 +108,7 @@ const SET: Record = Record {
     ..FRESH
 };
 
-/// The same after its media were removed.
+/// The first termination, after its media were removed.
 const CLEARED: Record = Record {
     local: None,
     remote: None,

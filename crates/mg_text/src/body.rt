@@ -1,7 +1,7 @@
 use crate::request::Request;
 use crate::tree_list::TreeList;
 
-/// Transaction numbers from `first` to `last`, both included. For a single number they are equal.
+/// Transaction numbers from `first` to `last`, inclusive. For a single number, the two are equal.
 #[derive(Clone, Copy, Debug, PartialEq, Eq)]
 pub struct Range {
     pub first: u32,

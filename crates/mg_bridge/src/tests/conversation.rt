@@ -29,7 +29,7 @@ const ONE_UNREACHABLE: &[u8] = b"MEGACO/1 [127.0.0.1]:29612 Transaction=1{Contex
     Add=${Media{LocalControl{Mode=SendOnly},\
     Remote{v=0\nc=IN IP4 127.0.0.1\nm=audio 29612 RTP/AVP 0\n}}}}}";
 
-/// Returns a gateway with few media ports, which start two after the control port.
+/// Returns the configuration of a gateway with this many media ports, the first of which is the control port plus two.
 fn config(control_port: u16, slots: u16) -> Config {
     Config {
         control_port,
@@ -285,7 +285,7 @@ fn padded(alloc: Global, length: usize) -> Result<Vec<u8>, AllocError> {
     Ok(message)
 }
 
-/// The longest message is read. A longer one is rejected, up to the longest that UDP carries.
+/// The longest message is read. Longer messages, up to the longest that UDP carries, are rejected.
 fn take_messages(
     rt: &impl Abort,
     alloc: Global,

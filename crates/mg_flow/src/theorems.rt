@@ -1,7 +1,7 @@
 //! What the edits of all rooms determine, whatever stores them.
 //!
 //! The functions have empty bodies: their contracts are the theorems. A proof that needs one calls the function. Lists
-//! of edits have the newest first.
+//! of edits start with the newest.
 
 ghost use Rattle.std.specs.Prelude.{◌≡◌, ℕ, ◌∷◌, ◌==◌, ◌&&◌, ◌||◌, Bool, true, false, if◌then◌else◌, List, IsTrue, IsFalse};
 ghost use Rattle.mg_topology.specs.declared.triple.Triple.{Triple};

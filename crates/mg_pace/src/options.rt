@@ -59,7 +59,7 @@ fn ticks_wanted(named: Option<u32>) -> u64
     named.map_or(u64::MAX, u64::from)
 }
 
-/// Limits a number of polls to its bounds.
+/// Clamps a number of polls to the allowed range.
 fn bounded_polls(polls: u16) -> u16
     ensures value { result ≡ max 1 (min 1000 polls) }
 {

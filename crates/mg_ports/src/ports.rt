@@ -39,7 +39,7 @@ pub trait Ports {
     fn begin_tick(&mut self, timing: Timing)
         ensures logged { Logged (calls self.old) (calls self.new) (BeginTick timing ∷ []) };
 
-    /// Returns how many receives and sends failed. The count stays at its maximum once it reaches it.
+    /// Returns how many receives and sends failed. A count that reaches its maximum stays there.
     fn failures(&self) -> u64
         ensures value { result ≡ failed self.now };
 }

@@ -1,6 +1,6 @@
 use crate::member::Member;
 
-/// A termination that was moved, before and after.
+/// A termination before and after a move.
 #[derive(Clone, Copy, Debug, PartialEq, Eq)]
 pub struct Moved {
     /// The termination in the context that it left.

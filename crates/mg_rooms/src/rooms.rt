@@ -150,7 +150,8 @@ impl Rooms {
 
     /// Moves a termination to the action's context (RFC 3525, section 7.2.4).
     ///
-    /// The context that it leaves ends if it has no other member. Returns the termination before and after.
+    /// The context that it leaves ends if it has no other member. Returns the termination as it was before and after
+    /// the move.
     #[tactic(auto, using(crate::proofs::RoomsLemmas::rules))]
     pub fn move_to(
         &mut self,
@@ -177,7 +178,7 @@ impl Rooms {
 
     /// Removes a member from the action's context, and ends the termination (RFC 3525, section 7.2.3).
     ///
-    /// The context ends if it has no other member. Returns the termination before the command.
+    /// The context ends if it has no other member. Returns the termination as it was before the command.
     #[tactic(auto, using(crate::proofs::RoomsLemmas::rules), unfolding(crate::specs::Outcome::subtract))]
     pub fn subtract(&mut self, target: Target, number: u32) -> Result<Member, ErrorNumber>
         ensures outcome { Gives (λ m. m.record) self.old self.new result (subtract self.old target number) }

@@ -26,7 +26,7 @@ pub fn tables_that_are_not_full_have_a_free_place()
 
 /// A resource is reported exhausted exactly when it is.
 ///
-/// The resources are slots and the numbers of terminations, the seats of a context, and contexts and their numbers.
+/// The resources are slots, termination numbers, the seats of a context, contexts, and context numbers.
 pub fn exhausted_resources_are_refused()
     ensures slot { (w : Registry) → (new_slot w ≡ Err NoTerminationLeft) ↔
         ((free_slot w ≡ None) ⊎ (LAST_TERMINATION < w.next_termination)) }

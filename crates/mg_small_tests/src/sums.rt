@@ -38,7 +38,7 @@ fn samples() -> [i16; 161] {
     samples
 }
 
-/// Returns whether no sum leaves 32 bits when a sample is added or subtracted.
+/// Returns whether every sum still fits in 32 bits after a sample is added or subtracted.
 fn are_near(sums: &[i32]) -> bool
     ensures { IsTrue result → EachIndex sums.now (λ i. unsigned_abs (sample sums.now i) ≤ 2 ^ 30) }
 {

@@ -140,7 +140,7 @@ fn set_byte(packet: &mut [u8], at: usize, byte: u8) {
     }
 }
 
-/// Returns the first of these datagrams at a port that is not dropped for its cause.
+/// Returns the index of the first datagram that a port does not drop for the expected cause.
 fn first_wrong(
     engine: &mut Engine,
     port: u16,

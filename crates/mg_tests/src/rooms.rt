@@ -207,7 +207,7 @@ fn add_fault(rooms: &mut Rooms, target: Target) -> Option<ErrorNumber> {
     rooms.add(target, &Settings::default()).err()
 }
 
-/// The last number of a context, and the last two of terminations.
+/// The last context number, and the last two termination numbers.
 fn use_up_numbers(rt: &impl Abort, rooms: &mut Rooms) {
     assert_eq!(rt; add_fault(rooms, Target::New), None);
     assert_eq!(rt;

@@ -1,7 +1,7 @@
 //! What the edits of a context determine, whatever stores them.
 //!
 //! The functions have empty bodies: their contracts are the theorems. A proof that needs one calls the function. Lists
-//! of edits have the newest first.
+//! of edits start with the newest.
 
 ghost use Rattle.std.specs.Prelude.{◌≡◌, ◌≢◌, ℕ, ◌<◌, ◌≤◌, ◌^◌, [], ◌∷◌, ◌++◌, ◌==◌, ◌||◌, ◌↔◌, Bool, List, Some, IsTrue, IsFalse, Any, Contains};
 ghost use Rattle.std.specs.List.{list_any, filter, range_with_len};
@@ -68,7 +68,7 @@ pub fn others_are_unaffected()
         hears_in (Apply triple ∷ es) a b ≡ hears_in es a b }
 {}
 
-/// Nobody hears itself. A member that has left hears nobody and is heard by nobody.
+/// No member hears itself. A member that has left hears nobody and is heard by nobody.
 pub fn absent_pairs_are_silent()
     ensures itself { (es : List TopologyEdit) (member : ℕ) → IsFalse (hears_in es member member) }
     ensures left { (es : List TopologyEdit) (leaver other : ℕ) →

@@ -1,8 +1,8 @@
 //! The protocol's keywords, names, numbers and errors, and the gateway's limits.
 //!
 //! It has types for modes, associations, commands, contexts, terminations and errors (Megaco, RFC 3525), each with its
-//! text, and for a termination's counters. It also has parsers for the numbers, ports and IPv4 addresses in control
-//! messages, session descriptions and scripts.
+//! text, and a type for a termination's counters. It also has parsers for the numbers, ports and IPv4 addresses in
+//! control messages, session descriptions and scripts.
 //!
 //! Each parser expects a whole text and returns its value, or `None` if it has none. Leading zeros are allowed; signs
 //! and spaces are not:

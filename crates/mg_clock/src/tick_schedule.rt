@@ -6,8 +6,8 @@ use crate::due::time_to_tick;
 use crate::timing::Timing;
 use crate::watch::Watch;
 
-/// A schedule of ticks by a clock. The k-th tick begins `k * 20 ms` after the clock's start, or at the first reading of
-/// the clock after that.
+/// A schedule of ticks, driven by a clock. The k-th tick begins `k * 20 ms` after the clock's start, or at the first
+/// reading of the clock after that.
 #[derive(Clone, Copy, Debug, PartialEq, Eq)]
 pub struct TickSchedule {
     /// How many ticks have begun.

@@ -93,7 +93,7 @@ impl ScriptRunner {
         Ok(())
     }
 
-    /// Runs the last line, if there is one without a line feed.
+    /// Runs the last line if it has no line feed.
     fn finish<W: Write>(&mut self, alloc: Global, writer: &mut W) -> Result<(), LineFault>
         requires few { self.old.lines + 1 < 2 ^ 64 }
         ensures value { (shown : Shown) → LeadsOn (Follows shown self.old.runner.core.state self.old.runner.watched)

@@ -2,7 +2,7 @@
 //!
 //! A gateway has [`CONTEXTS`] rooms, one for each context. A member of a context has a [`Place`]: the room and a seat
 //! in it. A [`FlowTable`] keeps a topology for each room. For each place it keeps whether the member talks and whether
-//! it listens, by its stream mode (RFC 3525, section 7.1.7). From these it derives two sets of seats for each
+//! it listens, according to its stream mode (RFC 3525, section 7.1.7). From these it derives two sets of seats for each
 //! listener:
 //!
 //! - [`FlowTable::open`]: the members whose speech flows to it. They talk, it listens, and the last word on the two

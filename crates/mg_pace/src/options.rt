@@ -52,7 +52,7 @@ fn command<'a>(alloc: Global) -> Result<Command<'a>, Error>
     Ok(command)
 }
 
-/// Returns the wanted number of ticks, or the default.
+/// Returns the requested number of ticks, or the default.
 fn ticks_wanted(named: Option<u32>) -> u64
     ensures value { result ≡ unwrap_or named 18446744073709551615 }
 {

@@ -20,7 +20,7 @@ fn report_left_out<E: Write>(left: u64, errors: &mut E)
     }
 }
 
-/// Writes what is due at a reading of the clock. Returns whether the last wanted tick was written.
+/// Writes what is due at a reading of the clock. Returns whether the last requested tick was written.
 fn turn<W: Write, E: Write>(
     schedule: &mut Schedule,
     wanted: u64,
@@ -47,7 +47,7 @@ fn turn<W: Write, E: Write>(
     Ok(true)
 }
 
-/// Writes polls and ticks by a clock, until the wanted number of ticks has been written.
+/// Writes polls and ticks when they are due by a clock, until the requested number of ticks has been written.
 ///
 /// `Clock`: the clock cannot be read, or was read 18,446,744,073,709,551,615 times. `Closed`: the output is closed.
 pub fn pace<K: Watch, W: Write, E: Write>(

@@ -33,7 +33,7 @@ impl<'a> Watch for Script<'a> {
     fn wait(&mut self, _time: Duration) {}
 }
 
-/// Returns the result of a run, and what it writes on both outputs.
+/// Returns the result of a run, and what it writes to both outputs.
 fn outcome(
     alloc: Global,
     options: Options,
@@ -49,7 +49,7 @@ fn outcome(
     (result, output, errors)
 }
 
-/// Returns the exit status of the program, and what it writes on both outputs.
+/// Returns the exit status of the program, and what it writes to both outputs.
 fn answer(alloc: Global, words: &[&str], times: &[u64]) -> (u8, Vec<u8>, Vec<u8>) {
     let mut watch = Script { times, at: 0 };
     let mut output = Vec::new(alloc);

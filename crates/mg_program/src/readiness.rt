@@ -44,7 +44,7 @@ impl Readiness {
         })
     }
 
-    /// Asks the system to report a socket, by its slot.
+    /// Asks the system to report the socket of a slot.
     pub fn watch<S: Source>(&self, slot: usize, socket: &mut S) -> io::Result<()> {
         self.poll
             .registry()

@@ -109,7 +109,7 @@ impl<'a, E: Write> LineDriver<'a, E> {
         Ok(false)
     }
 
-    /// Executes the last line, if there is one without a line feed.
+    /// Executes the last line if it has no line feed.
     fn finish<P: Ports, W: Write>(
         &mut self,
         alloc: Global,

@@ -1,4 +1,4 @@
-//! Options, and what both programs report of their arguments.
+//! Options, and what both programs report about their arguments.
 
 use clap::Command;
 use clap::error::ErrorKind;
@@ -50,7 +50,7 @@ fn refuses_what_is_no_such_number(rt: HostRuntime) {
     }
 }
 
-/// Runs a program without options on this argument. Returns how it ends, and what it writes on both outputs.
+/// Runs a program without options on this argument. Returns how it ends, and what it writes to both outputs.
 fn end_on(alloc: Global, word: &str, unprinted: Status) -> (Status, Vec<u8>, Vec<u8>) {
     let mut output = Vec::new(alloc);
     let mut errors = Vec::new(alloc);

@@ -1,6 +1,6 @@
 //! The frames of a conference mixer, and one total for each room.
 //!
-//! Each termination has a [`Row`], numbered by its slot, and each context a [`Room`]. A [`Sums`] keeps the frame of
+//! Each termination has a [`Row`], numbered by its slot, and each context has a [`Room`]. A [`Sums`] keeps the frame of
 //! each row and the room that it is joined to, if any. A row is joined while its termination talks. For each room it
 //! keeps the sum of the joined frames, sample by sample, as 160 numbers of 32 bits. These totals are never limited: at
 //! most [`TERMINATIONS`] samples of 16 bits are added.

@@ -1,7 +1,7 @@
 //! The parser of control messages in text encoding (Megaco, RFC 3525, Annex B).
 //!
-//! [`read`] parses the bytes of a datagram as a [`Message`], or returns the reason why they are not one. The tree keeps
-//! the spans of its texts in the source, and copies no text. Replies are collected in a [`Reply`] and written by
+//! [`read`] parses the bytes of a datagram as a [`Message`], or returns why they are not a message. The tree keeps the
+//! spans of its texts in the source, and copies no text. Replies are collected in a [`Reply`] and written by
 //! [`write_reply`] to [`Bytes`]; these are types of the crate `mg_reply`:
 //!
 //! ```rust

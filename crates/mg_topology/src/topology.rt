@@ -166,7 +166,7 @@ fn unmute_seat(rows: &mut [Mask; SEATS], seat: usize)
     }
 }
 
-/// Updates each listener's row by the triple.
+/// Updates each listener's row with the triple.
 fn apply_to_rows(rows: &mut [Mask; SEATS], triple: &Triple)
     ensures { (talker listener : ℕ) → listener < SEATS →
         has_seat (slice_index rows.new listener) talker ≡

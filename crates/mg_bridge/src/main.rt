@@ -2,11 +2,11 @@
 //!
 //! `mg_bridge replay` runs a script of events from standard input, and prints a line for each answer and each packet.
 //!
-//! `mg_bridge live` is a gateway on UDP ports in real time.
+//! `mg_bridge live` runs a gateway on UDP ports in real time.
 //!
-//! `mg_bridge serve` is the same gateway, driven by lines on standard input. `poll` receives what waits at the ports,
+//! `mg_bridge serve` runs the same gateway, driven by lines on standard input. `poll` receives what waits at the ports,
 //! `tick` advances by 20 ms and sends the packets, `stats` prints the counts, and `quit` ends it. Another program,
-//! `mg_pace`, writes `poll` and `tick` by the clock.
+//! `mg_pace`, writes `poll` and `tick` when the clock says that they are due.
 //!
 //! With `--record`, `live` and `serve` print a recording: a script of all events.
 #![tactic(auto)]

@@ -30,7 +30,7 @@ pub fn requests_are_consistent()
     mg_engine::theorems::worlds_are_consistent();
 }
 
-/// Two gateways that agree outside some terminations also do after the same request.
+/// Two gateways that agree outside some terminations still agree after the same request.
 ///
 /// The replies differ at most in the counts of received packets and octets.
 pub fn requests_keep_agreement()

@@ -51,7 +51,7 @@ pub record ShareContext (w : rooms.Registry) (m n : ℕ) (a b : Record) (p q : P
 
 -- The configuration, terminations and contexts equal the gateway's. Each termination's media are
 -- stored in its slot, and its frame in its slot's row. Between any two members of a context, the
--- table lets one hear the other exactly when the last word does.
+-- table lets one hear the other if and only if the last word does.
 pub record StandsFor (kept : EngineState) (w : Gateway) : Type 0 where
   pub config : w.config ≡ kept.config
   pub rooms : w.rooms ≡ kept.rooms

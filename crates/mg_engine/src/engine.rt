@@ -392,7 +392,7 @@ impl Engine {
         }
     }
 
-    /// Places the frame of a packet for a termination, or returns the cause of its drop.
+    /// Places the frame of a packet for a termination, or returns why the packet is dropped.
     fn place(
         &mut self,
         termination: &Record,

@@ -68,7 +68,7 @@ const SCRIPTS: [&str; 56] = [
     "rules/a_mover_is_heard_elsewhere",
 ];
 
-/// The scripts whose output is also stored with the changes of each event.
+/// The scripts whose output with the changes after each event is stored too.
 const WITH_FLOWS: [&str; 2] = ["coaching", "recording"];
 
 /// Returns what a script writes on a gateway with the standard configuration.

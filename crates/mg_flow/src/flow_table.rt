@@ -174,7 +174,7 @@ impl FlowTable {
 
     /// Applies triples in the room, in order, so that the last one that mentions a pair counts.
     ///
-    /// If a Oneway triple has a seat in both of its sets, none is applied.
+    /// If the two sets of a Oneway triple share a seat, no triple is applied.
     pub fn on_triples(&mut self, room: u8, triples: &[Triple]) -> Result<(), Overlap>
         requires { room < context_limit }
         ensures overlap { IsErr result ↔ Any Overlaps triples.now }

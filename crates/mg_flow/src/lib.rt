@@ -20,7 +20,7 @@
 //! ```
 //!
 //! A table keeps no history. So its contracts speak of every list of edits that it represents, before and after a call
-//! (`StandsFor` in `specs/Table.antt`). `specs/Edits.antt` defines what a list of edits means, looking backwards from
+//! (`StandsFor` in `specs/Table.antt`). `specs/Edits.antt` defines what a list of edits means, looking backward from
 //! the newest. [`theorems`] states what follows. For a proof without such a list, the clauses `kept`, `place`,
 //! `places`, `hears` and `others` say what is stored, what changes, and what is unchanged.
 #![tactic(auto)]

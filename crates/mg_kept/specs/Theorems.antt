@@ -51,7 +51,7 @@ AcknowledgedIsDropped =
     → str_eq_ignore_ascii_case same sender ≡ true → first ≤ number → number ≤ last
     → kept_text (without_range sender first last replies) same number ≡ None
 
--- An acknowledgement changes nothing for other senders, nor for numbers outside its range.
+-- An acknowledgement changes nothing for other senders or for numbers outside its range.
 abbrev pub OtherSendersStay : Type 0
 OtherSendersStay =
     (replies : List KeptReply) (sender other : List ℕ) (first last number : ℕ)

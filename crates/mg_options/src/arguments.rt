@@ -23,7 +23,7 @@ fn report_error<E: Write>(error: &io::Error, errors: &mut E) -> Status
     Status::Usage
 }
 
-/// Returns the arguments of the running program after its name, or how it ends without them.
+/// Returns the running program's arguments without its name, or how the program ends if they cannot be read.
 ///
 /// An argument that is not valid UTF-8 is a usage error, and memory may run out. The text of an error goes to
 /// `errors`.

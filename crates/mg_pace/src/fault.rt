@@ -7,7 +7,7 @@ use thiserror::Error;
 pub enum PaceFault {
     #[error("the clock can't be read")]
     Clock,
-    /// A write failed: nobody reads the lines any more.
+    /// A write failed: nobody reads the lines anymore.
     #[error("the output is closed")]
     Closed,
 }

@@ -1,7 +1,7 @@
 //! The program `mg_pace`, which drives a gateway in real time.
 //!
 //! Using the monotonic clock, it writes the line `tick` every 20 ms and lines `poll` in between. So
-//! `mg_pace | mg_bridge serve` is a gateway in real time.
+//! `mg_pace | mg_bridge serve` runs a gateway in real time.
 #![tactic(auto)]
 
 mod fault;

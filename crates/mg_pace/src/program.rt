@@ -47,7 +47,7 @@ pub fn program<'a, S: AsStr, K: Watch, W: Write, E: Write>(
     errors: &mut E,
 ) -> u8
     ensures status { result ≤ 4 }
-    // What the arguments ask for was done, as far as the status says.
+    // What the arguments ask for was done, to the extent that the status reports.
     ensures ends { EndsWith (λ options status. Runs options (K.Fails watch.new) (errors.new ≡ errors.old)
         (seen (K.readings watch.old) (K.waits watch.old) (W.contents output.old))
         (seen (K.readings watch.new) (K.waits watch.new) (W.contents output.new)) status)

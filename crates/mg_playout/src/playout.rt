@@ -55,7 +55,7 @@ impl Playout {
         })
     }
 
-    /// Places a frame by its source and its sequence number. Returns the result.
+    /// Places a frame by its source and its sequence number. Returns how it was placed, or why it was dropped.
     pub fn place(&mut self, ssrc: u32, sequence: u16, frame: Frame) -> Placed
         ensures step { placed self.old ssrc sequence frame ≡ (self.new, result) }
     {

@@ -31,8 +31,8 @@ FailsToStart config status = ⊥
 abbrev pub setup_of : Config → Service → Setup
 setup_of config service = record { config = config; controllers = service.controllers }
 
--- The ports were bound, and a gateway was served as far as the status says. Its sockets don't log
--- their calls. The output is a recording if that was requested.
+-- The ports were bound, and a gateway ran to the extent that the status reports. Its sockets don't
+-- log their calls. The output is a recording if that was requested.
 pub record ServesOnPorts (config : Config) (service : Service)
     (input rest held written : Option (List ℕ)) (status : Status) : Type 0 where
   pub outcome : Result Counts RunFault
@@ -42,7 +42,7 @@ pub record ServesOnPorts (config : Config) (service : Service)
   pub served : ServedSession (setup_of config service) (title_if service.records config) input rest
       None None held written outcome
 
--- a gateway was served, or nothing was read or printed
+-- a gateway ran, or nothing was read or printed
 abbrev pub Serves : {R W : Type 0} → (R → Option (List ℕ)) → (W → Option (List ℕ)) → Config
     → Service → R → R → W → W → Status → Type 0
 Serves remaining contents config service input rest old new status =
@@ -50,7 +50,7 @@ Serves remaining contents config service input rest old new status =
     status
     ⊎ (FailsToStart config status × (rest ≡ input) × (new ≡ old))
 
--- The ports were bound, and a gateway was served until a fault, driven by the system's clock, whose
+-- The ports were bound, and a gateway ran until a fault, driven by the system's clock, whose
 -- readings aren't known.
 pub record ServesByClockOnPorts (config : Config) (service : Service) (late : ℕ)
     (held written : Option (List ℕ)) (status : Status) : Type 0 where
@@ -61,7 +61,7 @@ pub record ServesByClockOnPorts (config : Config) (service : Service) (late : �
   pub served : ServedByClock (setup_of config service) (title_if service.records config) late
       (clock_seen None None) (clock_seen None None) ⊤ None None held written fault
 
--- A gateway was served, driven by the clock, or nothing was printed: it didn't begin, or the clock
+-- A gateway ran, driven by the clock, or nothing was printed: it didn't begin, or the clock
 -- couldn't be read.
 abbrev pub ServesByClock : {W : Type 0} → (W → Option (List ℕ)) → Config → Service → ℕ → W → W
     → Status → Type 0

@@ -31,7 +31,7 @@ pub fn program<'a, N: Net, C: Clock, S: AsStr, R: Read, W: Write, E: Write, T: W
     reports: &mut T,
 ) -> u8
     ensures status { result ≤ 5 }
-    // What the arguments ask for was done, as far as the status says.
+    // What the arguments ask for was done, to the extent that the status reports.
     ensures ends { EndsWith
         (Runs R.remaining W.contents (errors.new ≡ errors.old) input.old input.new output.old output.new)
         (requested (map S.text words.now)) Status.Failed (input.new ≡ input.old) (errors.new ≡ errors.old) output.old

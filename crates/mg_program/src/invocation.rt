@@ -6,9 +6,9 @@ use mg_core::{Config, Shown};
 pub enum Invocation {
     /// Run a script, and write this about it.
     Replay(Config, Shown),
-    /// Serve a gateway on UDP ports, driven by lines of the input.
+    /// Run a gateway on UDP ports, driven by lines of the input.
     Serve(Config, Service),
-    /// Serve a gateway on UDP ports, driven by the clock. The number is the maximum lateness of a tick, in ticks:
-    /// packets of a later tick are not sent.
+    /// Run a gateway on UDP ports, driven by the clock. The number is the maximum lateness of a tick, in ticks: packets
+    /// of a later tick are not sent.
     Live(Config, Service, u16),
 }

@@ -19,7 +19,7 @@ use std::io::Write;
 use std::net::Net;
 use std::time::Clock;
 
-/// Serves a new gateway on these ports, driven by a clock.
+/// Runs a new gateway on these ports, driven by a clock.
 fn live_on<P: Ports, K: Watch, W: Write, T: Write>(
     alloc: Global,
     config: Config,
@@ -50,7 +50,7 @@ fn live_on<P: Ports, K: Watch, W: Write, T: Write>(
     )
 }
 
-/// Serves a new gateway on UDP ports, driven by the system's clock: a poll and a tick every 20 ms. It ends only on a
+/// Runs a new gateway on UDP ports, driven by the system's clock: a poll and a tick every 20 ms. It ends only on a
 /// fault, whose text goes to `errors`.
 ///
 /// After a delay all missed polls and ticks are executed at once. If a tick is more than `late` ticks late, its packets

@@ -149,7 +149,7 @@ fn command<'a>(alloc: Global) -> Result<Command<'a>, Error>
     Ok(command)
 }
 
-/// Returns the address of an option, or `otherwise` if it was not given.
+/// Returns the address given by an option, or `otherwise` if the option was not given.
 fn address_of(
     name: &str,
     otherwise: [u8; 4],
@@ -163,7 +163,7 @@ fn address_of(
     }
 }
 
-/// Returns the configuration of the options, at these addresses for media and for control messages.
+/// Returns the configuration that the options give, with these addresses for media and for control messages.
 ///
 /// An option that was not given keeps its default.
 fn config_at(address: [u8; 4], control_address: [u8; 4], matches: &ArgMatches<'_>) -> Config
@@ -222,7 +222,7 @@ fn shown_of(matches: &ArgMatches<'_>) -> Shown
     }
 }
 
-/// Returns the controllers of the options.
+/// Returns the controllers named on the command line.
 fn controllers_of(matches: &ArgMatches<'_>) -> Result<Controllers, ControllerFault>
     ensures value { result ≡ controllers_in (rows_of (found_of matches.now)) }
 {
@@ -243,7 +243,7 @@ fn service_of(controllers: Controllers, matches: &ArgMatches<'_>) -> Service
     }
 }
 
-/// Returns the run of a subcommand.
+/// Returns the run that a subcommand asks for, with this configuration and these controllers.
 fn run_of(
     name: &str,
     config: Config,

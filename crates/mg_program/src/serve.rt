@@ -19,7 +19,7 @@ use std::alloc::Global;
 use std::io::{Read, Write};
 use std::net::Net;
 
-/// Binds the sockets of a gateway, or returns how the program ends without them. The text of a fault goes to `errors`.
+/// Binds the sockets of a gateway, or returns how the program ends if that fails. The text of a fault goes to `errors`.
 ///
 /// An invalid configuration is reported before a port is bound.
 pub fn bind<N: Net, E: Write>(
@@ -49,7 +49,7 @@ pub fn bind<N: Net, E: Write>(
     }
 }
 
-/// Serves a new gateway on these ports, driven by lines of the input.
+/// Runs a new gateway on these ports, driven by lines of the input.
 fn serve_on<P: Ports, R: Read, W: Write, T: Write>(
     alloc: Global,
     config: Config,
@@ -77,7 +77,7 @@ fn serve_on<P: Ports, R: Read, W: Write, T: Write>(
     )
 }
 
-/// Serves a new gateway on UDP ports, driven by lines of the input. The text of a fault goes to `errors`, and periodic
+/// Runs a new gateway on UDP ports, driven by lines of the input. The text of a fault goes to `errors`, and periodic
 /// reports, if they are enabled, to `reports`.
 ///
 /// An invalid configuration is reported before a port is bound, and a port that can't be bound is reported before a

@@ -12,7 +12,7 @@ use mg_serve::Setup;
 pub struct Service {
     /// Who may send it messages.
     pub controllers: Controllers,
-    /// The seconds between reports; 0 is never.
+    /// The seconds between reports; 0 disables reports.
     pub report: u16,
     /// Whether the output is a recording.
     pub records: bool,

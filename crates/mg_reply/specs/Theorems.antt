@@ -35,8 +35,8 @@ is_wide (Action id) = nat_le 9 (length (action_text id []))
 abbrev pub is_too_long : Answered → Bool
 is_too_long r = r.is_long || nat_lt reply_limit (length (reply_text r.number r.items))
 
--- Complete items, put into a new reply, make it too long exactly when their whole text exceeds the
--- limit, including those that found no room. Otherwise, all of them are in the reply.
+-- Complete items, put into a new reply, make it too long if and only if their whole text exceeds
+-- the limit, including those that found no room. Otherwise, all of them are in the reply.
 abbrev pub TooLongByText : Type 0
 TooLongByText =
     (n : ℕ) (xs : List Item) → list_all is_wide xs ≡ true

@@ -35,7 +35,7 @@ pub fn read(bytes: &[u8]) -> Result<Packet<'_>, RtpFault>
     // Every packet is read.
     ensures only { (header : Header) (payload : List ℕ) → IsPacket bytes.now header payload →
         IsOkAnd result (λ packet. (packet.header ≡ header) × (packet.payload.now ≡ payload)) }
-    // A fault is returned exactly when the datagram has it.
+    // A fault is returned if and only if the datagram has it.
     ensures fault { (fault : RtpFault) → (result ≡ Err fault) ↔ IsFault bytes.now fault }
 {
     if bytes.len() < HEADER_LEN {

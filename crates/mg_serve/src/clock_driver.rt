@@ -24,8 +24,8 @@ pub struct ClockDriver<'a, E: Write> {
 }
 
 impl<'a, E: Write> ClockDriver<'a, E> {
-    /// Makes a driver for a new gateway, before the first tick. Packets of a tick that is more than `allowed` ticks
-    /// late are not sent. Every `seconds` seconds it writes a report; 0 is never.
+    /// Makes a driver for a new gateway, before the first tick. A tick may be at most `allowed` ticks late. It writes a
+    /// report every `seconds` seconds; 0 disables reports.
     pub fn new(
         alloc: Global,
         config: Config,

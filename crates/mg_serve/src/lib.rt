@@ -7,10 +7,10 @@
 //! let counts = serve(alloc, Config::default(), None, &mut ports, &mut input, &mut output, 0, &mut reports)?;
 //! ```
 //!
-//! [`serve`] is proved for any [`Ports`](mg_ports::Ports). Whenever it returns, the lines that it has read completely,
-//! with their effects, form a session (`specs/Session.antt`). So it drops no datagram that it received, reads the ports
-//! in order, and sends each answer and each packet once. [`theorems`] says more: a session sends what a run over its
-//! events sends, and a recording of it is a script of these events.
+//! [`serve`] is proved for any [`Ports`](mg_ports::Ports). On return, the complete lines that it read and their effects
+//! form a session (`specs/Session.antt`). So it drops no datagram that it received, reads the ports in order, and sends
+//! each answer and each packet once. [`theorems`] says more: a session sends what a run over its events sends, and a
+//! recording of it is a script of these events.
 #![tactic(auto)]
 
 mod clock_driver;

@@ -26,7 +26,8 @@ pub struct LineDriver<'a, E: Write> {
 }
 
 impl<'a, E: Write> LineDriver<'a, E> {
-    /// Makes a driver for a new gateway, before the first line. Every `seconds` seconds it writes a report; 0 is never.
+    /// Makes a driver for a new gateway, before the first line. It writes a report every `seconds` seconds; 0 disables
+    /// reports.
     pub fn new(
         alloc: Global,
         config: Config,

@@ -23,7 +23,7 @@ pub struct Reports<'a, E: Write> {
 }
 
 impl<'a, E: Write> Reports<'a, E> {
-    /// Makes reports at this interval, in seconds; 0 is never.
+    /// Makes reports at this interval, in seconds; 0 disables them.
     pub fn new(alloc: Global, seconds: u16, writer: &'a mut E) -> Result<Self, AllocError> {
         Ok(Reports {
             every: u64::from(seconds) * TICKS,

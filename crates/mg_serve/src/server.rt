@@ -113,7 +113,7 @@ fn outputs<'a, E: Write>(
 }
 
 impl<'a, E: Write> Server<'a, E> {
-    /// Makes a server with a new gateway. Every `seconds` seconds it writes a report; 0 is never.
+    /// Makes a server with a new gateway. It writes a report every `seconds` seconds; 0 disables reports.
     pub fn new(
         alloc: Global,
         config: Config,

@@ -15,7 +15,7 @@ use mg_ports::Ports;
 use std::alloc::{AllocError, Global};
 use std::io::{Read, Write};
 
-/// Serves a new gateway on some ports, driven by lines.
+/// Runs a new gateway on the given ports, driven by lines of text.
 ///
 /// It prints `ready`, and executes the lines of the input up to the first `quit` or the end of the input. Sockets that
 /// the configuration does not include are not used.
@@ -36,10 +36,10 @@ use std::io::{Read, Write};
 /// At the given interval it reports to an operator: the totals since the start, and each media port that had trouble
 /// since the last report. A report that can't be printed is skipped.
 ///
-/// Whenever it returns, the commands on the lines it has read completely, with their effects, form a session of a new
+/// On return, with or without an error, the complete lines that it read and their effects form a session of a new
 /// gateway. `Read` and `Write` mean that the input or the output failed; it also returns `Read` after 4,294,967,295
-/// reads that did not reach the end of the input. It returns `BadConfig` if and only if the configuration is invalid.
-/// It returns `NoMemory` only before it has read anything.
+/// reads without an end of input. It returns `BadConfig` if and only if the configuration is invalid. It returns
+/// `NoMemory` only before it has read anything.
 pub fn serve<P: Ports, R: Read, W: Write, E: Write>(
     alloc: Global,
     setup: &Setup<'_>,
@@ -91,10 +91,10 @@ fn drive<P: Ports, R: Read, W: Write, E: Write>(
     Ok(driver.server.counts(ports))
 }
 
-/// Serves a new gateway on some ports in real time.
+/// Runs a new gateway on the given ports in real time.
 ///
-/// It prints `ready`, and then every 20 ms of the clock executes what the lines `poll` and `tick` stand for
-/// ([`serve`]).
+/// It prints `ready`. Then, every 20 ms by the clock, it executes what [`serve`] executes for the lines `poll` and
+/// `tick`.
 ///
 /// The k-th tick begins when a reading of the clock first shows that it is due: `k * 20 ms` after the clock's start.
 /// After a delay all missed ticks are executed at once. If a tick is more than `allowed` ticks late, its packets are

@@ -4,7 +4,7 @@ ghost use Rattle.mg_serve.specs.Setup.{is_admitted, may_command};
 use mg_core::Config;
 use std::marker::Model;
 
-/// The setup of a session: the configuration of its gateway, and who may command it.
+/// The setup of a session: the configuration of its gateway, and who may send it commands.
 #[derive(Drop)]
 pub struct Setup<'a> {
     config: Config,

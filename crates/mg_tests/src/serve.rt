@@ -49,7 +49,7 @@ pub fn ports(
     Ok(FakePorts::new(alloc, arrivals, failing.to_vec(alloc)?))
 }
 
-/// A letter and a number for a receive or a send: a datagram `c`ame at this socket, `n`one did, or the receive
+/// A letter and a number for a receive or a send: a datagram `c`ame in at this socket, `n`one did, or the receive
 /// `f`ailed; an `a`nswer or a `p`acket was sent from it.
 fn letter(call: &Call) -> Option<(char, usize)> {
     match call {
@@ -288,7 +288,7 @@ fn poll_and_ticks(alloc: Global, ticks: u64) -> Result<String, AllocError> {
     Ok(lines)
 }
 
-/// Returns the reports of a session of this many ticks, with one report every `seconds`; 0 is never.
+/// Returns the reports of a session of this many ticks, with a report every `seconds` seconds; 0 disables reports.
 fn reported(alloc: Global, seconds: u16, ticks: u64) -> Result<Vec<u8>, AllocError> {
     let mut ports = ports(alloc, &[(0, ADD), (1, b"x"), (2, b"x")], &[])?;
     let lines = poll_and_ticks(alloc, ticks)?;

@@ -27,7 +27,7 @@ permits Bothway forward = true
 abbrev pub word_of : Triple → ℕ → ℕ → Bool
 word_of triple talker listener = permits triple.association (is_forward triple talker listener)
 
--- the triple is Oneway and has a seat in both of its sets
+-- the triple is Oneway, and its two sets share a seat
 abbrev pub Overlaps : Triple → Type 0
 Overlaps triple = (triple.association ≡ Oneway) × HaveCommonSeat triple.first triple.second
 

@@ -3,7 +3,7 @@ ghost use Rattle.std.specs.Prelude.{Some, codes};
 use std::error::Error;
 use std::fmt;
 
-/// A Oneway triple has a seat in both of its sets. No triple was applied.
+/// The two sets of a Oneway triple share a seat. No triple was applied.
 ///
 /// Such a triple would let a seat hear itself in one direction, which has no meaning. Rejecting it is this project's
 /// own rule.

@@ -76,7 +76,7 @@ pub fn absent_pairs_are_silent()
         × IsFalse (hears_in (Leave leaver ∷ es) other leaver) }
 {}
 
-/// The test on masks finds exactly the Oneway triples with a seat in both sets.
+/// The test on masks finds exactly the Oneway triples whose two sets share a seat.
 pub fn overlap_is_a_common_seat()
     ensures one { (triple : Triple) → IsTrue (overlaps triple) ↔ Overlaps triple }
     ensures any { (triples : List Triple) →

@@ -85,7 +85,7 @@ impl Topology {
 
     /// Applies triples in order, so that the last one that mentions a pair counts.
     ///
-    /// If a Oneway triple has a seat in both of its sets, none is applied.
+    /// If the two sets of a Oneway triple share a seat, no triple is applied.
     pub fn apply(&mut self, triples: &[Triple]) -> Result<(), Overlap>
         ensures overlap { IsErr result ↔ Any Overlaps triples.now }
         ensures ok { OnOk result ((es : List TopologyEdit) → StandsFor self.old es →
@@ -147,7 +147,7 @@ impl Default for Topology {
     }
 }
 
-/// Returns whether a Oneway triple has a seat in both of its sets.
+/// Returns whether there is a Oneway triple whose two sets share a seat.
 fn any_overlaps(triples: &[Triple]) -> bool
     ensures { result ≡ list_any overlaps triples.now }
 {

@@ -39,7 +39,7 @@ impl Triple {
     ghost use Rattle.mg_topology.specs.Triple.{overlaps, Overlaps};
     ghost use Rattle.mg_topology.specs.aids.Word.{after_triple};
 
-    /// Returns whether a Oneway triple has a seat in both of its sets. A topology rejects such a triple.
+    /// Returns whether this is a Oneway triple whose two sets share a seat. A topology rejects such a triple.
     pub fn overlaps(&self) -> bool
         ensures value { result ≡ overlaps self.now }
         ensures common { IsTrue (overlaps self.now) ↔ Overlaps self.now }

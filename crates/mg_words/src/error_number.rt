@@ -21,7 +21,7 @@ pub enum ErrorNumber {
     UnknownContext,
     /// The limit of contexts is reached, or their numbers are exhausted.
     NoContextLeft,
-    /// A Oneway triple has a termination on both sides.
+    /// Both names of a Oneway triple match the same termination.
     IllegalCombination,
     /// No termination has this name.
     UnknownTermination,

@@ -72,7 +72,7 @@ fn lines(alloc: Global) -> Result<String, AllocError> {
     Ok(lines)
 }
 
-/// Serves a gateway on these ports, driven by these lines. Returns its counts, and what it printed.
+/// Runs a gateway on these ports, driven by these lines. Returns its counts, and what it printed.
 fn serve_lines<P: Ports>(
     alloc: Global,
     config: Config,

@@ -49,7 +49,7 @@ abbrev pub Finished : Setup → List ℕ → World → List TraceEntry → World
 Finished setup [] w trace next = (trace ≡ []) × (next ≡ w)
 Finished setup (b ∷ bs) w trace next = Performs setup (line_command (b ∷ bs)) w trace next
 
--- a run ends with `Write` exactly when a print has failed
+-- a run ends with `Write` if and only if a print has failed
 abbrev pub EndsBy : {T : Type 0} → Result T RunFault → (has_failed : Bool) → Type 0
 EndsBy (Ok value) has_failed = has_failed ≡ false
 EndsBy (Err faults.Read) has_failed = has_failed ≡ false

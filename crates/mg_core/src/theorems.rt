@@ -104,10 +104,11 @@ pub fn port_order_is_irrelevant()
     mg_commands::theorems::requests_are_consistent();
 }
 
-/// In each tick, the packet to a listener does not depend on what was ever received from terminations that it does not
-/// hear in that tick. Suppose two gateways receive the same events, except for RTP datagrams at ports of some
-/// terminations. Then in the next tick both send the same bytes to each listener who then hears none of these
-/// terminations, whatever it heard before.
+/// In each tick, a listener's packet is independent of the terminations that it does not hear in that tick.
+///
+/// Suppose two gateways receive the same events, except for RTP datagrams at the ports of some terminations. In the next
+/// tick, both send the same bytes to every listener that hears none of those terminations in that tick. What the
+/// listener heard earlier makes no difference.
 pub fn unheard_changes_nothing()
     ensures lists { UnheardChangesNothing }
     ensures histories { UnheardInHistories }

@@ -17,7 +17,8 @@ use Rattle.mg_rooms.specs.Registry.{members_at}
 use Rattle.mg_rooms.specs.declared.record.Record.{Record}
 use Rattle.mg_rooms.specs.declared.target.Target.{Target}
 use Rattle.mg_rooms.specs.declared.target.Target.TheVariants as targets
-use Rattle.mg_engine.specs.Apart.{AgreeOutside, EndsAlike, SameEditsKeepAgreement, SameStatsButReceived, but_received}
+use Rattle.mg_engine.specs.Apart.{AgreeOutside, but_received}
+use Rattle.mg_engine.specs.aids.Agreement.{EndsAlike, SameEditsKeepAgreement, SameStatsButReceived}
 use Rattle.mg_engine.specs.Flow.{hears}
 use Rattle.mg_engine.specs.Gateway.{Gateway, stats_of}
 use Rattle.mg_engine.specs.Outcome.{add, modify, move_to, subtract, apply_triples}
@@ -30,13 +31,16 @@ use Rattle.mg_commands.specs.declared.name.Name.{Name}
 use Rattle.mg_commands.specs.declared.name.Name.TheVariants as names
 use Rattle.mg_commands.specs.declared.reply_descriptors.ReplyDescriptors.{ReplyDescriptors}
 use Rattle.mg_commands.specs.declared.served.Served.{Served}
-use Rattle.mg_commands.specs.Agreement.{RequestsKeepAgreement, item_but_received, parts_but_received}
+use Rattle.mg_commands.specs.aids.Agreement.{RequestsKeepAgreement, item_but_received, parts_but_received}
 use Rattle.mg_commands.specs.ContextProperties.{action_fault, audit_items, audit_pair, audit_pairs, context_outcome, is_context_audit, pair_item, triples_of}
 use Rattle.mg_commands.specs.Name.{name_of, written_as, written_name}
-use Rattle.mg_commands.specs.Outcome.{CommandOutcome, Trial, audit_outcome, audit_root, check_command, check_new_name, in_same_world, made_at, names_for, number_in, outcome, reply_media, reply_parts, served_at, trial_of}
+use Rattle.mg_commands.specs.Outcome.{CommandOutcome, Trial, audit_outcome, audit_root, check_command, check_new_name, made_at, names_for, number_in, outcome, reply_media, reply_parts, served_at, trial_of}
+use Rattle.mg_commands.specs.aids.Steps.{in_same_world}
 use Rattle.mg_commands.specs.aids.Steps.{all_names, audit_termination}
 use Rattle.mg_commands.specs.ReplyDescriptors.{descriptors_after, descriptors_before, descriptors_by_audit}
-use Rattle.mg_commands.specs.Transaction.{ActionState, TransactionState, action_start, after_commands, after_outcome, after_properties, end_of_action, continue_with, continue_after_action, id_of, unless_optional, with_action, with_actions, with_command, with_commands, with_name, with_names, with_trial}
+use Rattle.mg_commands.specs.Transaction.{id_of, replied}
+use Rattle.mg_commands.specs.aids.ByActions.{by_actions, ActionState, ActionsState, action_start, after_commands, after_outcome, after_properties, end_of_action, continue_with, continue_after_action, unless_optional, with_action, with_actions, with_command, with_commands, with_name, with_names, with_trial}
+use Rattle.mg_commands.proofs.FoldLemmas.{shown, same_reply}
 use Rattle.mg_commands.specs.aids.Steps.{action_unless}
 use Rattle.mg_words.specs.Term.{rtp_name}
 
@@ -361,11 +365,11 @@ module _ (some : List ℕ) (edits : SameEditsKeepAgreement) (same_stats : SameSt
 
   -- ## Transactions
 
-  record RequestsAgree (s t : TransactionState) : Type 0 where
+  record RequestsAgree (s t : ActionsState) : Type 0 where
     gateway : AgreeOutside some s.gateway t.gateway
     items : reported s.items ≡ reported t.items
 
-  record BothEnded (x y : TransactionState × Bool) : Type 0 where
+  record BothEnded (x y : ActionsState × Bool) : Type 0 where
     state : RequestsAgree x.0 y.0
     done : x.1 ≡ y.1
 
@@ -405,7 +409,7 @@ module _ (some : List ℕ) (edits : SameEditsKeepAgreement) (same_stats : SameSt
   commands_ended source ps (s, true) (t, false) h = absurd (cc h.done)
   commands_ended source ps (s, false) (t, true) h = absurd (cc h.done)
 
-  action_alike : (o : Option ErrorNumber) (source : List ℕ) (a : Action) (s t : TransactionState) →
+  action_alike : (o : Option ErrorNumber) (source : List ℕ) (a : Action) (s t : ActionsState) →
       RequestsAgree s t → BothEnded (action_unless o source a s) (action_unless o source a t)
   action_alike (Some e) source a s t h = record {
     state = record {
@@ -422,15 +426,15 @@ module _ (some : List ℕ) (edits : SameEditsKeepAgreement) (same_stats : SameSt
       (commands_alike source a.commands (action_start a s) (action_start a t)
       (record { gateway = h.gateway; target = refl; made = refl; items = h.items }))
 
-  rest_alike : (rest : TransactionState → TransactionState) (x y : TransactionState × Bool) → BothEnded x y →
-      ((s t : TransactionState) → RequestsAgree s t → RequestsAgree (rest s) (rest t)) →
+  rest_alike : (rest : ActionsState → ActionsState) (x y : ActionsState × Bool) → BothEnded x y →
+      ((s t : ActionsState) → RequestsAgree s t → RequestsAgree (rest s) (rest t)) →
       RequestsAgree (continue_after_action rest x) (continue_after_action rest y)
   rest_alike rest (s, true) (t, true) h k = k s t h.state
   rest_alike rest (s, false) (t, false) h k = h.state
   rest_alike rest (s, true) (t, false) h k = absurd (cc h.done)
   rest_alike rest (s, false) (t, true) h k = absurd (cc h.done)
 
-  actions_alike : (source : List ℕ) (xs : List Action) (s t : TransactionState) → RequestsAgree s t →
+  actions_alike : (source : List ℕ) (xs : List Action) (s t : ActionsState) → RequestsAgree s t →
       RequestsAgree (with_actions source xs s) (with_actions source xs t)
   unfolding with_actions with_action
   actions_alike source [] s t h = h
@@ -442,4 +446,8 @@ pub requests_keep : SameEditsKeepAgreement → SameStatsButReceived → Requests
 requests_keep edits stats some source request a b h =
     let after = actions_alike some edits stats source request.actions (record { gateway = a; items = [] })
     (record { gateway = b; items = [] }) (record { gateway = h; items = refl }) in
-    (after.gateway, after.items)
+    let first = subst (λ (s : ActionsState). RequestsAgree some edits stats s (by_actions source request b))
+    (same_reply source request a) after in
+    let both = subst (λ (t : ActionsState). RequestsAgree some edits stats (shown (replied source request a)) t)
+    (same_reply source request b) first in
+    (both.gateway, both.items)

@@ -28,7 +28,9 @@ use Rattle.mg_commands.specs.Name.{name_of, written_as, written_name}
 use Rattle.mg_commands.specs.Outcome.{CommandOutcome, Trial, check_command, members_in, names_for, outcome, takes_all, trial_of, unless_empty}
 use Rattle.mg_commands.specs.Search.{first_of}
 use Rattle.mg_commands.specs.Theorems.{RefusedRequestsChangeNothing, depends_on_commands, reports_success}
-use Rattle.mg_commands.specs.Transaction.{ActionState, TransactionState, action_start, after_commands, after_outcome, after_properties, end_of_action, continue_with, continue_after_action, id_of, unless_optional, with_action, with_actions, with_command, with_commands, with_name, with_names, with_trial}
+use Rattle.mg_commands.specs.Transaction.{id_of}
+use Rattle.mg_commands.specs.aids.ByActions.{ActionState, ActionsState, action_start, after_commands, after_outcome, after_properties, end_of_action, continue_with, continue_after_action, unless_optional, with_action, with_actions, with_command, with_commands, with_name, with_names, with_trial}
+use Rattle.mg_commands.proofs.FoldLemmas.{same_reply}
 use Rattle.mg_commands.specs.aids.Steps.{action_unless}
 
 abbrev tells : List Item → Bool
@@ -241,7 +243,7 @@ no_topology source made (x ∷ ps) w target h =
 
 -- ## Actions
 
-record StateAsBefore (s after : TransactionState) : Type 0 where
+record StateAsBefore (s after : ActionsState) : Type 0 where
   gateway : after.gateway ≡ s.gateway
   before : tells s.items ≡ false
 
@@ -277,7 +279,7 @@ commands_ended source ps cs (run, true) true is all hangs h =
     needed : tells run.items ≡ false → ⊥
     needed k = cc (sym hangs ∙ all refl k)
 
-action_keeps : (o : Option ErrorNumber) (source : List ℕ) (a : Action) (s : TransactionState) →
+action_keeps : (o : Option ErrorNumber) (source : List ℕ) (a : Action) (s : ActionsState) →
     depends_on_commands a ≡ true → tells (action_unless o source a s).0.items ≡ false →
     StateAsBefore s (action_unless o source a s).0
 action_keeps (Some e) source a s hangs h = record {
@@ -291,9 +293,9 @@ action_keeps None source a s hangs h =
     let commands = commands_keep source a.commands (action_start a s) none in
     record { gateway = same_gateway ∙ commands.gateway; before = commands.before }
 
-state_on : (s : TransactionState) (rest : TransactionState → TransactionState) (x : TransactionState × Bool) →
+state_on : (s : ActionsState) (rest : ActionsState → ActionsState) (x : ActionsState × Bool) →
     (tells x.0.items ≡ false → StateAsBefore s x.0) →
-    ((t : TransactionState) → tells (rest t).items ≡ false → StateAsBefore t (rest t))
+    ((t : ActionsState) → tells (rest t).items ≡ false → StateAsBefore t (rest t))
     → tells (continue_after_action rest x).items ≡ false → StateAsBefore s (continue_after_action rest x)
 state_on s rest (t, false) first later h = first h
 state_on s rest (t, true) first later h =
@@ -301,7 +303,7 @@ state_on s rest (t, true) first later h =
     let before = first after.before in
     record { gateway = after.gateway ∙ before.gateway; before = before.before }
 
-actions_keep : (source : List ℕ) (xs : List Action) (s : TransactionState) → list_all depends_on_commands xs ≡ true →
+actions_keep : (source : List ℕ) (xs : List Action) (s : ActionsState) → list_all depends_on_commands xs ≡ true →
     tells (with_actions source xs s).items ≡ false → StateAsBefore s (with_actions source xs s)
 unfolding with_actions with_action
 actions_keep source [] s hangs h = record { gateway = refl; before = h }
@@ -312,4 +314,7 @@ actions_keep source (a ∷ xs) s hangs h =
 
 pub refused_requests : RefusedRequestsChangeNothing
 refused_requests source request w hangs h =
-    (actions_keep source request.actions (record { gateway = w; items = [] }) hangs h).gateway
+    let same = same_reply source request w in
+    let none = subst (λ (s : ActionsState). tells s.items ≡ false) (sym same) h in
+    ap (λ (s : ActionsState). s.gateway) (sym same) ∙
+    (actions_keep source request.actions (record { gateway = w; items = [] }) hangs none).gateway

@@ -1,5 +1,5 @@
 -- What each edit of a gateway keeps, a request keeps.
-use Rattle.std.proofs.Common.{◌≡◌, ℕ, Bool, true, false, List, [], ◌∷◌, Option, Some, None, Result, Ok, Err, refl}
+use Rattle.std.proofs.Common.{◌≡◌, ℕ, Bool, true, false, List, [], ◌∷◌, Option, Some, None, Result, Ok, Err, refl, subst}
 use Rattle.mg_words.specs.ResultSteps.{◌>>=◌}
 use Rattle.mg_words.specs.declared.command_word.CommandWord.{CommandWord}
 use Rattle.mg_words.specs.declared.command_word.CommandWord.TheVariants as words
@@ -21,9 +21,12 @@ use Rattle.mg_commands.specs.declared.name.Name.{Name}
 use Rattle.mg_commands.specs.declared.served.Served.{Served}
 use Rattle.mg_commands.specs.Name.{written_as}
 use Rattle.mg_commands.specs.ContextProperties.{action_fault, context_outcome, triples_of}
-use Rattle.mg_commands.specs.Outcome.{CommandOutcome, Trial, check_new_name, number_in, in_same_world, outcome, trial_of, audit_outcome}
-use Rattle.mg_commands.specs.Transaction.{ActionState, TransactionState, action_start, after_commands, after_outcome, after_properties, continue_with, continue_after_action, replied, unless_optional, with_action, with_actions, with_command, with_commands, with_name, with_names, with_trial}
+use Rattle.mg_commands.specs.Outcome.{CommandOutcome, Trial, check_new_name, number_in, outcome, trial_of, audit_outcome}
+use Rattle.mg_commands.specs.aids.Steps.{in_same_world}
+use Rattle.mg_commands.specs.Transaction.{replied}
+use Rattle.mg_commands.specs.aids.ByActions.{ActionState, ActionsState, action_start, after_commands, after_outcome, after_properties, continue_with, continue_after_action, unless_optional, with_action, with_actions, with_command, with_commands, with_name, with_names, with_trial}
 use Rattle.mg_commands.specs.aids.Steps.{action_unless}
+use Rattle.mg_commands.proofs.FoldLemmas.{same_reply}
 
 -- a result that was done, if there is one, has it
 data Left {A : Type 0} (P : A → Type 0) {B E : Type 0} : Result (A × B) E → Type 0 where
@@ -142,23 +145,23 @@ module _ (P : Gateway → Type 0)
         (properties_keep source run.made ps run.gateway run.target h)
     ended_keeps source ps (run, false) h = h
 
-    unless_keeps : (o : Option ErrorNumber) (source : List ℕ) (a : Action) (s : TransactionState) → P s.gateway →
+    unless_keeps : (o : Option ErrorNumber) (source : List ℕ) (a : Action) (s : ActionsState) → P s.gateway →
         P (action_unless o source a s).0.gateway
     unless_keeps (Some e) source a s h = h
     unless_keeps None source a s h = ended_keeps source a.properties
         (with_commands source a.commands (action_start a s)) (commands_keep source a.commands (action_start a s) h)
 
-    action_keeps : (source : List ℕ) (a : Action) (s : TransactionState) → P s.gateway →
+    action_keeps : (source : List ℕ) (a : Action) (s : ActionsState) → P s.gateway →
         P (with_action source a s).0.gateway
     unfolding with_action
     action_keeps source a s h = unless_keeps (action_fault a) source a s h
 
-    rest_keeps : (rest : TransactionState → TransactionState) (x : TransactionState × Bool) → P x.0.gateway →
-        ((s : TransactionState) → P s.gateway → P (rest s).gateway) → P (continue_after_action rest x).gateway
+    rest_keeps : (rest : ActionsState → ActionsState) (x : ActionsState × Bool) → P x.0.gateway →
+        ((s : ActionsState) → P s.gateway → P (rest s).gateway) → P (continue_after_action rest x).gateway
     rest_keeps rest (s, true) h k = k s h
     rest_keeps rest (s, false) h k = h
 
-    actions_keep : (source : List ℕ) (xs : List Action) (s : TransactionState) → P s.gateway →
+    actions_keep : (source : List ℕ) (xs : List Action) (s : ActionsState) → P s.gateway →
         P (with_actions source xs s).gateway
     unfolding with_actions
     actions_keep source [] s h = h
@@ -166,4 +169,5 @@ module _ (P : Gateway → Type 0)
         (action_keeps source a s h) (actions_keep source xs)
 
     pub request_keeps : (source : List ℕ) (request : Request) (w : Gateway) → P w → P (replied source request w).gateway
-    request_keeps source request w h = actions_keep source request.actions (record { gateway = w; items = [] }) h
+    request_keeps source request w h = subst (λ (s : ActionsState). P s.gateway) (same_reply source request w)
+        (actions_keep source request.actions (record { gateway = w; items = [] }) h)

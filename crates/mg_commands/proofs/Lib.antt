@@ -5,6 +5,7 @@ pub mod ParameterLemmas
 pub mod PutLemmas
 pub mod WorkLemmas
 pub mod PropertySteps
+pub mod FoldLemmas
 pub mod RunLemmas
 pub mod WideLemmas
 pub mod RefusalLemmas

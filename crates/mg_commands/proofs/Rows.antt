@@ -22,7 +22,7 @@ use Rattle.mg_commands.specs.Name.{name_of, name_in_rtp, written_name}
 use Rattle.mg_words.specs.Cut.{after_prefix}
 use Rattle.mg_commands.specs.Outcome.{outcome}
 use Rattle.mg_commands.specs.Search.{first_of, first_after}
-use Rattle.mg_commands.specs.Transaction.{replied, with_actions, with_action, with_commands, with_names}
+use Rattle.mg_commands.specs.Transaction.{replied, with_action}
 
 abbrev source : List ℕ
 source = codes "$RTP/1RTP/2RTP/9*"
@@ -80,45 +80,45 @@ one_member = after new_gateway Choose (add_one ∷ [])
 
 two_terminations_enter_one_context : reported new_gateway Choose (add_one ∷ add_one ∷ []) ≡ done Add (rtp_name 1) ∷
     done Add (rtp_name 2) ∷ items.Action (Number 1) ∷ []
-unfolding with_actions with_action with_commands with_names outcome add name_of after_prefix name_in_rtp first_after
+unfolding with_action outcome add name_of after_prefix name_in_rtp first_after
     first_of
 two_terminations_enter_one_context = refl
 
 an_unknown_name_ends_the_request : reported new_gateway Choose (command Modify ninth [] ∷ add_one ∷ []) ≡
     failed Modify (rtp_name 9) UnknownTermination ∷ items.Action Choose ∷ []
-unfolding with_actions with_action with_commands with_names outcome add modify name_of after_prefix name_in_rtp
+unfolding with_action outcome add modify name_of after_prefix name_in_rtp
     written_name first_after first_of
 an_unknown_name_ends_the_request = refl
 
 one_slot_is_used_up : reported (start_of (record standard { slots = 1 })) Choose (add_one ∷ add_one ∷ []) ≡
     done Add (rtp_name 1) ∷ failed Add (codes "$") NoTerminationLeft ∷ items.Action (Number 1) ∷ []
-unfolding with_actions with_action with_commands with_names outcome add name_of after_prefix name_in_rtp written_name
+unfolding with_action outcome add name_of after_prefix name_in_rtp written_name
     first_after first_of
 one_slot_is_used_up = refl
 
 a_context_ends_with_its_last_member : reported one_member (Number 1)
     (command Subtract first (Audit [] ∷ []) ∷ add_one ∷ []) ≡ done Subtract (rtp_name 1) ∷
     failed Add (codes "$") UnknownContext ∷ items.Action (Number 1) ∷ []
-unfolding with_actions with_action with_commands with_names outcome add subtract name_of after_prefix name_in_rtp
+unfolding with_action outcome add subtract name_of after_prefix name_in_rtp
     written_name first_after first_of
 a_context_ends_with_its_last_member = refl
 
 an_ended_context_stays_the_action_s : reported (after one_member (Number 1) (command Subtract first [] ∷ [])) Choose
     (add_one ∷ command Subtract second (Audit [] ∷ []) ∷ add_one ∷ []) ≡ done Add (rtp_name 2) ∷
     done Subtract (rtp_name 2) ∷ failed Add (codes "$") UnknownContext ∷ items.Action (Number 2) ∷ []
-unfolding with_actions with_action with_commands with_names outcome add subtract name_of after_prefix name_in_rtp
+unfolding with_action outcome add subtract name_of after_prefix name_in_rtp
     written_name first_after first_of
 an_ended_context_stays_the_action_s = refl
 
 a_member_cannot_move_to_its_context : reported one_member (Number 1) (command Move first [] ∷ []) ≡
     failed Move (rtp_name 1) AlreadyInContext ∷ items.Action (Number 1) ∷ []
-unfolding with_actions with_action with_commands with_names outcome add move_to name_of after_prefix name_in_rtp
+unfolding with_action outcome add move_to name_of after_prefix name_in_rtp
     written_name first_after first_of
 a_member_cannot_move_to_its_context = refl
 
 an_optional_command_ends_nothing : reported new_gateway Choose (optional (command Modify ninth []) ∷ add_one ∷ []) ≡
     failed Modify (rtp_name 9) UnknownTermination ∷ done Add (rtp_name 1) ∷ items.Action (Number 1) ∷ []
-unfolding with_actions with_action with_commands with_names outcome add modify name_of after_prefix name_in_rtp
+unfolding with_action outcome add modify name_of after_prefix name_in_rtp
     written_name first_after first_of
 an_optional_command_ends_nothing = refl
 
@@ -126,6 +126,6 @@ all_members_leave_and_none_is_left : reported (after one_member (Number 1) (add_
     (command Subtract every (Audit [] ∷ []) ∷ command AuditValue every [] ∷ add_one ∷ []) ≡
     done Subtract (rtp_name 1) ∷ done Subtract (rtp_name 2) ∷ failed AuditValue (codes "*") WildcardMatchedNone ∷
     items.Action (Number 1) ∷ []
-unfolding with_actions with_action with_commands with_names outcome add subtract name_of after_prefix name_in_rtp
+unfolding with_action outcome add subtract name_of after_prefix name_in_rtp
     written_name first_after first_of
 all_members_leave_and_none_is_left = refl

@@ -29,7 +29,9 @@ use Rattle.mg_commands.specs.ContextProperties.{action_fault, context_outcome}
 use Rattle.mg_commands.specs.Name.{name_of, written_as, written_name}
 use Rattle.mg_commands.specs.Outcome.{Trial, outcome, check_command, names_for}
 use Rattle.mg_commands.specs.aids.Steps.{all_names}
-use Rattle.mg_commands.specs.Transaction.{ActionState, TransactionState, after_outcome, with_name, and_then, with_names, with_trial, with_command, unless_optional, continue_with, with_commands, action_start, id_of, target_of, end_of_action, after_properties, after_commands, with_action, with_actions, replied}
+use Rattle.mg_commands.specs.Transaction.{id_of, target_of, replied}
+use Rattle.mg_commands.specs.aids.ByActions.{ActionState, ActionsState, after_outcome, with_name, and_then, with_names, with_trial, with_command, unless_optional, continue_with, with_commands, action_start, end_of_action, after_properties, after_commands, with_action, with_actions}
+use Rattle.mg_commands.proofs.FoldLemmas.{same_reply}
 use Rattle.mg_commands.specs.aids.Steps.{action_unless}
 use Rattle.mg_commands.specs.aids.Runs.{Base, IsPaid, ActionKept, action_kept, IsActionRun, with_all, TransactionKept}
 use Rattle.mg_commands.specs.aids.Runs.{transaction_kept, IsTransaction, ReportsProperties}
@@ -388,7 +390,7 @@ module _ (base : Base) (before reported closed : Answered) (kept new : EngineSta
   }
 
   properties_ended : (is_done : Bool) (r : Result (Gateway × List Item) ErrorNumber) →
-      ReportsProperties new before reported is_done run.gateway r → (next : TransactionState) ×
+      ReportsProperties new before reported is_done run.gateway r → (next : ActionsState) ×
       (after_properties run r ≡ (next, is_done)) × IsTransaction base (transaction_kept new closed) next
   properties_ended is_done (Ok p) t = (
     end_of_action run p.0 p.1,
@@ -406,11 +408,11 @@ module _ (source : List ℕ) (a : Action) (old middle : EngineState) (before sai
     (were_done : Bool) (none : action_fault a ≡ None)
     (ran : (base : Base) → Leads (IsActionRun base) (action_kept old (first_progress a) before)
     (action_kept middle progress said) (λ run next. with_commands source a.commands run ≡ (next, were_done))) where
-  as_started : (base : Base) (s : TransactionState) → IsTransaction base (transaction_kept old before) s →
+  as_started : (base : Base) (s : ActionsState) → IsTransaction base (transaction_kept old before) s →
       IsActionRun base (action_kept old (first_progress a) before) (action_start a s)
   as_started base s h = record { gateway = h.gateway; target = refl; made = refl; reply = h.reply; work = h.work }
 
-  continues : (s : TransactionState) (run : ActionState) →
+  continues : (s : ActionsState) (run : ActionState) →
       with_commands source a.commands (action_start a s) ≡ (run, were_done) →
       with_action source a s ≡ after_commands source a.properties (run, were_done)
   unfolding with_action
@@ -454,18 +456,18 @@ module _ (source : List ℕ) (a : Action) (old middle : EngineState) (before sai
 
 -- ## Actions
 
-next_whole : (source : List ℕ) (xs : List Action) (i : ℕ) (d : Action) (s next : TransactionState) → i < length xs →
+next_whole : (source : List ℕ) (xs : List Action) (i : ℕ) (d : Action) (s next : ActionsState) → i < length xs →
     with_action source (get_or xs i d) s ≡ (next, true) →
     with_actions source (drop i xs) s ≡ with_actions source (drop (i + 1) xs) next
 unfolding with_actions
 next_whole source xs i d s next lt e = rw (drop_more xs i d lt, e) refl
 
-next_last : (source : List ℕ) (xs : List Action) (i : ℕ) (d : Action) (s next : TransactionState) → i < length xs →
+next_last : (source : List ℕ) (xs : List Action) (i : ℕ) (d : Action) (s next : ActionsState) → i < length xs →
     with_action source (get_or xs i d) s ≡ (next, false) → with_actions source (drop i xs) s ≡ next
 unfolding with_actions
 next_last source xs i d s next lt e = rw (drop_more xs i d lt, e) refl
 
-actions_end : (source : List ℕ) (xs : List Action) (i : ℕ) (s : TransactionState) → length xs ≤ i →
+actions_end : (source : List ℕ) (xs : List Action) (i : ℕ) (s : ActionsState) → length xs ≤ i →
     with_actions source (drop i xs) s ≡ s
 unfolding with_actions
 actions_end source xs i s le = rw (drop_all i xs le) refl
@@ -517,10 +519,10 @@ module _ (source : List ℕ) (request : Request) (old new : EngineState) (before
   abbrev first : Base
   first = record { reply = new_reply request.number; work = old.sums.work }
 
-  abbrev at_first : Gateway → TransactionState
+  abbrev at_first : Gateway → ActionsState
   at_first w = record { gateway = w; items = [] }
 
-  represents : (w : Gateway) → StandsFor old w → (next : TransactionState) ×
+  represents : (w : Gateway) → StandsFor old w → (next : ActionsState) ×
       (with_actions source request.actions (at_first w) ≡ next) × IsTransaction first (transaction_kept new reported) next
   represents w h = ran first (at_first w) (record { gateway = h; reply = begun; work = paid_nothing first old refl })
 
@@ -529,9 +531,10 @@ module _ (source : List ℕ) (request : Request) (old new : EngineState) (before
       let (next, did, stands) = represents w h in (
         next.gateway,
         (
-          ap (λ (s : TransactionState). s.gateway) did,
+          ap (λ (s : ActionsState). s.gateway) (sym (same_reply source request w) ∙ did),
           stands.reply ∙
-              ap (λ (s : TransactionState). after_all (new_reply request.number) s.items) (sym did),
+              ap (λ (s : ActionsState). after_all (new_reply request.number) s.items)
+              (sym did ∙ same_reply source request w),
         ),
         stands.gateway,
       )
@@ -540,5 +543,5 @@ module _ (source : List ℕ) (request : Request) (old new : EngineState) (before
       RisesAtMost (4 * edits_reported (replied source request w).items) old.sums.work new.sums.work
   request_paid w h =
       let (next, did, stands) = represents w h in
-      subst (λ (s : TransactionState). RisesAtMost (4 * edits_reported s.items) old.sums.work new.sums.work) (sym did)
-      stands.work
+      subst (λ (s : ActionsState). RisesAtMost (4 * edits_reported s.items) old.sums.work new.sums.work)
+      (sym did ∙ same_reply source request w) stands.work

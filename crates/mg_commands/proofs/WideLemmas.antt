@@ -1,5 +1,5 @@
 -- Each item of a reply is wide, and the last ends an action.
-use Rattle.std.proofs.Common.{◌≡◌, ℕ, ◌+◌, ◌/◌, ◌%◌, ◌≤◌, zero, suc, Bool, true, false, ◌&&◌, ◌||◌, ◌==◌, not, List, [], ◌∷◌, ◌++◌, length, map, Option, Some, None, Result, Ok, Err, refl, ◌∙◌, length-append, arith, codes, decimal, if◌then◌else◌}
+use Rattle.std.proofs.Common.{◌≡◌, ℕ, ◌+◌, ◌/◌, ◌%◌, ◌≤◌, zero, suc, Bool, true, false, ◌&&◌, ◌||◌, ◌==◌, not, List, [], ◌∷◌, ◌++◌, length, map, Option, Some, None, Result, Ok, Err, refl, ◌∙◌, length-append, arith, codes, decimal, if◌then◌else◌, subst}
 use Rattle.std.specs.Fmt.{digits, digits_onto, digit_glyph}
 use Rattle.std.specs.List.{list_all, list_any}
 use Rattle.std.proofs.lemmas.Bool.{and_parts, le-leb, and_from, or_right}
@@ -27,7 +27,7 @@ use Rattle.mg_reply.specs.declared.outcome.Parts.{Parts}
 use Rattle.mg_reply.specs.Entries.{outcome_text}
 use Rattle.mg_reply.specs.Listed.{listed}
 use Rattle.mg_reply.specs.Reply.{is_refusal, last_is_action}
-use Rattle.mg_reply.specs.Theorems.{is_wide}
+use Rattle.mg_reply.specs.aids.Width.{is_wide}
 use Rattle.mg_rooms.specs.declared.target.Target.{Target}
 use Rattle.mg_rooms.specs.declared.target.Target.TheVariants as targets
 use Rattle.mg_engine.specs.Flow.{hears}
@@ -41,13 +41,15 @@ use Rattle.mg_text.specs.declared.request.Request.{Request}
 use Rattle.mg_text.specs.Proper.{action_is_proper, request_is_proper}
 use Rattle.mg_commands.specs.declared.command_parameters.CommandParameters.{CommandParameters}
 use Rattle.mg_commands.specs.declared.name.Name.{Name}
-use Rattle.mg_commands.specs.declared.name.Name.TheVariants as names
 use Rattle.mg_commands.specs.declared.served.Served.{Served}
 use Rattle.mg_commands.specs.Name.{written_as, written_name}
 use Rattle.mg_commands.specs.ContextProperties.{is_context_audit, action_fault, triples_of, pair_item, audit_pair, audit_pairs, audit_items, context_outcome}
-use Rattle.mg_commands.specs.Outcome.{CommandOutcome, Trial, check_new_name, number_in, in_same_world, outcome, trial_of, reply_parts, served_at, made_at}
+use Rattle.mg_commands.specs.Outcome.{CommandOutcome, Trial, check_new_name, number_in, outcome, trial_of, reply_parts, served_at, made_at}
+use Rattle.mg_commands.specs.aids.Steps.{in_same_world}
 use Rattle.mg_commands.specs.ReplyDescriptors.{descriptors_after, descriptors_before}
-use Rattle.mg_commands.specs.Transaction.{ActionState, TransactionState, after_outcome, with_name, with_names, with_trial, with_command, unless_optional, continue_with, with_commands, action_start, end_of_action, after_properties, after_commands, refusal, with_action, continue_after_action, with_actions, replied}
+use Rattle.mg_commands.specs.Transaction.{replied}
+use Rattle.mg_commands.specs.aids.ByActions.{ActionState, ActionsState, after_outcome, with_name, with_names, with_trial, with_command, unless_optional, continue_with, with_commands, action_start, end_of_action, after_properties, after_commands, refusal, with_action, continue_after_action, with_actions}
+use Rattle.mg_commands.proofs.FoldLemmas.{same_reply}
 use Rattle.mg_commands.specs.aids.Steps.{action_unless}
 
 -- ## Texts
@@ -317,41 +319,43 @@ after_commands_wide source ps (run, true) h =
     (context_wide source run.made ps run.gateway run.target) h
 after_commands_wide source ps (run, false) h = ended_wide run run.gateway [] h refl
 
-refusal_wide : (a : Action) (s : TransactionState) (e : ErrorNumber) → AreWide s.items → AreWide (refusal a s e).0.items
+refusal_wide : (a : Action) (s : ActionsState) (e : ErrorNumber) → AreWide s.items → AreWide (refusal a s e).0.items
 refusal_wide a s e h = list_all-append is_wide s.items (replies.Fault e ∷ replies.Action a.context ∷ []) ∙
     and_from (list_all is_wide s.items) _ h (and_from (is_wide (replies.Fault e)) _ (fault_wide e)
     (and_from (is_wide (replies.Action a.context)) true (action_wide a.context) refl))
 
-unless_wide : (o : Option ErrorNumber) (source : List ℕ) (a : Action) (s : TransactionState) → AreWide s.items →
+unless_wide : (o : Option ErrorNumber) (source : List ℕ) (a : Action) (s : ActionsState) → AreWide s.items →
     AreWide (action_unless o source a s).0.items
 unless_wide (Some e) source a s wide = refusal_wide a s e wide
 unless_wide None source a s wide = after_commands_wide source a.properties
     (with_commands source a.commands (action_start a s)) (commands_wide source a.commands (action_start a s) wide)
 
-with_action_wide : (source : List ℕ) (a : Action) (s : TransactionState) → AreWide s.items →
+with_action_wide : (source : List ℕ) (a : Action) (s : ActionsState) → AreWide s.items →
     AreWide (with_action source a s).0.items
 unfolding with_action
 with_action_wide source a s wide = unless_wide (action_fault a) source a s wide
 
-rest_of_holds : (P : TransactionState → Type 0) (rest : TransactionState → TransactionState)
-    (x : TransactionState × Bool) → P x.0 → ((s : TransactionState) → P s → P (rest s)) → P (continue_after_action rest x)
+rest_of_holds : (P : ActionsState → Type 0) (rest : ActionsState → ActionsState)
+    (x : ActionsState × Bool) → P x.0 → ((s : ActionsState) → P s → P (rest s)) → P (continue_after_action rest x)
 rest_of_holds P rest (s, true) h k = k s h
 rest_of_holds P rest (s, false) h k = h
 
-actions_wide : (source : List ℕ) (xs : List Action) (s : TransactionState) → AreWide s.items →
+actions_wide : (source : List ℕ) (xs : List Action) (s : ActionsState) → AreWide s.items →
     AreWide (with_actions source xs s).items
 unfolding with_actions
 actions_wide source [] s wide = wide
-actions_wide source (a ∷ xs) s wide = rest_of_holds (λ (s : TransactionState). AreWide s.items)
+actions_wide source (a ∷ xs) s wide = rest_of_holds (λ (s : ActionsState). AreWide s.items)
     (with_actions source xs) (with_action source a s) (with_action_wide source a s wide) (actions_wide source xs)
 
 pub items_are_wide : (source : List ℕ) (request : Request) (w : Gateway) → request_is_proper source request ≡ true →
     list_all is_wide (replied source request w).items ≡ true
-items_are_wide source request w proper = actions_wide source request.actions (record { gateway = w; items = [] }) refl
+items_are_wide source request w proper =
+    subst (λ (s : ActionsState). list_all is_wide s.items ≡ true) (same_reply source request w)
+    (actions_wide source request.actions (record { gateway = w; items = [] }) refl)
 
 -- ## The last item
 
-abbrev HasEnded : TransactionState → Type 0
+abbrev HasEnded : ActionsState → Type 0
 HasEnded s = last_is_action false s.items ≡ true
 
 last_action : (b : Bool) (xs : List Item) (id : ContextId) → last_is_action b (xs ++ replies.Action id ∷ []) ≡ true
@@ -374,24 +378,24 @@ after_commands_last source ps (run, true) =
     after_properties_last run (context_outcome source run.made ps run.gateway run.target)
 after_commands_last source ps (run, false) = last_action false (run.items ++ []) _
 
-unless_last : (o : Option ErrorNumber) (source : List ℕ) (a : Action) (s : TransactionState) →
+unless_last : (o : Option ErrorNumber) (source : List ℕ) (a : Action) (s : ActionsState) →
     HasEnded (action_unless o source a s).0
 unless_last (Some e) source a s = last_refusal false s.items e a.context
 unless_last None source a s = after_commands_last source a.properties
     (with_commands source a.commands (action_start a s))
 
-with_action_last : (source : List ℕ) (a : Action) (s : TransactionState) → HasEnded (with_action source a s).0
+with_action_last : (source : List ℕ) (a : Action) (s : ActionsState) → HasEnded (with_action source a s).0
 unfolding with_action
 with_action_last source a s = unless_last (action_fault a) source a s
 
-actions_last : (source : List ℕ) (xs : List Action) (s : TransactionState) → HasEnded s →
+actions_last : (source : List ℕ) (xs : List Action) (s : ActionsState) → HasEnded s →
     HasEnded (with_actions source xs s)
 unfolding with_actions
 actions_last source [] s h = h
 actions_last source (a ∷ xs) s h = rest_of_holds HasEnded (with_actions source xs) (with_action source a s)
     (with_action_last source a s) (actions_last source xs)
 
-some_actions_last : (source : List ℕ) (xs : List Action) (s : TransactionState) → not (length xs == 0) ≡ true →
+some_actions_last : (source : List ℕ) (xs : List Action) (s : ActionsState) → not (length xs == 0) ≡ true →
     HasEnded (with_actions source xs s)
 unfolding with_actions
 some_actions_last source [] s h = absurd (cc h)
@@ -404,4 +408,5 @@ items_are_whole source request w proper =
     let two = and_parts (not (length request.actions == 0)) (list_all (action_is_proper source) request.actions)
     proper in
     or_right (is_refusal (replied source request w).items) (last_is_action false (replied source request w).items)
-    (some_actions_last source request.actions (record { gateway = w; items = [] }) two.0)
+    (subst HasEnded (same_reply source request w)
+    (some_actions_last source request.actions (record { gateway = w; items = [] }) two.0))

@@ -37,7 +37,7 @@ depth_in source (Control n (controls.Property name value)) =
     if is_jitter source name then option_map frames_for (jitter_of source value) else None
 depth_in source _ = None
 
--- the alternatives of a content, or that it is unreadable
+-- the alternatives in the content of a Local or Remote, unless the content is unreadable
 abbrev pub offer_setting : Result (List (Option Offer)) SdpFault → MediaSetting
 offer_setting (Ok alternatives) = settings.Offer alternatives
 offer_setting (Err fault) = settings.Unreadable

@@ -53,7 +53,7 @@ abbrev pub is_topology_word : ContextWord → Bool
 is_topology_word words.Topology = true
 is_topology_word _ = false
 
--- the error of a property, given the properties before it: it is repeated, or not supported
+-- the error of a property that is repeated or not supported, given the properties before it
 abbrev pub context_property_fault : List ContextProperty → ContextProperty
     → Option ErrorNumber
 context_property_fault before (properties.Topology xs) =
@@ -62,8 +62,7 @@ context_property_fault before (properties.Topology xs) =
 context_property_fault before (properties.ContextAudit ws) =
     if list_any is_context_audit before then Some DescriptorTwice
     else then_some (list_any (λ w. not (is_topology_word w)) ws) DescriptorNotServed
-context_property_fault before (properties.Priority word) = Some DescriptorNotServed
-context_property_fault before (properties.Emergency word) = Some DescriptorNotServed
+context_property_fault before _ = Some DescriptorNotServed
 
 abbrev pub is_all : ContextId → Bool
 is_all contexts.All = true

@@ -10,5 +10,4 @@ pub mod Outcome
 pub mod Transaction
 pub mod Theorems
 pub mod Work
-pub mod Agreement
 pub mod aids

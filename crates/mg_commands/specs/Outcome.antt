@@ -79,7 +79,7 @@ abbrev pub unless_empty : List Name → Result (List Name) ErrorNumber
 unless_empty [] = Err errors.WildcardMatchedNone
 unless_empty (x ∷ xs) = Ok (x ∷ xs)
 
--- The names that a command is tried on, in order: its own or, for *, the names of the current
+-- The names that a command is tried on, in order. They are its own name or, for *, the names of the
 -- members when the command starts (RFC 3525, section 6.2.2).
 abbrev pub names_for : Gateway → Target → CommandWord → Name → Result (List Name) ErrorNumber
 names_for w target word names.All =
@@ -136,38 +136,6 @@ served_at target term parts =
 abbrev pub made_at : Target → ℕ → Parts → Served
 made_at target n parts = record (served_at target (rtp_name n) parts) { made = Some n }
 
-abbrev pub add_outcome : Gateway → Target → Name → CommandParameters → CommandOutcome
-add_outcome w target name parameters = do
-  _ ← check_new_name w name
-  p ← engine.add w target parameters.settings
-  Ok (
-    p.0,
-    made_at (targets.Number p.1.context) p.1.number
-        (reply_parts (descriptors_after parameters) p.0 p.1.number),
-  )
-
-abbrev pub modify_outcome : Gateway → Target → Name → CommandParameters → CommandOutcome
-modify_outcome w target name parameters = do
-  n ← number_in name
-  p ← engine.modify w target n parameters.settings
-  Ok (p.0, served_at target (rtp_name n) (reply_parts (descriptors_after parameters) p.0 n))
-
-abbrev pub move_outcome : Gateway → Target → Name → CommandParameters → CommandOutcome
-move_outcome w target name parameters = do
-  n ← number_in name
-  p ← engine.move_to w target n parameters.settings
-  Ok (
-    p.0,
-    served_at (targets.Number p.1.context) (rtp_name n)
-        (reply_parts (descriptors_after parameters) p.0 n),
-  )
-
-abbrev pub subtract_outcome : Gateway → Target → Name → CommandParameters → CommandOutcome
-subtract_outcome w target name parameters = do
-  n ← number_in name
-  p ← engine.subtract w target n
-  Ok (p.0, served_at target (rtp_name n) (reply_parts (descriptors_before parameters) w n))
-
 -- ROOT can be audited in the null context, and nothing is reported about it
 abbrev pub audit_root : Target → Result Served ErrorNumber
 audit_root targets.Null =
@@ -181,19 +149,35 @@ audit_outcome w target name parameters = do
   _ ← member w.rooms target n
   Ok (served_at target (rtp_name n) (reply_parts (descriptors_by_audit parameters) w n))
 
--- the gateway is unchanged
-abbrev pub in_same_world : Gateway → Result Served ErrorNumber → CommandOutcome
-in_same_world w r = r >>= (λ s. Ok (w, s))
-
 -- the outcome of a command for one name, after its text has been checked
 unfoldable pub outcome : CommandWord → Gateway → Target → Name → CommandParameters
     → CommandOutcome
-outcome words.Add w target name parameters = add_outcome w target name parameters
-outcome words.Modify w target name parameters = modify_outcome w target name parameters
-outcome words.Move w target name parameters = move_outcome w target name parameters
-outcome words.Subtract w target name parameters = subtract_outcome w target name parameters
+outcome words.Add w target name parameters = do
+  _ ← check_new_name w name
+  p ← engine.add w target parameters.settings
+  Ok (
+    p.0,
+    made_at (targets.Number p.1.context) p.1.number
+        (reply_parts (descriptors_after parameters) p.0 p.1.number),
+  )
+outcome words.Modify w target name parameters = do
+  n ← number_in name
+  p ← engine.modify w target n parameters.settings
+  Ok (p.0, served_at target (rtp_name n) (reply_parts (descriptors_after parameters) p.0 n))
+outcome words.Move w target name parameters = do
+  n ← number_in name
+  p ← engine.move_to w target n parameters.settings
+  Ok (
+    p.0,
+    served_at (targets.Number p.1.context) (rtp_name n)
+        (reply_parts (descriptors_after parameters) p.0 n),
+  )
+outcome words.Subtract w target name parameters = do
+  n ← number_in name
+  p ← engine.subtract w target n
+  Ok (p.0, served_at target (rtp_name n) (reply_parts (descriptors_before parameters) w n))
 outcome words.AuditValue w target name parameters =
-    in_same_world w (audit_outcome w target name parameters)
+    audit_outcome w target name parameters >>= (λ s. Ok (w, s))
 outcome _ w target name parameters = Err errors.NotServed
 
 -- what a command asks for, and the names that it is tried on

@@ -24,7 +24,7 @@ abbrev pub descriptors_after : CommandParameters → ReplyDescriptors
 descriptors_after parameters =
     record (descriptors_by_audit parameters) { local = is_offer parameters.settings.local }
 
--- before a Subtract: what is audited or, without an audit, the counters
+-- before a Subtract: what is audited, or the counters if there is no audit
 abbrev pub descriptors_before : CommandParameters → ReplyDescriptors
 descriptors_before parameters =
     record (descriptors_by_audit parameters) {

@@ -1,7 +1,9 @@
--- A transaction: the outcome of a request's commands, action by action (RFC 3525, section 8.2.2).
-use Rattle.std.specs.Prelude.{ℕ, Bool, ◌&&◌, ◌||◌, true, false, List, [], ◌∷◌, ◌++◌, Option}
-use Rattle.std.specs.Prelude.{None, Result, Ok, Err}
-use Rattle.std.specs.Option.{option_map_or}
+-- A transaction: a request's commands and actions in order (RFC 3525, section 8.2.2). After an
+-- error, nothing more is executed. Only the failure of an optional command stops nothing.
+use Rattle.std.specs.Prelude.{ℕ, Bool, ◌&&◌, true, false, not, List, [], ◌∷◌, ◌++◌, Option}
+use Rattle.std.specs.Prelude.{None, Result, Ok, Err, if◌then◌else◌}
+use Rattle.std.specs.List.{fold}
+use Rattle.std.specs.Option.{option_map_or, option_or}
 use Rattle.mg_scan.specs.Span.{text_of}
 use Rattle.mg_words.specs.declared.command_word.CommandWord.{CommandWord}
 use Rattle.mg_words.specs.declared.context_id.ContextId.{ContextId}
@@ -14,85 +16,63 @@ use Rattle.mg_rooms.specs.declared.target.Target.{Target}
 use Rattle.mg_rooms.specs.declared.target.Target.TheVariants as targets
 use Rattle.mg_engine.specs.Gateway.{Gateway}
 use Rattle.mg_text.specs.declared.command.Command.{Command}
-use Rattle.mg_text.specs.declared.context_property.ContextProperty.{ContextProperty}
 use Rattle.mg_text.specs.declared.request.Action.{Action}
 use Rattle.mg_text.specs.declared.request.Request.{Request}
 use Rattle.mg_commands.specs.declared.command_parameters.CommandParameters.{CommandParameters}
 use Rattle.mg_commands.specs.declared.name.Name.{Name}
 use Rattle.mg_commands.specs.Name.{written_as, written_name}
-use Rattle.std.specs.Option.{option_or}
 use Rattle.mg_commands.specs.ContextProperties.{context_outcome, action_fault}
 use Rattle.mg_commands.specs.Outcome.{CommandOutcome, Trial, outcome, trial_of}
 
--- ## Commands
-
--- The state of an action: the gateway, the action's context, the termination that its first Add
--- made, and the items of the reply so far.
-pub record ActionState : Type 0 where
+-- The state of a transaction: the gateway, the action's context, the termination that the action's
+-- first Add made, the items of the reply so far, and whether an error has stopped the transaction.
+pub record TransactionState : Type 0 where
   pub gateway : Gateway
   pub target : Target
   pub made : Option ℕ
   pub items : List Item
+  pub has_stopped : Bool
 
--- the action after a command for one name, with that name's spelling in the reply, and whether the
--- command succeeded
-abbrev pub after_outcome : CommandWord → List ℕ → ActionState → CommandOutcome → ActionState × Bool
-after_outcome word name run (Ok p) = (
-  record {
-    gateway = p.0;
-    target = p.1.target;
-    made = option_or run.made p.1.made;
-    items = run.items ++ replies.Command word p.1.term (Done p.1.parts) ∷ [];
-  },
-  true,
-)
-after_outcome word name run (Err e) =
-    (record run { items = run.items ++ replies.Command word name (Failed e) ∷ [] }, false)
+abbrev pub with_item : TransactionState → Item → TransactionState
+with_item s item = record s { items = s.items ++ item ∷ [] }
 
-abbrev pub with_name : List ℕ → Command → CommandParameters → Name → ActionState
-    → ActionState × Bool
-with_name source c parameters name run =
-    after_outcome c.word (written_as (text_of source c.term) name) run
-    (outcome c.word run.gateway run.target name parameters)
+abbrev pub with_error : TransactionState → Item → TransactionState
+with_error s item = record (with_item s item) { has_stopped = true }
 
--- the rest is tried whether or not the first succeeded; all succeeded if both did
-abbrev pub and_then : (ActionState → ActionState × Bool) → ActionState × Bool → ActionState × Bool
-and_then rest (run, is_done) = ((rest run).0, is_done && (rest run).1)
+-- ## Commands
 
--- The action after a command for each name, and whether all succeeded. A failure for one name does
--- not stop the others.
-unfoldable pub with_names : List ℕ → Command → CommandParameters → List Name → ActionState
-    → ActionState × Bool
-with_names source c parameters [] run = (run, true)
-with_names source c parameters (x ∷ xs) run =
-    and_then (with_names source c parameters xs) (with_name source c parameters x run)
+-- the state after a command for one name, with that name's spelling in the reply
+abbrev pub after_outcome : CommandWord → List ℕ → TransactionState → CommandOutcome
+    → TransactionState
+after_outcome word name s (Ok p) = record s {
+  gateway = p.0;
+  target = p.1.target;
+  made = option_or s.made p.1.made;
+  items = s.items ++ replies.Command word p.1.term (Done p.1.parts) ∷ [];
+}
+after_outcome word name s (Err e) = with_error s (replies.Command word name (Failed e))
 
--- the action after a command, if it may be tried at all
-abbrev pub with_trial : List ℕ → Command → ActionState → Result Trial ErrorNumber
-    → ActionState × Bool
-with_trial source c run (Ok trial) = with_names source c trial.parameters trial.names run
-with_trial source c run (Err e) =
-    after_outcome c.word (written_name (text_of source c.term)) run (Err e)
+abbrev pub with_name : List ℕ → Command → CommandParameters → TransactionState → Name
+    → TransactionState
+with_name source c parameters s name =
+    after_outcome c.word (written_as (text_of source c.term) name) s
+    (outcome c.word s.gateway s.target name parameters)
 
-abbrev pub with_command : List ℕ → Command → ActionState → ActionState × Bool
-with_command source c run = with_trial source c run (trial_of source run.gateway run.target c)
+-- a command that may be tried is tried for each name: a failure for one does not stop the others
+abbrev pub with_trial : List ℕ → Command → TransactionState → Result Trial ErrorNumber
+    → TransactionState
+with_trial source c s (Ok trial) = fold (with_name source c trial.parameters) s trial.names
+with_trial source c s (Err e) =
+    after_outcome c.word (written_name (text_of source c.term)) s (Err e)
 
--- the failure of an optional command (O-) ends nothing
-abbrev pub unless_optional : Command → ActionState × Bool → ActionState × Bool
-unless_optional c (run, is_done) = (run, c.is_optional || is_done)
+-- the failure of an optional command (O-) stops nothing
+abbrev pub unless_optional : Command → TransactionState → TransactionState
+unless_optional c s = record s { has_stopped = s.has_stopped && not c.is_optional }
 
--- the rest, unless a command failed
-abbrev pub continue_with : (ActionState → ActionState × Bool) → ActionState × Bool
-    → ActionState × Bool
-continue_with rest (run, true) = rest run
-continue_with rest (run, false) = (run, false)
-
--- the action after commands, up to the first failure of one that is not optional, and whether
--- there was none
-unfoldable pub with_commands : List ℕ → List Command → ActionState → ActionState × Bool
-with_commands source [] run = (run, true)
-with_commands source (c ∷ cs) run =
-    continue_with (with_commands source cs) (unless_optional c (with_command source c run))
+abbrev pub with_command : List ℕ → TransactionState → Command → TransactionState
+with_command source s c =
+    if s.has_stopped then s
+    else unless_optional c (with_trial source c s (trial_of source s.gateway s.target c))
 
 -- ## Actions
 
@@ -109,56 +89,35 @@ id_of targets.Null = contexts.Null
 id_of targets.New = contexts.Choose
 id_of (targets.Number n) = contexts.Number n
 
--- the state of a transaction: the gateway, and the items of the reply so far
-pub record TransactionState : Type 0 where
-  pub gateway : Gateway
-  pub items : List Item
-
-abbrev pub action_start : Action → TransactionState → ActionState
-action_start a s =
-    record { gateway = s.gateway; target = target_of a.context; made = None; items = s.items }
-
--- the end of an action: what is reported about its context, and the context's number
-abbrev pub end_of_action : ActionState → Gateway → List Item → TransactionState
-end_of_action run w items =
-    record { gateway = w; items = run.items ++ items ++ replies.Action (id_of run.target) ∷ [] }
-
--- the action after its properties, and whether they were applied
-abbrev pub after_properties : ActionState → Result (Gateway × List Item) ErrorNumber
-    → TransactionState × Bool
-after_properties run (Ok p) = (end_of_action run p.0 p.1, true)
-after_properties run (Err e) = (end_of_action run run.gateway (replies.Fault e ∷ []), false)
-
--- The action after its commands, and whether it was completed. Properties follow the commands,
--- unless one failed.
-abbrev pub after_commands : List ℕ → List ContextProperty → ActionState × Bool
-    → TransactionState × Bool
-after_commands source ps (run, false) = (end_of_action run run.gateway [], false)
-after_commands source ps (run, true) =
-    after_properties run (context_outcome source run.made ps run.gateway run.target)
-
-abbrev pub refusal : Action → TransactionState → ErrorNumber → TransactionState × Bool
-refusal a s e =
-    (record s { items = s.items ++ replies.Fault e ∷ replies.Action a.context ∷ [] }, false)
-
--- an action, unless it is rejected as a whole
-unfoldable pub with_action : List ℕ → Action → TransactionState → TransactionState × Bool
-with_action source a s =
-    option_map_or (refusal a s) (action_fault a)
-    (after_commands source a.properties (with_commands source a.commands (action_start a s)))
-
--- the rest, unless an action was not completed
-abbrev pub continue_after_action : (TransactionState → TransactionState) → TransactionState × Bool
+-- the properties of an action are applied and answered
+abbrev pub after_properties : TransactionState → Result (Gateway × List Item) ErrorNumber
     → TransactionState
-continue_after_action rest (s, true) = rest s
-continue_after_action rest (s, false) = s
+after_properties s (Ok p) = record s { gateway = p.0; items = s.items ++ p.1 }
+after_properties s (Err e) = with_error s (replies.Fault e)
 
-unfoldable pub with_actions : List ℕ → List Action → TransactionState → TransactionState
-with_actions source [] s = s
-with_actions source (a ∷ actions) s =
-    continue_after_action (with_actions source actions) (with_action source a s)
+abbrev pub with_commands : List ℕ → Action → TransactionState → TransactionState
+with_commands source a s =
+    fold (with_command source) (record s { target = target_of a.context; made = None }) a.commands
+
+abbrev pub with_properties : List ℕ → Action → TransactionState → TransactionState
+with_properties source a s =
+    if s.has_stopped then s
+    else after_properties s (context_outcome source s.made a.properties s.gateway s.target)
+
+-- the context's number is the action's last item
+abbrev pub closed : TransactionState → TransactionState
+closed s = with_item s (replies.Action (id_of s.target))
+
+-- an action: its commands, then its properties, unless it is rejected as a whole
+unfoldable pub with_action : List ℕ → TransactionState → Action → TransactionState
+with_action source s a =
+    if s.has_stopped then s
+    else option_map_or (λ e. with_item (with_error s (replies.Fault e)) (replies.Action a.context))
+    (action_fault a) (closed (with_properties source a (with_commands source a s)))
 
 -- the gateway after a request, and the items of its reply
 abbrev pub replied : List ℕ → Request → Gateway → TransactionState
 replied source request w =
-    with_actions source request.actions (record { gateway = w; items = [] })
+    fold (with_action source)
+    (record { gateway = w; target = targets.Null; made = None; items = []; has_stopped = false })
+    request.actions

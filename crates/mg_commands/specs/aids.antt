@@ -1,6 +1,8 @@
 pub mod Words
+pub mod ByActions
 pub mod Levels
 pub mod Parameters
 pub mod Properties
 pub mod Runs
 pub mod Steps
+pub mod Agreement

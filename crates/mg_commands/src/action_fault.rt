@@ -53,7 +53,7 @@ fn audit_fault(before: &[ContextProperty], words: &[ContextWord]) -> Option<Erro
     audits_more(words).then_some(ErrorNumber::DescriptorNotServed)
 }
 
-/// Returns the error of a property, given the properties before it: it is repeated, or not supported.
+/// Returns the error of a property that is repeated or not supported, given the properties before it.
 fn context_property_fault(
     before: &[ContextProperty],
     property: &ContextProperty,
@@ -85,7 +85,7 @@ fn context_properties_fault(properties: &[ContextProperty]) -> Option<ErrorNumbe
 
 /// Returns why an action is rejected as a whole, or `None` if it isn't.
 ///
-/// If it isn't rejected, its topology has no more triples than the engine accepts.
+/// In that case, its topology has no more triples than the engine accepts.
 #[tactic(auto, using(crate::proofs::PropertySteps::few_triples))]
 pub fn action_fault(action: &Action) -> Option<ErrorNumber>
     ensures value { result ≡ action_fault action.now }

@@ -28,7 +28,8 @@ fn is_served_word(word: CommandWord) -> bool
     }
 }
 
-/// Returns whether a command is supported. One reply for all matching terminations (`W-`) is not supported.
+/// Returns whether a command is supported. The prefix `W-`, which requests one reply for all matching terminations, is
+/// not supported.
 fn is_served(command: &Command) -> bool
     ensures value { result ≡ is_served command.now }
 {

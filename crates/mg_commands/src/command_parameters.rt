@@ -11,6 +11,7 @@ use mg_engine::{MediaSetting, Mode, Settings};
 use mg_scan::Span;
 use mg_sdp::read_sessions;
 use mg_text::{AuditWord, ControlPart, Descriptor};
+use mg_words::FRAME_MS;
 
 /// What a command's descriptors ask for.
 #[derive(Debug, Drop)]
@@ -29,8 +30,7 @@ pub struct CommandParameters {
 fn frames_for(jitter: u16) -> u16
     ensures value { result ≡ frames_for jitter }
 {
-    let frames = (u32::from(jitter) + 19) / 20;
-    frames as u16
+    jitter.div_ceil(FRAME_MS)
 }
 
 /// Returns the setting that the content of a Local or Remote denotes.

@@ -60,7 +60,7 @@ fn is_same_part(source: &[u8], a: Part, b: Part) -> bool
     }
 }
 
-/// Returns the fault of a part: its word is repeated, or it has content and is not supported.
+/// Returns the fault of a part whose word is repeated, or which has content but is not supported.
 fn fault_of(appeared: bool, part: Part) -> Option<ErrorNumber>
     ensures value { result ≡ fault_of appeared part }
 {
@@ -218,7 +218,7 @@ fn stream_of(part: &MediaPart) -> u32
     }
 }
 
-/// Returns the earlier parts of a Media descriptor that a part may repeat.
+/// Returns the earlier parts of a Media descriptor that a part has to be compared with.
 ///
 /// There are none if its stream's number exceeds all earlier ones, so streams in ascending order are not compared.
 fn lookback<'a>(greatest: u32, before: &'a [MediaPart], part: &MediaPart) -> &'a [MediaPart]

@@ -7,7 +7,8 @@ use mg_text::RtpName;
 use mg_words::MEMBERS;
 use std::marker::Model;
 
-/// A member of a context with the name of its termination. The name is made only once. Contracts see the member.
+/// A member of a context with the name of its termination, so that the name is built only once. Contracts see the
+/// member.
 #[derive(Drop)]
 pub struct NamedMember {
     seated: SeatedMember,

@@ -5,8 +5,8 @@ ghost use Rattle.mg_words.specs.Term.{rtp_name};
 ghost use Rattle.mg_engine.specs.Gateway.{Gateway};
 ghost use Rattle.mg_engine.specs.Stands.{StandsFor, IsOutcome};
 ghost use Rattle.mg_engine.specs.Work.{RisesAtMost};
-ghost use Rattle.mg_commands.specs.Outcome.{served_at, made_at, add_outcome, modify_outcome, move_outcome, subtract_outcome, audit_root, audit_outcome, outcome};
-ghost use Rattle.mg_commands.specs.aids.Steps.{audit_termination};
+ghost use Rattle.mg_commands.specs.Outcome.{served_at, made_at, audit_root, audit_outcome, outcome};
+ghost use Rattle.mg_commands.specs.aids.Steps.{add_outcome, modify_outcome, move_outcome, subtract_outcome, audit_termination};
 ghost use Rattle.mg_commands.specs.Work.{is_edit};
 
 use crate::checks::{check_new_name, number_in};

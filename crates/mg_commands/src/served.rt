@@ -8,7 +8,7 @@ pub struct Served {
     pub target: Target,
     /// The termination that the command made, if any.
     pub made: Option<u32>,
-    /// The termination's name, as spelled in the reply.
+    /// The termination's name, as the reply spells it.
     pub term: Term,
     /// What the reply reports about the termination.
     pub parts: Parts,

@@ -2,7 +2,7 @@
 //!
 //! The functions have no effect: their contracts are the theorems.
 
-ghost use Rattle.mg_commands.specs.Agreement.{RequestsKeepAgreement};
+ghost use Rattle.mg_commands.specs.aids.Agreement.{RequestsKeepAgreement};
 ghost use Rattle.mg_commands.specs.Theorems.{RefusedNamesChangeNothing, RefusedCommandsChangeNothing, RefusedActionsChangeNothing, RefusedTopologiesChangeNothing, OthersAreTried, RefusedRequestsChangeNothing, RequestsAreConsistent};
 
 /// Whatever is rejected changes only the reply, which reports the error.
@@ -23,7 +23,7 @@ pub fn refused_commands_change_nothing()
 
 /// Every request preserves the consistency of terminations and contexts.
 ///
-/// So it holds after any requests, and a proof needs no engine.
+/// So it holds after any requests, and a proof can use it without an engine.
 pub fn requests_are_consistent()
     ensures theorem { RequestsAreConsistent }
 {

@@ -2,15 +2,16 @@ ghost use Rattle.std.specs.Prelude.{◌≡◌, ◌⊎◌, ◌||◌, ◌<◌, ◌
 ghost use Rattle.std.specs.List.{list_all};
 ghost use Rattle.mg_words.specs.Leads.{Leads};
 ghost use Rattle.mg_reply.specs.Reply.{IsWhole, new_reply, after_put, after_all, is_refusal, last_is_action};
-ghost use Rattle.mg_reply.specs.Theorems.{is_wide};
+ghost use Rattle.mg_reply.specs.aids.Width.{is_wide};
 ghost use Rattle.mg_engine.specs.Gateway.{Gateway};
 ghost use Rattle.mg_engine.specs.Stands.{StandsFor};
 ghost use Rattle.mg_engine.specs.Work.{RisesAtMost};
 ghost use Rattle.mg_scan.specs.Span.{text_of};
 ghost use Rattle.mg_text.specs.Proper.{command_is_proper, action_is_proper, request_is_proper};
 ghost use Rattle.mg_commands.specs.Name.{written_name};
-ghost use Rattle.mg_commands.specs.Transaction.{target_of, id_of, with_name, with_names, with_command, with_commands, with_action, with_actions, replied};
+ghost use Rattle.mg_commands.specs.Transaction.{target_of, id_of, replied};
 ghost use Rattle.mg_commands.specs.Work.{edits_reported};
+ghost use Rattle.mg_commands.specs.aids.ByActions.{with_name, with_names, with_command, with_commands, with_action, with_actions};
 ghost use Rattle.mg_commands.specs.aids.Runs.{Base, IsActionRun, action_kept, with_all, IsTransaction, transaction_kept};
 
 use crate::action_fault::action_fault;
@@ -205,7 +206,7 @@ fn id_of(target: Target) -> ContextId
 /// Tries an action: its commands, and then its properties, unless a command failed.
 ///
 /// Returns whether it was completed.
-#[tactic(auto, unfolding(crate::specs::Transaction::with_action))]
+#[tactic(auto, unfolding(crate::specs::aids::ByActions::with_action))]
 fn try_action(engine: &mut Engine, source: &[u8], action: &Action, reply: &mut Reply) -> bool
     requires proper { action_is_proper source.now action.now ≡ true }
     ensures ran { (base : Base) → Leads (IsTransaction base) (transaction_kept engine.old reply.old)

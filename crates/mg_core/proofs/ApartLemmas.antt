@@ -6,7 +6,7 @@ use Rattle.std.specs.Str.{str_eq_ignore_ascii_case}
 use Rattle.std.proofs.lemmas.Bool.{eqb-true}
 use Rattle.std.proofs.lemmas.List.{drop-map, map-append, length-map}
 use Rattle.mg_kept.specs.KeptReplies.{KeptReply, kept_text, newest, with_reply, without_range}
-use Rattle.mg_commands.specs.Agreement.{RequestsKeepAgreement}
+use Rattle.mg_commands.specs.aids.Agreement.{RequestsKeepAgreement}
 use Rattle.mg_commands.specs.Transaction.{replied}
 use Rattle.mg_rooms.specs.declared.record.Record.{Record}
 use Rattle.mg_rooms.specs.Limits.{slot_port}
@@ -15,6 +15,7 @@ use Rattle.mg_sdp.specs.declared.chosen.Chosen.{Chosen}
 use Rattle.mg_engine.specs.declared.datagram.Datagram.{Datagram}
 use Rattle.mg_words.specs.declared.peer.Peer.{Peer}
 use Rattle.mg_engine.specs.Apart as engine
+use Rattle.mg_engine.specs.aids.Agreement as agreement
 use Rattle.mg_engine.specs.Apart.{HearsNone, IsPortAmong}
 use Rattle.mg_engine.specs.Gateway.{Gateway, TerminationMedia, media_of}
 use Rattle.mg_engine.specs.Arrival.{at_port}
@@ -201,9 +202,9 @@ OneArrivalKeepsAgreement = (some : List ℕ) (a b x : World) (port : ℕ) (sourc
     AgreeOutside some a b → IsPortAmong some a.gateway port → Step a (Media port source bytes) s x →
     AgreeOutside some x b
 
-module _ (requests : RequestsKeepAgreement) (reads : OneReading) (media : engine.SameArrivalKeepsAgreement)
-    (one_arrival : engine.OneArrivalKeepsAgreement) (turned : engine.AgreementIsMutual)
-    (ticks : engine.SameTickKeepsAgreement) where
+module _ (requests : RequestsKeepAgreement) (reads : OneReading) (media : agreement.SameArrivalKeepsAgreement)
+    (one_arrival : agreement.OneArrivalKeepsAgreement) (turned : agreement.AgreementIsMutual)
+    (ticks : agreement.SameTickKeepsAgreement) where
   pub same_event : SameEventKeepsAgreement
   same_event some a b x y (Control source bytes) s t h (answer, (r, is, represents), sent) (other, (q, too, comes), also) =
       let both = answer_agrees requests some bytes r (with_control a) (with_control b)

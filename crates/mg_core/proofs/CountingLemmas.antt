@@ -1,7 +1,8 @@
 -- The tally after events.
-use Rattle.std.proofs.Common.{◌≡◌, ℕ, ◌+◌, Bool, true, false, cond, List, [], ◌∷◌, Option, Some, None, refl, sym, ap, ◌∙◌, arith}
-use Rattle.std.specs.Prelude.{count_by}
-use Rattle.std.proofs.lemmas.List.Sums.{sum_by-cons}
+use Rattle.std.proofs.Common.{◌≡◌, ℕ, ◌+◌, ◌<◌, Bool, true, false, cond, List, [], ◌∷◌, length, length-set, Option, Some, None, refl, sym, ap, subst, ◌∙◌, arith}
+use Rattle.std.specs.Prelude.{count_by, slice_index, sum}
+use Rattle.std.proofs.lemmas.List.Sums.{sum_by-cons, sum_by-set}
+use Rattle.mg_words.specs.declared.peer.Peer.{Peer}
 use Rattle.mg_kept.specs.KeptReplies.{kept_text}
 use Rattle.mg_playout.specs.declared.placed.Placed.TheVariants as answers
 use Rattle.mg_scan.specs.Span.{text_of}
@@ -18,8 +19,9 @@ use Rattle.mg_core.specs.declared.event.Event.{Event}
 use Rattle.mg_core.specs.declared.event.Event.TheVariants.{Control, Media, Tick}
 use Rattle.mg_core.specs.Answer.{answer_head, answered, has_requests, if_asked, item_replied, mark_after, replied_to}
 use Rattle.mg_core.specs.aids.Answers.{unless_kept}
-use Rattle.mg_core.specs.Counting.{EventsAreCounted, RunTaking, RunsTake, is_control, is_media, is_tick, is_placed_as as way, is_dropped_for as why}
-use Rattle.mg_core.specs.World.{World, Tally, cause_of, one_more_at, placed_counter, start_of, with_control, with_taken}
+use Rattle.mg_core.specs.Counting.{EventsAreCounted, is_control, is_media, is_tick}
+use Rattle.mg_core.specs.Step.{Sent, Run}
+use Rattle.mg_core.specs.World.{World, Tally, one_more_at, result_place, start_of, with_control, with_taken, with_tick}
 
 -- ## A control datagram changes no other count
 
@@ -70,200 +72,111 @@ module _ {A : Type 0} (p : A → Bool) where
 zero_more : (n : ℕ) → n ≡ n + 0
 zero_more n = omega arith
 
--- the counters of what was placed, and of what was dropped, after these
-placed_after : List ℕ → List Taken → List ℕ
-placed_after ns [] = ns
-placed_after ns (Placed p ∷ ts) = placed_after (one_more_at (placed_counter p) ns) ts
-placed_after ns (Dropped cause ∷ ts) = placed_after ns ts
+one_counter_more : (xs : List ℕ) (k : ℕ) → k < length xs → sum (one_more_at k xs) ≡ sum xs + 1
+one_counter_more xs k few =
+    let h = sum_by-set (λ (n : ℕ). n) xs k (slice_index xs k + 1) 0 few in omega (arith, h)
 
-dropped_after : List ℕ → List Taken → List ℕ
-dropped_after ns [] = ns
-dropped_after ns (Placed p ∷ ts) = dropped_after ns ts
-dropped_after ns (Dropped cause ∷ ts) = dropped_after (one_more_at (cause_of cause) ns) ts
+-- ## Results
 
-abbrev five : ℕ → ℕ → ℕ → ℕ → ℕ → List ℕ
-five a b c d e = a ∷ b ∷ c ∷ d ∷ e ∷ []
+result_below : (result : Taken) → result_place result < 11
+result_below (Placed answers.Started) = omega arith
+result_below (Placed answers.Placed) = omega arith
+result_below (Placed answers.Pushed) = omega arith
+result_below (Placed answers.Again) = omega arith
+result_below (Placed answers.Late) = omega arith
+result_below (Dropped causes.NoTermination) = omega arith
+result_below (Dropped causes.Stray) = omega arith
+result_below (Dropped causes.NoLocal) = omega arith
+result_below (Dropped (causes.Rtp fault)) = omega arith
+result_below (Dropped causes.PayloadType) = omega arith
+result_below (Dropped causes.Length) = omega arith
 
-placed_numbers : (ts : List Taken) (a b c d e : ℕ) →
-    placed_after (five a b c d e) ts ≡ five (a + count_by (way 0) ts) (b + count_by (way 1) ts)
-    (c + count_by (way 2) ts) (d + count_by (way 3) ts) (e + count_by (way 4) ts)
-unfolding placed_after
-placed_numbers [] a b c d e = λ i. five (zero_more a i) (zero_more b i) (zero_more c i) (zero_more d i) (zero_more e i)
-placed_numbers (Dropped cause ∷ ts) a b c d e = placed_numbers ts a b c d e ∙
-    (λ i. five (miss (way 0) (Dropped cause) ts a refl i) (miss (way 1) (Dropped cause) ts b refl i)
-    (miss (way 2) (Dropped cause) ts c refl i) (miss (way 3) (Dropped cause) ts d refl i)
-    (miss (way 4) (Dropped cause) ts e refl i))
-placed_numbers (Placed answers.Started ∷ ts) a b c d e = let t : Taken = Placed answers.Started in
-    placed_numbers ts (a + 1) b c d e ∙ (λ i. five (hit (way 0) t ts a refl i) (miss (way 1) t ts b refl i)
-    (miss (way 2) t ts c refl i) (miss (way 3) t ts d refl i) (miss (way 4) t ts e refl i))
-placed_numbers (Placed answers.Placed ∷ ts) a b c d e = let t : Taken = Placed answers.Placed in
-    placed_numbers ts a (b + 1) c d e ∙ (λ i. five (miss (way 0) t ts a refl i) (hit (way 1) t ts b refl i)
-    (miss (way 2) t ts c refl i) (miss (way 3) t ts d refl i) (miss (way 4) t ts e refl i))
-placed_numbers (Placed answers.Pushed ∷ ts) a b c d e = let t : Taken = Placed answers.Pushed in
-    placed_numbers ts a b (c + 1) d e ∙ (λ i. five (miss (way 0) t ts a refl i) (miss (way 1) t ts b refl i)
-    (hit (way 2) t ts c refl i) (miss (way 3) t ts d refl i) (miss (way 4) t ts e refl i))
-placed_numbers (Placed answers.Again ∷ ts) a b c d e = let t : Taken = Placed answers.Again in
-    placed_numbers ts a b c (d + 1) e ∙ (λ i. five (miss (way 0) t ts a refl i) (miss (way 1) t ts b refl i)
-    (miss (way 2) t ts c refl i) (hit (way 3) t ts d refl i) (miss (way 4) t ts e refl i))
-placed_numbers (Placed answers.Late ∷ ts) a b c d e = let t : Taken = Placed answers.Late in
-    placed_numbers ts a b c d (e + 1) ∙ (λ i. five (miss (way 0) t ts a refl i) (miss (way 1) t ts b refl i)
-    (miss (way 2) t ts c refl i) (miss (way 3) t ts d refl i) (hit (way 4) t ts e refl i))
+HasCounters : Tally → Type 0
+HasCounters t = length t.results ≡ 11
 
-abbrev six : ℕ → ℕ → ℕ → ℕ → ℕ → ℕ → List ℕ
-six a b c d e f = a ∷ b ∷ c ∷ d ∷ e ∷ f ∷ []
-
-dropped_numbers : (ts : List Taken) (a b c d e f : ℕ) →
-    dropped_after (six a b c d e f) ts ≡ six (a + count_by (why 0) ts) (b + count_by (why 1) ts)
-    (c + count_by (why 2) ts) (d + count_by (why 3) ts) (e + count_by (why 4) ts)
-    (f + count_by (why 5) ts)
-unfolding dropped_after
-dropped_numbers [] a b c d e f = λ i. six (zero_more a i) (zero_more b i) (zero_more c i) (zero_more d i)
-    (zero_more e i) (zero_more f i)
-dropped_numbers (Placed p ∷ ts) a b c d e f = let t : Taken = Placed p in dropped_numbers ts a b c d e f ∙
-    (λ i. six (miss (why 0) t ts a refl i) (miss (why 1) t ts b refl i) (miss (why 2) t ts c refl i)
-    (miss (why 3) t ts d refl i) (miss (why 4) t ts e refl i) (miss (why 5) t ts f refl i))
-dropped_numbers (Dropped causes.NoTermination ∷ ts) a b c d e f = let t : Taken = Dropped causes.NoTermination in
-    dropped_numbers ts (a + 1) b c d e f ∙ (λ i. six (hit (why 0) t ts a refl i) (miss (why 1) t ts b refl i)
-    (miss (why 2) t ts c refl i) (miss (why 3) t ts d refl i) (miss (why 4) t ts e refl i)
-    (miss (why 5) t ts f refl i))
-dropped_numbers (Dropped causes.Stray ∷ ts) a b c d e f = let t : Taken = Dropped causes.Stray in
-    dropped_numbers ts a (b + 1) c d e f ∙ (λ i. six (miss (why 0) t ts a refl i) (hit (why 1) t ts b refl i)
-    (miss (why 2) t ts c refl i) (miss (why 3) t ts d refl i) (miss (why 4) t ts e refl i)
-    (miss (why 5) t ts f refl i))
-dropped_numbers (Dropped causes.NoLocal ∷ ts) a b c d e f = let t : Taken = Dropped causes.NoLocal in
-    dropped_numbers ts a b (c + 1) d e f ∙ (λ i. six (miss (why 0) t ts a refl i) (miss (why 1) t ts b refl i)
-    (hit (why 2) t ts c refl i) (miss (why 3) t ts d refl i) (miss (why 4) t ts e refl i)
-    (miss (why 5) t ts f refl i))
-dropped_numbers (Dropped (causes.Rtp fault) ∷ ts) a b c d e f = let t : Taken = Dropped (causes.Rtp fault) in
-    dropped_numbers ts a b c (d + 1) e f ∙ (λ i. six (miss (why 0) t ts a refl i) (miss (why 1) t ts b refl i)
-    (miss (why 2) t ts c refl i) (hit (why 3) t ts d refl i) (miss (why 4) t ts e refl i)
-    (miss (why 5) t ts f refl i))
-dropped_numbers (Dropped causes.PayloadType ∷ ts) a b c d e f = let t : Taken = Dropped causes.PayloadType in
-    dropped_numbers ts a b c d (e + 1) f ∙ (λ i. six (miss (why 0) t ts a refl i) (miss (why 1) t ts b refl i)
-    (miss (why 2) t ts c refl i) (miss (why 3) t ts d refl i) (hit (why 4) t ts e refl i)
-    (miss (why 5) t ts f refl i))
-dropped_numbers (Dropped causes.Length ∷ ts) a b c d e f = let t : Taken = Dropped causes.Length in
-    dropped_numbers ts a b c d e (f + 1) ∙ (λ i. six (miss (why 0) t ts a refl i) (miss (why 1) t ts b refl i)
-    (miss (why 2) t ts c refl i) (miss (why 3) t ts d refl i) (miss (why 4) t ts e refl i)
-    (hit (why 5) t ts f refl i))
+taken_keeps : (taken : Taken) (t : Tally) → HasCounters t → HasCounters (with_taken taken t)
+unfolding HasCounters
+taken_keeps taken t h =
+    length-set t.results (result_place taken) (slice_index t.results (result_place taken) + 1) ∙ h
 
 -- ## Events
 
--- a tally after events of which this became, with so many frames concealed
-tally_after : Tally → List Event → List Taken → ℕ → Tally
-tally_after t events taken concealed = record {
-  control = t.control + count_by is_control events;
-  media = t.media + count_by is_media events;
-  ticks = t.ticks + count_by is_tick events;
-  placed = placed_after t.placed taken;
-  dropped = dropped_after t.dropped taken;
-  concealed = t.concealed + concealed;
-}
+-- a tally after events
+record Grows (t : Tally) (events : List Event) (after : Tally) : Type 0 where
+  control : after.control ≡ t.control + count_by is_control events
+  media : after.media ≡ t.media + count_by is_media events
+  ticks : after.ticks ≡ t.ticks + count_by is_tick events
+  results : sum after.results ≡ sum t.results + count_by is_media events
 
-one_taken : (first : Taken) (others : List Taken) (concealed : ℕ) (t : Tally) (port : ℕ) (e : Event)
-    (events : List Event) → is_control e ≡ false → is_media e ≡ true → is_tick e ≡ false →
-    tally_after (with_taken first t) events others concealed ≡ tally_after t (e ∷ events) (first ∷ others) concealed
-unfolding tally_after placed_after dropped_after
-one_taken (Placed p) others concealed t port e events c m k = λ i. record {
-  control = miss is_control e events t.control c i;
-  media = hit is_media e events t.media m i;
-  ticks = miss is_tick e events t.ticks k i;
-  placed = placed_after (one_more_at (placed_counter p) t.placed) others;
-  dropped = dropped_after t.dropped others;
-  concealed = t.concealed + concealed;
-}
-one_taken (Dropped cause) others concealed t port e events c m k = λ i. record {
-  control = miss is_control e events t.control c i;
-  media = hit is_media e events t.media m i;
-  ticks = miss is_tick e events t.ticks k i;
-  placed = placed_after t.placed others;
-  dropped = dropped_after (one_more_at (cause_of cause) t.dropped) others;
-  concealed = t.concealed + concealed;
-}
-
-counted : (w last : World) (events : List Event) (taken : List Taken) (concealed : ℕ) →
-    RunTaking w events taken concealed last → last.tally ≡ tally_after w.tally events taken concealed
-unfolding tally_after placed_after dropped_after
-counted w last [] taken concealed (none, clear, is) =
-    ap (λ (v : World). v.tally) is ∙ (λ i. let ts : List Taken = sym none i in
-    record {
-      control = zero_more w.tally.control i;
-      media = zero_more w.tally.media i;
-      ticks = zero_more w.tally.ticks i;
-      placed = placed_after w.tally.placed ts;
-      dropped = dropped_after w.tally.dropped ts;
-      concealed = no_more i;
-    })
-  where
-    no_more : w.tally.concealed ≡ w.tally.concealed + concealed
-    no_more = omega (arith, clear)
-counted w last (Control source bytes ∷ events) taken concealed
-    (sent, next, (answer, (reading, read, represents), reported), run) =
+control_grows : (source : Peer) (bytes : List ℕ) (events : List Event) (t after : Tally) →
+    Grows (record t { control = t.control + 1 }) events after → Grows t (Control source bytes ∷ events) after
+control_grows source bytes events t after h =
     let e : Event = Control source bytes in
+    record {
+      control = h.control ∙ hit is_control e events t.control refl;
+      media = h.media ∙ miss is_media e events t.media refl;
+      ticks = h.ticks ∙ miss is_tick e events t.ticks refl;
+      results = h.results ∙ miss is_media e events (sum t.results) refl;
+    }
+
+media_grows : (taken : Taken) (port : ℕ) (source : Peer) (bytes : List ℕ) (events : List Event) (t after : Tally) →
+    HasCounters t → Grows (with_taken taken t) events after → Grows t (Media port source bytes ∷ events) after
+unfolding HasCounters
+media_grows taken port source bytes events t after few h =
+    let e : Event = Media port source bytes in
+    let more = one_counter_more t.results (result_place taken) (omega (arith, few, result_below taken)) in
+    record {
+      control = h.control ∙ miss is_control e events t.control refl;
+      media = h.media ∙ hit is_media e events t.media refl;
+      ticks = h.ticks ∙ miss is_tick e events t.ticks refl;
+      results = omega (arith, h.results, more, hit is_media e events (sum t.results) refl);
+    }
+
+tick_grows : (events : List Event) (concealed : ℕ) (t after : Tally) →
+    Grows (with_tick concealed t) events after → Grows t (Tick ∷ events) after
+tick_grows events concealed t after h = record {
+  control = h.control ∙ miss is_control Tick events t.control refl;
+  media = h.media ∙ miss is_media Tick events t.media refl;
+  ticks = h.ticks ∙ hit is_tick Tick events t.ticks refl;
+  results = h.results ∙ miss is_media Tick events (sum t.results) refl;
+}
+
+counted : (w last : World) (events : List Event) (sent : List Sent) → HasCounters w.tally → Run w events sent last →
+    Grows w.tally events last.tally
+unfolding HasCounters
+counted w last [] sent few (none, is) = record {
+  control = ap (λ (v : World). v.tally.control) is ∙ zero_more w.tally.control;
+  media = ap (λ (v : World). v.tally.media) is ∙ zero_more w.tally.media;
+  ticks = ap (λ (v : World). v.tally.ticks) is ∙ zero_more w.tally.ticks;
+  results = ap (λ (v : World). sum v.tally.results) is ∙ zero_more (sum w.tally.results);
+}
+counted w last (Control source bytes ∷ events) sent few
+    (first, others, next, (answer, (reading, read, represents), reported), run, is) =
     let same : next.tally ≡ (with_control w).tally = ap (λ (p : Option (List ℕ) × World). p.1.tally) (sym represents) ∙
     answer_tally bytes reading (with_control w) in
-    counted next last events taken concealed run ∙ ap (λ (t : Tally). tally_after t events taken concealed) same
-    ∙ (λ i. record (tally_after w.tally events taken concealed) {
-      control = hit is_control e events w.tally.control refl i;
-      media = miss is_media e events w.tally.media refl i;
-      ticks = miss is_tick e events w.tally.ticks refl i;
-    })
-counted w last (Media port source bytes ∷ events) taken concealed (first, others, next, (g, takes, is), run, are) =
-    counted next last events others concealed run ∙ ap (λ (v : World). tally_after v.tally events others concealed) is
-    ∙ one_taken first others concealed w.tally port (Media port source bytes) events refl refl refl
-    ∙ ap (λ (ts : List Taken). tally_after w.tally (Media port source bytes ∷ events) ts concealed) (sym are)
-counted w last (Tick ∷ events) taken concealed (sent, others, next, (reported, is), run, sum) =
-    counted next last events taken others run ∙ ap (λ (v : World). tally_after v.tally events taken others) is
-    ∙ (λ i. record (tally_after w.tally events taken concealed) {
-      control = miss is_control Tick events w.tally.control refl i;
-      media = miss is_media Tick events w.tally.media refl i;
-      ticks = hit is_tick Tick events w.tally.ticks refl i;
-      concealed = more i;
-    })
-  where
-    more : w.tally.concealed + concealed_in_tick w.gateway + others ≡ w.tally.concealed + concealed
-    more = omega (arith, sum)
+    control_grows source bytes events w.tally last.tally
+    (subst (λ (t : Tally). Grows t events last.tally) same
+    (counted next last events others (subst HasCounters (sym same) few) run))
+counted w last (Media port source bytes ∷ events) sent few
+    (first, others, next, (taken, (g, takes, makes), reported), run, is) =
+    let same : next.tally ≡ with_taken taken w.tally = ap (λ (v : World). v.tally) makes in
+    media_grows taken port source bytes events w.tally last.tally few
+    (subst (λ (t : Tally). Grows t events last.tally) same
+    (counted next last events others (subst HasCounters (sym same) (taken_keeps taken w.tally few)) run))
+counted w last (Tick ∷ events) sent few (first, others, next, (reported, makes), run, is) =
+    let concealed = concealed_in_tick w.gateway in
+    let same : next.tally ≡ with_tick concealed w.tally = ap (λ (v : World). v.tally) makes in
+    tick_grows events concealed w.tally last.tally
+    (subst (λ (t : Tally). Grows t events last.tally) same
+    (counted next last events others (subst HasCounters (sym same) few) run))
 
 pub events_are_counted : EventsAreCounted
-unfolding tally_after
-events_are_counted config events taken concealed last run =
-    counted (start_of config) last events taken concealed run
-    ∙ (λ i. record {
-      control = plus_none (count_by is_control events) i;
-      media = plus_none (count_by is_media events) i;
-      ticks = plus_none (count_by is_tick events) i;
-      placed = all_placed i;
-      dropped = all_dropped i;
-      concealed = plus_none concealed i;
-    })
-  where
-    plus_none : (n : ℕ) → 0 + n ≡ n
-    plus_none n = omega arith
-
-    all_placed : placed_after (five 0 0 0 0 0) taken ≡
-        five (count_by (way 0) taken) (count_by (way 1) taken) (count_by (way 2) taken)
-        (count_by (way 3) taken) (count_by (way 4) taken)
-    all_placed = placed_numbers taken 0 0 0 0 0 ∙
-        (λ i. five (plus_none (count_by (way 0) taken) i) (plus_none (count_by (way 1) taken) i)
-        (plus_none (count_by (way 2) taken) i) (plus_none (count_by (way 3) taken) i)
-        (plus_none (count_by (way 4) taken) i))
-
-    all_dropped : dropped_after (six 0 0 0 0 0 0) taken ≡
-        six (count_by (why 0) taken) (count_by (why 1) taken) (count_by (why 2) taken)
-        (count_by (why 3) taken) (count_by (why 4) taken) (count_by (why 5) taken)
-    all_dropped = dropped_numbers taken 0 0 0 0 0 0
-        ∙ (λ i. six (plus_none (count_by (why 0) taken) i) (plus_none (count_by (why 1) taken) i)
-        (plus_none (count_by (why 2) taken) i) (plus_none (count_by (why 3) taken) i)
-        (plus_none (count_by (why 4) taken) i) (plus_none (count_by (why 5) taken) i))
-
-pub runs_take : RunsTake
-runs_take w last [] sent (none, is) = ([], 0, (refl, refl, is))
-runs_take w last (Control source bytes ∷ events) sent (first, others, next, step, run, is) =
-    let (taken, concealed, runs) = runs_take next last events others run in
-    (taken, concealed, (first, next, step, runs))
-runs_take w last (Media port source bytes ∷ events) sent (first, others, next, (t, took, reported), run, is) =
-    let (taken, concealed, runs) = runs_take next last events others run in
-    (t ∷ taken, concealed, (t, taken, next, took, runs, refl))
-runs_take w last (Tick ∷ events) sent (first, others, next, step, run, is) =
-    let (taken, concealed, runs) = runs_take next last events others run in
-    (taken, concealed_in_tick w.gateway + concealed, (first, concealed, next, step, runs, refl))
+unfolding HasCounters
+events_are_counted config events sent last run =
+    let h = counted (start_of config) last events sent refl run in
+    record {
+      control = omega (arith, h.control);
+      media = omega (arith, h.media);
+      ticks = omega (arith, h.ticks);
+      results = omega (arith, h.results);
+    }

@@ -6,14 +6,13 @@ use Rattle.std.proofs.lemmas.List.Elements.{filter-append}
 use Rattle.mg_commands.specs.Theorems.{RequestsAreConsistent}
 use Rattle.mg_words.specs.declared.peer.Peer.{Peer}
 use Rattle.mg_engine.specs.declared.taken.Taken.{Taken}
-use Rattle.mg_engine.specs.declared.taken.Taken.TheVariants.{Placed, Dropped}
 use Rattle.mg_engine.specs.Arrival.{Takes}
-use Rattle.mg_engine.specs.Order.{ArrivalOrderIsIrrelevant}
+use Rattle.mg_engine.specs.aids.Order.{ArrivalOrderIsIrrelevant}
 use Rattle.mg_core.specs.declared.event.Event.{Event}
 use Rattle.mg_core.specs.declared.event.Event.TheVariants.{Control, Media, Tick}
 use Rattle.mg_core.specs.Interleaving.{is_elsewhere, seen_at, AreSameToEachPort}
 use Rattle.mg_core.specs.Step.{Sent, Step, Run}
-use Rattle.mg_core.specs.World.{World, Tally, placed_counter, cause_of, one_more_at, with_taken}
+use Rattle.mg_core.specs.World.{World, Tally, one_more_at, result_place, with_taken}
 use Rattle.mg_core.proofs.ConsistentLemmas.{IsConsistentWorld, ArrivalsAreConsistent, step_keeps}
 
 -- ## Counts of two packets
@@ -26,13 +25,8 @@ two_more (suc k) zero (x ∷ xs) = refl
 two_more (suc k) (suc j) (x ∷ xs) = ap (λ (l : List ℕ). x ∷ l) (two_more k j xs)
 
 two_taken : (a b : Taken) (t : Tally) → with_taken b (with_taken a t) ≡ with_taken a (with_taken b t)
-two_taken (Placed p) (Placed q) t = ap (λ (l : List ℕ). record t { media = t.media + 1 + 1; placed = l })
-    (two_more (placed_counter q) (placed_counter p) t.placed)
-two_taken (Placed p) (Dropped cause) t = refl
-two_taken (Dropped cause) (Placed q) t = refl
-two_taken (Dropped cause) (Dropped other) t =
-    ap (λ (l : List ℕ). record t { media = t.media + 1 + 1; dropped = l })
-    (two_more (cause_of other) (cause_of cause) t.dropped)
+two_taken a b t = ap (λ (l : List ℕ). record t { media = t.media + 1 + 1; results = l })
+    (two_more (result_place b) (result_place a) t.results)
 
 -- ## What a port sees
 

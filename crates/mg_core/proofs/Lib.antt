@@ -16,6 +16,7 @@ pub mod ConsistentLemmas
 pub mod InterleavingLemmas
 pub mod ApartLemmas
 pub mod CountingLemmas
+pub mod CounterLemmas
 pub mod RetransmissionLemmas
 pub mod ReadBackLemmas
 pub mod RecordingLemmas

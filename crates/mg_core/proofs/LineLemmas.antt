@@ -22,7 +22,7 @@ use Rattle.mg_core.specs.Step.{Sent, Reply, Packet, Step, answer_to}
 use Rattle.mg_lines.specs.Streams.{Writes, WritesFront}
 use Rattle.mg_core.specs.aids.Steps.{AreKeptListeners, ChangesWritten, EventRan, Follows, LeadsOn, LineRan, after_sent}
 use Rattle.mg_core.specs.aids.Steps.{event_text, line_fault_of}
-use Rattle.mg_rooms.specs.Sound.{IsSound}
+use Rattle.mg_rooms.specs.aids.Sound.{IsSound}
 use Rattle.mg_core.proofs.QuietLemmas.{KeepsQuiet}
 use Rattle.mg_lines.proofs.WriterLemmas.{appends_then, appends_keeps, longer}
 use Rattle.mg_core.specs.World.{World, StandsFor, capped, packets_of, world_after_tick}

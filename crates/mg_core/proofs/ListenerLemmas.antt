@@ -11,7 +11,7 @@ use Rattle.mg_rooms.specs.declared.context.Context.{Context}
 use Rattle.mg_rooms.specs.declared.record.Record.{Record}
 use Rattle.mg_rooms.specs.Registry.{record_at, context_at}
 use Rattle.mg_rooms.specs.aids.Found.{members_of}
-use Rattle.mg_rooms.specs.Sound.{IsSound}
+use Rattle.mg_rooms.specs.aids.Sound.{IsSound}
 use Rattle.mg_engine.specs.Flow.{flow}
 use Rattle.mg_core.specs.Flows.{Listener}
 use Rattle.mg_engine.specs.Gateway.{Gateway, context_of, numbers_of}

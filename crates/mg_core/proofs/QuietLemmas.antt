@@ -10,12 +10,13 @@ use Rattle.mg_words.specs.declared.mode.Mode.{Mode}
 use Rattle.mg_words.specs.declared.mode.Mode.TheVariants.{Inactive, SendOnly, ReceiveOnly, SendReceive, Loopback}
 use Rattle.mg_rooms.specs.declared.record.Record.{Record}
 use Rattle.mg_rooms.specs.Registry.{Registry}
-use Rattle.mg_rooms.specs.Sound.{IsSound}
+use Rattle.mg_rooms.specs.aids.Sound.{IsSound}
 use Rattle.mg_rtp.specs.declared.header.Header.{Header}
 use Rattle.mg_rtp.specs.Reading.{Reading}
 use Rattle.mg_engine.specs.declared.taken.Taken.{Taken}
 use Rattle.mg_words.specs.declared.peer.Peer.{Peer}
-use Rattle.mg_engine.specs.Arrival.{Arrived, arrived, at_port, frame_placed_at, taken_at}
+use Rattle.mg_engine.specs.Arrival.{Arrived, arrived, at_port, taken_at}
+use Rattle.mg_engine.specs.aids.Placing.{frame_placed_at}
 use Rattle.mg_engine.specs.aids.Found.{taken_by}
 use Rattle.mg_engine.specs.Gateway.{ContextEdit, Gateway, TerminationMedia, media_of}
 use Rattle.mg_engine.proofs.SendingLemmas.{nobody}

@@ -29,7 +29,7 @@ use Rattle.mg_engine.specs.Gateway.{Gateway}
 use Rattle.mg_words.specs.Leads.{Leads}
 use Rattle.mg_words.specs.Limits.{reply_limit}
 use Rattle.mg_reply.specs.declared.item.Item.{Item}
-use Rattle.mg_reply.specs.Theorems.{TooLongByText, AllItemsAreKept, is_wide, is_too_long}
+use Rattle.mg_reply.specs.aids.Width.{TooLongByText, AllItemsAreKept, is_wide, is_too_long}
 use Rattle.mg_core.specs.Answer.{with_front, item_replied, mark_after, replied_to, request_replied, run_and_kept, sent_text, without_ranges}
 use Rattle.mg_core.specs.aids.Answers.{unless_kept}
 

@@ -15,7 +15,7 @@ use Rattle.mg_rooms.specs.declared.context.Context.{Context}
 use Rattle.mg_rooms.specs.declared.record.Record.{Record}
 use Rattle.mg_rooms.specs.Consistent.{IsConsistent, IsTermination}
 use Rattle.mg_rooms.specs.Registry.{context_at}
-use Rattle.mg_rooms.specs.Sound.{IsSound}
+use Rattle.mg_rooms.specs.aids.Sound.{IsSound}
 use Rattle.mg_rooms.proofs.SoundLemmas.{sound_if}
 use Rattle.mg_engine.specs.Flow.{flow}
 use Rattle.mg_engine.specs.Gateway.{Gateway, numbers_of}

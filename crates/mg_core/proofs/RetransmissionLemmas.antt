@@ -7,7 +7,8 @@ use Rattle.std.proofs.lemmas.Slice.Eq.{bytes_eq-Decides}
 use Rattle.mg_words.specs.Limits.{kept_limit}
 use Rattle.mg_scan.specs.Span.{text_of}
 use Rattle.mg_kept.specs.KeptReplies.{AreKept, KeptReply, is_reply_to, kept_text, newer_than, with_reply, without_range}
-use Rattle.mg_kept.specs.Theorems.{AcknowledgedIsDropped, NewerRepliesEvict, FewNewerStay, DroppedStayDropped, KeptStayDistinct, LastIsNewest, CaseIsIgnored, UnnamedStay}
+use Rattle.mg_kept.specs.Theorems.{AcknowledgedIsDropped, CaseIsIgnored}
+use Rattle.mg_kept.specs.aids.Changes.{NewerRepliesEvict, FewNewerStay, DroppedStayDropped, KeptStayDistinct, LastIsNewest, UnnamedStay}
 use Rattle.mg_text.specs.declared.body.MessageItem.{MessageItem}
 use Rattle.mg_text.specs.declared.body.MessageItem.TheVariants as items
 use Rattle.mg_text.specs.declared.body.Range.{Range}

@@ -22,7 +22,8 @@ use Rattle.mg_core.specs.Script.{event_of, events_of, then_all}
 use Rattle.mg_core.specs.Step.{Sent, Run}
 use Rattle.mg_core.specs.Flows.{changes_by}
 use Rattle.mg_core.specs.Run.{IsShownText, ReportsChanges, Ran, HasRead, RanBeforeMore, HasBadAfter}
-use Rattle.mg_core.specs.Run.{RanAllRead, lines_for, line_of}
+use Rattle.mg_core.specs.Run.{lines_for, line_of}
+use Rattle.mg_core.specs.aids.Faults.{RanAllRead}
 use Rattle.mg_core.specs.aids.Steps.{Follows, LeadsOn, AllRan, LineRan, BytesRan, Finishes, RanCounted, after_sent, script_fault_of}
 use Rattle.mg_lines.proofs.WriterLemmas.{appends_then, appends_keeps}
 use Rattle.mg_core.proofs.LineLemmas.{no_text, same_appends, sent_both}

@@ -1,6 +1,8 @@
 -- A run of a script as a whole.
-use Rattle.std.proofs.Common.{◌≡◌, ℕ, List, Option, Result, Ok, Err, ◌∙◌, ap, ◌+◌, length, inl, inr, arith}
-use Rattle.std.proofs.KnownBytes.{Keeps-refl}
+use Rattle.std.proofs.Common.{◌≡◌, ℕ, List, [], Option, Result, Ok, Err, false, refl, sym, ◌∙◌, ap, ◌+◌, length, inl, inr, arith}
+use Rattle.std.proofs.KnownBytes.{Consumes-nil}
+use Rattle.std.proofs.lemmas.List.{append-nil}
+use Rattle.mg_lines.specs.Lines.{lines_after, lines_of}
 use Rattle.mg_engine.specs.declared.config.Config.{Config}
 use Rattle.mg_engine.specs.declared.fault.StartFault.{StartFault}
 use Rattle.mg_engine.specs.declared.fault.StartFault.TheVariants as starts
@@ -11,24 +13,145 @@ use Rattle.mg_core.specs.declared.fault.ScriptFault.{ScriptFault}
 use Rattle.mg_core.specs.declared.fault.ScriptFault.TheVariants as faults
 use Rattle.mg_core.specs.declared.shown.Shown.{Shown}
 use Rattle.mg_core.specs.declared.state.CoreState.{CoreState}
-use Rattle.mg_core.specs.Run.{ScriptRan}
+use Rattle.mg_core.specs.Run.{RanToFault, ScriptRan, Stops}
+use Rattle.mg_core.specs.Script.{events_of}
+use Rattle.mg_core.specs.aids.Faults.{RanAllRead, RanToBadLine, RanToCutLine, RanToUnrunLine}
 use Rattle.mg_core.specs.aids.Steps.{AllRan, run_fault_at_start, run_fault_of}
-use Rattle.mg_core.specs.World.{World, StandsFor, capped, counts_of}
-use Rattle.mg_core.proofs.LineLemmas.{sent_at_once}
+use Rattle.mg_core.specs.World.{World, StandsFor, capped, counts_of, start_of}
+use Rattle.mg_core.proofs.LineLemmas.{no_text, same_appends, sent_at_once}
+
+-- ## Faults, in the form that is told
+
+module _ (config : Config) (shown : Shown) (input rest old new : Option (List ℕ)) where
+  at_bad_line : (number : ℕ) → RanToBadLine config shown input rest number old new →
+      RanToFault config shown input rest old new (ends.Script number)
+  at_bad_line number h = record {
+    text = h.text;
+    ended = h.ended;
+    read = h.read;
+    lines = h.lines;
+    before_more = h.before_more;
+    now = h.last;
+    held = new;
+    ran = h.ran;
+    stops = (h.number_is, refl, h.bad);
+  }
+
+  all_read : RanAllRead config shown input rest old new → RanToFault config shown input rest old new ends.Read
+  all_read h = record {
+    text = h.text;
+    ended = false;
+    read = h.read;
+    lines = lines_of false h.text;
+    before_more = record {
+      before = h.text;
+      given = [];
+      parts = sym (append-nil h.text);
+      size = omega arith;
+      end_alone = λ e. refl;
+      later = [];
+      lines_are = sym (append-nil (lines_of false h.text));
+    };
+    now = h.last;
+    held = new;
+    ran = h.ran;
+    stops = (refl, refl, refl);
+  }
+
+  at_cut_line : RanToCutLine config shown input rest old new → RanToFault config shown input rest old new ends.Write
+  at_cut_line h = record {
+    text = h.up_to.text;
+    ended = h.up_to.ended;
+    read = h.up_to.read;
+    lines = h.up_to.lines;
+    before_more = h.up_to.before_more;
+    now = h.now;
+    held = h.held;
+    ran = h.up_to.ran;
+    stops = (
+      h.line,
+      h.cut.text,
+      h.last,
+      (h.up_to.others, h.up_to.line_is),
+      record {
+        events = h.cut.events;
+        sent = h.cut.sent;
+        text = h.cut.text;
+        are = h.cut.are;
+        run = h.cut.run;
+        is_text = h.cut.is_text;
+        written = refl;
+      },
+      record {
+        front = h.cut.front;
+        rest = h.cut.rest;
+        parts = h.cut.parts;
+        cut = h.cut.cut;
+        written = h.cut.written;
+      },
+    );
+  }
+
+  at_unrun_line : RanToUnrunLine config shown input rest old new →
+      RanToFault config shown input rest old new ends.NoMemory
+  at_unrun_line h = record {
+    text = h.up_to.text;
+    ended = h.up_to.ended;
+    read = h.up_to.read;
+    lines = h.up_to.lines;
+    before_more = h.up_to.before_more;
+    now = h.now;
+    held = new;
+    ran = h.up_to.ran;
+    stops = (refl, inl (h.line, (h.up_to.others, h.up_to.line_is)));
+  }
 
 -- a gateway that was not started read and ran nothing
+nothing_ran : (config : Config) (shown : Shown) (input a : Option (List ℕ)) (fault : RunFault) →
+    Stops fault shown [] false [] (start_of config) a a → RanToFault config shown input input a a fault
+unfolding events_of lines_after
+nothing_ran config shown input a fault stops = record {
+  text = [];
+  ended = false;
+  read = record { consumed = Consumes-nil input; at_end = λ e. absurd (cc e) };
+  lines = [];
+  before_more = record {
+    before = [];
+    given = [];
+    parts = refl;
+    size = omega arith;
+    end_alone = λ e. refl;
+    later = [];
+    lines_are = refl;
+  };
+  now = start_of config;
+  held = a;
+  ran = record {
+    events = [];
+    sent = [];
+    text = [];
+    are = refl;
+    run = (refl, refl);
+    is_text = no_text shown (start_of config);
+    written = same_appends a;
+  };
+  stops = stops;
+}
+
 pub not_started : (config : Config) (shown : Shown) (input a : Option (List ℕ)) (fault : StartFault) →
     ScriptRan config shown input input a a (Err (run_fault_at_start fault))
-not_started config shown input a starts.BadConfig = (Keeps-refl input, Keeps-refl a)
-not_started config shown input a starts.NoMemory = inl (Keeps-refl input, Keeps-refl a)
+not_started config shown input a starts.BadConfig = nothing_ran config shown input a ends.BadConfig (refl, refl, refl)
+not_started config shown input a starts.NoMemory =
+    nothing_ran config shown input a ends.NoMemory (refl, inr (refl, refl))
 
 pub script_fault : (config : Config) (shown : Shown) (input rest : Option (List ℕ)) (state : CoreState) (count n : ℕ)
     (a b : Option (List ℕ)) (fault : ScriptFault) → AllRan config shown input rest state count n a b (Err fault) →
     ScriptRan config shown input rest a b (Err (run_fault_of fault))
-script_fault config shown input rest state count n a b (faults.Bad number) h = h
-script_fault config shown input rest state count n a b faults.Read h = h
-script_fault config shown input rest state count n a b faults.Write h = h
-script_fault config shown input rest state count n a b faults.NoMemory h = inr h
+script_fault config shown input rest state count n a b (faults.Bad number) h =
+    at_bad_line config shown input rest a b number h
+script_fault config shown input rest state count n a b faults.Read h = all_read config shown input rest a b h
+script_fault config shown input rest state count n a b faults.Write h = at_cut_line config shown input rest a b h
+script_fault config shown input rest state count n a b faults.NoMemory h = at_unrun_line config shown input rest a b h
 
 -- a fault of a script is no fault of the configuration
 pub not_bad : (r : Result Counts RunFault) (e : RunFault) (fault : ScriptFault) → r ≡ Err e → e ≡ run_fault_of fault →

@@ -72,7 +72,7 @@ without_ranges sender [] replies = replies
 without_ranges sender (x ∷ xs) replies =
     without_ranges sender xs (without_range sender x.first x.last replies)
 
--- what is written, after a text in front
+-- what is written, with a text in front
 abbrev pub with_front : List ℕ → List ℕ × World → List ℕ × World
 with_front text p = (text ++ p.0, p.1)
 
@@ -106,12 +106,12 @@ replied_to source sender mark (x ∷ xs) w =
 abbrev pub answer_head : World → List ℕ
 answer_head w = head_text w.gateway.config.control_address w.gateway.config.control_port
 
--- an answer with what was written for requests; without a request, no answer
+-- an answer with what was written for requests; no answer if there was no request
 abbrev pub if_asked : Bool → List ℕ → List ℕ × World → Option (List ℕ) × World
 if_asked true head p = (Some (head ++ p.0), p.1)
 if_asked false head p = (None, p.1)
 
--- The answer to a message in the world w, if there is one, and the world after it.
+-- The answer to a message in the world w, if there is an answer, and the world after it.
 abbrev pub to_message : List ℕ → Message → World → Option (List ℕ) × World
 to_message source m w =
     if_asked (has_requests (items_of m.body)) (answer_head w)
@@ -127,7 +127,8 @@ answered source TooMany w = refused NotServed w
 answered source (OtherVersion n) w = refused Version w
 answered source NoMessage w = refused Syntax w
 
--- the answer to a datagram, if there is one, and the world after it, by how the datagram is read
+-- the answer to a datagram, if there is an answer, and the world after it, depending on how the
+-- datagram is read
 abbrev pub Answers : List ℕ → World → Option (List ℕ) → World → Type 0
 Answers source w answer next =
     (reading : MessageReading) × IsMessageReading source reading

@@ -1,5 +1,5 @@
--- Isolation over time: in each tick, the packet to a listener does not depend on anything received,
--- at any time, from terminations that it does not hear then.
+-- Isolation over time. In each tick, a listener's packet does not depend on anything ever received
+-- from terminations that it does not hear then.
 use Rattle.std.specs.Prelude.{◌≡◌, ℕ, ◌==◌, List, [], ◌∷◌, ◌++◌, filter, map, Option}
 use Rattle.std.specs.List.{AllByRecursion}
 use Rattle.mg_kept.specs.KeptReplies.{KeptReply}
@@ -26,27 +26,27 @@ use Rattle.mg_core.specs.World.{World, packets_of, start_of}
 abbrev pub key_of : KeptReply → List ℕ × ℕ
 key_of reply = (reply.sender, reply.number)
 
--- Two worlds agree outside some terminations if their gateways do and they keep replies to the
--- same requests. The texts of these replies may differ in packets received, and so may the counts
--- of events.
+-- Two worlds agree outside some terminations if their gateways do and they keep replies to the same
+-- requests. The counts of events may differ, and so may packets received in the texts of these
+-- replies.
 pub record AgreeOutside (some : List ℕ) (a b : World) : Type 0 where
   pub gateway : engine.AgreeOutside some a.gateway b.gateway
   pub replies : map key_of a.replies ≡ map key_of b.replies
 
 -- ## The next tick
 
--- the packets that it sends from a port
+-- the packets that the next tick sends from a port
 abbrev pub next_packets : ℕ → World → List Datagram
 next_packets port w = filter (λ d. d.from == port) (packets_of w)
 
--- in it, the termination with this port hears none of some terminations
+-- in the next tick, the termination with this port hears none of some terminations
 abbrev pub HearsNoneAt : List ℕ → Gateway → ℕ → Type 0
 HearsNoneAt some w port =
     AllByRecursion (λ r. slot_port w.rooms.limits r.slot ≡ port → HearsNone some w r.number)
     w.rooms.terminations
 
--- if the termination with this port hears none of them, the next tick sends the same packets from
--- there in both worlds, byte for byte, or none in either
+-- If the termination with this port hears none of them, the next tick sends the same packets from
+-- the port in both worlds: the same bytes, or none in either.
 abbrev pub NextTickIsSame : List ℕ → ℕ → World → World → Type 0
 NextTickIsSame some port a b =
     HearsNoneAt some a.gateway port → next_packets port a ≡ next_packets port b
@@ -71,7 +71,8 @@ to_second (Both event ∷ xs) = event ∷ to_second xs
 to_second (FirstOnly port source bytes ∷ xs) = to_second xs
 to_second (SecondOnly port source bytes ∷ xs) = Media port source bytes ∷ to_second xs
 
--- each RTP datagram that is in one list only arrives at the port of one of some terminations
+-- each RTP datagram that is in only one of the lists arrives at the port of one of some
+-- terminations
 abbrev pub DifferAtPortsOf : List ℕ → World → List Happening → Type 0
 DifferAtPortsOf some w [] = Unit {0}
 DifferAtPortsOf some w (Both event ∷ xs) =
@@ -84,8 +85,8 @@ DifferAtPortsOf some w (SecondOnly port source bytes ∷ xs) =
     IsPortAmong some w.gateway port × DifferAtPortsOf some w xs
 
 -- Two worlds agree outside some terminations, and receive events that differ only in RTP datagrams
--- at ports of these. They still agree afterwards, and the next tick sends the same to each
--- listener who hears none of these terminations in it, whatever it heard before.
+-- at ports of these. They still agree afterwards. The next tick sends the same to each listener who
+-- hears none of these terminations in that tick, whatever the listener heard before.
 abbrev pub UnheardChangesNothing : Type 0
 UnheardChangesNothing =
     (some : List ℕ) (port : ℕ) (a b x y : World) (xs : List Happening) (s t : List Sent)
@@ -102,8 +103,8 @@ UnheardInHistories =
     → HasHistory config (to_first xs) s v one → HasHistory config (to_second xs) t w other
     → NextTickIsSame some port v w
 
--- The first events lead to the world w, and then comes a tick. The datagrams are sent by the first
--- events, by this tick, and by everything after it.
+-- The first events lead to the world w, and then there is a tick. The first events, this tick and
+-- everything after it send the datagrams.
 abbrev pub HasTickAfter : Config → List Event → List Sent → World → Type 0
 HasTickAfter config events sent w =
     (before after : List Sent) × Run (start_of config) events before w

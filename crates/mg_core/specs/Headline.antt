@@ -19,13 +19,13 @@ use Rattle.mg_core.specs.Step.{Sent, Run}
 abbrev pub HasHistory : Config → List Event → List Sent → World → CoreState → Type 0
 HasHistory config events sent w state = Run (start_of config) events sent w × StandsFor state w
 
--- Such a list of events determines the world and the datagrams that are sent.
+-- Such a list of events determines the world and the datagrams sent.
 abbrev pub EventsDetermineOutcome : Type 0
 EventsDetermineOutcome =
     (config : Config) (events : List Event) (s t : List Sent) (v w : World) (state : CoreState)
     → HasHistory config events s v state → HasHistory config events t w state → (s ≡ t) × (v ≡ w)
 
--- one more event arrived, and these datagrams were sent for it, whatever happened before
+-- one more event arrived and these datagrams were sent for it, whatever happened before
 abbrev pub ExtendsHistory : CoreState → CoreState → Event → List Sent → Type 0
 ExtendsHistory old new event sent =
     (config : Config) (events : List Event) (before : List Sent) (w : World)

@@ -1,5 +1,5 @@
 -- Retransmitted requests (RFC 3525, section 8.2 and annex D.1). A controller that receives no
--- answer sends its request again, and that must not run it twice.
+-- answer sends its request again, and the request must not run twice.
 use Rattle.std.specs.Prelude.{◌≡◌, ℕ, ◌+◌, ◌<◌, ◌≤◌, ◌==◌, nat_le, Bool, true, false, ◌&&◌}
 use Rattle.std.specs.Prelude.{if◌then◌else◌, List, [], ◌∷◌, length, Some, None, is_none}
 use Rattle.std.specs.List.{AllByRecursion, list_any}
@@ -20,7 +20,7 @@ use Rattle.mg_core.specs.Answer.{item_replied, request_replied, run_and_kept}
 use Rattle.mg_core.specs.Step.{Sent, Step, Run}
 use Rattle.mg_core.specs.World.{World, start_of, with_control}
 
--- While the reply to a request is kept, it answers the request, whatever the request asks, and
+-- While the reply to a request is kept, it answers the request, whatever the request says, and
 -- nothing is executed.
 abbrev pub KeptRepliesAreSent : Type 0
 KeptRepliesAreSent =
@@ -73,8 +73,8 @@ kept_for_all source from [] w = 0
 kept_for_all source from (x ∷ xs) w =
     kept_for from x w + kept_for_all source from xs (item_replied source from [] x w).1
 
--- An event preserves a reply: it does not acknowledge it, and at most n other replies are kept for
--- it.
+-- An event preserves a reply: it does not acknowledge the reply, and at most n other replies are
+-- kept for the event.
 abbrev pub PreservesReply : List ℕ → ℕ → World → Event → ℕ → Type 0
 PreservesReply sender number w (Control source bytes) n =
     (m : Message) → IsMessage bytes m
@@ -90,8 +90,8 @@ AllPreserveReply sender number w (event ∷ events) n =
     × ((sent : List Sent) (next : World) → Step w event sent next
     → AllPreserveReply sender number next events others)
 
--- A request is answered with the same text, and is not run again, until an acknowledgement names
--- its reply or 32 other replies have been kept. Time does not matter.
+-- A request gets the same answer, and is not run again, until an acknowledgement names its reply or
+-- 32 other replies have been kept. Time does not matter.
 abbrev pub RepliesPersist : Type 0
 RepliesPersist =
     (sender text : List ℕ) (number : ℕ) (w last : World) (events : List Event) (sent : List Sent)
@@ -132,7 +132,7 @@ IsNotRequested sender number (Control source bytes) =
     → list_any (is_request_for sender number (text_of bytes m.sender)) (items_of m.body) ≡ false
 IsNotRequested sender number _ = Unit {0}
 
--- After that, the request is run again if it is retransmitted, and answered again.
+-- After that, the request is run and answered again if it is retransmitted.
 abbrev pub DroppedRequestsAreRerun : Type 0
 DroppedRequestsAreRerun =
     (sender : List ℕ) (number : ℕ) (w last : World) (events : List Event) (sent : List Sent)

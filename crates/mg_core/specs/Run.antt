@@ -1,8 +1,8 @@
 -- What running a script writes.
-use Rattle.std.specs.Prelude.{◌≡◌, ◌⊎◌, ℕ, ◌+◌, ◌<◌, ◌≤◌, Bool, true, false, List, [], ◌∷◌, ◌++◌}
+use Rattle.std.specs.Prelude.{◌≡◌, ◌⊎◌, ℕ, ◌+◌, ◌≤◌, Bool, true, false, List, [], ◌∷◌, ◌++◌}
 use Rattle.std.specs.Prelude.{length, flat_map, Option, Some, None, Result, Ok, Err, codes}
 use Rattle.std.specs.Prelude.{decimal}
-use Rattle.std.specs.Io.KnownBytes.{Keeps, Appends, Consumes, IsAtEnd}
+use Rattle.std.specs.Io.KnownBytes.{Appends, Consumes, IsAtEnd}
 use Rattle.hex.specs.Hex.{encode_lower}
 use Rattle.mg_engine.specs.declared.config.Config.{Config}
 use Rattle.mg_engine.specs.declared.datagram.Datagram.{Datagram}
@@ -18,6 +18,7 @@ use Rattle.mg_core.specs.Peer.{peer_text}
 use Rattle.mg_core.specs.Step.{Sent, Reply, Packet, Step, Run}
 use Rattle.mg_core.specs.Flows.{changes_by}
 use Rattle.mg_lines.specs.Lines.{lines_of}
+use Rattle.mg_lines.specs.Streams.{WritesFront}
 use Rattle.mg_core.specs.Script.{event_of, events_of, escaped}
 
 -- ## Lines of the output
@@ -75,30 +76,15 @@ pub record Ran (shown : Shown) (w : World) (lines : List (List ℕ)) (last : Wor
   pub is_text : IsShownText shown w events sent text last
   pub written : Appends old new text
 
--- the same, but the writer has received only a proper prefix of that text
-pub record RanInPart (shown : Shown) (w : World) (lines : List (List ℕ)) (last : World)
-    (old new : Option (List ℕ)) : Type 0 where
-  pub events : List Event
-  pub sent : List Sent
-  pub text : List ℕ
-  pub front : List ℕ
-  pub rest : List ℕ
-  pub are : events_of lines ≡ Some events
-  pub run : Run w events sent last
-  pub is_text : IsShownText shown w events sent text last
-  pub parts : text ≡ front ++ rest
-  pub cut : 0 < length rest
-  pub written : Appends old new front
-
 -- ## How far a script was read
 
--- this text was read from an input, and the end after it if it has ended
+-- this text was read from an input, and then its end, if the input has ended
 pub record HasRead (input rest : Option (List ℕ)) (text : List ℕ) (ended : Bool) : Type 0 where
   pub consumed : Consumes input rest text
   pub at_end : ended ≡ true → IsAtEnd rest
 
--- These lines of a text were run before more of it was read. They are all lines that end before
--- the last piece that was read, and perhaps some that end in it. That piece is at most 4096 bytes,
+-- These lines of a text were run before more of it was read. They are all lines that end before the
+-- last piece that was read, and perhaps some that end within it. That piece is at most 4096 bytes,
 -- or only the end.
 pub record RanBeforeMore (text : List ℕ) (ended : Bool) (lines : List (List ℕ)) : Type 0 where
   pub before : List ℕ
@@ -127,61 +113,47 @@ pub record HasBadAfter (lines all : List (List ℕ)) : Type 0 where
   pub parts : all ≡ lines ++ bad ∷ others
   pub is_bad : event_of bad ≡ None
 
--- The lines before the first bad one, which has this number, were run. It is bad, whatever text may
--- follow the text that was read; nothing follows the end.
-pub record RanToBadLine (config : Config) (shown : Shown) (input rest : Option (List ℕ))
-    (number : ℕ) (old new : Option (List ℕ)) : Type 0 where
+-- the line that follows those that were run
+abbrev pub IsNextLine : (text : List ℕ) → (ended : Bool) → (lines : List (List ℕ)) → List ℕ → Type 0
+IsNextLine text ended lines line =
+    (others : List (List ℕ)) × (lines_of ended text ≡ lines ++ line ∷ others)
+
+-- Why a run stopped after these lines of a text, in the world w. Their output led from the old
+-- bytes of a writer to the held ones.
+abbrev pub Stops : RunFault → Shown → (text : List ℕ) → (ended : Bool) → (lines : List (List ℕ))
+    → World → (held new : Option (List ℕ)) → Type 0
+-- The next line has this number and is bad, whatever text may follow; nothing follows the end.
+Stops (faults.Script number) shown text ended lines w held new =
+    (number ≡ length lines + 1) × (new ≡ held)
+    × ((more : List ℕ) → (ended ≡ true → more ≡ [])
+    → HasBadAfter lines (lines_of true (text ++ more)))
+-- all lines that end in the text were run
+Stops faults.Read shown text ended lines w held new =
+    (ended ≡ false) × (lines ≡ lines_of false text) × (new ≡ held)
+-- the next line was run too, but only a proper prefix of its output was written
+Stops faults.Write shown text ended lines w held new =
+    (line output : List ℕ) × (last : World) × IsNextLine text ended lines line
+    × Ran shown w (line ∷ []) last (Some []) (Some output) × WritesFront output held new
+-- the next line had no effect, or nothing was read
+Stops faults.NoMemory shown text ended lines w held new =
+    (new ≡ held) × (((line : List ℕ) × IsNextLine text ended lines line)
+    ⊎ ((text ≡ []) × (lines ≡ [])))
+-- nothing was read
+Stops faults.BadConfig shown text ended lines w held new =
+    (new ≡ held) × (text ≡ []) × (lines ≡ [])
+
+-- A run that stopped at a fault: these lines of the text that was read were run completely.
+pub record RanToFault (config : Config) (shown : Shown) (input rest old new : Option (List ℕ))
+    (fault : RunFault) : Type 0 where
   pub text : List ℕ
   pub ended : Bool
   pub read : HasRead input rest text ended
   pub lines : List (List ℕ)
   pub before_more : RanBeforeMore text ended lines
-  pub bad : (more : List ℕ) → (ended ≡ true → more ≡ [])
-      → HasBadAfter lines (lines_of true (text ++ more))
-  pub number_is : number ≡ length lines + 1
-  pub last : World
-  pub ran : Ran shown (start_of config) lines last old new
-
--- exactly the lines that end in the text that was read were run
-pub record RanAllRead (config : Config) (shown : Shown) (input rest old new : Option (List ℕ))
-    : Type 0 where
-  pub text : List ℕ
-  pub read : HasRead input rest text false
-  pub last : World
-  pub ran : Ran shown (start_of config) (lines_of false text) last old new
-
--- Of the lines of the text that was read, those before this one were run and led to this world.
-pub record RanUpTo (config : Config) (shown : Shown) (input rest : Option (List ℕ))
-    (line : List ℕ) (now : World) (old new : Option (List ℕ)) : Type 0 where
-  pub text : List ℕ
-  pub ended : Bool
-  pub read : HasRead input rest text ended
-  pub lines : List (List ℕ)
-  pub before_more : RanBeforeMore text ended lines
-  pub others : List (List ℕ)
-  pub line_is : lines_of ended text ≡ lines ++ line ∷ others
-  pub ran : Ran shown (start_of config) lines now old new
-
--- the lines before this one were run, and this one too, but its text was written only in part
-pub record RanToCutLine (config : Config) (shown : Shown) (input rest old new : Option (List ℕ))
-    : Type 0 where
-  pub line : List ℕ
   pub now : World
   pub held : Option (List ℕ)
-  pub up_to : RanUpTo config shown input rest line now old held
-  pub last : World
-  pub cut : RanInPart shown now (line ∷ []) last held new
-
--- the lines before this one were run, and this one had no effect
-pub record RanToUnrunLine (config : Config) (shown : Shown) (input rest old new : Option (List ℕ))
-    : Type 0 where
-  pub line : List ℕ
-  pub now : World
-  pub up_to : RanUpTo config shown input rest line now old new
-
--- nothing was read or written
-abbrev pub NothingRan : (input rest old new : Option (List ℕ)) → Type 0
-NothingRan input rest old new = Keeps input rest × Keeps old new
+  pub ran : Ran shown (start_of config) lines now old held
+  pub stops : Stops fault shown text ended lines now held new
 
 -- The result of a run: how far it has read, which lines it has run, and what it has written for
 -- them.
@@ -190,12 +162,5 @@ abbrev pub ScriptRan : Config → Shown → (input rest old new : Option (List �
 ScriptRan config shown input rest old new (Ok counts) =
     (script : List ℕ) × HasRead input rest script true
     × RanToEnd config shown script counts old new
-ScriptRan config shown input rest old new (Err (faults.Script number)) =
-    RanToBadLine config shown input rest number old new
-ScriptRan config shown input rest old new (Err faults.Read) =
-    RanAllRead config shown input rest old new
-ScriptRan config shown input rest old new (Err faults.Write) =
-    RanToCutLine config shown input rest old new
-ScriptRan config shown input rest old new (Err faults.NoMemory) =
-    NothingRan input rest old new ⊎ RanToUnrunLine config shown input rest old new
-ScriptRan config shown input rest old new (Err faults.BadConfig) = NothingRan input rest old new
+ScriptRan config shown input rest old new (Err fault) =
+    RanToFault config shown input rest old new fault

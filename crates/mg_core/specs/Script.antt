@@ -19,7 +19,7 @@ use Rattle.mg_core.specs.Peer.{peer_of}
 abbrev pub is_plain : ℕ → Bool
 is_plain b = nat_le 32 b && nat_le b 126
 
--- the byte that a backslash and this byte stand for
+-- the byte that a backslash and this byte denote
 abbrev pub escaped_byte : ℕ → Option ℕ
 escaped_byte b =
     if b == 110 then Some 10 else (if b == 114 then Some 13

@@ -26,7 +26,7 @@ abbrev pub reported : Answer → List ℕ → Option (List ℕ)
 reported Send text = Some text
 reported Silent text = None
 
--- In the world w an event sends these datagrams, in this order, and results in the next world. A
+-- In the world w, an event sends these datagrams in this order, and leads to the next world. A
 -- control datagram is answered, an RTP datagram is handled, and a tick sends its packets.
 abbrev pub Step : World → Event → List Sent → World → Type 0
 Step w (Control source bytes) sent next =

@@ -38,7 +38,7 @@ abbrev pub edits_by : List ℕ → MessageReading → World → ℕ
 edits_by source (Read m) w = edits_by_items source (text_of source m.sender) (items_of m.body) w
 edits_by source _ w = 0
 
--- a datagram in the world w causes this many edits, by how it is read
+-- a datagram in the world w causes this many edits, depending on how it is read
 abbrev pub CausesEdits : List ℕ → World → ℕ → Type 0
 CausesEdits source w edits =
     (reading : MessageReading) × IsMessageReading source reading

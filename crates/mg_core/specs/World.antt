@@ -1,13 +1,11 @@
 -- A gateway as seen from outside, and which worlds the state of a core represents.
-use Rattle.std.specs.Prelude.{◌≡◌, ℕ, ◌+◌, ◌-◌, ◌^◌, min, List, [], map, replicate, slice_index}
-use Rattle.std.specs.Prelude.{slice_set}
+use Rattle.std.specs.Prelude.{◌≡◌, ℕ, ◌+◌, ◌-◌, ◌^◌, min, List, [], map, replicate, take, drop}
+use Rattle.std.specs.Prelude.{slice_index, slice_set}
 use Rattle.mg_kept.specs.KeptReplies.{KeptReply}
-use Rattle.mg_playout.specs.declared.placed.Placed.{Placed}
 use Rattle.mg_playout.specs.declared.placed.Placed.TheVariants as placed
 use Rattle.mg_engine.specs.declared.config.Config.{Config}
 use Rattle.mg_engine.specs.declared.datagram.Datagram.{Datagram}
 use Rattle.mg_words.specs.declared.peer.Peer.{Peer}
-use Rattle.mg_engine.specs.declared.taken.DropCause.{DropCause}
 use Rattle.mg_engine.specs.declared.taken.DropCause.TheVariants as causes
 use Rattle.mg_engine.specs.declared.taken.Taken.{Taken}
 use Rattle.mg_engine.specs.declared.taken.Taken.TheVariants as takens
@@ -18,15 +16,13 @@ use Rattle.mg_engine.specs.Stands as engine_stands
 use Rattle.mg_core.specs.declared.counts.Counts.{Counts}
 use Rattle.mg_core.specs.declared.state.CoreState.{CoreState}
 
--- The numbers of control datagrams, RTP datagrams and ticks. Then the results of RTP datagrams:
--- Started, Placed, Pushed, Again and Late, and drops for NoTermination, Stray, NoLocal, Rtp,
--- PayloadType and Length. Last, the number of frames that concealed a missing one.
+-- The numbers of control datagrams, RTP datagrams and ticks, of RTP datagrams with each result, and
+-- of frames that concealed a missing one.
 pub record Tally : Type 0 where
   pub control : ℕ
   pub media : ℕ
   pub ticks : ℕ
-  pub placed : List ℕ
-  pub dropped : List ℕ
+  pub results : List ℕ
   pub concealed : ℕ
 
 -- the gateway with its terminations and contexts; the kept replies, oldest first; and the counts
@@ -38,14 +34,7 @@ pub record World : Type 0 where
 
 abbrev pub no_events : Tally
 no_events =
-    record {
-      control = 0;
-      media = 0;
-      ticks = 0;
-      placed = replicate 5 0;
-      dropped = replicate 6 0;
-      concealed = 0;
-    }
+    record { control = 0; media = 0; ticks = 0; results = replicate 11 0; concealed = 0 }
 
 -- the world before any event
 abbrev pub start_of : Config → World
@@ -53,29 +42,26 @@ start_of config = record { gateway = engine.start_of config; replies = []; tally
 
 -- ## Counting
 
-abbrev pub placed_counter : Placed → ℕ
-placed_counter placed.Started = 0
-placed_counter placed.Placed = 1
-placed_counter placed.Pushed = 2
-placed_counter placed.Again = 3
-placed_counter placed.Late = 4
-
-abbrev pub cause_of : DropCause → ℕ
-cause_of causes.NoTermination = 0
-cause_of causes.Stray = 1
-cause_of causes.NoLocal = 2
-cause_of (causes.Rtp fault) = 3
-cause_of causes.PayloadType = 4
-cause_of causes.Length = 5
+-- the place of a result's number in the list
+abbrev pub result_place : Taken → ℕ
+result_place (takens.Placed placed.Started) = 0
+result_place (takens.Placed placed.Placed) = 1
+result_place (takens.Placed placed.Pushed) = 2
+result_place (takens.Placed placed.Again) = 3
+result_place (takens.Placed placed.Late) = 4
+result_place (takens.Dropped causes.NoTermination) = 5
+result_place (takens.Dropped causes.Stray) = 6
+result_place (takens.Dropped causes.NoLocal) = 7
+result_place (takens.Dropped (causes.Rtp fault)) = 8
+result_place (takens.Dropped causes.PayloadType) = 9
+result_place (takens.Dropped causes.Length) = 10
 
 abbrev pub one_more_at : ℕ → List ℕ → List ℕ
 one_more_at k counts = slice_set counts k (slice_index counts k + 1)
 
 abbrev pub with_taken : Taken → Tally → Tally
-with_taken (takens.Placed p) t =
-    record t { media = t.media + 1; placed = one_more_at (placed_counter p) t.placed }
-with_taken (takens.Dropped cause) t =
-    record t { media = t.media + 1; dropped = one_more_at (cause_of cause) t.dropped }
+with_taken result t =
+    record t { media = t.media + 1; results = one_more_at (result_place result) t.results }
 
 -- a tick that conceals this many frames
 abbrev pub with_tick : ℕ → Tally → Tally
@@ -94,8 +80,8 @@ counts_of t = record {
   ticks = capped t.ticks;
   sent = 0;
   failed = 0;
-  placed = map capped t.placed;
-  dropped = map capped t.dropped;
+  placed = map capped (take 5 t.results);
+  dropped = map capped (drop 5 t.results);
   concealed = capped t.concealed;
 }
 

@@ -19,10 +19,13 @@ use mg_commands::{Kept, transaction};
 use mg_engine::Config;
 use mg_reply::theorems::too_long_by_text;
 use mg_text::{
-    Body, Bytes, ErrorNumber, Item, MessageItem, REPLY_LIMIT, Range, ReadFault, Reply, Request,
-    write_error, write_head, write_reply,
+    Body, Bytes, ERROR_LIMIT, ErrorNumber, HEAD_LIMIT, Item, MessageItem, REPLY_LIMIT, Range,
+    ReadFault, Reply, Request, write_error, write_head, write_reply,
 };
 use mg_words::SENDER_LIMIT;
+
+/// The maximum length of a reply and the line feed before it, in bytes.
+pub const REPLY_ROOM: usize = 1 + REPLY_LIMIT;
 
 /// Returns the error that rejects a message, or `None` if memory ran out.
 pub fn refusal_of(fault: ReadFault) -> Option<ErrorNumber>
@@ -39,7 +42,7 @@ pub fn refusal_of(fault: ReadFault) -> Option<ErrorNumber>
 /// Writes the error of a message that is rejected as a whole.
 #[tactic(auto, using(crate::proofs::AnswerLemmas::totals))]
 pub fn put_error(config: &Config, number: ErrorNumber, answer: &mut Bytes)
-    requires room { 97 ≤ answer.old.room }
+    requires room { HEAD_LIMIT + ERROR_LIMIT ≤ answer.old.room }
     ensures text { answer.new.text ≡ answer.old.text
         ++ (head_text config.now.control_address config.now.control_port ++ error_text number) }
     ensures total { answer.new.room + length answer.new.text ≡ answer.old.room + length answer.old.text }
@@ -164,7 +167,7 @@ fn put_item<'m>(
 ) -> &'m [u8]
     requires proper { item_is_proper source.now item.now ≡ true }
     requires sender { length sender.now ≤ SENDER_LIMIT }
-    requires room { 16001 * requests_in (item.now ∷ []) + length mark.now ≤ 1 + answer.old.room }
+    requires room { REPLY_ROOM * requests_in (item.now ∷ []) + length mark.now ≤ 1 + answer.old.room }
     ensures ran { TextGrows state.old state.new answer.old.text answer.new.text
         (item_replied source.now sender.now mark.now item.now) }
     ensures work { (w : World) → StandsFor state.old w →
@@ -173,7 +176,7 @@ fn put_item<'m>(
     ensures mark { result.now ≡ mark_after mark.now item.now }
     ensures total { answer.new.room + length answer.new.text ≡ answer.old.room + length answer.old.text }
     ensures short { length answer.new.text + length result.now
-        ≤ length answer.old.text + length mark.now + 16001 * requests_in (item.now ∷ []) }
+        ≤ length answer.old.text + length mark.now + REPLY_ROOM * requests_in (item.now ∷ []) }
 {
     match item {
         MessageItem::Request(request) => {
@@ -200,7 +203,7 @@ pub fn put_replies(
 )
     requires proper { are_proper source.now items.now ≡ true }
     requires sender { length sender.now ≤ SENDER_LIMIT }
-    requires room { 16001 * requests_in items.now ≤ 1 + answer.old.room }
+    requires room { REPLY_ROOM * requests_in items.now ≤ 1 + answer.old.room }
     ensures ran { TextGrows state.old state.new answer.old.text answer.new.text
         (replied_to source.now sender.now [] items.now) }
     ensures work { (w : World) → StandsFor state.old w →

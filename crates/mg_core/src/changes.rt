@@ -9,12 +9,48 @@ use itoa::Buffer;
 use mg_text::Bytes;
 use mg_words::{MEMBERS, Mode};
 
+/// The maximum length of a number in decimal, in bytes. The other constants are lengths in bytes, too.
+const NUMBER_LIMIT: usize = 20;
+
+/// The start of a line: `# `, ` ticks: RTP/` and two numbers.
+const LINE_HEAD_LIMIT: usize = 14 + 2 * NUMBER_LIMIT;
+
+/// The line of a termination that ended: its start, ` ended` and a line feed.
+pub const ENDED_LIMIT: usize = 7 + LINE_HEAD_LIMIT;
+
+/// ` made in context `, ` at port ` and two numbers.
+const PLACE_LIMIT: usize = 26 + 2 * NUMBER_LIMIT;
+
+/// The line of a new termination's place: its start, the place and a line feed.
+const MADE_LIMIT: usize = 1 + LINE_HEAD_LIMIT + PLACE_LIMIT;
+
+/// ` moved to context ` and a number.
+const MOVED_TO_LIMIT: usize = 18 + NUMBER_LIMIT;
+
+/// The line of a termination that moved: its start, the context and a line feed.
+const MOVED_LIMIT: usize = 1 + LINE_HEAD_LIMIT + MOVED_TO_LIMIT;
+
+/// The line of a mode: its start, ` mode `, the longest mode (11 bytes) and a line feed.
+const MODE_LINE_LIMIT: usize = 18 + LINE_HEAD_LIMIT;
+
+/// A space and a name: ` RTP/` and a number.
+const TALKER_LIMIT: usize = 5 + NUMBER_LIMIT;
+
+/// The names of all members of a context.
+const TALKERS_LIMIT: usize = MEMBERS * TALKER_LIMIT;
+
+/// The line of whom a termination hears: its start, ` hears`, names and a line feed.
+const HEARING_LIMIT: usize = 7 + LINE_HEAD_LIMIT + TALKERS_LIMIT;
+
+/// All lines of a new termination.
+pub const NEW_LIMIT: usize = MADE_LIMIT + MODE_LINE_LIMIT + HEARING_LIMIT;
+
 /// Writes a number in decimal.
 #[tactic(auto, using(crate::proofs::ChangeLemmas::lengths))]
 fn push_number(n: u64, out: &mut Bytes)
-    requires room { 20 ≤ out.old.room }
+    requires room { NUMBER_LIMIT ≤ out.old.room }
     ensures value { out.new ≡ appended out.old (decimal n) }
-    ensures short { length (decimal n) ≤ 20 }
+    ensures short { length (decimal n) ≤ NUMBER_LIMIT }
 {
     let mut buffer = Buffer::new();
     out.push(buffer.format(n).as_bytes());
@@ -23,9 +59,9 @@ fn push_number(n: u64, out: &mut Bytes)
 /// Writes the start of a line: the number of ticks so far, and the termination.
 #[tactic(auto, using(crate::proofs::ChangeLemmas::steps))]
 fn push_head(ticks: u64, number: u32, out: &mut Bytes)
-    requires room { 54 ≤ out.old.room }
+    requires room { LINE_HEAD_LIMIT ≤ out.old.room }
     ensures value { out.new ≡ appended out.old (line_head ticks number) }
-    ensures short { length (line_head ticks number) ≤ 54 }
+    ensures short { length (line_head ticks number) ≤ LINE_HEAD_LIMIT }
 {
     out.push(b"# ");
     push_number(ticks, out);
@@ -36,9 +72,9 @@ fn push_head(ticks: u64, number: u32, out: &mut Bytes)
 /// Writes that a termination ended.
 #[tactic(auto, using(crate::proofs::ChangeLemmas::steps))]
 fn push_ended(ticks: u64, old: &KeptListener, out: &mut Bytes)
-    requires room { 61 ≤ out.old.room }
+    requires room { ENDED_LIMIT ≤ out.old.room }
     ensures value { out.new ≡ appended out.old (ended_line ticks old.now) }
-    ensures short { length (ended_line ticks old.now) ≤ 61 }
+    ensures short { length (ended_line ticks old.now) ≤ ENDED_LIMIT }
 {
     push_head(ticks, old.number, out);
     out.push(b" ended\n");
@@ -47,11 +83,11 @@ fn push_ended(ticks: u64, old: &KeptListener, out: &mut Bytes)
 /// Writes the context and the port of a new termination.
 #[tactic(auto, using(crate::proofs::ChangeLemmas::steps))]
 fn push_place(context: u32, port: u16, out: &mut Bytes)
-    requires room { 66 ≤ out.old.room }
+    requires room { PLACE_LIMIT ≤ out.old.room }
     ensures value { out.new ≡ appended out.old
         (codes " made in context " ++ (decimal context ++ (codes " at port " ++ decimal port))) }
     ensures short { length (codes " made in context " ++ (decimal context ++ (codes " at port " ++ decimal port)))
-        ≤ 66 }
+        ≤ PLACE_LIMIT }
 {
     out.push(b" made in context ");
     push_number(u64::from(context), out);
@@ -62,9 +98,9 @@ fn push_place(context: u32, port: u16, out: &mut Bytes)
 /// Writes that a termination is new.
 #[tactic(auto, using(crate::proofs::ChangeLemmas::steps))]
 fn push_made(ticks: u64, new: &KeptListener, out: &mut Bytes)
-    requires room { 121 ≤ out.old.room }
+    requires room { MADE_LIMIT ≤ out.old.room }
     ensures value { out.new ≡ appended out.old (made_line ticks new.now) }
-    ensures short { length (made_line ticks new.now) ≤ 121 }
+    ensures short { length (made_line ticks new.now) ≤ MADE_LIMIT }
 {
     push_head(ticks, new.number, out);
     push_place(new.context, new.port, out);
@@ -74,9 +110,9 @@ fn push_made(ticks: u64, new: &KeptListener, out: &mut Bytes)
 /// Writes the context that a termination moved to.
 #[tactic(auto, using(crate::proofs::ChangeLemmas::steps))]
 fn push_context(context: u32, out: &mut Bytes)
-    requires room { 38 ≤ out.old.room }
+    requires room { MOVED_TO_LIMIT ≤ out.old.room }
     ensures value { out.new ≡ appended out.old (codes " moved to context " ++ decimal context) }
-    ensures short { length (codes " moved to context " ++ decimal context) ≤ 38 }
+    ensures short { length (codes " moved to context " ++ decimal context) ≤ MOVED_TO_LIMIT }
 {
     out.push(b" moved to context ");
     push_number(u64::from(context), out);
@@ -85,9 +121,9 @@ fn push_context(context: u32, out: &mut Bytes)
 /// Writes that a termination moved to another context.
 #[tactic(auto, using(crate::proofs::ChangeLemmas::steps))]
 fn push_moved(ticks: u64, new: &KeptListener, out: &mut Bytes)
-    requires room { 93 ≤ out.old.room }
+    requires room { MOVED_LIMIT ≤ out.old.room }
     ensures value { out.new ≡ appended out.old (moved_line ticks new.now) }
-    ensures short { length (moved_line ticks new.now) ≤ 93 }
+    ensures short { length (moved_line ticks new.now) ≤ MOVED_LIMIT }
 {
     push_head(ticks, new.number, out);
     push_context(new.context, out);
@@ -97,9 +133,9 @@ fn push_moved(ticks: u64, new: &KeptListener, out: &mut Bytes)
 /// Writes the mode of a termination.
 #[tactic(auto, using(crate::proofs::ChangeLemmas::steps))]
 fn push_mode(ticks: u64, new: &KeptListener, out: &mut Bytes)
-    requires room { 72 ≤ out.old.room }
+    requires room { MODE_LINE_LIMIT ≤ out.old.room }
     ensures value { out.new ≡ appended out.old (in_mode ticks new.now) }
-    ensures short { length (in_mode ticks new.now) ≤ 72 }
+    ensures short { length (in_mode ticks new.now) ≤ MODE_LINE_LIMIT }
 {
     push_head(ticks, new.number, out);
     out.push(b" mode ");
@@ -110,9 +146,9 @@ fn push_mode(ticks: u64, new: &KeptListener, out: &mut Bytes)
 /// Writes a space and the name of a termination.
 #[tactic(auto, using(crate::proofs::ChangeLemmas::steps))]
 fn push_name(number: u32, out: &mut Bytes)
-    requires room { 25 ≤ out.old.room }
+    requires room { TALKER_LIMIT ≤ out.old.room }
     ensures value { out.new ≡ appended out.old (name_in_line number) }
-    ensures short { length (name_in_line number) ≤ 25 }
+    ensures short { length (name_in_line number) ≤ TALKER_LIMIT }
 {
     out.push(b" RTP/");
     push_number(u64::from(number), out);
@@ -122,9 +158,9 @@ fn push_name(number: u32, out: &mut Bytes)
 #[tactic(auto, using(crate::proofs::ChangeLemmas::steps))]
 fn push_names(numbers: &[u32], out: &mut Bytes)
     requires few { length numbers.now ≤ MEMBERS }
-    requires room { 1600 ≤ out.old.room }
+    requires room { TALKERS_LIMIT ≤ out.old.room }
     ensures value { out.new ≡ appended out.old (names_in_line numbers.now) }
-    ensures short { length (names_in_line numbers.now) ≤ 1600 }
+    ensures short { length (names_in_line numbers.now) ≤ TALKERS_LIMIT }
 {
     if numbers.is_empty() {
         out.push(b" nobody");
@@ -138,9 +174,9 @@ fn push_names(numbers: &[u32], out: &mut Bytes)
 /// Writes whom a termination hears.
 #[tactic(auto, using(crate::proofs::ChangeLemmas::steps))]
 fn push_talkers(ticks: u64, new: &KeptListener, out: &mut Bytes)
-    requires room { 1661 ≤ out.old.room }
+    requires room { HEARING_LIMIT ≤ out.old.room }
     ensures value { out.new ≡ appended out.old (hearing ticks new.now) }
-    ensures short { length (hearing ticks new.now) ≤ 1661 }
+    ensures short { length (hearing ticks new.now) ≤ HEARING_LIMIT }
 {
     push_head(ticks, new.number, out);
     out.push(b" hears");
@@ -151,9 +187,9 @@ fn push_talkers(ticks: u64, new: &KeptListener, out: &mut Bytes)
 /// Writes everything about a new termination.
 #[tactic(auto, using(crate::proofs::ChangeLemmas::steps))]
 fn push_new(ticks: u64, new: &KeptListener, out: &mut Bytes)
-    requires room { 1854 ≤ out.old.room }
+    requires room { NEW_LIMIT ≤ out.old.room }
     ensures value { out.new ≡ appended out.old (lines_of_new ticks None new.now) }
-    ensures short { length (lines_of_new ticks None new.now) ≤ 1854 }
+    ensures short { length (lines_of_new ticks None new.now) ≤ NEW_LIMIT }
 {
     push_made(ticks, new, out);
     push_mode(ticks, new, out);
@@ -172,9 +208,9 @@ fn is_same_mode(a: Mode, b: Mode) -> bool
 /// Writes what changed in an existing termination.
 #[tactic(auto, using(crate::proofs::ChangeLemmas::steps))]
 fn push_changed(ticks: u64, old: &KeptListener, new: &KeptListener, out: &mut Bytes)
-    requires room { 1854 ≤ out.old.room }
+    requires room { NEW_LIMIT ≤ out.old.room }
     ensures value { out.new ≡ appended out.old (lines_of_new ticks (Some old.now) new.now) }
-    ensures short { length (lines_of_new ticks (Some old.now) new.now) ≤ 1854 }
+    ensures short { length (lines_of_new ticks (Some old.now) new.now) ≤ NEW_LIMIT }
 {
     if old.context != new.context {
         push_moved(ticks, new, out);
@@ -203,9 +239,9 @@ fn listener_at(listeners: &[KeptListener], number: u32) -> Option<&KeptListener>
 /// Writes that a termination ended, unless it still exists.
 #[tactic(auto, using(crate::proofs::ChangeLemmas::steps))]
 fn push_old(ticks: u64, after: &[KeptListener], old: &KeptListener, out: &mut Bytes)
-    requires room { 61 ≤ out.old.room }
+    requires room { ENDED_LIMIT ≤ out.old.room }
     ensures value { out.new ≡ appended out.old (lines_of_old ticks after.now old.now) }
-    ensures short { length (lines_of_old ticks after.now old.now) ≤ 61 }
+    ensures short { length (lines_of_old ticks after.now old.now) ≤ ENDED_LIMIT }
 {
     match listener_at(after, old.number) {
         Some(_) => {}
@@ -216,9 +252,9 @@ fn push_old(ticks: u64, after: &[KeptListener], old: &KeptListener, out: &mut By
 /// Writes what is new about a termination.
 #[tactic(auto, using(crate::proofs::ChangeLemmas::steps))]
 fn push_listener(ticks: u64, before: &[KeptListener], new: &KeptListener, out: &mut Bytes)
-    requires room { 1854 ≤ out.old.room }
+    requires room { NEW_LIMIT ≤ out.old.room }
     ensures value { out.new ≡ appended out.old (lines_of_new ticks (listener_at before.now new.now.number) new.now) }
-    ensures short { length (lines_of_new ticks (listener_at before.now new.now.number) new.now) ≤ 1854 }
+    ensures short { length (lines_of_new ticks (listener_at before.now new.now.number) new.now) ≤ NEW_LIMIT }
 {
     match listener_at(before, new.number) {
         Some(old) => push_changed(ticks, old, new, out),
@@ -229,9 +265,9 @@ fn push_listener(ticks: u64, before: &[KeptListener], new: &KeptListener, out: &
 /// Writes which terminations ended.
 #[tactic(auto, using(crate::proofs::ChangeLemmas::steps))]
 fn push_all_old(ticks: u64, before: &[KeptListener], after: &[KeptListener], out: &mut Bytes)
-    requires room { 61 * length before.now ≤ out.old.room }
+    requires room { ENDED_LIMIT * length before.now ≤ out.old.room }
     ensures value { out.new ≡ appended out.old (flat_map (lines_of_old ticks after.now) before.now) }
-    ensures short { length (flat_map (lines_of_old ticks after.now) before.now) ≤ 61 * length before.now }
+    ensures short { length (flat_map (lines_of_old ticks after.now) before.now) ≤ ENDED_LIMIT * length before.now }
 {
     for old in before {
         push_old(ticks, after, old, out);
@@ -241,11 +277,11 @@ fn push_all_old(ticks: u64, before: &[KeptListener], after: &[KeptListener], out
 /// Writes what is new about all terminations.
 #[tactic(auto, using(crate::proofs::ChangeLemmas::steps))]
 fn push_all_new(ticks: u64, before: &[KeptListener], after: &[KeptListener], out: &mut Bytes)
-    requires room { 1854 * length after.now ≤ out.old.room }
+    requires room { NEW_LIMIT * length after.now ≤ out.old.room }
     ensures value { out.new ≡ appended out.old
         (flat_map (λ x. lines_of_new ticks (listener_at before.now x.number) x) after.now) }
     ensures short { length (flat_map (λ x. lines_of_new ticks (listener_at before.now x.number) x) after.now)
-        ≤ 1854 * length after.now }
+        ≤ NEW_LIMIT * length after.now }
 {
     for new in after {
         push_listener(ticks, before, new, out);
@@ -255,9 +291,9 @@ fn push_all_new(ticks: u64, before: &[KeptListener], after: &[KeptListener], out
 /// Writes all changes from the earlier to the later state of the terminations.
 #[tactic(auto, using(crate::proofs::ChangeLemmas::steps))]
 pub fn push_changes(ticks: u64, before: &[KeptListener], after: &[KeptListener], out: &mut Bytes)
-    requires room { 61 * length before.now + 1854 * length after.now ≤ out.old.room }
+    requires room { ENDED_LIMIT * length before.now + NEW_LIMIT * length after.now ≤ out.old.room }
     ensures value { out.new ≡ appended out.old (changes ticks before.now after.now) }
-    ensures short { length (changes ticks before.now after.now) ≤ 61 * length before.now + 1854 * length after.now }
+    ensures short { length (changes ticks before.now after.now) ≤ ENDED_LIMIT * length before.now + NEW_LIMIT * length after.now }
 {
     push_all_old(ticks, before, after, out);
     push_all_new(ticks, before, after, out);

@@ -1,8 +1,15 @@
-ghost use Rattle.std.specs.Prelude.{◌≡◌, ◌<◌};
-ghost use Rattle.mg_core.specs.World.{placed_counter, cause_of};
+ghost use Rattle.std.specs.Prelude.{◌≡◌, ◌+◌, ◌<◌};
+ghost use Rattle.mg_engine.specs.declared.taken.Taken.TheVariants as takens;
+ghost use Rattle.mg_core.specs.World.{result_place};
 
 use mg_engine::{DropCause, Taken};
 use mg_playout::Placed;
+
+/// The number of results of placing.
+const PLACINGS: usize = 5;
+
+/// The number of causes of a drop.
+pub const DROP_CAUSES: usize = 6;
 
 /// The counters of a run. A counter that reaches its maximum stays there.
 #[derive(Clone, Copy, Debug, PartialEq, Eq)]
@@ -20,9 +27,9 @@ pub struct Counts {
     /// Sends and receives that failed, and control datagrams that were dropped because memory ran out.
     pub failed: u64,
     /// RTP datagrams by the result of placing: started, placed, pushed, again, late.
-    pub placed: [u64; 5],
+    pub placed: [u64; PLACINGS],
     /// Dropped RTP datagrams by cause: no termination, stray, no Local, not RTP, payload type, length.
-    pub dropped: [u64; 6],
+    pub dropped: [u64; DROP_CAUSES],
     /// Frames that concealed a missing one.
     pub concealed: u64,
 }
@@ -42,7 +49,7 @@ impl Counts {
     ghost use Rattle.std.specs.Prelude.{◌≡◌, ◌+◌};
     ghost use Rattle.mg_core.specs.World.{Tally, counts_of, no_events, with_taken, with_tick};
 
-    /// Returns counters that are all 0.
+    /// Returns counters that are all zero.
     pub fn new() -> Counts
         ensures value { result ≡ counts_of no_events }
     {
@@ -53,8 +60,8 @@ impl Counts {
             ticks: 0,
             sent: 0,
             failed: 0,
-            placed: [0; 5],
-            dropped: [0; 6],
+            placed: [0; PLACINGS],
+            dropped: [0; DROP_CAUSES],
             concealed: 0,
         }
     }
@@ -78,7 +85,7 @@ impl Counts {
                 self.placed[place] = self.placed[place].saturating_add(1);
             }
             Taken::Dropped(cause) => {
-                let place = cause_of(cause);
+                let place = cause_counter(cause);
                 self.dropped[place] = self.dropped[place].saturating_add(1);
             }
         }
@@ -95,7 +102,7 @@ impl Counts {
 
 /// Returns the index of the counter for a result of placing.
 fn placed_counter(placed: Placed) -> usize
-    ensures value { result ≡ placed_counter placed }
+    ensures value { result ≡ result_place (takens.Placed placed) }
     ensures below { result < 5 }
 {
     match placed {
@@ -108,8 +115,8 @@ fn placed_counter(placed: Placed) -> usize
 }
 
 /// Returns the index of the counter for a cause of a drop.
-fn cause_of(cause: DropCause) -> usize
-    ensures value { result ≡ cause_of cause }
+fn cause_counter(cause: DropCause) -> usize
+    ensures value { 5 + result ≡ result_place (takens.Dropped cause) }
     ensures below { result < 6 }
 {
     match cause {

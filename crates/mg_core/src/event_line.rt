@@ -4,15 +4,22 @@ ghost use Rattle.mg_reply.specs.Bytes.{appended};
 ghost use Rattle.mg_core.specs.declared.event.Event.TheVariants as events;
 ghost use Rattle.mg_core.specs.Recording.{datagram_text, event_line};
 
-use crate::output::push_peer;
+use crate::output::{PEER_LIMIT, push_peer};
 use crate::script::DATAGRAM_LIMIT;
 use mg_engine::Peer;
+use mg_reply::PORT_LIMIT;
 use mg_text::{Bytes, write_port};
 use std::alloc::{AllocError, Global};
 use std::marker::Model;
 
-/// The maximum length of a line, in bytes: a first word, a port, a peer, and the digits of a datagram.
-const LINE_ROOM: usize = 33 + 2 * DATAGRAM_LIMIT;
+/// The maximum number of hexadecimal digits of a datagram.
+const DIGITS_ROOM: usize = 2 * DATAGRAM_LIMIT;
+
+/// The maximum length of what surrounds the digits of a datagram, in bytes: a peer, a space and a line feed.
+const DATAGRAM_START: usize = 2 + PEER_LIMIT;
+
+/// The maximum length of a line, in bytes: `rtp`, two spaces, a port, a peer, and the digits of a datagram.
+const LINE_ROOM: usize = 5 + PORT_LIMIT + DATAGRAM_START + DIGITS_ROOM;
 
 /// The script line of an event, which is built here and then written at once. Contracts see its text.
 #[derive(Drop)]
@@ -23,21 +30,22 @@ pub struct EventLine {
 
 impl Model for EventLine {
     ghost use Rattle.std.specs.Prelude.{◌≡◌, ◌+◌, List, ℕ, length};
+    ghost use Rattle.mg_core.specs.declared.event_line.TheConstants.{DIGITS_ROOM, LINE_ROOM};
 
     ghost Value = { List ℕ };
 
     ghost view = { λ l. l.line.text };
 
-    ghost invariant = { λ l. (l.line.room + length l.line.text ≡ 131103) × (length l.digits.items ≡ 131070) };
+    ghost invariant = { λ l. (l.line.room + length l.line.text ≡ LINE_ROOM) × (length l.digits.items ≡ DIGITS_ROOM) };
 }
 
 /// Writes a peer and the bytes of a datagram, and ends the line. The digits are built in `digits`.
 #[tactic(auto, using(crate::proofs::OutputLemmas::steps))]
 fn push_datagram(source: Peer, bytes: &[u8], digits: &mut [u8], out: &mut Bytes)
     requires digits { 2 * length bytes.now ≤ length digits.old }
-    requires room { 23 + 2 * length bytes.now ≤ out.old.room }
+    requires room { DATAGRAM_START + 2 * length bytes.now ≤ out.old.room }
     ensures value { out.new ≡ appended out.old (datagram_text source bytes.now) }
-    ensures short { length (datagram_text source bytes.now) ≤ 23 + 2 * length bytes.now }
+    ensures short { length (datagram_text source bytes.now) ≤ DATAGRAM_START + 2 * length bytes.now }
     ensures digits { length digits.new ≡ length digits.old }
 {
     push_peer(source, out);
@@ -55,14 +63,14 @@ impl EventLine {
     {
         Ok(EventLine {
             line: Bytes::new(alloc, LINE_ROOM)?,
-            digits: vec![in alloc; 0; 2 * DATAGRAM_LIMIT]?,
+            digits: vec![in alloc; 0; DIGITS_ROOM]?,
         })
     }
 
     /// Builds the line of a control datagram.
     #[tactic(auto, using(crate::proofs::OutputLemmas::steps))]
     pub fn control(&mut self, source: Peer, bytes: &[u8])
-        requires short { length bytes.now ≤ 65535 }
+        requires short { length bytes.now ≤ DATAGRAM_LIMIT }
         ensures value { self.new ≡ event_line (events.Control source bytes.now) }
     {
         self.line.clear();
@@ -73,7 +81,7 @@ impl EventLine {
     /// Builds the line of an RTP datagram at a media port.
     #[tactic(auto, using(crate::proofs::OutputLemmas::steps))]
     pub fn media(&mut self, port: u16, source: Peer, bytes: &[u8])
-        requires short { length bytes.now ≤ 65535 }
+        requires short { length bytes.now ≤ DATAGRAM_LIMIT }
         ensures value { self.new ≡ event_line (events.Media port source bytes.now) }
     {
         self.line.clear();

@@ -4,7 +4,7 @@ use thiserror::Error;
 
 /// Memory ran out while a control datagram was read. Only the last answer has changed: it is now empty.
 #[derive(Clone, Copy, Debug, PartialEq, Eq, Error)]
-#[error("no memory")]
+#[error("out of memory")]
 pub struct NoMemory;
 
 /// Why the lines of an event were not written completely.
@@ -15,7 +15,7 @@ pub enum EventFault {
     NoMemory,
 }
 
-/// Why a line was not run, or why not everything that it sends was written.
+/// Why a line was not run, or why its output is incomplete.
 #[derive(Clone, Copy, Debug, PartialEq, Eq)]
 pub enum LineFault {
     /// The line with this number, counted from 1, is not a script line.
@@ -44,7 +44,7 @@ pub enum RunFault {
     Read,
     #[error("write failed")]
     Write,
-    #[error("no memory")]
+    #[error("out of memory")]
     NoMemory,
     #[error("bad configuration")]
     BadConfig,

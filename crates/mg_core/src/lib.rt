@@ -39,7 +39,7 @@ pub mod theorems;
 mod watched;
 
 pub use crate::answer::Answer;
-pub use crate::counts::Counts;
+pub use crate::counts::{Counts, DROP_CAUSES};
 pub use crate::event::Event;
 pub use crate::event_line::EventLine;
 pub use crate::fault::{NoMemory, RunFault};

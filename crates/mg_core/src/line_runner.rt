@@ -5,13 +5,14 @@ ghost use Rattle.mg_words.specs.Leads.{Leads};
 ghost use Rattle.mg_core.specs.Step.{Step};
 ghost use Rattle.mg_core.specs.aids.Steps.{AreKeptListeners, ChangesWritten, EventRan, Follows, LeadsOn, LineRan};
 ghost use Rattle.mg_core.specs.declared.shown.Shown.{Shown};
+ghost use Rattle.mg_core.specs.declared.line_runner.TheConstants.{OUTPUT_LIMIT};
 ghost use Rattle.mg_core.specs.World.{World, StandsFor, start_of};
 
 use crate::answer::Answer;
 use crate::event::Event;
 use crate::fault::{EventFault, LineFault};
 use crate::machine::{ANSWER_LIMIT, Core};
-use crate::output::{push_answer, push_packets};
+use crate::output::{LINE_START, push_answer, push_packets};
 use crate::script::{ParseFault, event_of};
 use crate::shown::Shown;
 use crate::watched::Watched;
@@ -21,11 +22,11 @@ use mg_text::Bytes;
 use std::alloc::{AllocError, Global};
 use std::io::Write;
 
-/// The maximum length of an output line, in bytes: a first word, a peer, and an answer whose bytes may all need an
+/// The maximum length of an output line, in bytes: a first word, a peer, and an answer in which every byte may need an
 /// escape.
-const OUTPUT_LIMIT: usize = 27 + 2 * ANSWER_LIMIT;
+const OUTPUT_LIMIT: usize = LINE_START + 2 * ANSWER_LIMIT;
 
-/// Makes the store of terminations that is needed to show changes, for a gateway without terminations.
+/// Makes the store of terminations that is needed to show changes. The gateway has no terminations yet.
 fn watched_for(alloc: Global, shown: Shown) -> Result<Option<Watched>, AllocError>
     ensures value { (config : Config) → IfOk result (λ watched. AreKeptListeners shown watched (start_of config)) }
 {
@@ -42,7 +43,7 @@ fn watched_for(alloc: Global, shown: Shown) -> Result<Option<Watched>, AllocErro
 ///
 /// Fails only if the allocation does.
 fn outputs(alloc: Global, shown: Shown) -> Result<(Bytes, Option<Watched>), AllocError>
-    ensures output { IfOk result (λ (output, watched). output ≡ record { text = []; room = 128099 }) }
+    ensures output { IfOk result (λ (output, watched). output ≡ record { text = []; room = OUTPUT_LIMIT }) }
     ensures watched { (config : Config) →
         IfOk result (λ (output, watched). AreKeptListeners shown watched (start_of config)) }
 {
@@ -59,7 +60,7 @@ pub struct LineRunner {
     pub sent: u64,
     /// The terminations after the last event, if changes are shown.
     pub watched: Option<Watched>,
-    ghost output_size: { output.room + length output.text ≡ 128099 },
+    ghost output_size: { output.room + length output.text ≡ OUTPUT_LIMIT },
 }
 
 impl LineRunner {

@@ -11,7 +11,7 @@ use mg_rooms::MEMBERS;
 use mg_words::Mode;
 use std::marker::Model;
 
-/// A termination at some time, with the talkers whose speech flows to it.
+/// A termination at one moment, with the talkers whose speech flows to it.
 #[derive(Drop)]
 pub struct KeptListener {
     pub number: u32,

@@ -8,7 +8,7 @@ use mg_rooms::TERMINATIONS;
 use std::alloc::{AllocError, Global};
 use std::marker::Model;
 
-/// The terminations of a gateway at some time, in order of their numbers.
+/// The terminations of a gateway at one moment, in order of their numbers.
 #[derive(Drop)]
 pub struct KeptListeners {
     /// A place for each possible termination. The first `len` places are in use.

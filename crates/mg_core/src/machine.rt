@@ -1,7 +1,7 @@
 ghost use Rattle.std.specs.Prelude.{◌≡◌, ◌<◌, ◌≤◌, ◌+◌, ◌*◌, ◌↔◌, [], true, length, Some, IfOk, OnOk, OnErr, Option, List, map, ℕ};
 ghost use Rattle.std.specs.List.{slice_get};
 ghost use Rattle.mg_rooms.specs.Limits.{slot_port};
-ghost use Rattle.mg_rooms.specs.Sound.{IsSound};
+ghost use Rattle.mg_rooms.specs.Consistent.{IsConsistent};
 ghost use Rattle.mg_engine.specs.Config.{IsValidConfig};
 ghost use Rattle.mg_engine.specs.Flow.{flow};
 ghost use Rattle.mg_engine.specs.Mix.{total_at};
@@ -20,23 +20,24 @@ ghost use Rattle.mg_core.specs.Work.{CausesEdits, edits_by_items};
 ghost use Rattle.mg_core.specs.World.{World, StandsFor, TakesMedia, counts_of, packets_of, start_of, world_after_tick, with_control};
 
 use crate::answer::Answer;
-use crate::answering::{has_requests, items_of, put_error, put_replies, refusal_of};
+use crate::answering::{REPLY_ROOM, has_requests, items_of, put_error, put_replies, refusal_of};
 use crate::counts::Counts;
 use crate::fault::NoMemory;
 use crate::state::CoreState;
 use mg_commands::Kept;
 use mg_engine::{Config, Datagram, Engine, Outbox, Peer, Record, Rooms, StartFault, Stats, Taken};
 use mg_rooms::TERMINATIONS;
-use mg_text::{Bytes, ErrorNumber, Message, Reply, read, write_head};
+use mg_text::{Bytes, ErrorNumber, HEAD_LIMIT, Message, REQUEST_LIMIT, Reply, read, write_head};
 use std::alloc::{AllocError, Global};
 use std::marker::Model;
 
-/// The maximum length of an answer, in bytes: a head, four replies, and a line feed between two replies.
-pub const ANSWER_LIMIT: usize = 64036;
+/// The maximum length of an answer, in bytes: a head and the replies to all requests, with a line feed
+/// between two replies.
+pub const ANSWER_LIMIT: usize = HEAD_LIMIT + REQUEST_LIMIT * REPLY_ROOM - 1;
 
 /// The gateway as a state machine: datagrams and ticks go in, answers and packets come out.
 ///
-/// It opens nothing, waits for nothing and knows no clock. It keeps no history. So contracts speak of every world that
+/// It opens nothing, waits for nothing, and knows no clock. It keeps no history, so contracts speak of every world that
 /// its state represents, before and after a call.
 #[derive(Drop)]
 pub struct Core {
@@ -49,12 +50,13 @@ pub struct Core {
 impl Model for Core {
     ghost use Rattle.std.specs.Prelude.{◌≡◌, ◌+◌, length};
     ghost use Rattle.mg_core.specs.CoreView.{CoreView};
+    ghost use Rattle.mg_core.specs.declared.machine.TheConstants.{ANSWER_LIMIT};
 
     ghost Value = { CoreView };
 
     ghost view = { λ c. record { state = c.state; answer = c.answer.text; outbox = c.outbox.items } };
 
-    ghost invariant = { λ c. c.answer.room + length c.answer.text ≡ 64036 };
+    ghost invariant = { λ c. c.answer.room + length c.answer.text ≡ ANSWER_LIMIT };
 }
 
 /// Makes the store of kept replies, the reply under construction, and the buffer of answers.
@@ -222,7 +224,7 @@ impl Core {
         self.outbox.as_slice()
     }
 
-    /// Returns whether a talker's speech flows to a listener. It is false if a number names no termination.
+    /// Returns whether a talker's speech flows to a listener: false if a number names no termination.
     pub fn flow(&self, talker: u32, listener: u32) -> bool
         ensures value { (w : World) → StandsFor self.now.state w → result ≡ flow w.gateway talker listener }
         ensures headline { FlowIsRecomputed self.now.state talker listener result }
@@ -251,7 +253,7 @@ impl Core {
     pub fn terminations(&self) -> usize
         ensures value { result ≡ length self.now.state.engine.rooms.terminations }
         ensures few { result ≤ TERMINATIONS }
-        ensures sound { IsSound self.now.state.engine.rooms }
+        ensures consistent { IsConsistent self.now.state.engine.rooms }
     {
         self.state.engine.terminations()
     }
@@ -267,7 +269,7 @@ impl Core {
 
     /// Exposes the invariant of the terminations to a proof. Has no effect.
     pub(crate) fn assert_invariant(&self)
-        ensures sound { IsSound self.now.state.engine.rooms }
+        ensures consistent { IsConsistent self.now.state.engine.rooms }
     {
         let _count = self.state.engine.terminations();
     }

@@ -7,7 +7,22 @@ ghost use Rattle.mg_core.specs.Run.{answer_line, packet_line, lines_for};
 ghost use Rattle.mg_core.specs.Step.{Packet};
 
 use mg_engine::{Datagram, Peer};
+use mg_reply::PORT_LIMIT;
+use mg_rtp::PACKET_LEN;
 use mg_text::{Bytes, write_address, write_port};
+use mg_words::ADDRESS_LIMIT;
+
+/// The maximum length of a peer, in bytes: an address, a colon and a port.
+pub const PEER_LIMIT: usize = ADDRESS_LIMIT + 1 + PORT_LIMIT;
+
+/// The maximum length of an answer's line without the answer, in bytes: `say`, two spaces, a peer and a line feed.
+pub const LINE_START: usize = 6 + PEER_LIMIT;
+
+/// The number of hexadecimal digits of a packet.
+const DIGITS_LEN: usize = 2 * PACKET_LEN;
+
+/// The maximum length of a packet's line, in bytes: `rtp`, three spaces, a port, a peer, the digits and a line feed.
+const PACKET_LINE: usize = 7 + PORT_LIMIT + PEER_LIMIT + DIGITS_LEN;
 
 /// Writes a byte of a text, escaped if necessary.
 fn push_escape(b: u8, out: &mut Bytes)
@@ -37,9 +52,9 @@ fn push_escaped(text: &[u8], out: &mut Bytes)
 /// Writes a peer: an address, a colon and a port.
 #[tactic(auto, using(crate::proofs::OutputLemmas::steps))]
 pub fn push_peer(peer: Peer, out: &mut Bytes)
-    requires room { 21 ≤ out.old.room }
+    requires room { PEER_LIMIT ≤ out.old.room }
     ensures value { out.new ≡ appended out.old (peer_text peer) }
-    ensures short { length (peer_text peer) ≤ 21 }
+    ensures short { length (peer_text peer) ≤ PEER_LIMIT }
 {
     write_address(peer.address, out);
     out.push(b":");
@@ -49,9 +64,9 @@ pub fn push_peer(peer: Peer, out: &mut Bytes)
 /// Writes the line of an answer to a peer.
 #[tactic(auto, using(crate::proofs::OutputLemmas::steps))]
 pub fn push_answer(peer: Peer, text: &[u8], out: &mut Bytes)
-    requires room { 27 + 2 * length text.now ≤ out.old.room }
+    requires room { LINE_START + 2 * length text.now ≤ out.old.room }
     ensures value { out.new ≡ appended out.old (answer_line peer text.now) }
-    ensures short { length (answer_line peer text.now) ≤ 27 + 2 * length text.now }
+    ensures short { length (answer_line peer text.now) ≤ LINE_START + 2 * length text.now }
 {
     out.push(b"say ");
     push_peer(peer, out);
@@ -61,12 +76,12 @@ pub fn push_answer(peer: Peer, text: &[u8], out: &mut Bytes)
 }
 
 /// Writes bytes in lower-case hexadecimal.
-fn push_digits(bytes: &[u8; 172], out: &mut Bytes)
-    requires room { 344 ≤ out.old.room }
+fn push_digits(bytes: &[u8; PACKET_LEN], out: &mut Bytes)
+    requires room { DIGITS_LEN ≤ out.old.room }
     ensures value { out.new ≡ appended out.old (encode_lower bytes.now) }
-    ensures short { length (encode_lower bytes.now) ≡ 344 }
+    ensures short { length (encode_lower bytes.now) ≡ DIGITS_LEN }
 {
-    let mut digits = [0; 344];
+    let mut digits = [0; DIGITS_LEN];
     hex::encode_to_slice(bytes.as_slice(), &mut digits).unwrap();
     out.push(&digits);
 }
@@ -74,9 +89,9 @@ fn push_digits(bytes: &[u8; 172], out: &mut Bytes)
 /// Writes the line of a packet.
 #[tactic(auto, using(crate::proofs::OutputLemmas::steps))]
 fn push_packet(packet: &Datagram, out: &mut Bytes)
-    requires room { 377 ≤ out.old.room }
+    requires room { PACKET_LINE ≤ out.old.room }
     ensures value { out.new ≡ appended out.old (packet_line packet.now) }
-    ensures short { length (packet_line packet.now) ≤ 377 }
+    ensures short { length (packet_line packet.now) ≤ PACKET_LINE }
 {
     out.push(b"rtp ");
     write_port(packet.from, out);
@@ -90,9 +105,9 @@ fn push_packet(packet: &Datagram, out: &mut Bytes)
 /// Writes the lines of a tick's packets.
 #[tactic(auto, using(crate::proofs::OutputLemmas::steps))]
 pub fn push_packets(packets: &[Datagram], out: &mut Bytes)
-    requires room { 377 * length packets.now ≤ out.old.room }
+    requires room { PACKET_LINE * length packets.now ≤ out.old.room }
     ensures value { out.new ≡ appended out.old (lines_for (map Packet packets.now)) }
-    ensures short { length (lines_for (map Packet packets.now)) ≤ 377 * length packets.now }
+    ensures short { length (lines_for (map Packet packets.now)) ≤ PACKET_LINE * length packets.now }
 {
     for packet in packets {
         push_packet(packet, out);

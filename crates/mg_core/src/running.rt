@@ -22,10 +22,10 @@ use std::io::{Read, Write};
 /// A fault says how far the script was run, within the text that was read. The lines before the named line were run,
 /// and their output was written completely, before more was read:
 /// - `Script`: the first bad line has this number, and the lines before it were run.
-/// - `Read`: the lines whose ends had been read were run, and no others. A run also ends with it after 4,294,967,295
-///   reads.
-/// - `Write`: the lines before one were run, and the output of that line was written only in part.
-/// - `NoMemory`: the lines before one were run, and that line had no effect; or nothing was read.
+/// - `Read`: the lines whose ends had been read were run, and no others. A run also ends with `Read` after
+///   4,294,967,295 reads.
+/// - `Write`: the lines up to some line were run, and the output of that last one was written only in part.
+/// - `NoMemory`: the lines before some line were run, and that line had no effect; or nothing was read.
 /// - `BadConfig`: returned if and only if the configuration is invalid. Nothing was read.
 pub fn run<R: Read, W: Write>(
     alloc: Global,

@@ -53,7 +53,7 @@ fn is_plain(b: u8) -> bool
     matches!(b, 0x20..=0x7E)
 }
 
-/// Returns the byte denoted by a backslash and this byte.
+/// Returns the byte that a backslash and this byte stand for, or `None` if they are no escape.
 fn escaped_byte(b: u8) -> Option<u8>
     ensures value { result ≡ escaped_byte b }
 {
@@ -104,7 +104,7 @@ fn unhex(alloc: Global, digits: &[u8]) -> Result<Vec<u8>, ParseFault>
     }
 }
 
-/// How a line spells a datagram. The first word of the line determines it.
+/// How a script line encodes a datagram. The first word of the line determines it.
 #[derive(Clone, Copy, Debug, PartialEq, Eq)]
 enum Spelling {
     /// A text with escapes.
@@ -113,7 +113,7 @@ enum Spelling {
     Digits,
 }
 
-/// Returns the spelling that belongs to the first word of a line.
+/// Returns the encoding that the first word of a line selects.
 #[tactic(auto, unfolding(crate::specs::Script::spelling_of))]
 fn spelling_of(key: &[u8]) -> Option<Spelling>
     ensures value { result ≡ spelling_of key.now }
@@ -180,7 +180,7 @@ fn control_of(alloc: Global, key: &[u8], rest: &[u8]) -> Result<Option<Event>, P
     Ok(Some(Event::Control(source, TreeList::new(bytes))))
 }
 
-/// Parses a datagram: a first word, a space, and the parts that belong to it.
+/// Parses a datagram: a first word, a space, and the parts that the word requires.
 #[tactic(auto, unfolding(crate::specs::Script::datagram_of))]
 fn datagram_of(alloc: Global, line: &[u8]) -> Result<Option<Event>, ParseFault>
     ensures { Reads (λ event. event) result (datagram_of line.now) }

@@ -5,10 +5,12 @@ ghost use Rattle.mg_core.specs.World.{World, StandsFor, counts_of, start_of};
 ghost use Rattle.mg_lines.specs.Lines.{without_return};
 ghost use Rattle.mg_core.specs.aids.Steps.{AllRan, Follows, LeadsOn, LineRan, BytesRan, Finishes};
 ghost use Rattle.mg_core.specs.declared.shown.Shown.{Shown};
+ghost use Rattle.mg_core.specs.declared.script_runner.TheConstants.{PARTIAL_LIMIT};
 
 use crate::counts::Counts;
 use crate::fault::{LineFault, ScriptFault};
 use crate::line_runner::LineRunner;
+use crate::script::LINE_LIMIT;
 use crate::shown::Shown;
 use mg_engine::{Config, StartFault};
 use mg_lines::{READ_SIZE, read_some, without_return};
@@ -17,16 +19,16 @@ use std::alloc::Global;
 use std::io::{Read, Write};
 
 /// The maximum length of a partial line, in bytes: the longest line and a carriage return.
-const PARTIAL_LIMIT: usize = 140001;
+const PARTIAL_LIMIT: usize = LINE_LIMIT + 1;
 
-/// Runs a script on a gateway, in whatever pieces the script arrives.
+/// Runs a script on a gateway. The script may arrive in any pieces.
 #[derive(Drop)]
 pub struct ScriptRunner {
     pub runner: LineRunner,
     /// How many lines were run.
     pub lines: u64,
     pub partial: Bytes,
-    ghost partial_size: { partial.room + length partial.text ≡ 140001 },
+    ghost partial_size: { partial.room + length partial.text ≡ PARTIAL_LIMIT },
 }
 
 impl ScriptRunner {

@@ -4,7 +4,7 @@ ghost use Rattle.std.specs.Prelude.{◌≡◌, List};
 ghost use Rattle.mg_core.specs.declared.event.Event.{Event};
 ghost use Rattle.mg_commands.specs.Theorems.{RefusedNamesChangeNothing, RefusedCommandsChangeNothing, RefusedActionsChangeNothing, RefusedTopologiesChangeNothing, OthersAreTried, RefusedRequestsChangeNothing};
 ghost use Rattle.mg_core.specs.Apart.{UnheardChangesNothing, UnheardInHistories, UnheardInScripts};
-ghost use Rattle.mg_core.specs.Counting.{EventsAreCounted, RunsTake};
+ghost use Rattle.mg_core.specs.Counting.{EventsAreCounted};
 ghost use Rattle.mg_core.specs.Headline.{EventsDetermineOutcome, GatewayDeterminesFuture, WorldsAreConsistent};
 ghost use Rattle.mg_engine.specs.Isolation.{NoneHearsItself, OwnSpeechChangesNoPacket, IsolatedAreNotHeard, UnheardChangesNoPacket, PayloadsAreMixes};
 ghost use Rattle.mg_core.specs.Interleaving.{PortOrderIsIrrelevant, PortOrderInHistories, PortOrderInScripts};
@@ -44,7 +44,7 @@ pub fn outcomes_are_unique()
 
 /// A rejected command changes no flow, total or later packet.
 ///
-/// It leaves the gateway unchanged, and these depend only on the gateway, not on kept replies.
+/// It leaves the gateway unchanged. Flows, totals and packets depend only on the gateway, not on kept replies.
 pub fn refused_commands_change_no_packet()
     ensures theorem { GatewayDeterminesFuture }
 {
@@ -91,8 +91,8 @@ pub fn worlds_are_consistent()
 
 /// The order of packets from different callers does not matter.
 ///
-/// Suppose two lists of events have the same control datagrams and ticks, and each port receives the same RTP datagrams
-/// in the same order between them. Then both lists send the same datagrams and end in the same world.
+/// Suppose two lists of events have the same control datagrams and ticks, and between these each port receives the same
+/// RTP datagrams in the same order. Then both lists send the same datagrams and end in the same world.
 pub fn port_order_is_irrelevant()
     ensures events { PortOrderIsIrrelevant }
     ensures histories { PortOrderInHistories }
@@ -120,19 +120,15 @@ pub fn unheard_changes_nothing()
     mg_commands::theorems::requests_keep_agreement();
 }
 
-/// The lines that report what an event changed determine its outcome, and if nothing changed there are none.
+/// The lines that report an event's changes determine its outcome. If nothing changed, there are none.
 pub fn changes_are_reported()
     ensures complete { ReportDeterminesOutcome }
     ensures exact { OnlyChangesAreReported }
 {}
 
-/// The counts are the numbers of events.
-///
-/// They are control datagrams, RTP datagrams by result and by cause of a drop, ticks, and frames that concealed a
-/// missing one.
+/// The counts of control datagrams, RTP datagrams and ticks are their numbers, and each RTP datagram has one result.
 pub fn events_are_counted()
     ensures theorem { EventsAreCounted }
-    ensures runs { RunsTake }
 {}
 
 /// A recording is a script of its events.
@@ -144,12 +140,12 @@ pub fn recordings_are_read()
     ensures cut { CutRecordingsAreRead }
 {}
 
-/// The headline theorem: everything that the contracts of a core's calls do not say.
+/// The headline theorem: the parts of the headline that the contracts of a core's calls do not state.
 ///
 /// The clauses `headline` and `packets` of a [`Core`](crate::Core) say that after any events it returns and sends what
-/// is recomputed from the resulting world. This theorem says the rest. That world is determined, and so is the content
-/// of each packet. A rejected command changes nothing, and no later packet. Nobody hears himself, and an isolated
-/// participant is not heard.
+/// is recomputed from the resulting world. This theorem states the rest. The events determine that world and the
+/// content of each packet. Packets are sent in order of the terminations' numbers. A rejected command changes nothing,
+/// not even a later packet. Nobody hears himself, and an isolated participant is not heard.
 pub fn headline()
     ensures world { EventsDetermineOutcome }
     ensures packets { PayloadsAreMixes }
@@ -164,6 +160,7 @@ pub fn headline()
     ensures own { OwnSpeechChangesNoPacket }
     ensures isolated { IsolatedAreNotHeard }
     ensures unheard { UnheardChangesNoPacket }
+    ensures order { WorldsAreConsistent }
 {
     outcomes_are_unique();
     mg_engine::theorems::payloads_are_mixes();
@@ -171,4 +168,5 @@ pub fn headline()
     refused_commands_change_no_packet();
     mg_engine::theorems::none_hears_itself();
     mg_engine::theorems::isolated_are_not_heard();
+    worlds_are_consistent();
 }

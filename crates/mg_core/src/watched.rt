@@ -3,18 +3,19 @@ ghost use Rattle.mg_lines.specs.Streams.{Writes};
 ghost use Rattle.mg_core.specs.Flows.{changes, listeners_of};
 ghost use Rattle.mg_core.specs.World.{World, StandsFor, capped};
 
-use crate::changes::push_changes;
+use crate::changes::{ENDED_LIMIT, NEW_LIMIT, push_changes};
 use crate::listeners::KeptListeners;
 use crate::machine::Core;
 use mg_lines::{WriteFailed, write_whole};
+use mg_rooms::TERMINATIONS;
 use mg_text::Bytes;
 use std::alloc::{AllocError, Global};
 use std::io::Write;
 use std::marker::Model;
 use std::mem;
 
-/// The maximum length of the reported changes, in bytes: 256 terminations end and 256 are new, each with three lines.
-const CHANGES_LIMIT: usize = 490240;
+/// The maximum length of the reported changes, in bytes: every termination ends and as many are new.
+const CHANGES_LIMIT: usize = TERMINATIONS * (ENDED_LIMIT + NEW_LIMIT);
 
 /// The terminations of a gateway after its last changes. Contracts see them as a list.
 #[derive(Drop)]
@@ -28,12 +29,13 @@ pub struct Watched {
 impl Model for Watched {
     ghost use Rattle.std.specs.Prelude.{◌≡◌, ◌+◌, List, length};
     ghost use Rattle.mg_core.specs.Flows.{Listener};
+    ghost use Rattle.mg_core.specs.declared.watched.TheConstants.{CHANGES_LIMIT};
 
     ghost Value = { List Listener };
 
     ghost view = { λ x. x.listeners };
 
-    ghost invariant = { λ x. x.text.room + length x.text.text ≡ 490240 };
+    ghost invariant = { λ x. x.text.room + length x.text.text ≡ CHANGES_LIMIT };
 }
 
 impl Watched {

@@ -17,8 +17,10 @@ use Rattle.mg_rooms.specs.Registry as rooms
 use Rattle.mg_rooms.specs.Registry.{members_at}
 use Rattle.mg_sums.specs.Samples.{silence}
 use Rattle.mg_engine.specs.declared.topology_triple.TopologyTriple.{TopologyTriple}
-use Rattle.mg_engine.specs.Apart.{AgreeOutside, EndsAlike, IsPortAmong, SameEditsKeepAgreement, AgreementIsMutual, SamePackets, SameStatsButReceived, SameTickKeepsAgreement, but_received, unless_among, without_arrivals}
-use Rattle.mg_engine.specs.Arrival.{Arrived, arrived, at_port, frame_placed, frame_placed_at, taken_at}
+use Rattle.mg_engine.specs.Apart.{AgreeOutside, IsPortAmong, SamePackets, but_received, unless_among, without_arrivals}
+use Rattle.mg_engine.specs.aids.Agreement.{EndsAlike, SameEditsKeepAgreement, AgreementIsMutual, SameStatsButReceived, SameTickKeepsAgreement}
+use Rattle.mg_engine.specs.Arrival.{Arrived, arrived, at_port, frame_placed, taken_at}
+use Rattle.mg_engine.specs.aids.Placing.{frame_placed_at}
 use Rattle.mg_engine.specs.aids.Found.{taken_by}
 use Rattle.mg_engine.specs.Flow.{has}
 use Rattle.mg_engine.specs.Steps.{counted_up}

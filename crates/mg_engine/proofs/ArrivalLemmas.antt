@@ -20,7 +20,8 @@ use Rattle.mg_engine.specs.declared.taken.Taken.{Taken}
 use Rattle.mg_engine.specs.declared.taken.Taken.TheVariants.{Placed}
 use Rattle.mg_engine.specs.Gateway.{Gateway, TerminationMedia, media_of}
 use Rattle.mg_engine.specs.Steps.{received}
-use Rattle.mg_engine.specs.Arrival.{Arrived, frame_placed, frame_placed_at, taken_at}
+use Rattle.mg_engine.specs.Arrival.{Arrived, frame_placed, taken_at}
+use Rattle.mg_engine.specs.aids.Placing.{frame_placed_at}
 use Rattle.mg_engine.specs.Media as media
 use Rattle.mg_engine.specs.aids.MediaSteps as media_steps
 use Rattle.mg_engine.specs.Media.{idle}

@@ -12,7 +12,7 @@ use Rattle.mg_words.specs.Limits.{termination_limit}
 use Rattle.mg_rooms.specs.declared.record.Record.{Record}
 use Rattle.mg_rooms.specs.declared.settings.Settings.{Settings}
 use Rattle.mg_rooms.specs.Changes.{change}
-use Rattle.mg_rooms.specs.Sound.{IsSound}
+use Rattle.mg_rooms.specs.aids.Sound.{IsSound}
 use Rattle.mg_rooms.specs.Registry as rooms
 use Rattle.mg_rooms.specs.Registry.{record_at}
 use Rattle.mg_engine.specs.declared.config.Config.{Config}

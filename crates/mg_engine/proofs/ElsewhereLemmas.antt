@@ -16,7 +16,7 @@ use Rattle.mg_rooms.specs.Outcome.{may_enter, member, named, is_number, new_slot
 use Rattle.mg_rooms.specs.Record.{fresh, at_place, with_settings}
 use Rattle.mg_rooms.specs.Registry.{Registry, record_at, context_at, members_at, free_room, free_seat}
 use Rattle.mg_rooms.specs.Results.{passes}
-use Rattle.mg_rooms.specs.Sound.{IsSound}
+use Rattle.mg_rooms.specs.aids.Sound.{IsSound}
 use Rattle.mg_words.specs.Limits.{context_limit, member_limit, last_context}
 use Rattle.mg_words.specs.declared.error_number.ErrorNumber.{ErrorNumber}
 use Rattle.mg_words.specs.declared.error_number.ErrorNumber.TheVariants.{AlreadyInContext, ContextFull, NoContextLeft}

@@ -10,7 +10,7 @@ use Rattle.mg_rooms.specs.declared.record.Record.{Record}
 use Rattle.mg_rooms.specs.declared.context.Context.{Context}
 use Rattle.mg_rooms.specs.Registry as rooms
 use Rattle.mg_rooms.specs.Registry.{record_at, context_at}
-use Rattle.mg_rooms.specs.Sound.{IsSound}
+use Rattle.mg_rooms.specs.aids.Sound.{IsSound}
 use Rattle.mg_flow.specs.declared.place.Place.{Place}
 use Rattle.mg_flow.specs.Place.{sibling_place}
 use Rattle.mg_flow.specs.Table as flow

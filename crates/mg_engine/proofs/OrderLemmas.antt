@@ -17,10 +17,11 @@ use Rattle.mg_rooms.specs.Registry as rooms
 use Rattle.mg_rooms.specs.Registry.{members_at}
 use Rattle.mg_engine.specs.declared.taken.Taken.{Taken}
 use Rattle.mg_engine.specs.declared.topology_triple.TopologyTriple.{TopologyTriple}
-use Rattle.mg_engine.specs.Arrival.{Arrived, Takes, arrived, at_port, frame_placed, frame_placed_at, taken_at}
+use Rattle.mg_engine.specs.Arrival.{Arrived, Takes, arrived, at_port, frame_placed, taken_at}
+use Rattle.mg_engine.specs.aids.Placing.{frame_placed_at}
 use Rattle.mg_engine.specs.aids.Found.{taken_by}
 use Rattle.mg_engine.specs.Gateway.{Gateway, TerminationMedia, media_of}
-use Rattle.mg_engine.specs.Order.{ArrivalOrderIsIrrelevant}
+use Rattle.mg_engine.specs.aids.Order.{ArrivalOrderIsIrrelevant}
 use Rattle.mg_engine.specs.Outcome.{apply_triples, existing_context, done_with}
 use Rattle.mg_engine.specs.Triples.{check_triples, with_triples}
 use Rattle.mg_engine.proofs.KeyLemmas.{found_other}

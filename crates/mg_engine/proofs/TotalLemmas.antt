@@ -12,7 +12,7 @@ use Rattle.mg_words.specs.declared.mode.Mode.{Mode}
 use Rattle.mg_words.specs.Mode.{talks}
 use Rattle.mg_words.specs.Limits.{last_termination, termination_limit}
 use Rattle.mg_rooms.specs.Consistent.{IsTermination}
-use Rattle.mg_rooms.specs.Sound.{IsSound}
+use Rattle.mg_rooms.specs.aids.Sound.{IsSound}
 use Rattle.mg_rooms.specs.Registry as rooms
 use Rattle.mg_rooms.specs.Registry.{record_at, context_at, members_at, IsMember}
 use Rattle.mg_flow.specs.declared.place.Place.{Place}

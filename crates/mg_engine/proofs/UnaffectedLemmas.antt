@@ -19,7 +19,7 @@ use Rattle.mg_rooms.specs.Registry as rooms
 use Rattle.mg_rooms.specs.Registry.{record_at, context_at, members_at}
 use Rattle.mg_rooms.specs.aids.Found.{members_of}
 use Rattle.mg_rooms.specs.Results.{passes}
-use Rattle.mg_rooms.specs.Sound.{IsSound}
+use Rattle.mg_rooms.specs.aids.Sound.{IsSound}
 use Rattle.mg_sums.specs.Samples.{sum_of}
 use Rattle.mg_engine.specs.declared.done.Done.{Done}
 use Rattle.mg_engine.specs.declared.done.Done.TheVariants.{Termination, Topology}
@@ -29,7 +29,8 @@ use Rattle.mg_engine.specs.declared.taken.Taken.{Taken}
 use Rattle.mg_engine.specs.declared.topology_triple.TopologyTriple.{TopologyTriple}
 use Rattle.mg_engine.specs.declared.triple_term.TripleTerm.{TripleTerm}
 use Rattle.mg_engine.specs.declared.triple_term.TripleTerm.TheVariants as terms
-use Rattle.mg_engine.specs.Arrival.{Arrived, Takes, arrived, at_port, frame_placed_at, taken_at}
+use Rattle.mg_engine.specs.Arrival.{Arrived, Takes, arrived, at_port, taken_at}
+use Rattle.mg_engine.specs.aids.Placing.{frame_placed_at}
 use Rattle.mg_engine.specs.aids.Found.{taken_by}
 use Rattle.mg_engine.specs.Flow.{has, flow, hears, may_hear}
 use Rattle.mg_engine.specs.Gateway.{Gateway, TerminationMedia, ContextEdit, Apply, Enter, media_of, new_media}

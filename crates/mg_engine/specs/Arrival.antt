@@ -1,7 +1,7 @@
 -- What an RTP datagram that arrives at a media port does (RFC 3550, section 5.1). The causes of a
 -- drop and their order are this project's own.
 use Rattle.std.specs.Prelude.{◌≡◌, ℕ, ℤ, ◌==◌, not, Bool, false, List, map, length}
-use Rattle.std.specs.Prelude.{find, Option, Some, None, Result, Ok, Err, if◌then◌else◌}
+use Rattle.std.specs.Prelude.{find, Option, Some, Result, Ok, Err, if◌then◌else◌}
 use Rattle.std.specs.Option.{option_map_or}
 use Rattle.std.specs.Str.{bytes_eq}
 use Rattle.mg_g711.specs.declared.law.Law.{Law}
@@ -61,23 +61,19 @@ frame_placed header frame s =
       stats = received s.stats;
     }
 
-abbrev pub frame_placed_at : Gateway → ℕ → Header × List ℤ → Option TerminationMedia →
-    Gateway × Taken
-frame_placed_at w n p None = (w, Dropped causes.NoTermination)
-frame_placed_at w n p (Some s) = (
+-- the gateway after a termination got a frame or none, and what became of its datagram
+abbrev pub taken_at : Gateway → ℕ → Arrived → Gateway × Taken
+taken_at w n (Ok p) = option_map_or (λ s. (
   record w { media = change (λ s. s.number) n (λ s. Some (frame_placed p.0 p.1 s)) w.media },
   Placed ((play_lists.placed s.play p.0.ssrc p.0.sequence p.1).1),
-)
-
-abbrev pub taken_at : Gateway → ℕ → Arrived → Gateway × Taken
-taken_at w n (Ok p) = frame_placed_at w n p (media_of w n)
+)) (media_of w n) (w, Dropped causes.NoTermination)
 taken_at w n (Err cause) = (w, Dropped cause)
 
 -- the termination with this port
 abbrev pub at_port : rooms.Registry → ℕ → Option Record
 at_port w port = find (λ r. slot_port w.limits r.slot == port) w.terminations
 
--- the gateway after a datagram arrived at a port from an address, and what became of the datagram
+-- the gateway after a datagram arrived at a port from an address, and the result of the datagram
 abbrev pub taken : Gateway → ℕ → List ℕ → Reading → Gateway × Taken
 taken w port source reading =
     option_map_or (λ r. taken_at w r.number (arrived r source reading)) (at_port w.rooms port)

@@ -32,7 +32,7 @@ may_hear (Apply first second association ∷ es) talker listener =
     then permits association (is_forward first second talker listener)
     else may_hear es talker listener
 
--- whether both are terminations, different ones in the same context
+-- whether both are terminations, and different ones in the same context
 abbrev pub share_context : Gateway → ℕ → ℕ → Bool
 share_context w a b =
     is_some (record_at w.rooms a)
@@ -51,7 +51,7 @@ is_silenced w talker listener =
     share_context w talker listener
     && (talks (mode_of w talker) && not (may_hear w.edits talker listener))
 
--- The talker's speech flows to the listener: they are different members of the same context, the
+-- The talker's speech flows to the listener. They are different members of the same context, the
 -- talker talks, the listener listens, and the last word allows it. A number that names no
 -- termination has no flow, because it neither talks nor listens.
 abbrev pub flow : Gateway → ℕ → ℕ → Bool

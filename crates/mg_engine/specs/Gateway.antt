@@ -1,5 +1,5 @@
--- A gateway as seen from outside: its configuration, its terminations with their media, its
--- contexts with their members, and what happened in them (RFC 3525, section 6; RFC 3550).
+-- A gateway as seen from outside (RFC 3525, section 6; RFC 3550). It has a configuration,
+-- terminations with their media, contexts with their members, and a history of these contexts.
 use Rattle.std.specs.Prelude.{ℕ, ℤ, ◌==◌, Bool, false, List, [], Option, find, map}
 use Rattle.std.specs.Option.{option_map, option_map_or}
 use Rattle.mg_words.specs.declared.association.Association.{Association}
@@ -14,8 +14,8 @@ use Rattle.mg_words.specs.Stats.{no_packets}
 use Rattle.mg_sums.specs.Samples.{silence}
 
 -- The media of one termination: its play list, the frame that this tick plays (160 samples), and
--- its counters. Then how many ticks it has had, how many packets it has sent, and whether its last
--- tick sent one.
+-- its counters. Then the number of its ticks, the number of packets it has sent, and whether its
+-- last tick sent one.
 pub record TerminationMedia : Type 0 where
   pub number : ℕ
   pub play : PlayList
@@ -26,14 +26,14 @@ pub record TerminationMedia : Type 0 where
   pub sent_last : Bool
 
 -- What happens in contexts (RFC 3525, section 7.1.18): a member enters or leaves, or a triple is
--- applied. A triple has the members that its two names matched at that time.
+-- applied. A triple lists the members that its two names matched at that time.
 pub data ContextEdit : Type 0 where
   Enter : (member : ℕ) → ContextEdit
   Leave : (member : ℕ) → ContextEdit
   Apply : (first second : List ℕ) → (association : Association) → ContextEdit
 
--- The configuration; the terminations and contexts; the media of each termination, in order of
--- their numbers; and everything that happened to the members of all contexts, newest first.
+-- The configuration; the terminations and contexts; and the media of each termination, in order of
+-- their numbers. Then everything that happened to the members of all contexts, newest first.
 pub record Gateway : Type 0 where
   pub config : Config
   pub rooms : rooms.Registry

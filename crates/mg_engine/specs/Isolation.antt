@@ -20,7 +20,7 @@ NoneHearsItself = (w : Gateway) (n : ℕ) → flow w n n ≡ false
 abbrev pub replayed : ℕ → List ℤ → TerminationMedia → TerminationMedia
 replayed n frame s = if s.number == n then record s { frame = frame } else s
 
--- the gateway, if this tick played another frame for the termination
+-- the gateway as it would be if this tick played another frame for the termination
 abbrev pub with_frame : Gateway → ℕ → List ℤ → Gateway
 with_frame w n frame = record w { media = map (replayed n frame) w.media }
 

@@ -15,7 +15,6 @@ pub mod Masks
 pub mod Totals
 pub mod Work
 pub mod Isolation
-pub mod Order
 pub mod Unaffected
 pub mod Apart
 pub mod aids

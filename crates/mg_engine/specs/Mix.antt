@@ -1,5 +1,5 @@
--- What is said in a context in this tick, and what each listener is sent. This project's own rule:
--- totals are plain sums, and a mix is limited once.
+-- What is said in a context in this tick, and what each listener is sent. Totals are plain sums,
+-- and a mix is limited once: this is the project's own rule.
 use Rattle.std.specs.Prelude.{ℕ, ℤ, pos, Bool, true, false, List, map, ◌&&◌, nat_lt}
 use Rattle.std.specs.Prelude.{Option, Some, None, is_some, slice_index_or, if◌then◌else◌}
 use Rattle.std.specs.List.{range_with_len}

@@ -16,9 +16,9 @@ use Rattle.mg_engine.specs.Place.{IsOnPlace}
 use Rattle.mg_engine.specs.declared.share.Share.{Share}
 use Rattle.mg_sums.specs.Sums as sums
 
--- The state of an engine: its configuration, the terminations and contexts, the media of each
--- slot, and the table of flows. Then the frame of each slot's row with the rooms that rows are
--- joined to; and by room, the packets of the last tick that share their payloads.
+-- The state of an engine: its configuration, the terminations and contexts, the media of each slot,
+-- and the table of flows. Then the frame of each slot's row, and the rooms that rows are joined to.
+-- Finally, by room, the packets of the last tick that share their payloads.
 pub record EngineState : Type 0 where
   pub config : Config
   pub rooms : rooms.Registry
@@ -64,7 +64,7 @@ pub record StandsFor (kept : EngineState) (w : Gateway) : Type 0 where
       → flow.hears kept.flows p q ≡ may_hear w.edits talker listener
 
 -- the result of the call is the outcome; if the call succeeded, the engine represents the gateway
--- after it
+-- after the call
 abbrev pub IsOutcome : {A : Type 0} → EngineState → Result A ErrorNumber
     → Result (Gateway × A) ErrorNumber → Type 0
 IsOutcome kept (Ok x) outcome = (w : Gateway) × (outcome ≡ Ok (w, x)) × StandsFor kept w

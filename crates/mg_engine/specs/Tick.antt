@@ -13,8 +13,7 @@ use Rattle.mg_sdp.specs.declared.chosen.Chosen.{Chosen}
 use Rattle.mg_playout.specs.Played.{is_concealed, sound_of}
 use Rattle.mg_playout.specs.Playout as play_lists
 use Rattle.mg_words.specs.declared.mode.Mode.{Mode}
-use Rattle.mg_words.specs.declared.mode.Mode.TheVariants.{Inactive, SendOnly, ReceiveOnly}
-use Rattle.mg_words.specs.declared.mode.Mode.TheVariants.{SendReceive, Loopback}
+use Rattle.mg_words.specs.declared.mode.Mode.TheVariants.{Inactive, ReceiveOnly}
 use Rattle.mg_rooms.specs.declared.record.Record.{Record}
 use Rattle.mg_rooms.specs.Limits.{slot_port}
 use Rattle.mg_rooms.specs.Registry as rooms
@@ -49,10 +48,8 @@ concealed_in_tick w = count_by (conceals w) (numbers_of w)
 -- whether a mode sends to its peer
 abbrev pub sends : Mode → Bool
 sends Inactive = false
-sends SendOnly = true
 sends ReceiveOnly = false
-sends SendReceive = true
-sends Loopback = true
+sends _ = true
 
 -- the destination of a termination's packets, if it sends
 abbrev pub sent_to : Record → Option Chosen

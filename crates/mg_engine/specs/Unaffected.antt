@@ -20,9 +20,9 @@ use Rattle.mg_engine.specs.Outcome.{outcome}
 abbrev pub is_member : Gateway → ℕ → ℕ → Bool
 is_member w c n = has (members_at w.rooms c) n
 
--- The context c is unchanged, including the order of its members. Their records and media are
--- unchanged, and so is who of them hears whom regardless of modes, which speech flows between
--- them, and their total.
+-- The context c is unchanged, including the order of its members. So are their records, their media
+-- and their total, who hears whom among them regardless of modes, and which speech flows between
+-- them.
 pub record IsUnaffected (w next : Gateway) (c : ℕ) : Type 0 where
   pub context : context_at next.rooms c ≡ context_at w.rooms c
   pub records : (n : ℕ) → is_member w c n ≡ true → record_at next.rooms n ≡ record_at w.rooms n
@@ -35,8 +35,8 @@ pub record IsUnaffected (w next : Gateway) (c : ℕ) : Type 0 where
 
 -- ## Edits and datagrams elsewhere
 
--- a command does not concern the context c: c is not the action's context, and the termination that
--- the command names is not a member of c
+-- a command does not concern the context c: c is not the action's context, and the command names no
+-- member of c
 abbrev pub IsElsewhere : Gateway → ℕ → Target → ℕ → Type 0
 IsElsewhere w c target n = (is_number target c ≡ false) × (is_member w c n ≡ false)
 

@@ -8,12 +8,12 @@ use Rattle.mg_engine.specs.Flow.{is_silenced}
 use Rattle.mg_engine.specs.Mix.{is_loopback}
 use Rattle.mg_engine.specs.Tick.{sent_to}
 
--- how many talkers are silenced for a listener: other members of its context that talk and that the
--- last word mutes for it
+-- how many talkers are silenced for a listener: other members of its context that talk, but that
+-- the last word mutes for it
 abbrev pub silenced_for : Gateway → ℕ → ℕ
 silenced_for w listener = count_by (λ talker. is_silenced w talker listener) (numbers_of w)
 
--- The maximum number of rows for what a termination is sent: one, and one for each talker silenced
+-- The maximum number of rows for what a termination is sent: one, plus one for each talker silenced
 -- for it. In Loopback it is sent its own frame, which costs none.
 abbrev pub mix_work : Gateway → Record → ℕ
 mix_work w r = 1 + (if is_loopback r.mode then 0 else silenced_for w r.number)

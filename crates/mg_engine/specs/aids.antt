@@ -9,3 +9,6 @@ pub mod Sending
 pub mod Shares
 pub mod Triples
 pub mod Whole
+pub mod Agreement
+pub mod Order
+pub mod Placing

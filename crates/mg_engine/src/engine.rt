@@ -9,7 +9,8 @@ ghost use Rattle.mg_words.specs.Limits.{context_limit, termination_limit};
 ghost use Rattle.mg_sums.specs.Samples.{nearest_sample};
 ghost use Rattle.mg_engine.specs.Outcome.{outcome, add, modify, move_to, subtract, existing_context, apply_triples};
 ghost use Rattle.mg_engine.specs.aids.Triples.{IsRoomOf};
-ghost use Rattle.mg_rooms.specs.Sound.{IsSound};
+ghost use Rattle.mg_rooms.specs.Consistent.{IsConsistent};
+ghost use Rattle.mg_rooms.specs.aids.Sound.{IsSound};
 ghost use Rattle.mg_engine.specs.aids.Playing.{AreApart, HaveTicked, IsPlayed};
 ghost use Rattle.mg_engine.specs.aids.Sending.{heard_now, mixed_now, silenced_now, mix_work_now, sending_work_now, packet_now, packets_now, slot_sends, with_mixes, IsEnded, PlacedAt};
 ghost use Rattle.mg_engine.specs.aids.Shares.{AreShared, IsPut, payload_of};
@@ -27,7 +28,6 @@ ghost use Rattle.mg_engine.specs.aids.Seating.{place_count};
 ghost use Rattle.mg_rtp.specs.aids.Read.{reading_of};
 ghost use Rattle.mg_engine.specs.Arrival.{at_port, arrived, Takes};
 ghost use Rattle.mg_engine.specs.Flow.{flow, hears};
-ghost use Rattle.mg_engine.specs.Unaffected.{IsUnaffected, IsElsewhere, IsEditElsewhere, IsPortElsewhere};
 ghost use Rattle.mg_engine.specs.Mix.{total_at};
 ghost use Rattle.mg_engine.specs.Media.{idle};
 ghost use Rattle.mg_engine.specs.aids.MediaSteps.{initial_media, slot_ended, is_concealing, slot_tuned as tuned_media};
@@ -184,7 +184,7 @@ impl Engine {
     pub fn terminations(&self) -> usize
         ensures value { result ≡ length self.now.rooms.terminations }
         ensures few { result ≤ TERMINATIONS }
-        ensures sound { IsSound self.now.rooms }
+        ensures consistent { IsConsistent self.now.rooms }
     {
         self.held.len()
     }
@@ -215,7 +215,7 @@ impl Engine {
         &self.flows
     }
 
-    /// Returns the frame of each termination, in its slot's row, and the total of each context, in its room.
+    /// Returns the frame of each termination, in the row of its slot, and the total of each context, in its room.
     pub fn sums(&self) -> &Sums
         ensures value { result.now ≡ self.now.sums }
         ensures represented { (w : Gateway) → StandsFor self.now w → RepresentsTotals w result.now }
@@ -227,9 +227,6 @@ impl Engine {
     pub fn edit(&mut self, edit: &Edit) -> Result<Done, ErrorNumber>
         ensures outcome { (w : Gateway) → StandsFor self.old w → IsOutcome self.new result (outcome w edit.now) }
         ensures refused { OnErr result (self.new ≡ self.old) }
-        ensures others { (w next : Gateway) (done : Done) (c : ℕ) → StandsFor self.old w →
-            outcome w edit.now ≡ Ok (next, done) →
-            IsSome (context_at w.rooms c) → IsEditElsewhere w c edit.now → IsUnaffected w next c }
         ensures work { RisesAtMost 4 self.old.sums.work self.new.sums.work }
     {
         match edit {
@@ -268,9 +265,6 @@ impl Engine {
     pub fn add(&mut self, target: Target, settings: &Settings) -> Result<Record, ErrorNumber>
         ensures outcome { (w : Gateway) → StandsFor self.old w → IsOutcome self.new result (add w target settings.now) }
         ensures refused { OnErr result (self.new ≡ self.old) }
-        ensures others { (w next : Gateway) (r : Record) (c : ℕ) → StandsFor self.old w →
-            add w target settings.now ≡ Ok (next, r) →
-            IsSome (context_at w.rooms c) → is_number target c ≡ false → IsUnaffected w next c }
         ensures work { RisesAtMost 4 self.old.sums.work self.new.sums.work }
     {
         let made = self.rooms.add(target, settings)?;
@@ -292,9 +286,6 @@ impl Engine {
         ensures outcome { (w : Gateway) → StandsFor self.old w →
             IsOutcome self.new result (modify w target number settings.now) }
         ensures refused { OnErr result (self.new ≡ self.old) }
-        ensures others { (w next : Gateway) (r : Record) (c : ℕ) → StandsFor self.old w →
-            modify w target number settings.now ≡ Ok (next, r) →
-            IsElsewhere w c target number → IsUnaffected w next c }
         ensures work { RisesAtMost 4 self.old.sums.work self.new.sums.work }
     {
         let changed = self.rooms.modify(target, number, settings)?;
@@ -315,9 +306,6 @@ impl Engine {
         ensures outcome { (w : Gateway) → StandsFor self.old w →
             IsOutcome self.new result (move_to w target number settings.now) }
         ensures refused { OnErr result (self.new ≡ self.old) }
-        ensures others { (w next : Gateway) (r : Record) (c : ℕ) → StandsFor self.old w →
-            move_to w target number settings.now ≡ Ok (next, r) →
-            IsSome (context_at w.rooms c) → IsElsewhere w c target number → IsUnaffected w next c }
         ensures work { RisesAtMost 4 self.old.sums.work self.new.sums.work }
     {
         let moved = self.rooms.move_to(target, number, settings)?;
@@ -333,9 +321,6 @@ impl Engine {
     pub fn subtract(&mut self, target: Target, number: u32) -> Result<Record, ErrorNumber>
         ensures outcome { (w : Gateway) → StandsFor self.old w → IsOutcome self.new result (subtract w target number) }
         ensures refused { OnErr result (self.new ≡ self.old) }
-        ensures others { (w next : Gateway) (r : Record) (c : ℕ) → StandsFor self.old w →
-            subtract w target number ≡ Ok (next, r) →
-            IsElsewhere w c target number → IsUnaffected w next c }
         ensures work { RisesAtMost 4 self.old.sums.work self.new.sums.work }
     {
         let gone = self.rooms.subtract(target, number)?;
@@ -356,9 +341,6 @@ impl Engine {
         ensures outcome { (w : Gateway) → StandsFor self.old w →
             IsOutcome self.new result (apply_triples w target triples.now.items) }
         ensures refused { OnErr result (self.new ≡ self.old) }
-        ensures others { (w next : Gateway) (context c : ℕ) → StandsFor self.old w →
-            apply_triples w target triples.now.items ≡ Ok (next, context) →
-            is_number target c ≡ false → IsUnaffected w next c }
         ensures work { self.new.sums.work ≡ self.old.sums.work }
     {
         let at = topology_room(&self.rooms, target)?;
@@ -369,7 +351,7 @@ impl Engine {
         }
     }
 
-    /// Returns the context that triples of an action would be applied to, or the error if it does not exist.
+    /// Returns the context to which triples of an action would be applied, or the error if it does not exist.
     ///
     /// That is the result of a topology without triples.
     pub fn topology_context(&self, target: Target) -> Result<u32, ErrorNumber>
@@ -426,9 +408,6 @@ impl Engine {
     pub fn media(&mut self, port: u16, source: Peer, bytes: &[u8]) -> Taken
         ensures taken { (w : Gateway) → StandsFor self.old w → (after : Gateway)
             × Takes w port source.address bytes.now after result × StandsFor self.new after }
-        ensures others { (w next : Gateway) (c : ℕ) → StandsFor self.old w →
-            Takes w port source.address bytes.now next result →
-            IsPortElsewhere w c port → IsUnaffected w next c }
         ensures work { self.new.sums.work ≡ self.old.sums.work }
     {
         let packet = read(bytes);
@@ -438,7 +417,7 @@ impl Engine {
         }
     }
 
-    /// Returns whether a talker's speech flows to a listener. It is false if a number names no termination.
+    /// Returns whether a talker's speech flows to a listener: false if a number names no termination.
     pub fn flow(&self, talker: u32, listener: u32) -> bool
         ensures value { (w : Gateway) → StandsFor self.now w → result ≡ flow w talker listener }
     {
@@ -471,7 +450,7 @@ impl Engine {
 
     /// Returns the members of a context with their places, in order of entry.
     ///
-    /// For callers that ask about many pairs.
+    /// For callers that query many pairs.
     pub fn seated(&self, context: u32) -> ArrayVec<SeatedMember, MEMBERS>
         ensures numbers { (w : Gateway) → StandsFor self.now w →
             map (λ m. m.number) result.items ≡ members_at w.rooms context }
@@ -677,7 +656,7 @@ impl Engine {
         push_payload(outbox, &payload);
     }
 
-    /// Computes the payload of a room's total without the listener and without those silenced for it.
+    /// Computes the payload of a room's total without the listener and the talkers silenced for it.
     fn mix(&mut self, listener: &Record, place: Place, law: Law) -> [u8; SAMPLES]
         requires place { IsOnPlace self.old.rooms listener.now.number listener.now place }
         requires listens { IsTrue (listens listener.now.mode) }

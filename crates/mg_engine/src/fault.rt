@@ -7,7 +7,7 @@ pub enum StartFault {
     /// The configuration is invalid; see `Config::is_sound`.
     #[error("bad configuration")]
     BadConfig,
-    #[error("no memory")]
+    #[error("out of memory")]
     NoMemory,
 }
 

@@ -19,8 +19,8 @@
 //! context that hear the same in the same law share a payload, if it is among the newest eight of their context.
 //! `specs/Work.antt` has the proved bound for a tick. An edit costs at most four rows, and an RTP datagram none.
 //!
-//! The engine keeps no history, and its state may hold less than what it represents. So its contracts speak of every
-//! `Gateway` (`specs/Gateway.antt`) that it represents, before and after a call (`StandsFor` in `specs/Stands.antt`).
+//! The engine keeps no history, so one state may represent several gateways. Its contracts speak of every `Gateway`
+//! (`specs/Gateway.antt`) that the state represents, before and after a call (`StandsFor` in `specs/Stands.antt`).
 #![tactic(auto)]
 
 mod arrival;

@@ -3,7 +3,7 @@ ghost use Rattle.std.specs.Prelude.{◌≡◌, IfOk};
 use mg_g711::Frame;
 use mg_playout::{Placed, Played, Playout};
 use mg_rooms::depth_within;
-use mg_rtp::Header;
+use mg_rtp::{Header, PAYLOAD_LEN};
 use mg_words::{SAMPLES, Stats};
 use std::alloc::{AllocError, Global};
 use std::marker::Model;
@@ -80,7 +80,7 @@ impl HeldMedia {
         ensures value { slot_placed self.old header frame ≡ (self.new, result) }
     {
         self.stats.pr = self.stats.pr.saturating_add(1);
-        self.stats.or_ = self.stats.or_.saturating_add(160);
+        self.stats.or_ = self.stats.or_.saturating_add(PAYLOAD_LEN as u64);
         self.play.place(header.ssrc, header.sequence, frame)
     }
 
@@ -120,7 +120,7 @@ impl HeldMedia {
     {
         if is_sent {
             self.stats.ps = self.stats.ps.saturating_add(1);
-            self.stats.os = self.stats.os.saturating_add(160);
+            self.stats.os = self.stats.os.saturating_add(PAYLOAD_LEN as u64);
             self.sequence = self.sequence.wrapping_add(1);
         }
         self.is_sending = is_sent;

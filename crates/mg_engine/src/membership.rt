@@ -37,7 +37,7 @@ pub fn place_of(rooms: &Rooms, termination: &Record) -> Option<Place>
     })
 }
 
-/// Adds a member at its place. Its row is joined to the room if it talks.
+/// Adds a member at its place. If it talks, its row is joined to the room.
 pub fn enter(flows: &mut FlowTable, seating: &mut Seating, sums: &mut Sums, member: Member)
     requires within { IsWithinLimits (member_place member) }
     requires slot { member.record.slot < termination_limit }
@@ -65,7 +65,7 @@ pub fn vacate(flows: &mut FlowTable, member: Member)
     flows.on_leave(member_place(member));
 }
 
-/// Changes a member's mode. Its row is joined to the room if it now talks.
+/// Changes a member's mode. If it now talks, its row is joined to the room.
 pub fn take_mode(flows: &mut FlowTable, sums: &mut Sums, member: Member)
     requires within { IsWithinLimits (member_place member) }
     requires slot { member.record.slot < termination_limit }

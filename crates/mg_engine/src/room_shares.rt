@@ -11,7 +11,7 @@ use std::marker::Model;
 /// How many of a room's newest packets are searched.
 const NEWEST: usize = 8;
 
-/// The packets of one room that share their payloads: at most one for each member.
+/// The packets of one room whose payloads other members can share: at most one for each member.
 #[derive(Drop)]
 pub struct RoomShares {
     shares: ArrayVec<Share, MEMBERS>,
@@ -56,7 +56,7 @@ impl RoomShares {
         packet_among(&shares[older..], talkers, law)
     }
 
-    /// Adds a share, if there is room.
+    /// Adds a share, unless the list is full.
     pub fn put(&mut self, share: Share)
         ensures value { self.new ≡ (if nat_lt (length self.old) member_limit then self.old ++ share ∷ [] else
             self.old) }

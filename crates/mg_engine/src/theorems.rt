@@ -9,13 +9,14 @@ ghost use Rattle.mg_rooms.specs.Consistent.{IsConsistent};
 ghost use Rattle.mg_engine.specs.declared.config.Config.{Config};
 ghost use Rattle.mg_engine.specs.declared.taken.Taken.{Taken};
 ghost use Rattle.mg_engine.specs.declared.topology_triple.TopologyTriple.{TopologyTriple};
-ghost use Rattle.mg_engine.specs.Apart.{SameEditsKeepAgreement, SameArrivalKeepsAgreement, OneArrivalKeepsAgreement, AgreementIsMutual, SameTickKeepsAgreement, SameStatsButReceived, SamePackets};
+ghost use Rattle.mg_engine.specs.Apart.{SamePackets};
+ghost use Rattle.mg_engine.specs.aids.Agreement.{SameEditsKeepAgreement, SameArrivalKeepsAgreement, OneArrivalKeepsAgreement, AgreementIsMutual, SameTickKeepsAgreement, SameStatsButReceived};
 ghost use Rattle.mg_engine.specs.Arrival.{Takes};
 ghost use Rattle.mg_engine.specs.Config.{IsValidConfig};
 ghost use Rattle.mg_engine.specs.Gateway.{Gateway, start_of};
 ghost use Rattle.mg_engine.specs.Outcome.{add, modify, move_to, subtract, apply_triples};
 ghost use Rattle.mg_engine.specs.Unaffected.{EditsDoNotAffectOthers, DatagramsDoNotAffectOthers};
-ghost use Rattle.mg_engine.specs.Order.{ArrivalOrderIsIrrelevant};
+ghost use Rattle.mg_engine.specs.aids.Order.{ArrivalOrderIsIrrelevant};
 ghost use Rattle.mg_engine.specs.Isolation.{NoneHearsItself, OwnSpeechChangesNoPacket, PacketsDependOnHeard, IsolatedAreNotHeard, UnheardChangesNoPacket, PayloadsAreMixes};
 ghost use Rattle.mg_engine.specs.Triples.{triple_limit};
 
@@ -34,7 +35,7 @@ pub fn one_arrival(bytes: &[u8])
 
 /// Nobody hears himself: no termination's speech flows to itself.
 ///
-/// Except in Loopback, what a termination says changes nothing in what it is sent.
+/// Except in Loopback, what a termination says has no effect on what it is sent.
 pub fn none_hears_itself()
     ensures flow { NoneHearsItself }
     ensures packets { OwnSpeechChangesNoPacket }
@@ -63,7 +64,7 @@ pub fn triples_are_limited()
 
 /// The terminations and contexts of a new gateway are consistent, and each edit and RTP datagram preserves that.
 ///
-/// So it holds after any edits and datagrams, and a proof needs no engine.
+/// So it holds after any edits and datagrams, and a proof can use it without an engine.
 pub fn worlds_are_consistent()
     ensures start { (config : Config) → IsValidConfig config → config.first_termination ≤ LAST_TERMINATION →
         IsConsistent (start_of config).rooms }
@@ -94,19 +95,17 @@ pub fn port_order_is_irrelevant()
 
 /// Neither an edit nor an RTP datagram affects other contexts.
 ///
-/// Their members and order are unchanged, and so are the members' records and media, who hears whom, the flows, and the
-/// total. An edit concerns only the action's context and the context of the termination that it names. A datagram
-/// concerns only the context of the termination with its port.
+/// Nothing changes in their members, the members' order, records and media, who hears whom, the flows, or the total. An
+/// edit concerns only the action's context and the context of the termination that it names. A datagram concerns only
+/// the context of the termination with its port.
 ///
-/// It uses the relations of two clauses: `outcome` of [`Engine::edit`](crate::Engine::edit) and `taken` of
+/// The theorem uses the relations of two clauses: `outcome` of [`Engine::edit`](crate::Engine::edit) and `taken` of
 /// [`Engine::media`](crate::Engine::media). What an engine represents is consistent
 /// ([`Engine::terminations`](crate::Engine::terminations)).
 pub fn other_contexts_are_unaffected()
     ensures edits { EditsDoNotAffectOthers }
     ensures media { DatagramsDoNotAffectOthers }
-{
-    mg_rooms::theorems::consistent_registries_are_sound();
-}
+{}
 
 /// Two gateways that agree outside some terminations still agree after the same edit, datagram or tick.
 ///
@@ -125,8 +124,8 @@ pub fn agreement_lasts()
 
 /// A packet depends only on what its listener hears and on the progress of the listener's packets.
 ///
-/// So two gateways that agree outside some terminations send each listener that hears none of these the same packet in
-/// a tick, byte for byte.
+/// So suppose that two gateways agree outside some terminations, and that a listener hears none of these. In a tick,
+/// both send that listener the same packet, byte for byte.
 pub fn packets_depend_on_heard()
     ensures theorem { PacketsDependOnHeard }
     ensures packets { SamePackets }

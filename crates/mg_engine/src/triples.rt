@@ -3,7 +3,7 @@
 ghost use Rattle.std.specs.Prelude.{Any, ◌≡◌, ◌≤◌, [], ◌∷◌, length, Ok, Err, true, false, IfSome, IfNone, MatchResult, IsTrue, IsFalse};
 ghost use Rattle.mg_topology.specs.Triple.{Overlaps};
 ghost use Rattle.mg_rooms.specs.Registry.{members_at};
-ghost use Rattle.mg_rooms.specs.Sound.{IsSound};
+ghost use Rattle.mg_rooms.specs.aids.Sound.{IsSound};
 ghost use Rattle.mg_engine.specs.declared.topology_triple.TheConstants.{TRIPLES};
 ghost use Rattle.mg_engine.specs.Flow.{has};
 ghost use Rattle.mg_engine.specs.Triples.{is_barred, names_others, matched, check_triple, check_triples};

@@ -8,7 +8,7 @@ use std::fs;
 use std::io::Cursor;
 use std::rt::Files;
 
-/// The scripts, each by the file names of the script and of its output, without their extensions.
+/// The file names of each script and its output, without extensions.
 const SCRIPTS: [&str; 56] = [
     "conference",
     "speech",
@@ -68,7 +68,7 @@ const SCRIPTS: [&str; 56] = [
     "rules/a_mover_is_heard_elsewhere",
 ];
 
-/// The scripts whose output with the changes after each event is stored too.
+/// The scripts that also have a stored output with the changes after each event.
 const WITH_FLOWS: [&str; 2] = ["coaching", "recording"];
 
 /// Returns what a script writes on a gateway with the standard configuration.
@@ -79,7 +79,7 @@ fn written(alloc: Global, shown: Shown, script: &[u8]) -> Result<Vec<u8>> {
     Ok(writer)
 }
 
-/// Returns whether a script writes what is stored under its name with this extension.
+/// Returns whether a script's output matches the file with its name and this extension.
 fn is_as_stored<R: Files + AllocGlobal>(
     rt: &R,
     name: &str,

@@ -39,7 +39,8 @@ edits_in room (Apply r triple ∷ es) =
 abbrev pub is_held : List FlowEdit → Place → Bool
 is_held es place = topology.is_held (edits_in place.room es) place.seat
 
--- the last setting of the member at the place: one side of whether it talks and whether it listens
+-- the last setting of the member at the place, as `side` selects: whether it talks, or whether it
+-- listens
 abbrev pub last_setting : (Bool → Bool → Bool) → List FlowEdit → Place → Bool
 last_setting side [] place = false
 last_setting side (Enter p talks listens ∷ es) place =

@@ -52,7 +52,7 @@ is_silenced table talker listener =
     talks_at table talker
     && (are_together (holds table) talker listener && not (hears table talker listener))
 
--- the table represents the edits: it agrees with them on each room and each place
+-- the table represents the edits: both agree on each room and each place
 pub record StandsFor (table : List RoomFlows) (es : List FlowEdit) : Type 0 where
   pub topologies : (room : ℕ) →
       topology.StandsFor (room_at table room).topology (edits_in room es)
@@ -63,7 +63,7 @@ pub record StandsFor (table : List RoomFlows) (es : List FlowEdit) : Type 0 wher
 abbrev pub StandsForSome : List RoomFlows → Type 0
 StandsForSome table = ∥ ((es : List FlowEdit) × StandsFor table es) ∥₁
 
--- All rooms except the one are unchanged, and with them everything about their places.
+-- All rooms except this one are unchanged, and with them everything about their places.
 abbrev pub KeepsOthers : List RoomFlows → List RoomFlows → ℕ → Type 0
 KeepsOthers old new room = (other : ℕ) → other ≢ room → room_at new other ≡ room_at old other
 

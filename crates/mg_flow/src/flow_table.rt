@@ -16,10 +16,9 @@ use std::marker::Model;
 
 /// Who hears whom in all rooms of a gateway, and for each listener the masks of its talkers.
 ///
-/// Contracts see the list of rooms, each with its topology and the masks of who talks and who listens. They read it
-/// through the words of `specs/Table.antt`. [`FlowTable::new`] represents the empty list of edits, and each call adds
-/// its edits to the lists that the table represents. So every table represents some list
-/// ([`each_table_represents_edits`]).
+/// Contracts see the list of rooms, each with its topology and the masks of who talks and who listens. They describe it
+/// in the words of `specs/Table.antt`. [`FlowTable::new`] represents the empty list of edits, and each call adds its
+/// edits to the lists that the table represents. So every table represents some list ([`each_table_represents_edits`]).
 ///
 /// [`each_table_represents_edits`]: crate::theorems::each_table_represents_edits
 #[derive(Debug, Drop)]
@@ -56,7 +55,7 @@ impl FlowTable {
         Ok(FlowTable { rooms })
     }
 
-    /// Returns whether the place is held. A place beyond the limits is not held.
+    /// Returns whether the place is held. No place beyond the limits is held.
     pub fn holds(&self, place: Place) -> bool
         ensures kept { result ≡ holds self.now place }
         ensures edits { (es : List FlowEdit) → StandsFor self.now es → result ≡ is_held es place }
@@ -112,7 +111,7 @@ impl FlowTable {
         room.open(usize::from(place.seat))
     }
 
-    /// Returns the seats of talking members of the room that the last word mutes for the listener at the place.
+    /// Returns the seats of the room's talkers that are silenced for the listener at the place.
     ///
     /// It does not matter whether the member at the place listens.
     pub fn silenced(&self, place: Place) -> &Mask
@@ -128,7 +127,7 @@ impl FlowTable {
         room.silenced(usize::from(place.seat))
     }
 
-    /// Adds a member at a free place. It and each other member of the room hear each other.
+    /// Adds a member at a free place. It hears all other members of the room, and they hear it.
     pub fn on_enter(&mut self, place: Place, talks: bool, listens: bool)
         requires within { IsWithinLimits place }
         requires free { IsFalse (holds self.old place) }
@@ -145,7 +144,7 @@ impl FlowTable {
         room.enter(usize::from(place.seat), talks, listens);
     }
 
-    /// Removes the member at the place. Nothing changes between the others.
+    /// Removes the member at the place. Who hears whom among the others is unchanged.
     pub fn on_leave(&mut self, place: Place)
         requires { IsTrue (holds self.old place) }
         ensures edits { (es : List FlowEdit) → StandsFor self.old es →
@@ -191,7 +190,7 @@ impl FlowTable {
         spoken_of.apply(triples)
     }
 
-    /// Exposes to a proof that every table represents some list of edits. Has no effect.
+    /// Exposes an invariant to a proof: every table represents some list of edits. Has no effect.
     pub(crate) fn assert_invariant(&self)
         ensures { StandsForSome self.now }
     {

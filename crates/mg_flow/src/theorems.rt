@@ -1,4 +1,4 @@
-//! What the edits of all rooms determine, whatever stores them.
+//! What the edits of all rooms determine, however they are stored.
 //!
 //! The functions have empty bodies: their contracts are the theorems. A proof that needs one calls the function. Lists
 //! of edits start with the newest.

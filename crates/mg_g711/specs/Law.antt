@@ -12,7 +12,7 @@ abbrev pub least_of : Law → ℕ → ℕ
 least_of Mu k = if k == 0 then 0 else (16 + k % 16) * 2 ^ (k / 16 + 3) - 132
 least_of A k = if nat_lt k 16 then 16 * k else (16 + k % 16) * 2 ^ (k / 16 + 3)
 
--- the decoded magnitude of a level: the quantized values of the same tables, scaled likewise
+-- the decoded magnitude of a level: the quantized values of the same tables, scaled in the same way
 abbrev pub magnitude_of : Law → ℕ → ℕ
 magnitude_of Mu k = (8 * (k % 16) + 132) * 2 ^ (k / 16) - 132
 magnitude_of A k = if nat_lt k 16 then 16 * k + 8 else (16 * (k % 16) + 264) * 2 ^ (k / 16 - 1)

@@ -8,6 +8,7 @@ ghost use Rattle.mg_g711.specs.Law.{sample_of};
 ghost use Rattle.mg_g711.specs.aids.Chunks.{WritesChunk};
 
 use crate::law::Law;
+use crate::sample::BIAS;
 use std::simd::prelude::*;
 
 /// How many bytes are decoded at a time.
@@ -16,16 +17,19 @@ pub const LANES: usize = 16;
 // For each exponent, the factor of mu-law. The last eight are not used.
 const MU_FACTORS: [u8; LANES] = [1, 2, 4, 8, 16, 32, 64, 128, 0, 0, 0, 0, 0, 0, 0, 0];
 
-// For each exponent, what A-law adds to eight times the mantissa before it multiplies.
+// What mu-law adds to eight times the mantissa before multiplying.
+const MU_START: u8 = BIAS as u8;
+
+// For each exponent, what A-law adds to eight times the mantissa before multiplying.
 const A_STARTS: [u8; LANES] = [4, 132, 132, 132, 132, 132, 132, 132, 0, 0, 0, 0, 0, 0, 0, 0];
 
 const A_FACTORS: [u8; LANES] = [2, 2, 4, 8, 16, 32, 64, 128, 0, 0, 0, 0, 0, 0, 0, 0];
 
 /// Decodes 16 bytes into `samples`, from index `at` on.
 pub fn decode_chunk(law: Law, chunk: &[u8; LANES], samples: &mut [i16], at: usize)
-    requires within { at + 16 ≤ length samples.old }
-    requires bytes { (j : ℕ) → j < 16 → slice_index chunk.now j < 256 }
-    ensures { WritesChunk 16 samples.old samples.new at (λ j.
+    requires within { at + LANES ≤ length samples.old }
+    requires bytes { (j : ℕ) → j < LANES → slice_index chunk.now j < 256 }
+    ensures { WritesChunk LANES samples.old samples.new at (λ j.
         sample_of law (slice_index chunk.now j)) }
 {
     match law {
@@ -36,17 +40,17 @@ pub fn decode_chunk(law: Law, chunk: &[u8; LANES], samples: &mut [i16], at: usiz
 
 /// Decodes 16 bytes of mu-law into `samples`, from index `at` on.
 fn decode_mu(chunk: &[u8; LANES], samples: &mut [i16], at: usize)
-    requires within { at + 16 ≤ length samples.old }
-    requires bytes { (j : ℕ) → j < 16 → slice_index chunk.now j < 256 }
-    ensures { WritesChunk 16 samples.old samples.new at (λ j.
+    requires within { at + LANES ≤ length samples.old }
+    requires bytes { (j : ℕ) → j < LANES → slice_index chunk.now j < 256 }
+    ensures { WritesChunk LANES samples.old samples.new at (λ j.
         sample_of Law.Mu (slice_index chunk.now j)) }
 {
     let turned = u8x16::from_array(*chunk) ^ u8x16::splat(0xff);
     let exponents = (turned >> u8x16::splat(4)) & u8x16::splat(7);
     let factors = u8x16::from_array(MU_FACTORS).swizzle_dyn(exponents);
-    let starts = ((turned & u8x16::splat(15)) << u8x16::splat(3)) + u8x16::splat(132);
+    let starts = ((turned & u8x16::splat(15)) << u8x16::splat(3)) + u8x16::splat(MU_START);
     let biased = starts.cast::<u16>() * factors.cast::<u16>();
-    let magnitudes = (biased - u16x16::splat(132)).cast::<i16>();
+    let magnitudes = (biased - u16x16::splat(BIAS)).cast::<i16>();
     let are_positive = turned.cast::<u16>().simd_lt(u16x16::splat(128));
     are_positive
         .select(magnitudes, magnitudes * i16x16::splat(-1))
@@ -55,9 +59,9 @@ fn decode_mu(chunk: &[u8; LANES], samples: &mut [i16], at: usize)
 
 /// Decodes 16 bytes of A-law into `samples`, from index `at` on. The bits that A-law inverts include the sign.
 fn decode_a(chunk: &[u8; LANES], samples: &mut [i16], at: usize)
-    requires within { at + 16 ≤ length samples.old }
-    requires bytes { (j : ℕ) → j < 16 → slice_index chunk.now j < 256 }
-    ensures { WritesChunk 16 samples.old samples.new at (λ j.
+    requires within { at + LANES ≤ length samples.old }
+    requires bytes { (j : ℕ) → j < LANES → slice_index chunk.now j < 256 }
+    ensures { WritesChunk LANES samples.old samples.new at (λ j.
         sample_of Law.A (slice_index chunk.now j)) }
 {
     let turned = u8x16::from_array(*chunk) ^ u8x16::splat(0xd5);

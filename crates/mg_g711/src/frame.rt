@@ -6,17 +6,20 @@ use crate::decoding::{LANES, decode_chunk};
 use crate::law::Law;
 use crate::sample::encode;
 
+/// The number of samples in a frame, and of bytes in its payload.
+pub const FRAME_LEN: usize = 160;
+
 /// 20 ms of one channel: 160 samples at 8000 Hz, the earliest first (RFC 3551, sections 4.2 and 6).
 ///
 /// Contracts see a frame as a list; `IsFrame` says that it has 160 samples of 16 bits.
-pub type Frame = [i16; 160];
+pub type Frame = [i16; FRAME_LEN];
 
 /// Decodes the 160 bytes of a packet's payload, one sample per byte.
-pub fn decode_frame(law: Law, bytes: &[u8; 160]) -> Frame
+pub fn decode_frame(law: Law, bytes: &[u8; FRAME_LEN]) -> Frame
     ensures each { result ≡ map (sample_of law) bytes.now }
     ensures frame { IsFrame result }
 {
-    let mut samples = [0; 160];
+    let mut samples = [0; FRAME_LEN];
     let (chunks, _) = bytes.as_chunks::<LANES>();
     for (i, chunk) in chunks.iter().enumerate() {
         decode_chunk(law, chunk, &mut samples, LANES * i);
@@ -25,11 +28,11 @@ pub fn decode_frame(law: Law, bytes: &[u8; 160]) -> Frame
 }
 
 /// Encodes a frame as the 160 bytes of a packet's payload, one byte per sample.
-pub fn encode_frame(law: Law, samples: &Frame) -> [u8; 160]
+pub fn encode_frame(law: Law, samples: &Frame) -> [u8; FRAME_LEN]
     ensures { result ≡ map (byte_of law) samples.now }
 {
-    let mut bytes = [0; 160];
-    for i in 0..160 {
+    let mut bytes = [0; FRAME_LEN];
+    for i in 0..FRAME_LEN {
         bytes[i] = encode(law, samples[i]);
     }
     bytes
@@ -40,8 +43,8 @@ pub fn halve_frame(samples: &Frame) -> Frame
     ensures each { result ≡ map halved samples.now }
     ensures frame { IsFrame result }
 {
-    let mut halves = [0; 160];
-    for i in 0..160 {
+    let mut halves = [0; FRAME_LEN];
+    for i in 0..FRAME_LEN {
         halves[i] = samples[i] / 2;
     }
     halves

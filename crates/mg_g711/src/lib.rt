@@ -16,9 +16,9 @@
 //! [`theorems`] states properties of the levels: which bytes survive a round trip, that decoding preserves order, and
 //! how far a sample moves.
 //!
-//! A type that stores frames has `IsFrame` of each frame in its invariant. [`decode_frame`] ensures it, and
-//! [`theorems::frames_are_whole`] proves it for any other frame. Lemmas about it, for example that 160 zeros are a
-//! frame, are in `proofs/Frames.antt`.
+//! A type that stores frames states `IsFrame` for each of them in its invariant. [`decode_frame`] ensures it, and
+//! [`theorems::frames_are_whole`] proves it for any other frame. `proofs/Frames.antt` has lemmas about it, for example
+//! that 160 zeros are a frame.
 #![tactic(auto)]
 
 mod decoding;
@@ -27,6 +27,6 @@ mod law;
 mod sample;
 pub mod theorems;
 
-pub use frame::{Frame, decode_frame, encode_frame, halve_frame};
+pub use frame::{FRAME_LEN, Frame, decode_frame, encode_frame, halve_frame};
 pub use law::Law;
 pub use sample::{decode, encode};

@@ -4,7 +4,7 @@ ghost use Rattle.mg_g711.specs.Law.{byte_of, level_of, magnitude_of, sample_of};
 use crate::law::Law;
 
 // What mu-law adds to a magnitude, so that each exponent starts at a power of two.
-const BIAS: u16 = 132;
+pub const BIAS: u16 = 132;
 
 // The largest magnitude, with mu-law's bias, that is not clipped.
 const GREATEST: u16 = 32767;

@@ -1,14 +1,14 @@
 //! Properties of the levels as a whole.
 //!
-//! The functions have empty bodies: their contracts are the theorems. A proof that needs one at some values calls the
-//! function.
+//! The functions have empty bodies: their contracts are the theorems. A proof that needs one for particular values
+//! calls the function.
 
 ghost use Rattle.std.specs.Prelude.{◌≡◌, ◌≢◌, ℕ, ◌+◌, ◌<◌, ◌≤◌, ◌≤ℤ◌, pos, unsigned_abs};
 ghost use Rattle.mg_g711.specs.Law.{byte_of, least_of, level_of, magnitude_of, quantized_of, sample_of};
 ghost use Rattle.mg_g711.specs.Error.{end_of, error_of, half_step_of};
 ghost use Rattle.mg_g711.specs.Frame.{IsFrame};
 
-use crate::frame::Frame;
+use crate::frame::{FRAME_LEN, Frame};
 use crate::law::Law;
 
 /// A magnitude lies in the last level that starts at or below it, so a border belongs to the upper level.
@@ -60,7 +60,7 @@ pub fn errors_are_bounded(law: Law, sample: i16)
 pub fn frames_are_whole(samples: &Frame)
     ensures { IsFrame samples.now }
 {
-    for i in 0..160 {
+    for i in 0..FRAME_LEN {
         let _sample = samples[i];
     }
 }

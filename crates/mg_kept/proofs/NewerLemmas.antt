@@ -8,7 +8,7 @@ use Rattle.std.specs.List.{find, filter}
 use Rattle.std.specs.Str.{str_eq_ignore_ascii_case}
 use Rattle.mg_words.specs.Limits.{kept_limit}
 use Rattle.mg_kept.specs.KeptReplies.{KeptReply, AreDistinct, AreKept, is_from, is_in_range, is_reply_to, kept_text, newer_than, with_reply, without_range}
-use Rattle.mg_kept.specs.Theorems.{FewNewerStay, NewerRepliesEvict, LastIsNewest, UnnamedStay, DroppedStayDropped, KeptStayDistinct}
+use Rattle.mg_kept.specs.aids.Changes.{FewNewerStay, NewerRepliesEvict, LastIsNewest, UnnamedStay, DroppedStayDropped, KeptStayDistinct}
 use Rattle.mg_words.proofs.CutLemmas.{same_letters, letters_same}
 use Rattle.mg_kept.proofs.FindLemmas.{none_found, find_agree, same_sender, none_in_drop, find_before, same_in_filter, fails_at, rest_is_distinct, later_none}
 use Rattle.mg_kept.proofs.KeepLemmas.{kept_is_last, oldest_is_dropped}

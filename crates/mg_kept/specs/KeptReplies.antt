@@ -1,5 +1,5 @@
--- The replies that are kept so that a retransmitted request is answered and not run twice (RFC
--- 3525, section 8.2 and annex D.1). They are listed oldest first.
+-- The replies that are kept to answer retransmitted requests without running them twice (RFC 3525,
+-- section 8.2 and annex D.1). They are listed oldest first.
 use Rattle.std.specs.Prelude.{◌≡◌, ℕ, ◌-◌, ◌≤◌, Bool, false, not, ◌&&◌, ◌==◌, nat_le, List, [], ◌∷◌}
 use Rattle.std.specs.Prelude.{◌++◌, length, drop, filter, find, Option, option_map, if◌then◌else◌}
 use Rattle.std.specs.List.{AllPairs}

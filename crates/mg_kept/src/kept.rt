@@ -53,7 +53,7 @@ impl Kept {
         None
     }
 
-    /// Keeps the reply to a request that has none yet. It is then the newest.
+    /// Keeps the reply to a request that has none yet, as the newest reply.
     ///
     /// If [`KEPT_REPLIES`] are kept already, the oldest is dropped.
     pub fn keep(&mut self, sender: &[u8], number: u32, text: &[u8])

@@ -14,7 +14,7 @@
 //! ```
 //!
 //! [`Kept::new`] allocates memory for all texts; no other call allocates. `specs/KeptReplies.antt` has the rules, and
-//! [`theorems`] states what follows.
+//! [`theorems`] states the consequences.
 #![tactic(auto)]
 
 mod entry;

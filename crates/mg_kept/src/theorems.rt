@@ -3,7 +3,8 @@
 //! The functions have empty bodies: their contracts are the theorems, in the words of `specs/Theorems.antt`.
 
 ghost use Rattle.mg_kept.specs.KeptReplies.{AreKept};
-ghost use Rattle.mg_kept.specs.Theorems.{KeptIsFound, CaseIsIgnored, OthersStay, OnlyOldestIsDropped, OldestIsDropped, AcknowledgedIsDropped, OtherSendersStay, OtherNumbersStay, FewNewerStay, NewerRepliesEvict, LastIsNewest, UnnamedStay, DroppedStayDropped, KeptStayDistinct};
+ghost use Rattle.mg_kept.specs.Theorems.{KeptIsFound, CaseIsIgnored, OthersStay, OnlyOldestIsDropped, OldestIsDropped, AcknowledgedIsDropped, OtherSendersStay, OtherNumbersStay};
+ghost use Rattle.mg_kept.specs.aids.Changes.{FewNewerStay, NewerRepliesEvict, LastIsNewest, UnnamedStay, DroppedStayDropped, KeptStayDistinct};
 
 use crate::kept::Kept;
 

@@ -8,7 +8,7 @@ without_return line =
     if slice_index line (length line - 1) == 13 then take (length line - 1) line else line
 
 -- The lines of a text after a partial line: those that end in a line feed. If the text has ended,
--- there is a last line without a line feed, unless it is empty.
+-- the rest is a last line without a line feed, unless it is empty.
 unfoldable pub lines_after : Bool → List ℕ → List ℕ → List (List ℕ)
 lines_after ended partial [] =
     if length partial == 0 then [] else (if ended then partial ∷ [] else [])

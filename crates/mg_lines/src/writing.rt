@@ -5,7 +5,7 @@ use crate::write_failed::WriteFailed;
 use std::io::{ErrorKind, Write};
 
 /// Passes the beginning of a text to a writer. Returns how many bytes it wrote: 0 if it was interrupted. A writer that
-/// writes zero bytes has failed.
+/// writes zero bytes counts as failed.
 fn write_some<W: Write>(text: &[u8], writer: &mut W) -> Result<usize, WriteFailed>
     ensures value { WritesSome text.now (W.contents writer.old) (W.contents writer.new) result }
 {

@@ -12,7 +12,7 @@ abbrev pub number_rule : Text → ℕ → ℕ → Rule
 number_rule name least most =
     record (text_rule name) { parser = Some (Signed (pos least) (pos most)) }
 
--- the number below `limit` that decimal digits write, with an optional plus sign
+-- the number below `limit` that decimal digits denote, with an optional plus sign
 abbrev pub number_below : ℕ → Text → Option ℕ
 number_below limit text = let digits = without_leading_plus text in
     if is_numeral digits && nat_lt (digits_value 10 digits) limit

@@ -16,7 +16,7 @@ fn report_error<E: Write>(error: &io::Error, errors: &mut E) -> Status
     ensures usage { error_kind error.now ≢ ErrorKind.OutOfMemory → result ≡ Status.Usage }
 {
     if error.kind() == ErrorKind::OutOfMemory {
-        let _ = writeln!(errors, "no memory");
+        let _ = writeln!(errors, "out of memory");
         return Status::NoMemory;
     }
     let _ = writeln!(errors, "error: an argument is not valid UTF-8");
@@ -25,8 +25,8 @@ fn report_error<E: Write>(error: &io::Error, errors: &mut E) -> Status
 
 /// Returns the running program's arguments without its name, or how the program ends if they cannot be read.
 ///
-/// An argument that is not valid UTF-8 is a usage error, and memory may run out. The text of an error goes to
-/// `errors`.
+/// Reading them fails if an argument is not valid UTF-8, which is a usage error, or if memory runs out. The text of an
+/// error goes to `errors`.
 pub fn program_arguments<E: Write>(
     rt: &HostRuntime,
     errors: &mut E,

@@ -10,7 +10,7 @@ pub const VERSION: &str = "0.1.0";
 
 /// Makes the command line of a program, to which options and subcommands are added.
 ///
-/// Its arguments come without the program's name. `--version` prints the name and the version.
+/// Its arguments do not include the program's name. `--version` prints the name and the version.
 pub fn program_command<'a>(alloc: Global, name: &'a str, about: &'a str) -> Command<'a>
     ensures app { app_of result ≡ program_line name.now }
 {

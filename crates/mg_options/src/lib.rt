@@ -1,6 +1,6 @@
 //! The common parts of the programs' command lines, over `clap`.
 //!
-//! They are options that take one number, the version, error reports, and exit statuses.
+//! This crate covers options that take one number, the version, error reports, and exit statuses.
 //!
 //! ```rust
 //! let command = program_command(alloc, "gateway", "Joins calls").arg(short_number(alloc, "port"))?;

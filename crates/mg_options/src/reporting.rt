@@ -7,7 +7,7 @@ use clap::Error;
 use clap::error::ErrorKind;
 use std::io::Write;
 
-/// Reports that a text could not be printed, unless the program counts as successful anyway.
+/// Reports that a text could not be printed, unless the program succeeds anyway.
 fn report_unprinted<E: Write>(unprinted: Status, errors: &mut E)
     ensures quiet { unprinted ≡ Status.Done → errors.new ≡ errors.old }
 {
@@ -31,7 +31,7 @@ pub fn report_error<W: Write, E: Write>(
 {
     match error.kind() {
         ErrorKind::OutOfMemory => {
-            let _ = writeln!(errors, "no memory");
+            let _ = writeln!(errors, "out of memory");
             Status::NoMemory
         }
         ErrorKind::DisplayHelp | ErrorKind::DisplayVersion => match write!(output, "{error}") {

@@ -1,3 +1,4 @@
 pub mod PlacesLemmas
 pub mod RingLemmas
 pub mod TickLemmas
+pub mod TurnLemmas

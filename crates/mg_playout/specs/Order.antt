@@ -1,7 +1,8 @@
 -- Properties of play lists by sequence number, for the theorems (this project's own). The
 -- definitions of the calls do not use them.
-use Rattle.std.specs.Prelude.{◌≡◌, ℕ, zero, suc, ◌<◌, ℤ, List, drop, Option, Some, None, IfSome}
+use Rattle.std.specs.Prelude.{◌≡◌, ℕ, zero, suc, ◌<◌, ℤ, List, drop, Option, Some, IfSome}
 use Rattle.std.specs.Prelude.{if◌then◌else◌}
+use Rattle.std.specs.Option.{option_and_then}
 use Rattle.mg_g711.specs.Frame.{IsFrame}
 use Rattle.mg_playout.specs.Places.{FramePlaces, frame_at, has_no_frame, ArePlaces}
 use Rattle.mg_playout.specs.Played.{given}
@@ -19,12 +20,9 @@ pub record IsValidList (list : PlayList) : Type 0 where
   pub source : (source : Source) → list.source ≡ Some source → source.next < 65536
 
 -- the frame that waits under the sequence number, if there is one
-abbrev pub frame_from : Option Source → FramePlaces → ℕ → Option (List ℤ)
-frame_from None places sequence = None
-frame_from (Some source) places sequence = frame_at places (steps_between source.next sequence)
-
 abbrev pub frame_under : PlayList → ℕ → Option (List ℤ)
-frame_under list sequence = frame_from list.source list.places sequence
+frame_under list sequence =
+    option_and_then (λ source. frame_at list.places (steps_between source.next sequence)) list.source
 
 -- what the next tick plays after this many ticks without a new frame
 abbrev pub given_after : ℕ → PlayList → Played

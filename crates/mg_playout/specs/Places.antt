@@ -1,5 +1,5 @@
 -- The places of a play list, each of which may hold a frame (this project's own).
-use Rattle.std.specs.Prelude.{ℕ, ◌+◌, ◌-◌, ◌≤◌, min, ℤ, Bool, List, ◌∷◌, ◌++◌, length, take, drop}
+use Rattle.std.specs.Prelude.{ℕ, ◌-◌, ◌≤◌, min, ℤ, Bool, List, ◌∷◌, ◌++◌, length, take, drop}
 use Rattle.std.specs.Prelude.{replicate, slice_index_or, Option, Some, None, is_none, All, IfSome}
 use Rattle.std.specs.List.{list_all}
 use Rattle.mg_words.specs.Limits.{least_depth, greatest_depth}
@@ -38,12 +38,3 @@ pub record ArePlaces (places : FramePlaces) : Type 0 where
   pub at_least : least_depth ≤ length places
   pub at_most : length places ≤ greatest_depth
   pub frames : All (λ place. IfSome place IsFrame) places
-
--- the frames that a play list keeps: the one played last, if any, and those that wait
-pub record KeptFrames : Type 0 where
-  pub last : Option (List ℤ)
-  pub places : FramePlaces
-
--- the contents of the ring, whose first item is the last frame
-abbrev pub kept_in : List (Option (List ℤ)) → KeptFrames
-kept_in items = record { last = slice_index_or items 0 None; places = drop 1 items }

@@ -1,7 +1,7 @@
 -- A play list, and what each call does to it (this project's own). It is the jitter buffer.
 use Rattle.std.specs.Prelude.{ℕ, ◌+◌, ◌-◌, ◌/◌, ◌%◌, ℤ, pos, neg_ℤ, nat_abs, int_lt, int_le, ◌||◌}
-use Rattle.std.specs.Prelude.{◌==◌, ◌≤◌, nat_le, if◌then◌else◌, List, length, slice_set, Option}
-use Rattle.std.specs.Prelude.{Some, None, is_some}
+use Rattle.std.specs.Prelude.{◌==◌, ◌≤◌, nat_le, if◌then◌else◌, Bool, true, false, not, List, length}
+use Rattle.std.specs.Prelude.{slice_set, Option, Some, None, is_some}
 use Rattle.std.specs.Option.{option_map, option_map_or}
 use Rattle.mg_words.specs.Limits.{first_depth}
 use Rattle.mg_playout.specs.Places.{FramePlaces, empty_places, started_with, frame_at, has_no_frame}
@@ -15,8 +15,6 @@ use Rattle.mg_playout.specs.declared.placed.Placed.TheVariants as answer
 use Rattle.mg_playout.specs.declared.played.Played.{Played}
 use Rattle.mg_playout.specs.declared.played.Played.TheVariants.{Silence}
 use Rattle.mg_playout.specs.declared.source.Source.{Source}
-use Rattle.mg_playout.specs.declared.turn.Turn.{Turn}
-use Rattle.mg_playout.specs.declared.turn.Turn.TheVariants.{Start, Late, Again, At, Push}
 
 -- A play list: its phase, its source, the frame played last, and the places of the frames that
 -- wait. Place i belongs to the source's next sequence number plus i, modulo 65536.
@@ -63,39 +61,34 @@ shifted list count = record list {
 abbrev pub filled : PlayList → ℕ → List ℤ → PlayList
 filled list place frame = record list { places = slice_set list.places place (Some frame) }
 
--- where a frame belongs if its place is not below 0
-abbrev pub turn_of_place : Phase → FramePlaces → ℕ → Turn
-turn_of_place Idle places place = Start
-turn_of_place phase places place =
-    if nat_le (length places) place then Push (place - length places + 1)
-    else if is_some (frame_at places place) then Again
-    else At place
+abbrev pub is_idle : Phase → Bool
+is_idle Idle = true
+is_idle _ = false
 
--- where a frame of the current source belongs, by its distance from the next sequence number
-abbrev pub turn_at : PlayList → ℤ → Turn
-turn_at list distance =
-    if int_lt distance (neg_ℤ (pos 100)) || int_le (pos 3000) distance then Start
-    else if int_lt distance (pos 0) then Late
-    else turn_of_place list.phase list.places (nat_abs distance)
+-- whether the list has no source yet, or another one
+abbrev pub is_new_source : PlayList → ℕ → Bool
+is_new_source list ssrc = option_map_or (λ source. not (ssrc == source.ssrc)) list.source true
 
--- where a frame belongs: the first case that applies
-abbrev pub turn_of : PlayList → ℕ → ℕ → Turn
-turn_of list ssrc sequence =
-    option_map_or (λ source. if ssrc == source.ssrc
-    then turn_at list (distance_of source.next sequence) else Start) list.source Start
+-- how far a frame is ahead of the next one, if there is a source
+abbrev pub distance_in : PlayList → ℕ → ℤ
+distance_in list sequence =
+    option_map_or (λ source. distance_of source.next sequence) list.source (pos 0)
 
--- the play list and the result after the frame is put where it belongs
-abbrev pub placed_at : Turn → PlayList → ℕ → ℕ → List ℤ → PlayList × Placed
-placed_at Start list ssrc sequence frame = (started list ssrc sequence frame, answer.Started)
-placed_at Late list ssrc sequence frame = (list, answer.Late)
-placed_at Again list ssrc sequence frame = (list, answer.Again)
-placed_at (At place) list ssrc sequence frame = (filled list place frame, answer.Placed)
-placed_at (Push count) list ssrc sequence frame =
-    (filled (shifted list count) (depth_of list - 1) frame, answer.Pushed)
-
--- placing a frame: the play list after it, and the result
+-- Placing a frame: the play list after it, and the result. The first case that applies counts.
 abbrev pub placed : PlayList → ℕ → ℕ → List ℤ → PlayList × Placed
-placed list ssrc sequence frame = placed_at (turn_of list ssrc sequence) list ssrc sequence frame
+placed list ssrc sequence frame =
+    let start : PlayList × Placed = (started list ssrc sequence frame, answer.Started) in
+    let distance : ℤ = distance_in list sequence in
+    let place : ℕ = nat_abs distance in
+    let depth : ℕ = depth_of list in
+    if is_new_source list ssrc then start
+    else if int_lt distance (neg_ℤ (pos 100)) || int_le (pos 3000) distance then start
+    else if int_lt distance (pos 0) then (list, answer.Late)
+    else if is_idle list.phase then start
+    else if nat_le depth place
+    then (filled (shifted list (place - depth + 1)) (depth - 1) frame, answer.Pushed)
+    else if is_some (frame_at list.places place) then (list, answer.Again)
+    else (filled list place frame, answer.Placed)
 
 -- A tick: the play list after it, and what it plays. What was at place 0 in this tick, a frame or
 -- none, becomes the last frame. An empty list plays no place, and forgets the last frame.

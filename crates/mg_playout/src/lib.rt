@@ -24,8 +24,8 @@
 //!
 //! [`Playout::new`] allocates memory for [`MAX_DEPTH`] places and the last frame. No other call allocates.
 //!
-//! The rules are this project's own. `specs/Playout.antt` defines them; each call is one step. [`theorems`] states
-//! what follows.
+//! The rules are this project's own. `specs/Playout.antt` defines them; each call is one step. [`theorems`] states the
+//! consequences.
 #![tactic(auto)]
 
 mod phase;

@@ -13,22 +13,21 @@ use mg_words::{FIRST_DEPTH, MAX_DEPTH, MIN_DEPTH};
 use std::alloc::{AllocError, Global};
 use std::marker::Model;
 
-/// The frame played last, and the frames that wait, by place. Place 0 is played next.
+/// The frame played last, and the waiting frames by place. Place 0 is played next.
 ///
 /// The ring's first item is the last frame, followed by an item for each place. So a tick moves no frame in memory: the
-/// frame at place 0 becomes the last frame. Contracts see the record `KeptFrames` of `specs/Places.antt`.
+/// frame at place 0 becomes the last frame. Contracts see the record `KeptFrames` of `specs/aids/Ring.antt`.
 #[derive(Drop)]
 pub struct Places {
     ring: HeapCircularBuffer<Option<Frame>>,
 }
 
 impl Model for Places {
-    ghost use Rattle.mg_playout.specs.Places.{KeptFrames};
+    ghost use Rattle.mg_playout.specs.aids.Ring.{KeptFrames};
 
     ghost Value = { KeptFrames };
 
-    ghost use Rattle.mg_playout.specs.Places.{kept_in};
-    ghost use Rattle.mg_playout.specs.aids.Ring.{IsRingOfPlaces};
+    ghost use Rattle.mg_playout.specs.aids.Ring.{kept_in, IsRingOfPlaces};
 
     ghost view = { λ p. kept_in p.ring.items };
 

@@ -37,7 +37,8 @@ impl Model for Playout {
 }
 
 impl Playout {
-    ghost use Rattle.mg_playout.specs.Playout.{first_list, placed, ticked, with_depth, turn_of, turn_at, started, shifted};
+    ghost use Rattle.mg_playout.specs.Playout.{first_list, placed, ticked, with_depth, started, shifted};
+    ghost use Rattle.mg_playout.specs.aids.Turns.{turn_of, turn_at};
     ghost use Rattle.mg_playout.specs.Places.{frame_at};
     ghost use Rattle.mg_playout.specs.Played.{given, sound_of};
     ghost use Rattle.mg_playout.specs.Order.{IsValidList};
@@ -106,7 +107,7 @@ impl Playout {
 
     /// Sets the depth, in places of 20 ms. Frames at places that no longer exist are dropped.
     ///
-    /// A wait that has started keeps its length.
+    /// A wait that is already in progress keeps its length.
     pub fn set_depth(&mut self, depth: usize)
         requires at_least { MIN_DEPTH ≤ depth }
         requires at_most { depth ≤ MAX_DEPTH }
@@ -166,7 +167,7 @@ impl Playout {
         }
     }
 
-    /// Restarts with a frame, whose sequence number becomes the next one.
+    /// Restarts at this frame: its sequence number is the next to be played.
     fn start(&mut self, ssrc: u32, sequence: u16, frame: Frame)
         ensures { self.new ≡ started self.old ssrc sequence frame }
     {

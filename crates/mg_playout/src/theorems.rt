@@ -40,7 +40,7 @@ pub fn placed_frame_waits_under_its_number()
         frame_under (placed list ssrc sequence frame).0 sequence ≡ Some frame }
 {}
 
-/// The other frames stay under their sequence numbers while there is a place for them. A start drops them all.
+/// The other frames stay under their sequence numbers as long as there is a place for them. A start drops them all.
 pub fn other_frames_keep_their_numbers()
     ensures stay { (list : PlayList) (ssrc sequence : ℕ) (frame : List ℤ) (after : Source) (other : ℕ) →
         IsValidList list → sequence < 65536 → other < 65536 → other ≢ sequence →

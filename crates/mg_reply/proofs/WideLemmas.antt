@@ -16,7 +16,7 @@ use Rattle.mg_reply.specs.Entries.{item_text, texts_of, topology_entry, entries_
 use Rattle.mg_reply.specs.Written.{action_text, actions_text, items_text, reply_text}
 use Rattle.mg_reply.specs.Reply.{Answered, new_reply, is_action, last_is_action, is_refusal, marked, with_item, after_put, after_all}
 use Rattle.mg_reply.specs.aids.Room.{places_of}
-use Rattle.mg_reply.specs.Theorems.{is_wide, TooLongByText, AllItemsAreKept}
+use Rattle.mg_reply.specs.aids.Width.{is_wide, TooLongByText, AllItemsAreKept}
 
 -- the bytes of parts, each with a comma
 weight : List (List ℕ) → ℕ

@@ -2,3 +2,4 @@ pub mod Cut
 pub mod Draft
 pub mod Marks
 pub mod Room
+pub mod Width

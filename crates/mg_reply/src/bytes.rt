@@ -2,7 +2,7 @@ ghost use Rattle.std.specs.Prelude.{◌≡◌, ◌+◌, ◌≤◌, ◌++◌, [],
 ghost use Rattle.mg_reply.specs.Bytes.{appended};
 ghost use Rattle.mg_reply.specs.aids.Cut.{cut_to};
 
-use crate::rtp_name::RtpName;
+use crate::rtp_name::{NAME_ROOM, RtpName};
 use std::alloc::{AllocError, Global};
 use std::marker::Model;
 
@@ -29,11 +29,11 @@ impl Model for Bytes {
 
 /// Writes a name into a buffer: all 16 bytes of its storage.
 fn write_at(bytes: &mut [u8], at: usize, name: &RtpName)
-    requires fits { at + 16 ≤ length bytes.old }
+    requires fits { at + NAME_ROOM ≤ length bytes.old }
     ensures value { take (at + length name.now) bytes.new ≡ take at bytes.old ++ name.now }
     ensures len { length bytes.new ≡ length bytes.old }
 {
-    bytes[at..at + 16].copy_from_slice(name.padded());
+    bytes[at..at + NAME_ROOM].copy_from_slice(name.padded());
 }
 
 impl Bytes {
@@ -87,7 +87,7 @@ impl Bytes {
         requires fits { length name.now ≤ self.old.room }
         ensures value { self.new ≡ appended self.old name.now }
     {
-        let end = self.len + 16;
+        let end = self.len + NAME_ROOM;
         if end > self.bytes.len() {
             self.push(name.as_slice());
             return;

@@ -33,7 +33,7 @@ impl Model for Draft {
 }
 
 impl Draft {
-    /// Starts a reply after the text of a buffer. The draft holds the buffer until it is closed.
+    /// Starts a reply at the end of the text in the buffer. The draft holds the buffer until it is closed.
     pub fn begin(bytes: &mut Bytes) -> Self
         requires room { reply_limit ≤ bytes.old.room }
         ensures value { result ≡ record { front = bytes.old.text; room = bytes.old.room; text = Some [] } }
@@ -77,7 +77,7 @@ impl Draft {
 
     /// Returns the buffer, and whether the reply was too long.
     ///
-    /// If it was, the buffer is unchanged; otherwise it has the whole reply.
+    /// If it was, the buffer is unchanged; otherwise it contains the whole reply.
     pub fn close(self) -> (Bytes, bool)
         ensures value { closed self result.0 result.1 }
     {

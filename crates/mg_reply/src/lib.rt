@@ -12,10 +12,10 @@
 //! assert!(rt; write_reply(&reply, &mut text).is_ok());
 //! ```
 //!
-//! Put the end of an action after its items, which may be in any order: they are written as topology, commands and
-//! errors. A reply whose only item is an [`Item::Fault`] rejects the whole request. [`write_reply`] returns
-//! [`TooLong`], and writes nothing, if the reply had more items than room or if its text would exceed 16,000 bytes.
-//! [`theorems`] states properties of replies.
+//! Put the end of an action after its items, which may be in any order: the text lists topology, commands and errors. A
+//! reply whose only item is an [`Item::Fault`] rejects the whole request. [`write_reply`] returns [`TooLong`], and
+//! writes nothing, if the reply had more items than room or if its text would exceed 16,000 bytes. [`theorems`] states
+//! properties of replies.
 #![tactic(auto)]
 
 mod action_writing;
@@ -40,7 +40,8 @@ pub use crate::outcome::{Outcome, Parts};
 pub use crate::reply::{ITEM_LIMIT, Reply};
 pub use crate::rtp_name::RtpName;
 pub use crate::writing::{
-    HEAD_LIMIT, TooLong, write_address, write_error, write_head, write_port, write_reply,
+    HEAD_LIMIT, PORT_LIMIT, TooLong, write_address, write_error, write_head, write_port,
+    write_reply,
 };
 pub use mg_words::{
     Association, CommandWord, ContextId, ERROR_LIMIT, ErrorNumber, Mode, REPLY_LIMIT, Stats,

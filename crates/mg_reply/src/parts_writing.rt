@@ -9,7 +9,7 @@ use crate::media::Media;
 use crate::outcome::Parts;
 use itoa::Buffer;
 use mg_sdp::{Chosen, write_local, write_remote};
-use mg_words::Stats;
+use mg_words::{FRAME_MS, Stats};
 
 /// Appends a number in decimal.
 pub(crate) fn put_number(draft: &mut Draft, n: u64)
@@ -27,7 +27,7 @@ fn put_control(draft: &mut Draft, control: Control)
     draft.put(b"LocalControl{Mode=");
     draft.put(control.mode.as_str().as_bytes());
     draft.put(b",nt/jit=");
-    put_number(draft, 20 * u64::from(control.depth));
+    put_number(draft, u64::from(FRAME_MS) * u64::from(control.depth));
     draft.put(b"}");
 }
 
@@ -77,7 +77,7 @@ fn put_next_remote(draft: &mut Draft, remote: Option<Chosen>)
     }
 }
 
-/// Appends the whole stream in braces, as an audit requests it.
+/// Appends the whole stream in braces, as for an audit.
 #[tactic(auto, using(crate::proofs::StreamLemmas::whole))]
 fn put_whole(draft: &mut Draft, control: Control, local: Option<Chosen>, remote: Option<Chosen>)
     ensures value { draft.new ≡ drafted draft.old (grouped (reported_stream (Media.Whole control local remote))) }

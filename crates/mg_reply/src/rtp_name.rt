@@ -4,23 +4,27 @@ ghost use Rattle.mg_words.specs.Term.{rtp_name};
 use itoa::Buffer;
 use std::marker::Model;
 
+/// The number of bytes that a name is stored in.
+pub(crate) const NAME_ROOM: usize = 16;
+
 /// The name of a termination, `RTP/` and its number in decimal.
 ///
 /// It has 5 to 14 bytes, stored in 16, so that one move copies it. Contracts see the name.
 #[derive(Drop)]
 pub struct RtpName {
-    padded: [u8; 16],
+    padded: [u8; NAME_ROOM],
     len: usize,
 }
 
 impl Model for RtpName {
     ghost use Rattle.std.specs.Prelude.{List, ℕ, ◌≤◌, take};
+    ghost use Rattle.mg_reply.specs.declared.rtp_name.TheConstants.{NAME_ROOM};
 
     ghost Value = { List ℕ };
 
     ghost view = { λ name. take name.len name.padded };
 
-    ghost invariant = { λ name. name.len ≤ 16 };
+    ghost invariant = { λ name. name.len ≤ NAME_ROOM };
 }
 
 impl RtpName {
@@ -62,9 +66,9 @@ impl RtpName {
     }
 
     /// Returns the 16 bytes that start with the name.
-    pub(crate) fn padded(&self) -> &[u8; 16]
+    pub(crate) fn padded(&self) -> &[u8; NAME_ROOM]
         ensures value { take (length self.now) result.now ≡ self.now }
-        ensures short { length self.now ≤ 16 }
+        ensures short { length self.now ≤ NAME_ROOM }
     {
         &self.padded
     }

@@ -2,7 +2,8 @@
 //!
 //! The functions have no effect: their contracts are the theorems. A proof that needs one calls the function.
 
-ghost use Rattle.mg_reply.specs.Theorems.{NoProperPrefix, TooLongByText, AllItemsAreKept};
+ghost use Rattle.mg_reply.specs.Theorems.{NoProperPrefix};
+ghost use Rattle.mg_reply.specs.aids.Width.{TooLongByText, AllItemsAreKept};
 
 /// No reply's text is a proper prefix of another reply's text.
 pub fn no_proper_prefix()
@@ -11,7 +12,7 @@ pub fn no_proper_prefix()
 
 /// Whether a reply is too long depends only on the text of its items, not on whether they found room.
 ///
-/// This holds if each item has at least 10 bytes with its comma.
+/// This holds if each item, with its comma, has at least 10 bytes.
 pub fn too_long_by_text()
     ensures theorem { TooLongByText }
     ensures kept { AllItemsAreKept }

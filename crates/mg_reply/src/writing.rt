@@ -14,21 +14,24 @@ use crate::item::Item;
 use crate::parts_writing::put_number;
 use crate::reply::Reply;
 use itoa::Buffer;
-use mg_words::{ErrorNumber, address_text};
+use mg_words::{ADDRESS_LIMIT, ERROR_LIMIT, ErrorNumber, address_text};
 
 /// The text of the reply would exceed 16,000 bytes. Nothing was written.
 #[derive(Clone, Copy, Debug, PartialEq, Eq)]
 pub struct TooLong;
 
-/// The maximum length of a message head, in bytes.
-pub const HEAD_LIMIT: usize = 33;
+/// The maximum length of a port in decimal, in bytes.
+pub const PORT_LIMIT: usize = 5;
+
+/// The maximum length of a message head, in bytes: 13 for `MEGACO/1 []:` and a line feed, an address and a port.
+pub const HEAD_LIMIT: usize = 13 + ADDRESS_LIMIT + PORT_LIMIT;
 
 /// Writes a port in decimal: at most 5 bytes.
 #[tactic(auto, using(crate::proofs::WrittenLemmas::lengths))]
 pub fn write_port(port: u16, out: &mut Bytes)
-    requires room { 5 ≤ out.old.room }
+    requires room { PORT_LIMIT ≤ out.old.room }
     ensures value { out.new ≡ appended out.old (decimal port) }
-    ensures short { length (decimal port) ≤ 5 }
+    ensures short { length (decimal port) ≤ PORT_LIMIT }
 {
     let mut buffer = Buffer::new();
     out.push(buffer.format(port).as_bytes());
@@ -36,9 +39,9 @@ pub fn write_port(port: u16, out: &mut Bytes)
 
 /// Writes an IPv4 address in dotted decimal: at most 15 bytes.
 pub fn write_address(address: [u8; 4], out: &mut Bytes)
-    requires room { 15 ≤ out.old.room }
+    requires room { ADDRESS_LIMIT ≤ out.old.room }
     ensures value { out.new ≡ appended out.old (address_text address) }
-    ensures short { length (address_text address) ≤ 15 }
+    ensures short { length (address_text address) ≤ ADDRESS_LIMIT }
 {
     out.push(address_text(address).as_slice());
 }
@@ -46,9 +49,9 @@ pub fn write_address(address: [u8; 4], out: &mut Bytes)
 /// Writes the head of a message from the gateway at this address and port: at most 33 bytes.
 #[tactic(auto, using(crate::proofs::WrittenLemmas::lengths))]
 pub fn write_head(address: [u8; 4], port: u16, out: &mut Bytes)
-    requires room { 33 ≤ out.old.room }
+    requires room { HEAD_LIMIT ≤ out.old.room }
     ensures value { out.new ≡ appended out.old (head_text address port) }
-    ensures short { length (head_text address port) ≤ 33 }
+    ensures short { length (head_text address port) ≤ HEAD_LIMIT }
 {
     out.push(b"MEGACO/1 [");
     write_address(address, out);
@@ -60,9 +63,9 @@ pub fn write_head(address: [u8; 4], port: u16, out: &mut Bytes)
 /// Writes an error descriptor: at most 64 bytes.
 #[tactic(auto, using(crate::proofs::WrittenLemmas::lengths))]
 pub fn write_error(number: ErrorNumber, out: &mut Bytes)
-    requires room { 64 ≤ out.old.room }
+    requires room { ERROR_LIMIT ≤ out.old.room }
     ensures value { out.new ≡ appended out.old (error_text number) }
-    ensures short { length (error_text number) ≤ 64 }
+    ensures short { length (error_text number) ≤ ERROR_LIMIT }
 {
     out.push(number.descriptor().as_slice());
 }

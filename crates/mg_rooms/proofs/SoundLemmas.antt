@@ -7,7 +7,7 @@ use Rattle.mg_rooms.specs.declared.settings.Settings.{Settings}
 use Rattle.mg_rooms.specs.declared.target.Target.{Target}
 use Rattle.mg_rooms.specs.Registry.{Registry, record_at, context_at}
 use Rattle.mg_rooms.specs.Consistent.{IsTermination, IsConsistent}
-use Rattle.mg_rooms.specs.Sound.{IsSound}
+use Rattle.mg_rooms.specs.aids.Sound.{IsSound}
 use Rattle.mg_rooms.specs.declared.member.Member.{Member}
 use Rattle.mg_rooms.specs.Member.{ExistsAs}
 use Rattle.mg_words.specs.declared.error_number.ErrorNumber.{ErrorNumber}

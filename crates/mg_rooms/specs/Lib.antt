@@ -8,6 +8,5 @@ pub mod Settings
 pub mod Limits
 pub mod Results
 pub mod Consistent
-pub mod Sound
 pub mod Lasting
 pub mod aids

@@ -1,7 +1,7 @@
 -- The outcome of a command on one termination (RFC 3525, sections 7.2.1 to 7.2.4). It is the error
--- of the first check that fails, or the registry after the command with the termination. That is
--- its new record, or the old one if it was subtracted. The order of the checks is this project's
--- own: the termination, the action's context, exhausted resources, the media.
+-- of the first check that fails, or else the registry after the command and the termination. The
+-- termination has its new record, or the old one if it was subtracted. The order of the checks is
+-- this project's own: the termination, the action's context, exhausted resources, the media.
 use Rattle.std.specs.Prelude.{◌≡◌, ℕ, Bool, false, not, ◌&&◌, length, Some, None, Result, Ok, Err}
 use Rattle.std.specs.Prelude.{◌==◌, nat_lt, nat_le, ok_or}
 use Rattle.mg_rooms.specs.declared.record.Record.{Record}

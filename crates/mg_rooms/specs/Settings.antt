@@ -16,8 +16,8 @@ abbrev pub depth_after : Option ℕ → ℕ → ℕ
 depth_after None old = old
 depth_after (Some depth) old = min (max depth least_depth) greatest_depth
 
--- The alternative that is chosen from an offer is set; if none can be, the command is rejected. An
--- offer without alternatives is blank, and removes the old setting.
+-- The alternative that is chosen from an offer is set; if none can be chosen, the command is
+-- rejected. An offer without alternatives is blank, and removes the old setting.
 abbrev pub offered : (List (Option Offer) → Option Chosen) → List (Option Offer)
     → Result (Option Chosen) ErrorNumber
 offered choice [] = Ok None

@@ -1,4 +1,4 @@
-//! The single steps with which commands change terminations and contexts.
+//! The single steps by which commands change terminations and contexts.
 
 ghost use Rattle.std.specs.Prelude.{◌≡◌, ◌<◌, IfSome, Some, true, length, nat_le};
 ghost use Rattle.mg_words.specs.Limits.{last_termination};

@@ -1,25 +1,28 @@
+/// The number of hints: one for each value of the last eight bits of a number.
+const HINTS: usize = 256;
+
 /// The places where numbers were last put in a table, indexed by the last eight bits of the number.
 ///
 /// Numbers that differ by 256 share a hint. So a hint only says where to look first, and the caller compares the number
 /// there.
 #[derive(Drop)]
 pub struct Hints {
-    places: [u8; 256],
+    places: [u8; HINTS],
 }
 
 impl Hints {
     /// Returns hints without any place.
     pub(crate) fn new() -> Hints {
-        Hints { places: [0; 256] }
+        Hints { places: [0; HINTS] }
     }
 
     /// Records where a number was put.
     pub(crate) fn note(&mut self, number: u32, place: u8) {
-        self.places[number as usize % 256] = place;
+        self.places[number as usize % HINTS] = place;
     }
 
     /// Returns the place to look at first for a number.
     pub(crate) fn place(&self, number: u32) -> u8 {
-        self.places[number as usize % 256]
+        self.places[number as usize % HINTS]
     }
 }

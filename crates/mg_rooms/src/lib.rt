@@ -19,10 +19,10 @@
 //!
 //! [`Rooms::new`] allocates all memory; no other call allocates.
 //!
-//! Contracts see a registry: the terminations and contexts in order of their numbers (`specs/Registry.antt`). The
-//! contract of each call states the outcome of its command on that registry (`specs/Outcome.antt`). It also says that
-//! the new registry is sound (`specs/Sound.antt`), and what the call leaves unchanged (`specs/Lasting.antt`). Each call
-//! returns the termination with the room of its context. [`theorems`] states when a resource is exhausted.
+//! Contracts see a registry: the terminations and contexts in numerical order (`specs/Registry.antt`). The contract of
+//! each call states the outcome of its command on that registry (`specs/Outcome.antt`). It also states that the new
+//! registry is sound (`specs/Sound.antt`), and what the call leaves unchanged (`specs/Lasting.antt`). Each call returns
+//! the termination with the room of its context. [`theorems`] states when a resource is exhausted.
 #![tactic(auto)]
 
 mod changes;

@@ -3,7 +3,6 @@ ghost use Rattle.mg_rooms.specs.Limits.{AreValidLimits};
 ghost use Rattle.mg_rooms.specs.Registry.{start_of, record_at, context_at, members_at, holder_of};
 ghost use Rattle.mg_rooms.specs.Lasting.{Lasts, LeavesOthers};
 ghost use Rattle.mg_rooms.specs.Member.{ExistsAs};
-ghost use Rattle.mg_rooms.specs.Sound.{IsSound};
 ghost use Rattle.mg_rooms.specs.Outcome.{Gives, member, add, modify, move_to, subtract};
 
 use crate::limits::Limits;
@@ -20,7 +19,7 @@ use std::marker::Model;
 /// The terminations and contexts of a gateway.
 ///
 /// Contracts see the terminations and contexts in order of their numbers, and the next numbers
-/// (`specs/Registry.antt`). `IsSound` (`specs/Sound.antt`) holds after any commands.
+/// (`specs/Registry.antt`). `IsConsistent` (`specs/Consistent.antt`) holds after any commands.
 #[derive(Drop)]
 pub struct Rooms {
     tables: Tables,
@@ -47,7 +46,7 @@ impl Rooms {
     pub fn new(alloc: Global, limits: Limits) -> Result<Rooms, AllocError>
         requires valid { AreValidLimits limits }
         ensures start { IfOk result (λ rooms. rooms ≡ start_of limits) }
-        ensures sound { IfOk result IsSound }
+        ensures consistent { IfOk result IsConsistent }
     {
         let tables = Tables::new(alloc, limits)?;
         Ok(Rooms { tables })
@@ -117,7 +116,7 @@ impl Rooms {
     pub fn add(&mut self, target: Target, settings: &Settings) -> Result<Member, ErrorNumber>
         ensures outcome { Gives (λ m. m.record) self.old self.new result (add self.old target settings.now) }
         ensures refused { OnErr result (self.new ≡ self.old) }
-        ensures sound { IsSound self.new }
+        ensures consistent { IsConsistent self.new }
         ensures member { IfOk result (λ m. ExistsAs self.new m.record.number m) }
         ensures lasts { Lasts self.old self.new }
         ensures others { IfOk result (λ m. LeavesOthers self.old self.new m.record.number m.record.context
@@ -139,7 +138,7 @@ impl Rooms {
     ) -> Result<Member, ErrorNumber>
         ensures outcome { Gives (λ m. m.record) self.old self.new result (modify self.old target number settings.now) }
         ensures refused { OnErr result (self.new ≡ self.old) }
-        ensures sound { IsSound self.new }
+        ensures consistent { IsConsistent self.new }
         ensures member { IfOk result (ExistsAs self.new number) }
         ensures lasts { Lasts self.old self.new }
         ensures others { IfOk result (λ m. LeavesOthers self.old self.new number m.record.context m.record.context) }
@@ -162,7 +161,7 @@ impl Rooms {
         ensures outcome { Gives (λ m. m.to.record) self.old self.new result
             (move_to self.old target number settings.now) }
         ensures refused { OnErr result (self.new ≡ self.old) }
-        ensures sound { IsSound self.new }
+        ensures consistent { IsConsistent self.new }
         ensures from { IfOk result (λ m. ExistsAs self.old number m.from) }
         ensures to { IfOk result (λ m. ExistsAs self.new number m.to) }
         ensures lasts { Lasts self.old self.new }
@@ -183,7 +182,7 @@ impl Rooms {
     pub fn subtract(&mut self, target: Target, number: u32) -> Result<Member, ErrorNumber>
         ensures outcome { Gives (λ m. m.record) self.old self.new result (subtract self.old target number) }
         ensures refused { OnErr result (self.new ≡ self.old) }
-        ensures sound { IsSound self.new }
+        ensures consistent { IsConsistent self.new }
         ensures member { IfOk result (ExistsAs self.old number) }
         ensures lasts { Lasts self.old self.new }
         ensures others { IfOk result (λ m. LeavesOthers self.old self.new number m.record.context m.record.context) }

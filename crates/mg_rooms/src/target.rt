@@ -3,7 +3,7 @@
 pub enum Target {
     /// The null context, which holds the terminations that are in no other context.
     Null,
-    /// A new context (`$`), which has not been made yet.
+    /// A new context (`$`), which does not exist yet.
     New,
     /// The context with this number, whether it exists or not.
     Number(u32),

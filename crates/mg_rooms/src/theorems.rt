@@ -13,7 +13,6 @@ ghost use Rattle.mg_rooms.specs.Limits.{AreValidLimits};
 ghost use Rattle.mg_rooms.specs.Registry.{Registry, start_of, members_at, free_slot, free_seat, free_room};
 ghost use Rattle.mg_rooms.specs.Outcome.{new_slot, new_seat, new_context, add, modify, move_to, subtract};
 ghost use Rattle.mg_rooms.specs.Consistent.{IsConsistent};
-ghost use Rattle.mg_rooms.specs.Sound.{IsSound};
 
 /// A context that is not full has a free seat, and a gateway below the limit of contexts has a free room.
 ///
@@ -36,8 +35,8 @@ pub fn exhausted_resources_are_refused()
         ((CONTEXTS ≤ length w.contexts) ⊎ (LAST_CONTEXT < w.next_context)) }
 {}
 
-/// A new gateway is consistent, and every command preserves that. So it holds after any commands, and a proof needs no
-/// tables.
+/// A new gateway is consistent, and every command preserves that. So it holds after any commands, and a proof can use
+/// it without tables.
 pub fn outcomes_are_consistent()
     ensures start { (limits : Limits) → AreValidLimits limits → limits.first_termination ≤ LAST_TERMINATION →
         IsConsistent (start_of limits) }
@@ -50,9 +49,4 @@ pub fn outcomes_are_consistent()
         move_to w target n settings ≡ Ok (next, r) → IsConsistent next }
     ensures subtract { (w next : Registry) (target : Target) (n : ℕ) (r : Record) → IsConsistent w →
         subtract w target n ≡ Ok (next, r) → IsConsistent next }
-{}
-
-/// Consistency implies soundness: all lookups of terminations and contexts agree.
-pub fn consistent_registries_are_sound()
-    ensures { (w : Registry) → IsConsistent w → IsSound w }
 {}

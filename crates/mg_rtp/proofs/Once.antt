@@ -12,7 +12,8 @@ use Rattle.mg_rtp.specs.Header.{IsHeader, Layout, bit, first_byte, second_byte, 
 use Rattle.mg_rtp.specs.Packet.{Begins, AreSources, IsExtension, IsPadding, IsPacket}
 use Rattle.mg_rtp.specs.Reading.{IsPacketReading}
 use Rattle.mg_rtp.specs.aids.Read.{reading_of}
-use Rattle.mg_rtp.specs.RtpFault.{EndsInExtension, HasBadPadding, LacksSources, LacksExtension, LacksPadding, IsFault}
+use Rattle.mg_rtp.specs.RtpFault.{EndsInExtension, HasBadPadding, IsFault}
+use Rattle.mg_rtp.proofs.FaultParts.{LacksSources, LacksExtension, LacksPadding, IsFaultByPart, by_part}
 use Rattle.mg_rtp.proofs.Parts.{begins_with}
 use Rattle.mg_rtp.proofs.Joined.{same_behind, extension_once, extension_ends, padding_once, padding_counts}
 
@@ -162,59 +163,65 @@ whole_padding bytes a h p b =
 
 -- what has room for its sources isn't short
 no_short : (bytes : List ℕ) (l : Layout) (h : Header) (sources rest : List ℕ) → Begins bytes l h (sources ++ rest) →
-    AreSources l.source_count sources → IsFault bytes Short → ⊥
+    AreSources l.source_count sources → IsFaultByPart bytes Short → ⊥
 no_short bytes l h sources rest b are (inl few) = omega (arith, few, twelve_at_least bytes l h _ b)
 no_short bytes l h sources rest b are (inr a) = enough_sources bytes a l h sources rest b are
 
 -- what begins with a header has no other version
 no_version : (bytes : List ℕ) (l : Layout) (h : Header) (rest : List ℕ) → Begins bytes l h rest →
-    IsFault bytes Version → ⊥
+    IsFaultByPart bytes Version → ⊥
 no_version bytes l h rest b a = a.1 (version_is_2 bytes l h rest b)
 
 -- what is short isn't of another version
-short_not_version : (bytes : List ℕ) → IsFault bytes Short → IsFault bytes Version → ⊥
+short_not_version : (bytes : List ℕ) → IsFaultByPart bytes Short → IsFaultByPart bytes Version → ⊥
 short_not_version bytes (inl few) b = omega (arith, few, b.0)
 short_not_version bytes (inr a) b = no_version bytes a.layout a.header a.rest a.begins b
 
 -- bytes have at most one fault
-pub fault_once : (bytes : List ℕ) (d e : RtpFault) → IsFault bytes d → IsFault bytes e → d ≡ e
-fault_once bytes Short Short a b = refl
-fault_once bytes Short Version a b = absurd (short_not_version bytes a b)
-fault_once bytes Short Extension a b = absurd
+fault_by_part_once : (bytes : List ℕ) (d e : RtpFault) → IsFaultByPart bytes d → IsFaultByPart bytes e → d ≡ e
+fault_by_part_once bytes Short Short a b = refl
+fault_by_part_once bytes Short Version a b = absurd (short_not_version bytes a b)
+fault_by_part_once bytes Short Extension a b = absurd
     (no_short bytes b.layout b.header b.sources b.rest b.begins b.are_sources a)
-fault_once bytes Short Padding a b =
+fault_by_part_once bytes Short Padding a b =
     absurd (no_short bytes b.layout b.header b.sources (b.extension ++ b.rest)
     (begins_with bytes b.layout b.header _ _ (simp append_assoc) b.begins) b.are_sources a)
-fault_once bytes Version Short a b = absurd (short_not_version bytes b a)
-fault_once bytes Version Version a b = refl
-fault_once bytes Version Extension a b = absurd (no_version bytes b.layout b.header _ b.begins a)
-fault_once bytes Version Padding a b = absurd (no_version bytes b.layout b.header _ b.begins a)
-fault_once bytes Extension Short a b = absurd
+fault_by_part_once bytes Version Short a b = absurd (short_not_version bytes b a)
+fault_by_part_once bytes Version Version a b = refl
+fault_by_part_once bytes Version Extension a b = absurd (no_version bytes b.layout b.header _ b.begins a)
+fault_by_part_once bytes Version Padding a b = absurd (no_version bytes b.layout b.header _ b.begins a)
+fault_by_part_once bytes Extension Short a b = absurd
     (no_short bytes a.layout a.header a.sources a.rest a.begins a.are_sources b)
-fault_once bytes Extension Version a b = absurd (no_version bytes a.layout a.header _ a.begins b)
-fault_once bytes Extension Extension a b = refl
-fault_once bytes Extension Padding a b =
+fault_by_part_once bytes Extension Version a b = absurd (no_version bytes a.layout a.header _ a.begins b)
+fault_by_part_once bytes Extension Extension a b = refl
+fault_by_part_once bytes Extension Padding a b =
     absurd (whole_extension bytes a b.layout b.header b.sources b.extension b.rest
     (begins_with bytes b.layout b.header _ _ (simp append_assoc) b.begins) b.are_sources b.is_extension)
-fault_once bytes Padding Short a b =
+fault_by_part_once bytes Padding Short a b =
     absurd (no_short bytes a.layout a.header a.sources (a.extension ++ a.rest)
     (begins_with bytes a.layout a.header _ _ (simp append_assoc) a.begins) a.are_sources b)
-fault_once bytes Padding Version a b = absurd (no_version bytes a.layout a.header _ a.begins b)
-fault_once bytes Padding Extension a b =
+fault_by_part_once bytes Padding Version a b = absurd (no_version bytes a.layout a.header _ a.begins b)
+fault_by_part_once bytes Padding Extension a b =
     absurd (whole_extension bytes b a.layout a.header a.sources a.extension a.rest
     (begins_with bytes a.layout a.header _ _ (simp append_assoc) a.begins) a.are_sources a.is_extension)
-fault_once bytes Padding Padding a b = refl
+fault_by_part_once bytes Padding Padding a b = refl
 
 -- a packet has no fault
-pub no_fault : (bytes : List ℕ) (h : Header) (p : List ℕ) (e : RtpFault) → IsPacket bytes h p → IsFault bytes e → ⊥
-no_fault bytes h p Short a b =
+no_fault_by_part : (bytes : List ℕ) (h : Header) (p : List ℕ) (e : RtpFault) → IsPacket bytes h p → IsFaultByPart bytes e → ⊥
+no_fault_by_part bytes h p Short a b =
     no_short bytes a.layout h a.sources (a.extension ++ (p ++ a.padding))
     (begins_with bytes a.layout h _ _ (simp append_assoc) a.begins) a.are_sources b
-no_fault bytes h p Version a b = no_version bytes a.layout h _ a.begins b
-no_fault bytes h p Extension a b =
+no_fault_by_part bytes h p Version a b = no_version bytes a.layout h _ a.begins b
+no_fault_by_part bytes h p Extension a b =
     whole_extension bytes b a.layout h a.sources a.extension (p ++ a.padding)
     (begins_with bytes a.layout h _ _ (simp append_assoc) a.begins) a.are_sources a.is_extension
-no_fault bytes h p Padding a b = whole_padding bytes b h p a
+no_fault_by_part bytes h p Padding a b = whole_padding bytes b h p a
+
+pub fault_once : (bytes : List ℕ) (d e : RtpFault) → IsFault bytes d → IsFault bytes e → d ≡ e
+fault_once bytes d e a b = fault_by_part_once bytes d e (by_part bytes d a) (by_part bytes e b)
+
+pub no_fault : (bytes : List ℕ) (h : Header) (p : List ℕ) (e : RtpFault) → IsPacket bytes h p → IsFault bytes e → ⊥
+no_fault bytes h p e a b = no_fault_by_part bytes h p e a (by_part bytes e b)
 
 -- what a read comes to is the reading of the bytes
 pub is_reading : (bytes : List ℕ) (r : Result Packet RtpFault) →

@@ -20,37 +20,27 @@ HasBadPadding rest =
     let count = slice_index rest (length rest - 1) in
     (rest ≡ []) ⊎ (count ≡ 0) ⊎ (length rest < count)
 
--- a header with a count of more sources than the bytes hold
-pub record LacksSources (bytes : List ℕ) : Type 0 where
-  pub layout : Layout
-  pub header : Header
-  pub rest : List ℕ
-  pub begins : Begins bytes layout header rest
-  pub few : length rest < 4 * layout.source_count
+-- Why the rest, after these sources and this extension, does not begin with the next part.
+abbrev pub IsFaultyPart : Layout → (sources extension rest : List ℕ) → RtpFault → Type 0
+IsFaultyPart layout sources extension rest Short =
+    (sources ≡ []) × (extension ≡ []) × (length rest < 4 * layout.source_count)
+IsFaultyPart layout sources extension rest Version = ⊥
+IsFaultyPart layout sources extension rest Extension =
+    AreSources layout.source_count sources × (extension ≡ [])
+    × IsTrue layout.is_extended × EndsInExtension rest
+IsFaultyPart layout sources extension rest Padding =
+    AreSources layout.source_count sources × IsExtension layout.is_extended extension
+    × IsTrue layout.is_padded × HasBadPadding rest
 
--- a header and its sources, but no complete extension
-pub record LacksExtension (bytes : List ℕ) : Type 0 where
-  pub layout : Layout
-  pub header : Header
-  pub sources : List ℕ
-  pub rest : List ℕ
-  pub begins : Begins bytes layout header (sources ++ rest)
-  pub are_sources : AreSources layout.source_count sources
-  pub is_extended : IsTrue layout.is_extended
-  pub ends : EndsInExtension rest
-
--- a header, its sources and its extension, but no valid padding
-pub record LacksPadding (bytes : List ℕ) : Type 0 where
+-- a header and the parts after it, up to a faulty one
+pub record HasFaultyPart (bytes : List ℕ) (fault : RtpFault) : Type 0 where
   pub layout : Layout
   pub header : Header
   pub sources : List ℕ
   pub extension : List ℕ
   pub rest : List ℕ
   pub begins : Begins bytes layout header (sources ++ extension ++ rest)
-  pub are_sources : AreSources layout.source_count sources
-  pub is_extension : IsExtension layout.is_extended extension
-  pub is_padded : IsTrue layout.is_padded
-  pub bad : HasBadPadding rest
+  pub faulty : IsFaultyPart layout sources extension rest fault
 
 -- the version, in the two high bits of the first byte
 abbrev pub version_of : List ℕ → ℕ
@@ -58,14 +48,13 @@ version_of bytes = slice_index bytes 0 / 64
 
 -- the bytes have this fault
 abbrev pub IsFault : List ℕ → RtpFault → Type 0
-IsFault bytes Short = (length bytes < 12) ⊎ LacksSources bytes
+IsFault bytes Short = (length bytes < 12) ⊎ HasFaultyPart bytes Short
 IsFault bytes Version = (12 ≤ length bytes) × (version_of bytes ≢ 2)
-IsFault bytes Extension = LacksExtension bytes
-IsFault bytes Padding = LacksPadding bytes
+IsFault bytes fault = HasFaultyPart bytes fault
 
 -- the printed text of a fault
 abbrev pub fault_text : RtpFault → List ℕ
 fault_text Short = codes "the datagram ends within the header or the sources"
 fault_text Version = codes "the version is not 2"
 fault_text Extension = codes "the datagram ends within the extension"
-fault_text Padding = codes "no valid count of padding ends the datagram"
+fault_text Padding = codes "the padding count is invalid"

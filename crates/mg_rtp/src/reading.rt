@@ -19,7 +19,7 @@ const PADDED: u8 = 0x20;
 /// The extension bit of the first byte.
 const EXTENDED: u8 = 0x10;
 
-/// The bits of the first byte with the count of contributing sources.
+/// The bits of the first byte that count the contributing sources.
 const SOURCE_COUNT: u8 = 0x0f;
 
 /// The marker bit of the second byte.
@@ -35,7 +35,7 @@ pub fn read(bytes: &[u8]) -> Result<Packet<'_>, RtpFault>
     // Every packet is read.
     ensures only { (header : Header) (payload : List ℕ) → IsPacket bytes.now header payload →
         IsOkAnd result (λ packet. (packet.header ≡ header) × (packet.payload.now ≡ payload)) }
-    // A fault is returned if and only if the datagram has it.
+    // A fault is returned if and only if the datagram has that fault.
     ensures fault { (fault : RtpFault) → (result ≡ Err fault) ↔ IsFault bytes.now fault }
 {
     if bytes.len() < HEADER_LEN {

@@ -25,7 +25,7 @@ impl fmt::Display for RtpFault {
             RtpFault::Short => f.write_str("the datagram ends within the header or the sources"),
             RtpFault::Version => f.write_str("the version is not 2"),
             RtpFault::Extension => f.write_str("the datagram ends within the extension"),
-            RtpFault::Padding => f.write_str("no valid count of padding ends the datagram"),
+            RtpFault::Padding => f.write_str("the padding count is invalid"),
         }
     }
 }

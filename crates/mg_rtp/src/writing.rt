@@ -9,7 +9,7 @@ use byteorder::{BigEndian, ByteOrder};
 pub const PAYLOAD_LEN: usize = 160;
 
 /// The size of a written packet, in bytes: the header of 12 bytes and the payload.
-pub const PACKET_LEN: usize = 172;
+pub const PACKET_LEN: usize = HEADER_LEN + PAYLOAD_LEN;
 
 /// Makes a packet without padding, extension or contributing sources.
 pub fn write(header: Header, payload: &[u8; PAYLOAD_LEN]) -> [u8; PACKET_LEN]
@@ -50,6 +50,6 @@ fn head_of(header: Header) -> [u8; HEADER_LEN]
     head[1] = u8::from(header.marker) << 7 | header.payload_type;
     BigEndian::write_u16(&mut head[2..4], header.sequence);
     BigEndian::write_u32(&mut head[4..8], header.timestamp);
-    BigEndian::write_u32(&mut head[8..12], header.ssrc);
+    BigEndian::write_u32(&mut head[8..], header.ssrc);
     head
 }

@@ -1,4 +1,4 @@
--- The alternatives of a content (RFC 3525, section 7.1.8): descriptions one after another, each
+-- The alternatives of a descriptor (RFC 3525, section 7.1.8): descriptions one after another, each
 -- starting with its v= line.
 use Rattle.std.specs.Prelude.{◌≡◌, ℕ, not, nat_lt, Bool, List, [], ◌∷◌, IsTrue, Option, is_some}
 use Rattle.std.specs.Prelude.{Result, Ok, Err, map, length, drop, if◌then◌else◌}
@@ -32,8 +32,8 @@ pub record AreAlternatives (lines : List (List ℕ))
   pub each : AllByRecursion IsAlternative alternatives
   pub later : AllByRecursion BeginsWithVersion (drop 1 alternatives)
 
--- the result of reading: what each of at most eight alternatives offers, if every line is
--- well-formed
+-- the result of reading: what each of at most eight alternatives offers, provided that every line
+-- is well-formed
 abbrev pub offers_read : List (List ℕ) → List (List (List ℕ)) →
     Result (List (Option Offer)) SdpFault
 offers_read lines alternatives =

@@ -24,7 +24,7 @@ trimmed_end text = take (length text - suffix_len is_space_or_tab text) text
 abbrev pub trimmed : List ℕ → List ℕ
 trimmed text = trimmed_end (drop (prefix_len is_space_or_tab text) text)
 
--- the lines of a content
+-- the lines of a descriptor's content
 unfoldable pub content_lines : List ℕ → List (List ℕ)
 content_lines content = filter is_filled (map trimmed (slice_split is_line_end content))
 

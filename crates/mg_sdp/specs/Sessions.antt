@@ -1,5 +1,5 @@
--- The result of reading as a function, for definitions that use it. The contract of read_sessions
--- says that it is the one result that Alternatives allows.
+-- The result of reading as a function, for definitions that use it. By the contract of
+-- read_sessions, it is the only result that Alternatives allows.
 use Rattle.std.specs.Prelude.{ℕ, List, [], ◌∷◌, ◌++◌, Option, Result, if◌then◌else◌}
 use Rattle.mg_sdp.specs.declared.fault.SdpFault.{SdpFault}
 use Rattle.mg_sdp.specs.declared.offer.Offer.{Offer}

@@ -7,7 +7,7 @@ use crate::media::{MediaLine, media_of};
 use crate::offer::Offer;
 use crate::part::AlternativePart;
 
-/// What the lines of an alternative that have been read so far ask for.
+/// What an alternative asks for, according to the lines read so far.
 #[derive(Clone, Copy, Debug, PartialEq, Eq)]
 pub struct Alternative {
     /// Whether each `v=` line and each attribute so far can be served.

@@ -16,7 +16,7 @@ pub struct Chosen {
     pub law: Law,
 }
 
-/// Returns whether an address is left to the gateway, or is its own.
+/// Returns whether an address is the gateway's own or left to the gateway.
 fn is_own_address(asked: Option<[u8; 4]>, own: [u8; 4]) -> bool
     ensures value { result ≡ is_own_address own asked }
 {
@@ -26,7 +26,7 @@ fn is_own_address(asked: Option<[u8; 4]>, own: [u8; 4]) -> bool
     }
 }
 
-/// Returns whether a port is left to the gateway, or is the termination's own.
+/// Returns whether a port is the termination's own or left to the gateway.
 fn is_own_port(asked: Option<u16>, own: u16) -> bool
     ensures value { result ≡ is_own_port own asked }
 {

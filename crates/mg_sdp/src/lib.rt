@@ -4,8 +4,8 @@
 //!
 //! The content of a descriptor has one or more alternatives. [`read_sessions`] returns what each of them offers, for at
 //! most eight, and does not allocate. [`choose`] and [`choose_remote`] return the first offer that the gateway can
-//! serve: G.711 (RFC 3551, payload types 0 and 8) in packets of 20 ms over RTP. [`write_local`] and [`write_remote`]
-//! write the choice:
+//! serve. That is G.711 (RFC 3551, payload types 0 and 8) in packets of 20 ms over RTP. [`write_local`] and
+//! [`write_remote`] write the choice:
 //!
 //! ```rust
 //! let sessions = read_sessions(b"v=0\nc=IN IP4 $\nm=audio $ RTP/AVP 18 8 0\n")?;

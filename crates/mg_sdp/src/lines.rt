@@ -46,7 +46,7 @@ fn blanks_at_end(text: &[u8]) -> usize
         .count()
 }
 
-/// An iterator over the lines of a content, without spaces and tabs at their ends and without empty lines.
+/// An iterator over the lines of a descriptor's content, without spaces and tabs at their ends and without empty lines.
 #[derive(Drop)]
 pub struct Lines<'a> {
     rest: &'a [u8],
@@ -56,7 +56,7 @@ impl<'a> Lines<'a> {
     ghost use Rattle.mg_sdp.specs.Lines.{content_lines};
     ghost use Rattle.mg_sdp.specs.aids.LinesLeft.{lines_left};
 
-    /// Returns the lines of a content.
+    /// Returns the lines of a descriptor's content.
     pub fn new(content: &'a [u8]) -> Self
         ensures value { lines_left result ≡ content_lines content.now }
     {
@@ -87,7 +87,7 @@ impl<'a> Iterator for Lines<'a> {
     }
 }
 
-/// Splits a line into its letter and its value after `=`. Returns `None` if it has another form.
+/// Splits a line into its letter and the value after `=`. Returns `None` if the line has another form.
 #[tactic(auto, unfolding(crate::specs::Lines::letter_and_value))]
 pub fn letter_and_value(line: &[u8]) -> Option<(u8, &[u8])>
     ensures value { MatchOption result (letter_and_value line.now ≡ None)

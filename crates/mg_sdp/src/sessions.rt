@@ -5,7 +5,7 @@ use arrayvec::ArrayVec;
 use mg_words::ALTERNATIVE_LIMIT;
 use std::marker::Model;
 
-/// What the alternatives of a content offer.
+/// What the alternatives of a descriptor offer.
 ///
 /// Contracts see a list with an entry for each alternative in order: its offer, or `None` if its lines cannot be
 /// served.

@@ -1,7 +1,7 @@
 //! Properties of session descriptions.
 //!
-//! The functions have no effect: their contracts are the theorems. A proof that needs one at some values calls the
-//! function.
+//! The functions have no effect: their contracts are the theorems. A proof that needs one for particular values calls
+//! the function.
 
 ghost use Rattle.std.specs.Prelude.{◌≡◌, ◌≢◌, ℕ, List, [], ◌∷◌, Ok, Some};
 ghost use Rattle.mg_sdp.specs.Alternatives.{AreAlternatives};
@@ -17,8 +17,8 @@ pub fn alternatives_are_distinguished()
         → AreAlternatives lines other → one ≡ other }
 {}
 
-/// A written description reads back as one alternative. A Local at that address and port chooses it, and so does a
-/// Remote unless the port is 0.
+/// A written description reads back as one alternative. A Local at that address and port chooses this alternative, and
+/// so does a Remote unless the port is 0.
 pub fn written_text_reads_back(chosen: &Chosen)
     ensures read { sessions_of (session_text chosen.now) ≡ Ok (Some (offer_written chosen.now) ∷ []) }
     ensures local { local_choice chosen.now.address chosen.now.port (Some (offer_written chosen.now) ∷ [])

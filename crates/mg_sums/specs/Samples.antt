@@ -7,7 +7,7 @@ use Rattle.std.specs.Int.{int_min, int_max}
 abbrev pub sample : List ℤ → ℕ → ℤ
 sample row i = slice_index_or row i (pos 0)
 
--- the sum of a number of each item
+-- the sum of one number per item
 unfoldable pub sum_of : {A : Type 0} → (A → ℤ) → List A → ℤ
 sum_of f [] = pos 0
 sum_of f (x ∷ xs) = f x +ℤ sum_of f xs

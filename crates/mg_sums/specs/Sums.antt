@@ -1,5 +1,5 @@
--- The frames of rows, the rooms that rows are joined to, and the sums of a room's frames. This
--- project's own rule: a total is never limited, and a mix is limited once.
+-- The frames of rows, the rooms that rows are joined to, and the sums of a room's frames. A total
+-- is never limited, and a mix is limited once: this is the project's own rule.
 use Rattle.std.specs.Prelude.{◌≡◌, ◌≢◌, ℕ, ◌+◌, ◌%◌, ◌^◌, ◌<◌, ℤ, Bool, false, not, ◌==◌, Option}
 use Rattle.std.specs.Prelude.{Some, None, List, [], ◌∷◌, length, map, filter, replicate}
 use Rattle.std.specs.Prelude.{slice_index_or, AllPairs, Contains, IsTrue, IfSome, All}
@@ -8,7 +8,7 @@ use Rattle.mg_words.specs.Limits.{context_limit, termination_limit}
 use Rattle.mg_g711.specs.Frame.{IsFrame}
 use Rattle.mg_sums.specs.Samples.{sample, sum_of, nearest_sample, silence}
 
--- The state: for each row its frame and the room that it is joined to, if any, and the number of
+-- The state: for each row its frame and the room that it is joined to, if any. Then the number of
 -- calls of row kernels, modulo 2^32.
 pub record SumsState : Type 0 where
   pub frames : List (List ℤ)

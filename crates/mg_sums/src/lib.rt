@@ -21,12 +21,12 @@
 //!
 //! [`Sums::work`] counts the calls of three row kernels: add a row, subtract a row, and write the difference of two.
 //! Joining or leaving takes one call, and setting the frame of a joined row takes two. A mix takes one call, and one
-//! more for each silenced row. Only module `rows` sees the fields of a row; other code reads frames and totals through
-//! [`Sums::frame`] and [`Sums::total`].
+//! more for each silenced row. Only the module `rows` sees the fields of a row; other code reads frames and totals
+//! through [`Sums::frame`] and [`Sums::total`].
 //!
 //! [`Sums::new`] allocates all memory; no other call allocates. `specs/Sums.antt` defines totals and mixes, and
-//! [`theorems`] states what follows. The vector code is in [`kernels`]; [`ranges`] exposes to proofs the ranges that a
-//! kernel requires.
+//! [`theorems`] states the consequences. The vector code is in [`kernels`]; [`ranges`] exposes to proofs the ranges
+//! that a kernel requires.
 #![tactic(auto)]
 
 pub mod kernels;

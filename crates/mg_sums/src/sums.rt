@@ -11,7 +11,7 @@ use crate::room::Room;
 use crate::row::Row;
 use crate::rows::{FrameRow, SumRow};
 use mg_g711::{Frame, Law, encode_frame};
-use mg_words::{CONTEXTS, TERMINATIONS};
+use mg_words::{CONTEXTS, SAMPLES, TERMINATIONS};
 use std::alloc::{AllocError, Global};
 use std::marker::Model;
 
@@ -66,7 +66,8 @@ impl Sums {
         })
     }
 
-    /// Joins a row to a room. The row must not be joined to any room yet. Its frame then counts in the room's total.
+    /// Joins a row to a room. The row must not be joined to any room yet. Its frame then counts toward the room's
+    /// total.
     pub fn join(&mut self, room: Room, row: Row)
         requires free { room_of self.old row ≡ None }
         ensures joined { self.new ≡ record self.old {
@@ -115,9 +116,9 @@ impl Sums {
     /// Returns the payload that a listener hears in a room: the total minus the base and the rows of `minus`, limited
     /// once.
     ///
-    /// The base is the listener's own row, or `None` if the listener does not talk. `minus` has the rows that are
+    /// The base is the listener's own row, or `None` if the listener does not talk. `minus` lists the rows that are
     /// silenced for it. All must be joined to the room, and no two may be the same.
-    pub fn mix(&mut self, room: Room, base: Option<Row>, minus: &[Row], law: Law) -> [u8; 160]
+    pub fn mix(&mut self, room: Room, base: Option<Row>, minus: &[Row], law: Law) -> [u8; SAMPLES]
         requires rows { AreOfRoom self.old.rooms room (left_out_by base minus.now) }
         ensures mix { result
             ≡ map (byte_of law) (mix_of self.old room (left_out_by base minus.now)) }

@@ -1,4 +1,4 @@
-//! Properties of totals and mixes, whatever stores them.
+//! Properties of totals and mixes, however they are stored.
 //!
 //! The functions have empty bodies: their contracts are the theorems.
 

@@ -123,7 +123,7 @@ pub data IsBalanced : List Token → List Token → Type 0 where
 abbrev pub IsGroup : Production
 IsGroup = IsMark Open ▹ IsBalanced ▹ IsMark Close
 
--- [group], and whether it has a token in it
+-- [group], and whether it contains a token
 abbrev pub IsContent : Bool → Production
 IsContent true ts rest = IsGroup ts rest × (IsEmptyBraces ts rest → ⊥)
 IsContent false ts rest = (IsNothing or IsEmptyBraces) ts rest
@@ -221,7 +221,7 @@ IsDescribed source commands.Subtract xs = IsOptionalAudit source xs
 IsDescribed source commands.AuditValue xs = IsOptionalAudit source xs
 IsDescribed source _ xs = IsSkipped xs
 
--- O- before an optional command, W- before one that wants one reply for all matches
+-- O- before an optional command, W- before a command that requests one reply for all matches
 abbrev pub prefix_of : Bool → Bool → List ℕ
 prefix_of optional wildcard =
     (if optional then codes "O-" else []) ++ (if wildcard then codes "W-" else [])

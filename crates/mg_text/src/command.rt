@@ -7,7 +7,7 @@ use mg_words::CommandWord;
 #[derive(Drop)]
 pub struct Command {
     pub word: CommandWord,
-    /// The prefix `O-`: if the command fails, the next ones are still tried.
+    /// The prefix `O-`: if the command fails, the next commands are still tried.
     pub is_optional: bool,
     /// The prefix `W-`, which may follow `O-`: it requests one answer for all matching terminations.
     pub wants_wildcard: bool,

@@ -25,7 +25,7 @@ pub fn after_group<'t>(source: &[u8], tokens: &'t [Token]) -> Result<&'t [Token]
     Err(ReadFault::Syntax(source.len()))
 }
 
-/// Skips a group: braces with tokens between them, whose own braces are balanced.
+/// Skips a group: tokens with balanced braces, inside a pair of braces.
 #[tactic(auto, unfolding(crate::specs::aids::Reading::group_at))]
 pub fn group_at<'t>(source: &[u8], tokens: &'t [Token]) -> Result<&'t [Token], ReadFault>
     ensures { Agrees (λ x. x.now) result (group_at source.now tokens.now) }
@@ -34,7 +34,7 @@ pub fn group_at<'t>(source: &[u8], tokens: &'t [Token]) -> Result<&'t [Token], R
     after_group(source, tokens)
 }
 
-/// Skips a group, if there is one. Returns whether it has a token in it.
+/// Skips a group, if there is one. Returns whether it contains a token.
 #[tactic(auto, unfolding(crate::specs::aids::Reading::filled_at))]
 pub fn filled_at<'t>(source: &[u8], tokens: &'t [Token]) -> Result<(bool, &'t [Token]), ReadFault>
     ensures { Agrees (λ x. (x.0, x.1.now)) result (filled_at source.now tokens.now) }

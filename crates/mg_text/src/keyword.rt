@@ -258,7 +258,7 @@ fn words_by(letter: u8) -> &'static [Keyword]
     }
 }
 
-/// Returns the first of these keywords that the text is a form of.
+/// Returns the first of these keywords that the text spells, in either form.
 fn word_among(words: &[Keyword], text: &[u8]) -> Option<Keyword>
     ensures value { result ≡ find (is_named text.now) words.now }
 {
@@ -268,7 +268,7 @@ fn word_among(words: &[Keyword], text: &[u8]) -> Option<Keyword>
         .find(|keyword| is_named(text, *keyword))
 }
 
-/// Returns the keyword that a text is a form of.
+/// Returns the keyword that a text spells, in either form.
 ///
 /// It compares only forms that have the text's first letter and its length.
 pub fn keyword_of(text: &[u8]) -> Option<Keyword>

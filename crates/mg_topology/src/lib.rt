@@ -20,7 +20,7 @@
 //!
 //! A topology keeps bits and no history. So its contracts speak of every list of edits that it represents, before and
 //! after a call (`StandsFor` in `specs/Topology.antt`). `specs/Edits.antt` defines what a list of edits means, looking
-//! backward from the newest. [`theorems`] states what follows.
+//! back from the newest. [`theorems`] states the consequences.
 //!
 //! Sets of seats are bit masks. Only functions of [`mask`] touch their bits.
 #![tactic(auto)]

@@ -12,7 +12,7 @@ use crate::seats::Seats;
 /// A set of seats, one bit for each of [`SEATS`].
 pub type Mask = u64;
 
-/// The number of seats, which is the number of bits of a mask. A seat is a number below it.
+/// The number of seats, which is the number of bits in a mask. A seat is a number below this.
 pub const SEATS: usize = Mask::BITS as usize;
 
 /// The empty set.
@@ -50,7 +50,7 @@ pub fn without_seat(mask: Mask, seat: usize) -> Mask
     requires { seat < SEATS }
     ensures seats { (s : ℕ) → has_seat result s ≡ (if s == seat then false else has_seat mask s) }
 
-    // So a loop that removes one seat after another ends after as many steps as the set has seats.
+    // So a loop that removes one seat after another takes as many steps as the set has seats.
     ensures smaller { IsTrue (has_seat mask seat) → result < mask }
     ensures fewer { IsTrue (has_seat mask seat) → seat_count mask ≡ seat_count result + 1 }
     ensures rest { IsLowest mask seat → seats_of mask ≡ seat ∷ seats_of result }

@@ -1,4 +1,4 @@
-//! What the edits of a context determine, whatever stores them.
+//! What the edits of a context determine, however they are stored.
 //!
 //! The functions have empty bodies: their contracts are the theorems. A proof that needs one calls the function. Lists
 //! of edits start with the newest.

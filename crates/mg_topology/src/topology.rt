@@ -58,7 +58,7 @@ impl Topology {
         self.held
     }
 
-    /// Adds a member in a free seat. It hears all others and is heard by them.
+    /// Adds a member in a free seat. It hears all others, and they hear it.
     pub fn enter(&mut self, seat: usize)
         requires below_limit { seat < SEATS }
         requires free { IsFalse (holds self.old seat) }
@@ -72,7 +72,7 @@ impl Topology {
         self.rows[seat] = mask::FULL;
     }
 
-    /// Removes the member in the seat. Nothing changes between the others.
+    /// Removes the member in the seat. Who hears whom among the others is unchanged.
     pub fn leave(&mut self, seat: usize)
         requires held { IsTrue (holds self.old seat) }
         ensures edits { (es : List TopologyEdit) → StandsFor self.old es →

@@ -1,5 +1,5 @@
--- The limits of this gateway. Definitions cite them by these names; no other definition repeats
--- these numbers.
+-- The limits of this gateway. Definitions cite them by these names, and none repeats a limit as a
+-- number. Where another definition says 2^32 or 4294967295, it means the range of 32 bits.
 use Rattle.std.specs.Prelude.{ℕ}
 
 -- the members of a context
@@ -22,10 +22,6 @@ greatest_depth = 16
 
 abbrev pub first_depth : ℕ
 first_depth = 4
-
--- samples of a frame: 20 ms at 8000 Hz
-abbrev pub frame_samples : ℕ
-frame_samples = 160
 
 -- bytes of a datagram that is read
 abbrev pub message_limit : ℕ
@@ -62,7 +58,6 @@ kept_limit = 32
 abbrev pub last_termination : ℕ
 last_termination = 4294967295
 
--- the largest number that a context can have; the next two numbers stand for $ and * (section
--- 6.1.2)
+-- the largest number that a context can have; the next two numbers denote $ and * (section 6.1.2)
 abbrev pub last_context : ℕ
 last_context = 4294967293

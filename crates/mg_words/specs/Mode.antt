@@ -7,19 +7,15 @@ use Rattle.mg_words.specs.declared.mode.Mode.TheVariants.{SendReceive, Loopback}
 
 -- the other members hear a termination in this mode
 abbrev pub talks : Mode → Bool
-talks Inactive = false
-talks SendOnly = false
 talks ReceiveOnly = true
 talks SendReceive = true
-talks Loopback = false
+talks _ = false
 
 -- a termination in this mode hears the other members
 abbrev pub listens : Mode → Bool
-listens Inactive = false
 listens SendOnly = true
-listens ReceiveOnly = false
 listens SendReceive = true
-listens Loopback = false
+listens _ = false
 
 -- the keyword in its long form
 unfoldable pub mode_text : Mode → List ℕ

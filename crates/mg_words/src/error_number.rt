@@ -13,7 +13,7 @@ pub const ERROR_LIMIT: usize = 64;
 pub enum ErrorNumber {
     /// The message does not follow the grammar.
     Syntax,
-    /// The message has another version of the protocol.
+    /// The message is for another version of the protocol.
     Version,
     /// The command does not allow this name.
     IdentifierNotAllowed,

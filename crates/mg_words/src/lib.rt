@@ -1,8 +1,8 @@
 //! The protocol's keywords, names, numbers and errors, and the gateway's limits.
 //!
 //! It has types for modes, associations, commands, contexts, terminations and errors (Megaco, RFC 3525), each with its
-//! text, and a type for a termination's counters. It also has parsers for the numbers, ports and IPv4 addresses in
-//! control messages, session descriptions and scripts.
+//! text. Another type holds a termination's counters. The crate also has parsers for the numbers, ports and IPv4
+//! addresses in control messages, session descriptions and scripts.
 //!
 //! Each parser expects a whole text and returns its value, or `None` if it has none. Leading zeros are allowed; signs
 //! and spaces are not:
@@ -34,7 +34,7 @@ pub use crate::command_word::CommandWord;
 pub use crate::context_id::{ContextId, context_id_of};
 pub use crate::error_number::{ERROR_LIMIT, ErrorNumber};
 pub use crate::limits::{
-    ALTERNATIVE_LIMIT, COMMAND_LIMIT, CONTEXTS, FIRST_DEPTH, KEPT_REPLIES, LAST_CONTEXT,
+    ALTERNATIVE_LIMIT, COMMAND_LIMIT, CONTEXTS, FIRST_DEPTH, FRAME_MS, KEPT_REPLIES, LAST_CONTEXT,
     LAST_TERMINATION, MAX_DEPTH, MEMBERS, MESSAGE_LIMIT, MIN_DEPTH, REPLY_LIMIT, REQUEST_LIMIT,
     SAMPLES, SENDER_LIMIT, TERM_LIMIT, TERMINATIONS, constants_are_limits, limits_fit,
 };

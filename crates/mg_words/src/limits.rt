@@ -1,5 +1,5 @@
 ghost use Rattle.std.specs.Prelude.{◌≡◌, ◌≤◌, ◌^◌};
-ghost use Rattle.mg_words.specs.Limits.{member_limit, context_limit, termination_limit, least_depth, greatest_depth, first_depth, frame_samples, message_limit, request_limit, command_limit, name_limit, sender_limit, alternative_limit, reply_limit, kept_limit, last_termination, last_context};
+ghost use Rattle.mg_words.specs.Limits.{member_limit, context_limit, termination_limit, least_depth, greatest_depth, first_depth, message_limit, request_limit, command_limit, name_limit, sender_limit, alternative_limit, reply_limit, kept_limit, last_termination, last_context};
 
 /// The maximum number of members in a context.
 pub const MEMBERS: usize = 64;
@@ -22,6 +22,9 @@ pub const FIRST_DEPTH: usize = 4;
 /// The number of samples in a frame: 20 ms at 8000 Hz. Its payload has the same number of bytes.
 pub const SAMPLES: usize = 160;
 
+/// The duration of a frame, in milliseconds.
+pub const FRAME_MS: u16 = 20;
+
 /// The maximum size of a datagram that is read, in bytes.
 pub const MESSAGE_LIMIT: usize = 8192;
 
@@ -31,7 +34,7 @@ pub const REQUEST_LIMIT: usize = 4;
 /// The maximum number of commands in all requests of a message.
 pub const COMMAND_LIMIT: usize = 64;
 
-/// The maximum length of a termination's name, in bytes.
+/// The maximum length of a termination's name, a domain name or a device name, in bytes.
 pub const TERM_LIMIT: usize = 64;
 
 /// The maximum length of a sender's name, in bytes: a domain name in angle brackets, a colon and a five-digit port.
@@ -49,16 +52,16 @@ pub const KEPT_REPLIES: usize = 32;
 /// The largest number that a termination can have.
 pub const LAST_TERMINATION: u32 = 4294967295;
 
-/// The largest number that a context can have. The next two numbers stand for `$` and `*` (RFC 3525, section 6.1.2).
+/// The largest number that a context can have. The next two numbers denote `$` and `*` (RFC 3525, section 6.1.2).
 pub const LAST_CONTEXT: u32 = 4294967293;
 
-/// The constants equal the limits in the definitions.
+/// The constants equal the limits in the definitions, and a frame has the 160 samples that definitions name.
 pub fn constants_are_limits()
     ensures members { MEMBERS ≡ member_limit }
     ensures contexts { CONTEXTS ≡ context_limit }
     ensures terminations { TERMINATIONS ≡ termination_limit }
     ensures depths { (MIN_DEPTH ≡ least_depth) × (MAX_DEPTH ≡ greatest_depth) × (FIRST_DEPTH ≡ first_depth) }
-    ensures samples { SAMPLES ≡ frame_samples }
+    ensures samples { SAMPLES ≡ 160 }
     ensures message { MESSAGE_LIMIT ≡ message_limit }
     ensures requests { REQUEST_LIMIT ≡ request_limit }
     ensures commands { COMMAND_LIMIT ≡ command_limit }

@@ -1,7 +1,7 @@
 ghost use Rattle.std.specs.Prelude.{◌≡◌};
 ghost use Rattle.mg_words.specs.Mode.{mode_text, talks, listens};
 
-/// The direction of media of a termination's stream, seen from outside the context (RFC 3525, section 7.1.7).
+/// The direction of a termination's media stream, seen from outside the context (RFC 3525, section 7.1.7).
 ///
 /// A termination sends what it hears in the context to its peer, and receives from its peer what it says there.
 #[derive(Clone, Copy, Debug, Default, PartialEq, Eq)]

@@ -35,7 +35,7 @@ pub fn number_of(text: &[u8]) -> Option<u32>
 pub fn uint16_of(text: &[u8]) -> Option<u16>
     ensures value { result ≡ uint16_of text.now }
 {
-    match decimal_of(text, 5, 65535) {
+    match decimal_of(text, 5, u32::from(u16::MAX)) {
         Some(number) => Some(number as u16),
         None => None,
     }
@@ -52,7 +52,7 @@ pub fn port_of(text: &[u8]) -> Option<u16>
 pub fn address_part_of(text: &[u8]) -> Option<u8>
     ensures value { result ≡ decimal_of 3 255 text.now }
 {
-    match decimal_of(text, 3, 255) {
+    match decimal_of(text, 3, u32::from(u8::MAX)) {
         Some(part) => Some(part as u8),
         None => None,
     }

@@ -63,14 +63,14 @@ impl Term {
         Term::new(b"ROOT").unwrap()
     }
 
-    /// Returns `$`, with which an Add asks the gateway for a new termination.
+    /// Returns `$`, by which an Add requests a new termination.
     pub fn choose() -> Self
         ensures value { result ≡ codes "$" }
     {
         Term::new(b"$").unwrap()
     }
 
-    /// Returns `*`, with which a command names all terminations of a context.
+    /// Returns `*`, by which a command names all terminations of a context.
     pub fn all() -> Self
         ensures value { result ≡ codes "*" }
     {

@@ -1,5 +1,5 @@
--- The first fault in descriptors level by level, as the code searches for it: a part is compared
--- with earlier parts at its own level.
+-- The first fault in descriptors. As in the code, the search goes level by level: a part is
+-- compared with earlier parts at its own level.
 use Rattle.std.specs.Prelude.{ℕ, Bool, false, ◌&&◌, ◌||◌, ◌==◌, List, [], ◌∷◌, Option, true, max}
 use Rattle.std.specs.List.{list_any}
 use Rattle.mg_words.specs.declared.error_number.ErrorNumber.{ErrorNumber}

@@ -13,7 +13,7 @@ use Rattle.mg_text.specs.declared.command.Command.{Command}
 use Rattle.mg_commands.specs.declared.command_parameters.CommandParameters.{CommandParameters}
 use Rattle.mg_commands.specs.declared.progress.Progress.{Progress}
 use Rattle.mg_commands.specs.aids.Steps.{all_names}
-use Rattle.mg_commands.specs.Transaction.{ActionState, TransactionState, with_trial}
+use Rattle.mg_commands.specs.aids.ByActions.{ActionState, ActionsState, with_trial}
 use Rattle.mg_commands.specs.Work.{edits_reported}
 
 -- the state before a request: the reply that was started, and the engine's counter of work
@@ -55,7 +55,7 @@ pub record TransactionKept : Type 0 where
 abbrev pub transaction_kept : EngineState → Answered → TransactionKept
 transaction_kept engine reply = record { engine = engine; reply = reply }
 
-pub record IsTransaction (base : Base) (kept : TransactionKept) (s : TransactionState)
+pub record IsTransaction (base : Base) (kept : TransactionKept) (s : ActionsState)
     : Type 0 where
   pub gateway : StandsFor kept.engine s.gateway
   pub reply : kept.reply ≡ after_all base.reply s.items

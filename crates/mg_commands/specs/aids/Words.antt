@@ -1,4 +1,4 @@
--- A descriptor's part, split into its keyword and what is inside it.
+-- A part of a descriptor, split into its keyword and its content.
 use Rattle.std.specs.Prelude.{ℕ, List, []}
 use Rattle.mg_text.specs.declared.descriptor.AuditWord.{AuditWord}
 use Rattle.mg_text.specs.declared.descriptor.Descriptor.{Descriptor}

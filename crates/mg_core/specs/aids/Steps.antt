@@ -24,7 +24,7 @@ use Rattle.mg_core.specs.declared.state.CoreState.{CoreState}
 use Rattle.mg_words.specs.Leads.{Leads}
 use Rattle.mg_reply.specs.declared.item.Item.TheVariants as reported
 use Rattle.mg_reply.specs.Reply.{Answered}
-use Rattle.mg_reply.specs.Theorems.{is_too_long}
+use Rattle.mg_reply.specs.aids.Width.{is_too_long}
 use Rattle.mg_reply.specs.Written.{reply_text}
 use Rattle.mg_core.specs.World.{World, StandsFor, capped, start_of}
 use Rattle.mg_lines.specs.Lines.{lines_after, lines_of}
@@ -32,8 +32,9 @@ use Rattle.mg_lines.specs.Streams.{WritesFront}
 use Rattle.mg_core.specs.Flows.{Listener, listeners_of, changes_by}
 use Rattle.mg_core.specs.Script.{event_of}
 use Rattle.mg_core.specs.Step.{Sent, Step}
-use Rattle.mg_core.specs.Run.{Ran, RanInPart, HasRead, HasBadAfter, RanToBadLine, RanAllRead}
-use Rattle.mg_core.specs.Run.{RanToCutLine, RanToUnrunLine, lines_for}
+use Rattle.mg_core.specs.Run.{Ran, HasRead, HasBadAfter, lines_for}
+use Rattle.mg_core.specs.aids.Faults.{RanInPart, RanToBadLine, RanAllRead, RanToCutLine}
+use Rattle.mg_core.specs.aids.Faults.{RanToUnrunLine}
 
 -- the text grew by the part that was written
 abbrev pub TextGrows : CoreState → CoreState → List ℕ → List ℕ → (World → List ℕ × World) → Type 0
@@ -105,7 +106,8 @@ pub record Follows (shown : Shown) (state : CoreState) (kept : Option (List List
   pub stands : StandsFor state w
   pub same : AreKeptListeners shown kept w
 
--- Every world that was followed leads to a next one, which is followed if everything succeeded.
+-- Every world that satisfies `Old` leads to a next world, which satisfies `New` if everything
+-- succeeded.
 abbrev pub LeadsOn : {E : Type 0} → (World → Type 0) → (World → Type 0) → Result (Unit {0}) E
     → (World → World → Type 0) → Type 0
 LeadsOn Old New result Comes =
@@ -167,7 +169,7 @@ pub record AllRanCounted (config : Config) (shown : Shown) (script : List ℕ) (
   pub stands : StandsFor state last
   pub lines : count ≡ length (lines_of true script)
 
--- the same for all of an input, or how far it was run
+-- the same for a whole input, or how far it was run
 abbrev pub AllRan : Config → Shown → (input rest : Option (List ℕ)) → CoreState → ℕ → ℕ
     → (old new : Option (List ℕ)) → Result (Unit {0}) ScriptFault → Type 0
 AllRan config shown input rest state count n old new (Ok done) =

@@ -1,4 +1,4 @@
--- What the table of flows stores of members, and how one member changes it.
+-- What the table of flows stores about members, and how one member changes the table.
 use Rattle.std.specs.Prelude.{◌≡◌, ℕ, ◌||◌, true, false, IsTrue, List, if◌then◌else◌}
 use Rattle.mg_words.specs.declared.mode.Mode.{Mode}
 use Rattle.mg_words.specs.Mode as mode

@@ -76,7 +76,7 @@ abbrev pub addressed : ℕ → Peer → Header → Datagram → Datagram
 addressed from to header d =
     record { from = from; to = to; bytes = header_bytes plain header ++ drop 12 d.bytes }
 
--- what is sent costs one row, and one for each talker silenced for the listener
+-- what is sent costs one row, plus one for each talker silenced for the listener
 abbrev pub silenced_now : EngineState → Record → ℕ
 silenced_now k l =
     count_by

@@ -34,7 +34,7 @@ is_blocked_for topology talks talker listener =
     && (holds topology listener
     && (not (talker == listener) && not (hears topology talker listener))))
 
--- the masks have, for each listener, who flows to it and who is silenced for it
+-- the masks hold, for each listener, whose speech flows to it and who is silenced for it
 pub record AreMasks (room : RoomFlows) (open_masks silenced_masks : List ℕ) : Type 0 where
   pub flows : (talker listener : ℕ) → listener < seat_limit →
       has_seat (slice_index open_masks listener) talker

@@ -1,8 +1,10 @@
 -- The ring that stores the frames of a play list.
-use Rattle.std.specs.Prelude.{◌≡◌, ◌+◌, ◌≤◌, ℤ, List, length, Option, All, IfSome}
+use Rattle.std.specs.Prelude.{◌≡◌, ◌+◌, ◌≤◌, ℤ, List, length, drop, Option, None, All, IfSome}
+use Rattle.std.specs.Prelude.{slice_index_or}
 use Rattle.mg_words.specs.Limits.{least_depth, greatest_depth}
 use Rattle.circular_buffer.specs.Buffer.{Buffer}
 use Rattle.mg_g711.specs.Frame.{IsFrame}
+use Rattle.mg_playout.specs.Places.{FramePlaces}
 
 -- the invariant of the ring, which holds the last frame and the places
 pub record IsRingOfPlaces (ring : Buffer (Option (List ℤ))) : Type 0 where
@@ -10,3 +12,12 @@ pub record IsRingOfPlaces (ring : Buffer (Option (List ℤ))) : Type 0 where
   pub at_least : least_depth + 1 ≤ length ring.items
   pub at_most : length ring.items ≤ greatest_depth + 1
   pub frames : All (λ item. IfSome item IsFrame) ring.items
+
+-- the frames that a play list keeps: the one played last, if any, and those that wait
+pub record KeptFrames : Type 0 where
+  pub last : Option (List ℤ)
+  pub places : FramePlaces
+
+-- the contents of the ring, whose first item is the last frame
+abbrev pub kept_in : List (Option (List ℤ)) → KeptFrames
+kept_in items = record { last = slice_index_or items 0 None; places = drop 1 items }

@@ -1,4 +1,4 @@
--- How far the alternatives of a content have been read.
+-- How far the alternatives of a descriptor have been read.
 use Rattle.std.specs.Prelude.{Bool, List, Option}
 use Rattle.mg_sdp.specs.declared.offer.Offer.{Offer}
 use Rattle.mg_sdp.specs.declared.alternative.Alternative.{Alternative}

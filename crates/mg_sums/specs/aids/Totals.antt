@@ -8,7 +8,7 @@ use Rattle.mg_sums.specs.Sums.{SumsState, AreValidSums, total_of}
 abbrev pub total_limit : ℕ
 total_limit = termination_limit * 32768
 
--- no number in a row has a larger magnitude
+-- no number in a row has a magnitude above the limit
 abbrev pub AreNear : ℕ → List ℤ → Type 0
 AreNear limit row = (i : ℕ) → i < 160 → unsigned_abs (sample row i) ≤ limit
 

@@ -106,7 +106,7 @@ group_at source ts = do
   ts ← mark_at source Open ts
   after_group source 0 ts
 
--- an optional group, and whether it is there and has a token in it
+-- an optional group, and whether it exists and contains a token
 unfoldable pub filled_at : List ℕ → List Token → Result (Bool × List Token) ℕ
 filled_at source ts =
     if_some (after_mark Open ts)

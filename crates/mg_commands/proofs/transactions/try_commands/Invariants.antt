@@ -1,6 +1,6 @@
 use Rattle.std.proofs.Common.{◌≡◌, drop}
 use Rattle.mg_words.specs.Leads.{Leads}
-use Rattle.mg_commands.specs.Transaction.{with_commands}
+use Rattle.mg_commands.specs.aids.ByActions.{with_commands}
 use Rattle.mg_commands.specs.aids.Runs.{Base, IsActionRun, action_kept}
 use Rattle.mg_commands.proofs.transactions.try_commands.Given as goal
 

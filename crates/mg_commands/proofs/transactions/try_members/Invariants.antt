@@ -1,7 +1,7 @@
 use Rattle.std.proofs.Common.{◌≡◌, map, drop}
 use Rattle.mg_words.specs.Leads.{Leads}
 use Rattle.mg_commands.specs.declared.name.Name.TheVariants.{Number}
-use Rattle.mg_commands.specs.Transaction.{and_then, with_names}
+use Rattle.mg_commands.specs.aids.ByActions.{and_then, with_names}
 use Rattle.mg_commands.specs.aids.Runs.{Base, IsActionRun, action_kept}
 use Rattle.mg_commands.proofs.transactions.try_members.Given as goal
 

@@ -2,8 +2,9 @@ use Rattle.std.proofs.Common.{◌<◌, ◌≤◌, ◌∙◌, ℕ, Bool, length, 
 use Rattle.std.proofs.lemmas.Option.{get_or_from_slice_get}
 use Rattle.mg_words.specs.Limits.{member_limit}
 use Rattle.mg_rooms.specs.Registry.{Registry}
-use Rattle.mg_rooms.specs.Sound.{IsSound}
+use Rattle.mg_rooms.specs.aids.Sound.{IsSound}
 use Rattle.mg_engine.specs.Flow.{flow}
+use Rattle.mg_rooms.proofs.SoundLemmas.{sound_if}
 use Rattle.mg_core.proofs.ListenerLemmas.{is_taken, not_taken, talkers_few}
 use Rattle.mg_core.proofs.listener.talkers_of.Goals as goal
 
@@ -28,7 +29,7 @@ loop-place-preserved c w stands =
     let same = stands.gateway.rooms in
     let few : length (filter p (map (λ r. r.number) rs)) ≤ member_limit =
     subst (λ (x : Registry). length (filter p (map (λ r. r.number) x.terminations)) ≤ member_limit) same
-    (talkers_few w.gateway c.args.listener (subst IsSound (sym same) c.terminations-place-end.ensures.sound)) in
+    (talkers_few w.gateway c.args.listener (subst IsSound (sym same) (sound_if _ c.terminations-place-end.ensures.consistent))) in
     is_taken p rs i r c.loop-place.talkers.items c.try_push.new.self.items c.try_push.result there
     (get_or_from_slice_get rs i r r c.termination-talker.ensures.value)
     (sym (c.flow.ensures.value w stands) ∙ c.if-not-flow.false) few (c.loop-place.invariant w stands)

@@ -1,5 +1,5 @@
-use Rattle.std.proofs.Common.{◌-◌, length, take, drop, sym, ap, arith}
-use Rattle.std.proofs.lemmas.List.{take_rest, take-append-drop, length-drop}
+use Rattle.std.proofs.Common.{◌-◌, length, take, drop, ap, arith}
+use Rattle.std.proofs.lemmas.List.{take_rest, length-drop}
 use Rattle.std.proofs.lemmas.Result.{err_from_is_err_and}
 use Rattle.std.proofs.lemmas.Bool.Decides.{nat_tests}
 use Rattle.std.proofs.KnownBytes.{Keeps-refl}

@@ -4,6 +4,7 @@ use Rattle.std.proofs.lemmas.Result.{err_from_is_err_and}
 use Rattle.mg_rtp.specs.declared.packet.Packet.{Packet}
 use Rattle.mg_rtp.specs.declared.rtp_fault.RtpFault.{RtpFault}
 use Rattle.mg_rtp.specs.declared.rtp_fault.RtpFault.TheVariants.{Short, Extension, Padding}
+use Rattle.mg_rtp.proofs.FaultParts.{as_fault}
 use Rattle.mg_rtp.proofs.Joined.{three_parts, four_parts}
 use Rattle.mg_rtp.proofs.Outcome.{IsOutcome, err_outcome, found_packet, only_packet, only_fault}
 use Rattle.mg_rtp.proofs.Parts.{layout_of, begins_at, begins_with}
@@ -21,13 +22,13 @@ returns-in_err-rest c =
     let p = err_from_is_err_and r c.from_residual.ensures.1 in
     let is : r ≡ Err Short = p.1 ∙ ap (λ (e : RtpFault). Err e) (p.2 ∙ c.in_err-rest.ensures.err.0) in
     let outcome : IsOutcome bytes r = err_outcome bytes r Short is
-    (inr (record {
+    (as_fault bytes Short (inr (record {
       layout = layout_of (get_or head 0 0);
       header = h;
       rest = c.split_at.result.1.now;
       begins = begins;
       few = c.in_err-rest.ensures.err.1;
-    })) in
+    }))) in
     record {
       found = found_packet bytes r outcome;
       only = only_packet bytes r outcome;
@@ -46,7 +47,7 @@ returns-in_err-rest-2 c =
     let r = c.from_residual-in_err-rest-2.result in
     let p = err_from_is_err_and r c.from_residual-in_err-rest-2.ensures.1 in
     let is : r ≡ Err Extension = p.1 ∙ ap (λ (e : RtpFault). Err e) (p.2 ∙ c.in_err-rest-2.ensures.err.0) in
-    let outcome : IsOutcome bytes r = err_outcome bytes r Extension is (record {
+    let outcome : IsOutcome bytes r = err_outcome bytes r Extension is (as_fault bytes Extension (record {
       layout = layout_of (get_or head 0 0);
       header = h;
       sources = sources.0;
@@ -55,7 +56,7 @@ returns-in_err-rest-2 c =
       are_sources = sources.1;
       is_extended = c.in_err-rest-2.ensures.err.1;
       ends = c.in_err-rest-2.ensures.err.2;
-    }) in
+    })) in
     record {
       found = found_packet bytes r outcome;
       only = only_packet bytes r outcome;
@@ -75,7 +76,7 @@ returns-in_err-payload c =
     let r = c.from_residual-in_err-payload.result in
     let p = err_from_is_err_and r c.from_residual-in_err-payload.ensures.1 in
     let is : r ≡ Err Padding = p.1 ∙ ap (λ (e : RtpFault). Err e) (p.2 ∙ c.in_err-payload.ensures.err.0) in
-    let outcome : IsOutcome bytes r = err_outcome bytes r Padding is (record {
+    let outcome : IsOutcome bytes r = err_outcome bytes r Padding is (as_fault bytes Padding (record {
       layout = layout_of (get_or head 0 0);
       header = h;
       sources = sources.0;
@@ -86,7 +87,7 @@ returns-in_err-payload c =
       is_extension = extension.1;
       is_padded = c.in_err-payload.ensures.err.1;
       bad = c.in_err-payload.ensures.err.2;
-    }) in
+    })) in
     record {
       found = found_packet bytes r outcome;
       only = only_packet bytes r outcome;

@@ -2,6 +2,7 @@ use Rattle.std.proofs.Common.{◌∙◌, Ok, sym, ap}
 use Rattle.std.proofs.lemmas.Result.{err_from_is_err_and}
 use Rattle.mg_core.specs.CoreView.{CoreView}
 use Rattle.mg_core.specs.declared.event.Event.TheVariants.{Control, Media, Tick}
+use Rattle.mg_rooms.proofs.SoundLemmas.{sound_if}
 use Rattle.mg_core.proofs.LineLemmas.{changed_steps, cut_steps, quiet_steps, silent_steps}
 use Rattle.mg_core.proofs.QuietLemmas.{media_keeps_quiet, tick_keeps_quiet}
 use Rattle.mg_core.proofs.line_runner.LineRunner.take_event.Goals as goal
@@ -24,7 +25,7 @@ returns-in-Tick g c = rw c.in-Tick.is (record {
   value = quiet_steps Tick c.args.self.now.core.state c.take_tick.new.self.core.state c.args.self.now.watched
       c.take_tick.new.self.watched c.args.self.now.sent c.take_tick.new.self.sent
       (g.W.Write.contents c.args.writer.now) (g.W.Write.contents c.take_tick.new.writer) c.take_tick.result
-      tick_keeps_quiet c.assert_invariant.ensures.sound c.take_tick.ensures.watched c.take_tick.ensures.value;
+      tick_keeps_quiet (sound_if _ c.assert_invariant.ensures.consistent) c.take_tick.ensures.watched c.take_tick.ensures.value;
 })
 
 pub returns-in-Media : goal.returns-in-Media
@@ -33,7 +34,7 @@ returns-in-Media g c = rw c.in-Media.is (record {
       c.take_media.new.self.core.state c.args.self.now.watched c.take_media.new.self.watched
       c.args.self.now.sent c.take_media.new.self.sent
       (g.W.Write.contents c.args.writer.now) (g.W.Write.contents c.args.writer.now) (Ok tt)
-      (media_keeps_quiet c.in-Media.port c.in-Media.source c.in-Media.bytes) c.assert_invariant.ensures.sound
+      (media_keeps_quiet c.in-Media.port c.in-Media.source c.in-Media.bytes) (sound_if _ c.assert_invariant.ensures.consistent)
       c.take_media.ensures.watched
       (silent_steps (Media c.in-Media.port c.in-Media.source c.in-Media.bytes) c.args.self.now.core.state
       c.take_media.new.self.core.state c.args.self.now.sent c.take_media.new.self.sent

@@ -6,6 +6,7 @@ use Rattle.mg_engine.specs.aids.MediaSteps as media_steps
 use Rattle.mg_engine.specs.Outcome.{added, done_with}
 use Rattle.mg_engine.specs.Place.{member_place}
 use Rattle.mg_engine.specs.Stands.{EngineState, StandsFor}
+use Rattle.mg_rooms.proofs.SoundLemmas.{sound_if}
 use Rattle.mg_engine.proofs.OutcomeLemmas.{add_adds}
 use Rattle.mg_engine.proofs.EditLemmas.{slots_kept, room_left, whole_added, unknown_before, begun_tuned, added_stands}
 use Rattle.mg_engine.proofs.MemberLemmas.{no_record, same_others, carry, hears_carry, unknown, hears_some, free_place, has_entered, hears_entered}
@@ -15,12 +16,11 @@ use Rattle.mg_engine.proofs.JoinedLemmas.{joined_changed}
 use Rattle.mg_engine.proofs.WorkLemmas.{rises_twice}
 use Rattle.mg_engine.proofs.PlaceLemmas.{on_its_place, member_within, within}
 use Rattle.mg_engine.proofs.SeatingLemmas.{carry_seats, seated_put}
-use Rattle.mg_engine.proofs.UnaffectedLemmas.{add_alone, sound_as}
 use Rattle.mg_engine.proofs.engine.Engine.add.Goals as goal
 
 pub begin-requires : goal.begin-requires
 begin-requires c =
-    let sound = c.add.ensures.sound in
+    let sound = sound_if _ c.add.ensures.consistent in
     let at = c.in_ok-made.ensures.member in
     let a = add_adds c.self.inside.rooms c.args.target c.args.settings.now c.add.new.self c.in_ok-made.made.record
     c.in_ok-made.ensures.outcome in
@@ -32,7 +32,7 @@ begin-requires c =
 
 pub tune-requires : goal.tune-requires
 tune-requires c =
-    let sound = c.add.ensures.sound in
+    let sound = sound_if _ c.add.ensures.consistent in
     let at = c.in_ok-made.ensures.member in
     let a = add_adds c.self.inside.rooms c.args.target c.args.settings.now c.add.new.self c.in_ok-made.made.record
     c.in_ok-made.ensures.outcome in
@@ -50,7 +50,7 @@ push-requires c =
       omega arith,
       room_left c.self.inside.config c.self.inside.rooms c.add.new.self c.in_ok-made.made.record
           c.self.inside.ports c.self.inside.media.items c.self.inside.held.items c.self.inside.flows
-          c.self.inside.seating c.self.inside.sums.rooms c.self.invariant a c.add.ensures.sound,
+          c.self.inside.seating c.self.inside.sums.rooms c.self.invariant a (sound_if _ c.add.ensures.consistent),
     )
 
 pub enter-requires : goal.enter-requires
@@ -60,7 +60,7 @@ enter-requires c =
     let m = c.in_ok-made.made in
     let d = m.record in
     let before = c.self.invariant.sound in
-    let sound = c.add.ensures.sound in
+    let sound = sound_if _ c.add.ensures.consistent in
     let at = c.in_ok-made.ensures.member in
     let on = on_its_place new d.number m at in
     let a = add_adds old c.args.target c.args.settings.now new d c.in_ok-made.ensures.outcome in
@@ -84,7 +84,7 @@ invariant_of-self-2 c =
     let n = d.number in
     let p = member_place m in
     let before = c.self.invariant.sound in
-    let sound = c.add.ensures.sound in
+    let sound = sound_if _ c.add.ensures.consistent in
     let on = on_its_place new n m c.in_ok-made.ensures.member in
     let a = add_adds old c.args.target c.args.settings.now new d c.in_ok-made.ensures.outcome in
     let same = same_others old new n before.there sound.there c.add.ensures.lasts.room
@@ -129,7 +129,7 @@ returns-clause-outcome c w h =
       shares = c.self.inside.shares;
     } in
     let before = c.self.invariant.sound in
-    let sound = c.add.ensures.sound in
+    let sound = sound_if _ c.add.ensures.consistent in
     let at = c.in_ok-made.ensures.member in
     let on = on_its_place new n m at in
     let a = add_adds old c.args.target settings new d done in
@@ -163,8 +163,3 @@ returns-clause-work c =
     subst (λ (x : EngineState). RisesAtMost 4 x.sums.work c.enter.new.sums.work) c.self.view_is
     (rises_twice 2 2 4 c.self.inside.sums.work c.begin.new.sums.work c.enter.new.sums.work (omega arith)
     c.begin.ensures.work c.enter.ensures.work)
-
-pub returns-clause-others : goal.returns-clause-others
-returns-clause-others c w next r context h done there apart =
-    add_alone w next c.args.target c.args.settings.now r context
-    (sound_as _ c.args.self.now w c.self.view_is c.self.invariant.sound h) done there apart

@@ -9,7 +9,6 @@ use Rattle.mg_engine.specs.aids.Triples.{AreMatched}
 use Rattle.mg_engine.specs.Stands.{EngineState, StandsFor}
 use Rattle.mg_engine.proofs.TripleLemmas.{refused_there, refused_triples, done_triples, err_is, ok_is, has_still, hears_triples, words_stand}
 use Rattle.mg_engine.proofs.engine.Engine.apply_triples.Goals.{in-Ok, in-Err}
-use Rattle.mg_engine.proofs.UnaffectedLemmas.{triples_alone, sound_as}
 use Rattle.mg_engine.proofs.engine.Engine.apply_triples.Goals as goal
 
 pub returns-in_err-at-clause-outcome : goal.returns-in_err-at-clause-outcome
@@ -90,18 +89,3 @@ returns-clause-outcome c w h =
       | in-Err b ↦ absurd (none (subst (λ (zs : List Triple). Any Overlaps zs) c.as_slice-2.ensures.value
           (b.in-Err.ensures.overlap.0 refl)))
     ]
-
-pub returns-in_err-at-clause-others : goal.returns-in_err-at-clause-others
-returns-in_err-at-clause-others c w next to context h done apart =
-    triples_alone w next c.args.target c.args.triples.now.items to context
-    (sound_as _ c.args.self.now w c.self.view_is c.self.invariant.sound h) done apart
-
-pub returns-in_err-by_seats-clause-others : goal.returns-in_err-by_seats-clause-others
-returns-in_err-by_seats-clause-others c w next to context h done apart =
-    triples_alone w next c.args.target c.args.triples.now.items to context
-    (sound_as _ c.args.self.now w c.self.view_is c.self.invariant.sound h) done apart
-
-pub returns-clause-others : goal.returns-clause-others
-returns-clause-others c w next to context h done apart =
-    triples_alone w next c.args.target c.args.triples.now.items to context
-    (sound_as _ c.args.self.now w c.self.view_is c.self.invariant.sound h) done apart

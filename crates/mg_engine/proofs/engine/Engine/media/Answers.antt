@@ -8,14 +8,11 @@ use Rattle.mg_engine.specs.Arrival.{arrived, at_port}
 use Rattle.mg_engine.specs.aids.Found.{taken_by}
 use Rattle.mg_engine.specs.Stands.{EngineState, StandsFor}
 use Rattle.mg_engine.proofs.ArrivalLemmas.{media_alone, took_stands}
-use Rattle.mg_engine.proofs.UnaffectedLemmas.{datagram_alone}
 use Rattle.mg_engine.proofs.engine.Engine.media.Goals as goal
 
 pub returns-in-None : goal.returns-in-None
 returns-in-None c = record {
   work = refl;
-  others = λ w next context h represents apart. datagram_alone w next c.args.port c.args.source.address c.args.bytes.now _
-      context represents apart;
   taken = λ w h.
       let reading = reading_of c.read-packet.result in
       let none = ap (λ (x : rooms.Registry). at_port x c.args.port) h.rooms ∙ sym c.at_port.ensures.value ∙
@@ -34,8 +31,6 @@ returns-in-None c = record {
 pub returns-in-Some : goal.returns-in-Some
 returns-in-Some c = record {
   work = ap (λ (s : SumsState). s.work) c.place.ensures.sums;
-  others = λ w next context h represents apart. datagram_alone w next c.args.port c.args.source.address c.args.bytes.now _
-      context represents apart;
   taken = λ w h.
       let k = c.args.self.now in
       let r = c.in-Some.termination in

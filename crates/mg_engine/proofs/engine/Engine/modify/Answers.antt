@@ -8,6 +8,7 @@ use Rattle.mg_engine.specs.Outcome.{modified, media_with, done_with}
 use Rattle.mg_engine.specs.Place.{member_place}
 use Rattle.mg_engine.specs.Stands.{EngineState, StandsFor}
 use Rattle.mg_engine.specs.Work.{RisesAtMost}
+use Rattle.mg_rooms.proofs.SoundLemmas.{sound_if}
 use Rattle.mg_engine.proofs.OutcomeLemmas.{modify_changes}
 use Rattle.mg_engine.proofs.EditLemmas.{slots_kept, whole_changed, changed_at, changed_stands}
 use Rattle.mg_engine.proofs.MemberLemmas.{same_others, stayed_at, has_mode, hears_mode}
@@ -15,7 +16,6 @@ use Rattle.mg_engine.proofs.JoinedLemmas.{joined_changed}
 use Rattle.mg_engine.proofs.WorkLemmas.{rises_less}
 use Rattle.mg_engine.proofs.PlaceLemmas.{on_its_place, member_within}
 use Rattle.mg_engine.proofs.SeatingLemmas.{seated_mode}
-use Rattle.mg_engine.proofs.UnaffectedLemmas.{modify_alone}
 use Rattle.mg_engine.proofs.engine.Engine.modify.Goals as goal
 
 pub tune-requires : goal.tune-requires
@@ -26,7 +26,7 @@ tune-requires c =
     let m = c.in_ok-changed.changed in
     let d = m.record in
     let before = c.self.invariant.sound in
-    let sound = c.modify.ensures.sound in
+    let sound = sound_if _ c.modify.ensures.consistent in
     let at = c.in_ok-changed.ensures.member in
     let (a, _) = modify_changes old c.args.target n c.args.settings.now new d c.in_ok-changed.ensures.outcome in
     let slots = slots_kept c.self.inside.config old new c.self.inside.ports c.self.inside.media.items
@@ -42,7 +42,7 @@ take_mode-requires c =
     let m = c.in_ok-changed.changed in
     let d = m.record in
     let before = c.self.invariant.sound in
-    let sound = c.modify.ensures.sound in
+    let sound = sound_if _ c.modify.ensures.consistent in
     let at = c.in_ok-changed.ensures.member in
     let p = member_place m in
     let settings = c.args.settings.now in
@@ -74,7 +74,7 @@ invariant_of-self-2 c =
     let m = c.in_ok-changed.changed in
     let d = m.record in
     let before = c.self.invariant.sound in
-    let sound = c.modify.ensures.sound in
+    let sound = sound_if _ c.modify.ensures.consistent in
     let at = c.in_ok-changed.ensures.member in
     let p = member_place m in
     let settings = c.args.settings.now in
@@ -111,7 +111,7 @@ returns-clause-outcome c w h =
     let m = c.in_ok-changed.changed in
     let d = m.record in
     let before = c.self.invariant.sound in
-    let sound = c.modify.ensures.sound in
+    let sound = sound_if _ c.modify.ensures.consistent in
     let at = c.in_ok-changed.ensures.member in
     let p = member_place m in
     let settings = c.args.settings.now in
@@ -149,7 +149,3 @@ pub returns-clause-work : goal.returns-clause-work
 returns-clause-work c =
     subst (λ (x : EngineState). RisesAtMost 4 x.sums.work c.take_mode.new.sums.work) c.self.view_is
     (rises_less 2 4 c.self.inside.sums.work c.take_mode.new.sums.work (omega arith) c.take_mode.ensures.work)
-
-pub returns-clause-others : goal.returns-clause-others
-returns-clause-others c w next r context h done apart =
-    modify_alone w next c.args.target c.args.number c.args.settings.now r context done apart

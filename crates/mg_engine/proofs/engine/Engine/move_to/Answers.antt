@@ -9,6 +9,7 @@ use Rattle.mg_engine.specs.Outcome.{moved, media_with, done_with}
 use Rattle.mg_engine.specs.Place.{member_place}
 use Rattle.mg_engine.specs.Stands.{EngineState, StandsFor}
 use Rattle.mg_engine.specs.Work.{RisesAtMost}
+use Rattle.mg_rooms.proofs.SoundLemmas.{sound_if}
 use Rattle.mg_engine.proofs.OutcomeLemmas.{move_changes}
 use Rattle.mg_engine.proofs.EditLemmas.{slots_kept, whole_changed, changed_at, changed_stands}
 use Rattle.mg_engine.proofs.MemberLemmas.{Hears, same_others, carry, hears_carry, has_left, hears_left, free_place, has_entered, hears_entered}
@@ -16,7 +17,6 @@ use Rattle.mg_engine.proofs.JoinedLemmas.{joined_changed}
 use Rattle.mg_engine.proofs.WorkLemmas.{rises_less}
 use Rattle.mg_engine.proofs.PlaceLemmas.{on_its_place, member_within, within}
 use Rattle.mg_engine.proofs.SeatingLemmas.{carry_seats, seated_put}
-use Rattle.mg_engine.proofs.UnaffectedLemmas.{move_alone, sound_as}
 use Rattle.mg_engine.proofs.engine.Engine.move_to.Goals as goal
 
 pub tune-requires : goal.tune-requires
@@ -27,7 +27,7 @@ tune-requires c =
     let m = c.in_ok-moved.moved.to in
     let d = m.record in
     let before = c.self.invariant.sound in
-    let sound = c.move_to.ensures.sound in
+    let sound = sound_if _ c.move_to.ensures.consistent in
     let at = c.in_ok-moved.ensures.to in
     let a = move_changes old c.args.target n c.args.settings.now new d c.in_ok-moved.ensures.outcome in
     let slots = slots_kept c.self.inside.config old new c.self.inside.ports c.self.inside.media.items
@@ -51,7 +51,7 @@ enter-requires c =
     let m = c.in_ok-moved.moved.to in
     let d = m.record in
     let before = c.self.invariant.sound in
-    let sound = c.move_to.ensures.sound in
+    let sound = sound_if _ c.move_to.ensures.consistent in
     let at = c.in_ok-moved.ensures.to in
     let p = member_place m in
     let r = c.in_ok-moved.moved.from.record in
@@ -89,7 +89,7 @@ invariant_of-self-2 c =
     let m = c.in_ok-moved.moved.to in
     let d = m.record in
     let before = c.self.invariant.sound in
-    let sound = c.move_to.ensures.sound in
+    let sound = sound_if _ c.move_to.ensures.consistent in
     let at = c.in_ok-moved.ensures.to in
     let p = member_place m in
     let r = c.in_ok-moved.moved.from.record in
@@ -135,7 +135,7 @@ returns-clause-outcome c w h =
     let m = c.in_ok-moved.moved.to in
     let d = m.record in
     let before = c.self.invariant.sound in
-    let sound = c.move_to.ensures.sound in
+    let sound = sound_if _ c.move_to.ensures.consistent in
     let at = c.in_ok-moved.ensures.to in
     let p = member_place m in
     let r = c.in_ok-moved.moved.from.record in
@@ -183,8 +183,3 @@ pub returns-clause-work : goal.returns-clause-work
 returns-clause-work c =
     subst (λ (x : EngineState). RisesAtMost 4 x.sums.work c.enter.new.sums.work) c.self.view_is
     (rises_less 2 4 c.self.inside.sums.work c.enter.new.sums.work (omega arith) c.enter.ensures.work)
-
-pub returns-clause-others : goal.returns-clause-others
-returns-clause-others c w next r context h done there apart =
-    move_alone w next c.args.target c.args.number c.args.settings.now r context
-    (sound_as _ c.args.self.now w c.self.view_is c.self.invariant.sound h) done there apart

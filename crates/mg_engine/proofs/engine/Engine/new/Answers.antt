@@ -1,6 +1,7 @@
 use Rattle.std.proofs.Common.{ℕ, length, map, sym, ap, ◌∙◌}
 use Rattle.std.proofs.lemmas.List.{length-replicate}
 use Rattle.mg_rooms.specs.Registry as rooms
+use Rattle.mg_rooms.proofs.SoundLemmas.{sound_if}
 use Rattle.mg_engine.specs.aids.Seating.{place_count}
 use Rattle.mg_sums.specs.Sums.{SumsState, first_sums}
 use Rattle.mg_engine.proofs.JoinedLemmas.{joined_nowhere}
@@ -9,7 +10,7 @@ use Rattle.mg_engine.proofs.engine.Engine.new.Goals as goal
 
 pub invariant_of-result : goal.invariant_of-result
 invariant_of-result c = record {
-  sound = c.in_ok-rooms.ensures.sound;
+  sound = sound_if _ c.in_ok-rooms.ensures.consistent;
   limits = ap (λ (w : rooms.Registry). w.limits) c.in_ok-rooms.ensures.start ∙ c.limits.ensures.value;
   ports = c.in_ok-ports.ensures.value ∙ c.limits-2.ensures.value;
   media = ap length c.in_ok-media.ensures.value ∙ length-replicate _ _;

@@ -6,6 +6,7 @@ use Rattle.mg_engine.specs.Place.{member_place}
 use Rattle.mg_engine.specs.Stands.{EngineState, StandsFor}
 use Rattle.mg_engine.specs.Work.{RisesAtMost}
 use Rattle.mg_engine.specs.aids.Joined.{SetsRow}
+use Rattle.mg_rooms.proofs.SoundLemmas.{sound_if}
 use Rattle.mg_engine.proofs.OutcomeLemmas.{subtract_removes}
 use Rattle.mg_engine.proofs.EditLemmas.{whole_removed, removed_stands, gone}
 use Rattle.mg_engine.proofs.MemberLemmas.{same_others, carry, hears_carry, has_left, hears_left, members_all, hears_all}
@@ -13,7 +14,6 @@ use Rattle.mg_engine.proofs.JoinedLemmas.{joined_left}
 use Rattle.mg_engine.proofs.WorkLemmas.{rises_less}
 use Rattle.mg_engine.proofs.PlaceLemmas.{on_its_place}
 use Rattle.mg_engine.proofs.SeatingLemmas.{carry_seats, seated_all}
-use Rattle.mg_engine.proofs.UnaffectedLemmas.{subtract_alone, sound_as}
 use Rattle.mg_engine.proofs.engine.Engine.subtract.Goals as goal
 
 pub vacate-requires : goal.vacate-requires
@@ -42,7 +42,7 @@ invariant_of-self-2 c =
       shares = c.self.inside.shares;
     } in
     let before = c.self.invariant.sound in
-    let sound = c.subtract.ensures.sound in
+    let sound = sound_if _ c.subtract.ensures.consistent in
     let a = subtract_removes old c.args.target n new d done in
     let others = c.in_ok-gone.ensures.others.termination in
     let was = on_its_place old n m c.in_ok-gone.ensures.member in
@@ -81,7 +81,7 @@ returns-clause-outcome c w h =
       shares = c.self.inside.shares;
     } in
     let before = c.self.invariant.sound in
-    let sound = c.subtract.ensures.sound in
+    let sound = sound_if _ c.subtract.ensures.consistent in
     let a = subtract_removes old c.args.target n new d done in
     let others = c.in_ok-gone.ensures.others.termination in
     let was = on_its_place old n m c.in_ok-gone.ensures.member in
@@ -105,8 +105,3 @@ pub returns-clause-work : goal.returns-clause-work
 returns-clause-work c =
     subst (λ (x : EngineState). RisesAtMost 4 x.sums.work c.part.new.sums.work) c.self.view_is
     (rises_less 1 4 c.self.inside.sums.work c.part.new.sums.work (omega arith) c.part.ensures.work)
-
-pub returns-clause-others : goal.returns-clause-others
-returns-clause-others c w next r context h done apart =
-    subtract_alone w next c.args.target c.args.number r context
-    (sound_as _ c.args.self.now w c.self.view_is c.self.invariant.sound h) done apart

@@ -3,7 +3,7 @@ use Rattle.std.proofs.lemmas.List.{get_or-map}
 use Rattle.std.proofs.lemmas.Option.{slice_get-get_or}
 use Rattle.std.specs.List.{slice_get}
 use Rattle.mg_rooms.specs.Registry.{Registry, holder_of}
-use Rattle.mg_rooms.specs.Sound.{IsSound}
+use Rattle.mg_rooms.specs.aids.Sound.{IsSound}
 use Rattle.mg_engine.specs.Stands.{EngineState}
 use Rattle.mg_engine.proofs.SendingLemmas.{nobody}
 use Rattle.mg_engine.proofs.engine.Engine.termination.Goals as goal

@@ -1,11 +1,11 @@
 use Rattle.std.proofs.Common.{sym, subst}
-use Rattle.mg_rooms.specs.Sound.{IsSound}
-use Rattle.mg_rooms.proofs.SoundLemmas.{sound_if, modify_leaves, there_as}
+use Rattle.mg_rooms.specs.Consistent.{IsConsistent}
+use Rattle.mg_rooms.proofs.SoundLemmas.{modify_leaves, there_as}
 use Rattle.mg_rooms.proofs.rooms.Rooms.modify.Goals as goal
 
-pub returns-in_err-changed-clause-sound : goal.returns-in_err-changed-clause-sound
-returns-in_err-changed-clause-sound c = subst IsSound (sym c.in_err-changed.ensures.outcome.1)
-    (sound_if c.self.inside.tables c.self.invariant)
+pub returns-in_err-changed-clause-consistent : goal.returns-in_err-changed-clause-consistent
+returns-in_err-changed-clause-consistent c = subst IsConsistent (sym c.in_err-changed.ensures.outcome.1)
+    c.self.invariant
 
 pub member_of-requires : goal.member_of-requires
 member_of-requires c = record {
@@ -17,9 +17,9 @@ pub invariant_of-self-2 : goal.invariant_of-self-2
 invariant_of-self-2 c = (modify_leaves c.self.inside.tables c.modify.new.self c.args.target c.args.number
     c.args.settings.now c.in_ok-changed.changed c.self.invariant c.in_ok-changed.ensures.outcome).sound.consistent
 
-pub returns-clause-sound : goal.returns-clause-sound
-returns-clause-sound c = (modify_leaves c.self.inside.tables c.modify.new.self c.args.target c.args.number
-    c.args.settings.now c.in_ok-changed.changed c.self.invariant c.in_ok-changed.ensures.outcome).sound
+pub returns-clause-consistent : goal.returns-clause-consistent
+returns-clause-consistent c = (modify_leaves c.self.inside.tables c.modify.new.self c.args.target c.args.number
+    c.args.settings.now c.in_ok-changed.changed c.self.invariant c.in_ok-changed.ensures.outcome).sound.consistent
 
 pub returns-clause-member : goal.returns-clause-member
 returns-clause-member c = there_as c.modify.new.self c.args.number c.in_ok-changed.changed c.member_of.result

@@ -1,11 +1,11 @@
 use Rattle.std.proofs.Common.{rules, ◌≡◌, ℕ, Ok, Err, sym, subst, refl, ap, ◌∙◌}
 use Rattle.mg_rooms.specs.Outcome as commands
-use Rattle.mg_rooms.specs.Sound.{IsSound}
+use Rattle.mg_rooms.specs.Consistent.{IsConsistent}
 use Rattle.mg_rooms.specs.declared.record.Record.{Record}
 use Rattle.mg_rooms.specs.declared.moved.Moved.{Moved}
 use Rattle.mg_rooms.proofs.RoomsLemmas.{gives_refusal}
 use Rattle.mg_rooms.proofs.StateLemmas.{is_in_a_context}
-use Rattle.mg_rooms.proofs.SoundLemmas.{sound_if, named_is, unnamed, move_leaves, there_as}
+use Rattle.mg_rooms.proofs.SoundLemmas.{named_is, unnamed, move_leaves, there_as}
 use Rattle.mg_rooms.proofs.rooms.Rooms.move_to.Goals as goal
 
 pub returns-in_err-old-clause-outcome : goal.returns-in_err-old-clause-outcome
@@ -15,8 +15,8 @@ returns-in_err-old-clause-outcome c =
     gives_refusal (λ (m : Moved). m.to.record) c.args.self.now c.args.self.now c.from_residual.result _
     c.in_err-old.field-0.0 (search rules) unnamed refl
 
-pub returns-in_err-old-clause-sound : goal.returns-in_err-old-clause-sound
-returns-in_err-old-clause-sound c = rw (← c.self.view_is) (sound_if c.self.inside.tables c.self.invariant)
+pub returns-in_err-old-clause-consistent : goal.returns-in_err-old-clause-consistent
+returns-in_err-old-clause-consistent c = rw (← c.self.view_is) c.self.invariant
 
 pub member_of-from-requires : goal.member_of-from-requires
 member_of-from-requires c =
@@ -36,9 +36,9 @@ returns-in_err-moved-clause-outcome c =
     _ c.in_err-moved.field-0.0 (search rules) (rw (← c.self.view_is) refused)
     (c.in_err-moved.ensures.outcome.1 ∙ c.self.view_is)
 
-pub returns-in_err-moved-clause-sound : goal.returns-in_err-moved-clause-sound
-returns-in_err-moved-clause-sound c = subst IsSound (sym c.in_err-moved.ensures.outcome.1)
-    (sound_if c.self.inside.tables c.self.invariant)
+pub returns-in_err-moved-clause-consistent : goal.returns-in_err-moved-clause-consistent
+returns-in_err-moved-clause-consistent c = subst IsConsistent (sym c.in_err-moved.ensures.outcome.1)
+    c.self.invariant
 
 pub member_of-to-requires : goal.member_of-to-requires
 member_of-to-requires c =
@@ -73,8 +73,8 @@ returns-clause-outcome c =
     Ok (c.move_to.new.self, c.in_ok-moved.moved)) from c.in_ok-moved.ensures.outcome in
     rw (← c.self.view_is, c.member_of-to.ensures.termination) outcome
 
-pub returns-clause-sound : goal.returns-clause-sound
-returns-clause-sound c =
+pub returns-clause-consistent : goal.returns-clause-consistent
+returns-clause-consistent c =
     let w = c.self.inside.tables in
     let old = c.in_ok-old.old in
     let (at, is) = named_is w c.args.number old c.in_ok-old.ensures.value in
@@ -83,7 +83,7 @@ returns-clause-sound c =
     Ok (c.move_to.new.self, c.in_ok-moved.moved)) from c.in_ok-moved.ensures.outcome in
     let leaves = move_leaves w c.move_to.new.self c.args.target c.args.number c.args.settings.now c.in_ok-moved.moved
     old c.self.invariant at outcome in
-    leaves.sound
+    leaves.sound.consistent
 
 pub returns-clause-to : goal.returns-clause-to
 returns-clause-to c =

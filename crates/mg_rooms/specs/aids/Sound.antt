@@ -1,4 +1,5 @@
--- The invariant of a gateway in terms of lookups (this project's own).
+-- What the invariant of a gateway says about lookups. `sound_if` proves it of every consistent
+-- registry.
 use Rattle.std.specs.Prelude.{◌≡◌, ℕ, ◌<◌, ◌≤◌, ◌==◌, ◌↔◌, Some, IsSome, IsTrue, length}
 use Rattle.std.specs.Prelude.{slice_index_or}
 use Rattle.std.specs.List.{list_any, count_by}

@@ -1,0 +1,79 @@
+-- How far a run got at each fault of a script, in the form in which a run proves it.
+use Rattle.std.specs.Prelude.{◌≡◌, ℕ, ◌+◌, ◌<◌, Bool, true, false, List, [], ◌∷◌, ◌++◌, length}
+use Rattle.std.specs.Prelude.{Option, Some}
+use Rattle.std.specs.Io.KnownBytes.{Appends}
+use Rattle.mg_engine.specs.declared.config.Config.{Config}
+use Rattle.mg_core.specs.declared.event.Event.{Event}
+use Rattle.mg_core.specs.declared.shown.Shown.{Shown}
+use Rattle.mg_core.specs.Run.{HasBadAfter, HasRead, IsShownText, Ran, RanBeforeMore}
+use Rattle.mg_core.specs.Script.{events_of}
+use Rattle.mg_core.specs.Step.{Sent, Run}
+use Rattle.mg_core.specs.World.{World, start_of}
+use Rattle.mg_lines.specs.Lines.{lines_of}
+
+-- lines were run, but the writer has received only a proper prefix of their text
+pub record RanInPart (shown : Shown) (w : World) (lines : List (List ℕ)) (last : World)
+    (old new : Option (List ℕ)) : Type 0 where
+  pub events : List Event
+  pub sent : List Sent
+  pub text : List ℕ
+  pub front : List ℕ
+  pub rest : List ℕ
+  pub are : events_of lines ≡ Some events
+  pub run : Run w events sent last
+  pub is_text : IsShownText shown w events sent text last
+  pub parts : text ≡ front ++ rest
+  pub cut : 0 < length rest
+  pub written : Appends old new front
+
+-- The lines before the first bad one, which has this number, were run. It is bad, whatever text may
+-- follow the text that was read; nothing follows the end.
+pub record RanToBadLine (config : Config) (shown : Shown) (input rest : Option (List ℕ))
+    (number : ℕ) (old new : Option (List ℕ)) : Type 0 where
+  pub text : List ℕ
+  pub ended : Bool
+  pub read : HasRead input rest text ended
+  pub lines : List (List ℕ)
+  pub before_more : RanBeforeMore text ended lines
+  pub bad : (more : List ℕ) → (ended ≡ true → more ≡ [])
+      → HasBadAfter lines (lines_of true (text ++ more))
+  pub number_is : number ≡ length lines + 1
+  pub last : World
+  pub ran : Ran shown (start_of config) lines last old new
+
+-- exactly the lines that end in the text that was read were run
+pub record RanAllRead (config : Config) (shown : Shown) (input rest old new : Option (List ℕ))
+    : Type 0 where
+  pub text : List ℕ
+  pub read : HasRead input rest text false
+  pub last : World
+  pub ran : Ran shown (start_of config) (lines_of false text) last old new
+
+-- Of the lines of the text that was read, those before this one were run and led to this world.
+pub record RanUpTo (config : Config) (shown : Shown) (input rest : Option (List ℕ))
+    (line : List ℕ) (now : World) (old new : Option (List ℕ)) : Type 0 where
+  pub text : List ℕ
+  pub ended : Bool
+  pub read : HasRead input rest text ended
+  pub lines : List (List ℕ)
+  pub before_more : RanBeforeMore text ended lines
+  pub others : List (List ℕ)
+  pub line_is : lines_of ended text ≡ lines ++ line ∷ others
+  pub ran : Ran shown (start_of config) lines now old new
+
+-- the lines before this one were run, and this one too, but its text was written only in part
+pub record RanToCutLine (config : Config) (shown : Shown) (input rest old new : Option (List ℕ))
+    : Type 0 where
+  pub line : List ℕ
+  pub now : World
+  pub held : Option (List ℕ)
+  pub up_to : RanUpTo config shown input rest line now old held
+  pub last : World
+  pub cut : RanInPart shown now (line ∷ []) last held new
+
+-- the lines before this one were run, and this one had no effect
+pub record RanToUnrunLine (config : Config) (shown : Shown) (input rest old new : Option (List ℕ))
+    : Type 0 where
+  pub line : List ℕ
+  pub now : World
+  pub up_to : RanUpTo config shown input rest line now old new

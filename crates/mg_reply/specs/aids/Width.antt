@@ -1,0 +1,34 @@
+-- When items fit into a reply: the steps of the rule that a reply too long is replaced by an error.
+use Rattle.std.specs.Prelude.{◌≡◌, ℕ, Bool, true, false, ◌||◌, nat_le, nat_lt, List, [], length}
+use Rattle.std.specs.List.{list_all}
+use Rattle.mg_reply.specs.declared.item.Item.{Item}
+use Rattle.mg_reply.specs.declared.item.Item.TheVariants.{Triple, Command, Fault, Action}
+use Rattle.mg_words.specs.Limits.{reply_limit}
+use Rattle.mg_reply.specs.Entries.{item_text}
+use Rattle.mg_reply.specs.Reply.{Answered, new_reply, is_refusal, last_is_action, after_all}
+use Rattle.mg_reply.specs.Written.{action_text, reply_text}
+
+-- The item has at least 10 bytes with its comma, as every item of a request's reply has. The end
+-- of an action counts without its entries.
+abbrev pub is_wide : Item → Bool
+is_wide (Triple a b association) = nat_le 9 (length (item_text (Triple a b association)))
+is_wide (Command word term outcome) = nat_le 9 (length (item_text (Command word term outcome)))
+is_wide (Fault e) = nat_le 9 (length (item_text (Fault e)))
+is_wide (Action id) = nat_le 9 (length (action_text id []))
+
+-- a reply that is too long, by its mark or by its text
+abbrev pub is_too_long : Answered → Bool
+is_too_long r = r.is_long || nat_lt reply_limit (length (reply_text r.number r.items))
+
+-- Complete items, put into a new reply, make it too long if and only if their whole text exceeds
+-- the limit, including those that found no room. Otherwise, all of them are in the reply.
+abbrev pub TooLongByText : Type 0
+TooLongByText =
+    (n : ℕ) (xs : List Item) → list_all is_wide xs ≡ true
+    → (is_refusal xs || last_is_action false xs) ≡ true
+    → is_too_long (after_all (new_reply n) xs) ≡ nat_lt reply_limit (length (reply_text n xs))
+
+abbrev pub AllItemsAreKept : Type 0
+AllItemsAreKept =
+    (n : ℕ) (xs : List Item) → (after_all (new_reply n) xs).is_long ≡ false
+    → (after_all (new_reply n) xs).items ≡ xs

@@ -9,7 +9,7 @@ mod words;
 use mg_program::program;
 use std::net::{IpAddr, Ipv4Addr, SocketAddr};
 
-/// How a run of the program ended, and what it wrote.
+/// How a run of the program ended, and its output.
 #[derive(Drop)]
 struct Outcome {
     status: u8,

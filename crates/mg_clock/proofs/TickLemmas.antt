@@ -1,11 +1,12 @@
 -- Readings of a clock before a tick is due.
-use Rattle.std.proofs.Common.{◌≡◌, ℕ, ◌+◌, ◌*◌, ◌<◌, ◌≤◌, List, [], ◌∷◌, ◌++◌, length, Option, Some, None, refl, sym, subst, ◌∙◌, ap, arith}
+use Rattle.std.proofs.Common.{◌≡◌, ℕ, ◌+◌, ◌*◌, ◌<◌, ◌≤◌, List, [], ◌∷◌, ◌++◌, Option, Some, None, refl, subst, ◌∙◌, ap}
 use Rattle.std.proofs.lemmas.List.{length-append}
 use Rattle.std.proofs.KnownBytes.{Appends-nil, Appends-trans, Appends-kept}
 use Rattle.std.specs.Io.KnownBytes.{Appends, Keeps}
 use Rattle.mg_clock.specs.Due.{period, ticks_due}
-use Rattle.mg_clock.specs.Ticks.{BeginsTick, ClockSeen, clock_seen, WaitsForTick, IsReadEarly, IsReadUntilDue, TicksBegin}
-use Rattle.mg_clock.specs.declared.timing.Timing.{Timing}
+use Rattle.mg_clock.specs.Ticks.{ClockSeen, clock_seen, WaitsForTick, IsReadEarly, IsReadUntilDue, StepBegins, StepsBegin}
+use Rattle.mg_clock.specs.declared.step.Step.{Step}
+use Rattle.mg_clock.specs.declared.tick_schedule.TickSchedule.{TickSchedule}
 
 pub read_none : (tick : ℕ) (r w : Option (List ℕ)) → IsReadEarly tick 0 (clock_seen r w) (clock_seen r w)
 read_none tick r w = record {
@@ -65,19 +66,15 @@ read_last tick count now old r w s v so_far reads still due = record {
   due = due;
 }
 
-begin_after : (allowed first n : ℕ) (ts : List Timing) (t : Timing) (c d e : ClockSeen) → first + length ts ≡ n →
-    TicksBegin allowed first ts c d → BeginsTick n allowed d e t → TicksBegin allowed first (ts ++ t ∷ []) c e
-begin_after allowed first n [] t c d e is same begins = (
+-- a step more
+pub steps_more : (s u v : TickSchedule) (steps : List Step) (step : Step) (c d e : ClockSeen) →
+    StepsBegin s steps c d u → StepBegins u d e step v → StepsBegin s (steps ++ step ∷ []) c e v
+steps_more s u v [] step c d e (same, is) begins = (
   e,
-  subst (λ (k : ℕ). BeginsTick k allowed c e t) (sym is ∙ omega arith)
-      (subst (λ (s : ClockSeen). BeginsTick n allowed s e t) same begins),
-  refl,
+  v,
+  subst (λ (x : TickSchedule). StepBegins x c e step v) is
+      (subst (λ (x : ClockSeen). StepBegins u x e step v) same begins),
+  (refl, refl),
 )
-begin_after allowed first n (u ∷ ts) t c d e is (mid, one, others) begins =
-    (mid, one, begin_after allowed (first + 1) n ts t mid d e (omega (arith, is)) others begins)
-
--- a tick more
-pub begin_more : (allowed count : ℕ) (ts : List Timing) (t : Timing) (c d e : ClockSeen) → length ts ≡ count →
-    TicksBegin allowed 1 ts c d → BeginsTick (count + 1) allowed d e t → TicksBegin allowed 1 (ts ++ t ∷ []) c e
-begin_more allowed count ts t c d e counted so_far begins =
-    begin_after allowed 1 (count + 1) ts t c d e (omega (arith, counted)) so_far begins
+steps_more s u v (first ∷ steps) step c d e (mid, next, one, others) begins =
+    (mid, next, one, steps_more next u v steps step mid d e others begins)

@@ -9,12 +9,12 @@ period = 20000000
 abbrev pub ticks_due : ℕ → ℕ
 ticks_due t = t / period
 
--- How many steps are due at a time, with this many polls per 20 ms: the j-th step is due at exactly
--- j * 20 ms / polls. A step is a poll. The last step of each 20 ms is a poll and a tick.
+-- How many steps are due at a time, with this many polls per 20 ms. The j-th step is due at exactly
+-- j * 20 ms / polls. A step is a poll, and the last step of each 20 ms is also a tick.
 abbrev pub steps_due : ℕ → ℕ → ℕ
 steps_due polls t = t * polls / period
 
--- The time d from t until the next step is due, after `before` steps: it is due then, and not
+-- The time d from t until the next step is due, after `before` steps. The step is due then, and not
 -- earlier.
 pub record IsTimeTo (polls before t d : ℕ) : Type 0 where
   pub enough : before < steps_due polls (t + d)

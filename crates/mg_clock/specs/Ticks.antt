@@ -1,7 +1,10 @@
 -- When the ticks of a gateway begin, given a clock.
-use Rattle.std.specs.Prelude.{◌≡◌, ℕ, ◌+◌, ◌*◌, ◌<◌, ◌≤◌, nat_lt, List, [], ◌∷◌, ◌++◌, length}
+use Rattle.std.specs.Prelude.{◌≡◌, ℕ, ◌+◌, ◌*◌, ◌<◌, ◌≤◌, nat_lt, List, [], ◌∷◌, length}
 use Rattle.std.specs.Prelude.{Option, if◌then◌else◌}
 use Rattle.std.specs.Io.KnownBytes.{Appends}
+use Rattle.mg_clock.specs.declared.step.Step.{Step}
+use Rattle.mg_clock.specs.declared.step.Step.TheVariants.{Message, Tick}
+use Rattle.mg_clock.specs.declared.tick_schedule.TickSchedule.{TickSchedule}
 use Rattle.mg_clock.specs.declared.timing.Timing.{Timing}
 use Rattle.mg_clock.specs.declared.timing.Timing.TheVariants.{OnTime, Late}
 use Rattle.mg_clock.specs.Due.{period, ticks_due}
@@ -31,7 +34,7 @@ pub record IsReadEarly (tick count : ℕ) (old new : ClockSeen) : Type 0 where
   pub readings : Appends old.readings new.readings early
   pub slept : Appends old.waits new.waits waits
 
--- A clock is read until a tick is due: it is due at this reading, and at no earlier one.
+-- A clock is read until a tick is due: the tick is due at this reading, and at no earlier one.
 pub record IsReadUntilDue (tick now : ℕ) (old new : ClockSeen) : Type 0 where
   pub count : ℕ
   pub before : Option (List ℕ)
@@ -49,9 +52,19 @@ pub record BeginsTick (tick allowed : ℕ) (old new : ClockSeen) (timing : Timin
   pub read : IsReadUntilDue tick now old new
   pub timing_is : timing ≡ timing_of tick allowed now
 
--- These ticks begin one after another, the first with this number.
-abbrev pub TicksBegin : (allowed first : ℕ) → List Timing → ClockSeen → ClockSeen → Type 0
-TicksBegin allowed first [] old new = new ≡ old
-TicksBegin allowed first (timing ∷ timings) old new =
-    (mid : ClockSeen) × BeginsTick first allowed old mid timing
-    × TicksBegin allowed (first + 1) timings mid new
+-- A schedule waits for a step. Either the next tick begins, or a message arrived before the tick was
+-- due: at most 20 times before each tick.
+abbrev pub StepBegins : TickSchedule → (old new : ClockSeen) → Step → TickSchedule → Type 0
+StepBegins s old new (Tick timing) next =
+    BeginsTick (s.ticks + 1) s.allowed old new timing
+    × (next ≡ record s { ticks = s.ticks + 1; messages = 0 })
+StepBegins s old new Message next =
+    (count : ℕ) × IsReadEarly (s.ticks + 1) count old new × (s.messages < 20)
+    × (next ≡ record s { messages = s.messages + 1 })
+
+-- steps one after another
+abbrev pub StepsBegin : TickSchedule → List Step → (old new : ClockSeen) → TickSchedule → Type 0
+StepsBegin s [] old new last = (new ≡ old) × (last ≡ s)
+StepsBegin s (step ∷ steps) old new last =
+    (mid : ClockSeen) × (next : TickSchedule) × StepBegins s old mid step next
+    × StepsBegin next steps mid new last

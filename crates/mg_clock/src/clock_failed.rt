@@ -2,5 +2,5 @@ use thiserror::Error;
 
 /// A clock that can't be read.
 #[derive(Clone, Copy, Debug, PartialEq, Eq, Error)]
-#[error("the clock can't be read")]
+#[error("cannot read the clock")]
 pub struct ClockFailed;

@@ -5,14 +5,14 @@ ghost use Rattle.mg_clock.specs.Due.{IsTimeTo, period, steps_due, ticks_due};
 use std::time::Duration;
 
 /// The time between ticks, 20 ms, in nanoseconds.
-const PERIOD: u128 = 20_000_000;
+pub(crate) const PERIOD: u128 = 20_000_000;
 
 /// The maximum number of polls per 20 ms.
 pub const MAX_POLLS: u16 = 1000;
 
 /// Returns how many steps are due at a time, in nanoseconds since the start, with this many polls per 20 ms.
 pub fn steps_due(polls: u64, now: u64) -> u64
-    requires few { polls ≤ 1000 }
+    requires few { polls ≤ MAX_POLLS }
     ensures value { result ≡ steps_due polls now }
     ensures small { result ≤ 922337203685477 }
 {
@@ -23,7 +23,7 @@ pub fn steps_due(polls: u64, now: u64) -> u64
 #[tactic(auto, using(crate::proofs::DueLemmas::soon))]
 pub fn time_to_step(polls: u64, before: u64, now: u64) -> Duration
     requires some { 0 < polls }
-    requires few { polls ≤ 1000 }
+    requires few { polls ≤ MAX_POLLS }
     ensures value { IsTimeTo polls before now (as_nanos result) }
 {
     let next = u128::from(before) + 1;

@@ -1,12 +1,12 @@
 //! The gateway's timing: when its ticks begin, and when the polls and ticks of `mg_pace` are due.
 //!
-//! There is a tick every 20 ms. Each is due at its own time from the start of the clock, so delays do not add up.
-//! [`TickSchedule`] waits for one tick after another:
+//! There is a tick every 20 ms. Each is due at a fixed time after the start of the clock, so delays do not add up.
+//! [`TickSchedule`] waits for one tick after another, and for messages in between:
 //!
 //! ```rust
 //! let mut watch = SystemWatch::start_now(&rt)?;
 //! let mut schedule = TickSchedule::new(5);
-//! let timing = schedule.next_tick(&mut watch)?;
+//! let step = schedule.next_step(&mut watch)?;
 //! ```
 //!
 //! A step is a poll; there are one or more per 20 ms. The last step of each 20 ms is a tick too ([`steps_due`]).
@@ -14,12 +14,13 @@
 //! [`Watch`] is a clock that can wait, and [`SystemWatch`] is the system's monotonic clock. Times are in nanoseconds
 //! since the start.
 //!
-//! Contracts describe a clock by its readings and waits if these are known. They are known for a scripted clock, and
-//! not for the system's.
+//! Contracts describe a clock by its readings and waits. These are known for a scripted clock, but not for the
+//! system's.
 #![tactic(auto)]
 
 mod clock_failed;
 mod due;
+mod step;
 mod system_watch;
 mod tick_schedule;
 mod timing;
@@ -27,6 +28,7 @@ mod watch;
 
 pub use crate::clock_failed::ClockFailed;
 pub use crate::due::{MAX_POLLS, steps_due, time_to_step, time_to_tick};
+pub use crate::step::Step;
 pub use crate::system_watch::SystemWatch;
 pub use crate::tick_schedule::TickSchedule;
 pub use crate::timing::Timing;

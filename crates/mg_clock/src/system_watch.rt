@@ -3,7 +3,7 @@ use crate::watch::Watch;
 use std::thread;
 use std::time::{Clock, Duration, Instant};
 
-/// The system's monotonic clock. It starts at its first reading, or when it was made.
+/// The system's monotonic clock. It starts at its first reading, or when it is made. It can't detect messages.
 #[derive(Drop)]
 pub struct SystemWatch<'a, C: Clock> {
     clock: &'a C,
@@ -43,7 +43,8 @@ impl<'a, C: Clock> Watch for SystemWatch<'a, C> {
         }
     }
 
-    fn wait(&mut self, time: Duration) {
+    fn wait(&mut self, time: Duration) -> bool {
         thread::sleep(self.clock, time);
+        false
     }
 }

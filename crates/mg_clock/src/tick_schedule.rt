@@ -1,10 +1,14 @@
-ghost use Rattle.std.specs.Prelude.{◌≡◌, ◌⊎◌, ◌+◌, ◌-◌, ◌^◌, IfErr, IfOk};
-ghost use Rattle.mg_clock.specs.Ticks.{BeginsTick, IsReadEarly, IsReadUntilDue, clock_seen, timing_of};
+ghost use Rattle.std.specs.Prelude.{◌≡◌, ◌⊎◌, ◌+◌, ◌-◌, ◌^◌, ℕ, true, IfErr, IfNone, IfOk, IfSome};
+ghost use Rattle.mg_clock.specs.Ticks.{IsReadEarly, IsReadUntilDue, StepBegins, clock_seen, timing_of};
 
 use crate::clock_failed::ClockFailed;
-use crate::due::time_to_tick;
+use crate::due::{PERIOD, time_to_tick};
+use crate::step::Step;
 use crate::timing::Timing;
 use crate::watch::Watch;
+
+/// The maximum number of messages that a schedule reports before each tick: one per millisecond.
+const MAX_MESSAGES: u16 = 20;
 
 /// A schedule of ticks, driven by a clock. The k-th tick begins `k * 20 ms` after the clock's start, or at the first
 /// reading of the clock after that.
@@ -14,28 +18,32 @@ pub struct TickSchedule {
     pub ticks: u64,
     /// The maximum lateness of a tick whose packets are sent, in ticks of 20 ms.
     pub allowed: u16,
+    /// How many messages were reported since the last tick began.
+    pub messages: u16,
 }
 
 impl TickSchedule {
     /// Makes a schedule that begins at the start of a clock. A tick that is more than `allowed` ticks late is
     /// [`Timing::Late`].
     pub fn new(allowed: u16) -> Self
-        ensures ticks { result.ticks ≡ 0 }
-        ensures allowed { result.allowed ≡ allowed }
+        ensures value { result ≡ record { ticks = 0; allowed = allowed; messages = 0 } }
     {
-        TickSchedule { ticks: 0, allowed }
+        TickSchedule {
+            ticks: 0,
+            allowed,
+            messages: 0,
+        }
     }
 
-    /// Waits until the next tick is due and begins it. After a delay, the ticks that were missed are due at once.
+    /// Waits until the next tick is due and begins it, or until a message arrives before. After a delay, the ticks that
+    /// were missed are due at once. At most 20 messages are reported before each tick.
     ///
     /// [`ClockFailed`]: the clock can't be read, or 18,446,744,073,709,551,615 ticks have begun, or that many readings
     /// in a row were before the tick's time.
-    pub fn next_tick<K: Watch>(&mut self, watch: &mut K) -> Result<Timing, ClockFailed>
-        ensures begins { IfOk result (BeginsTick (self.old.ticks + 1) self.old.allowed
+    pub fn next_step<K: Watch>(&mut self, watch: &mut K) -> Result<Step, ClockFailed>
+        ensures begins { IfOk result (λ step. StepBegins self.old
             (clock_seen (K.readings watch.old) (K.waits watch.old))
-            (clock_seen (K.readings watch.new) (K.waits watch.new))) }
-        ensures ticks { IfOk result (λ timing. self.new.ticks ≡ self.old.ticks + 1) }
-        ensures allowed { self.new.allowed ≡ self.old.allowed }
+            (clock_seen (K.readings watch.new) (K.waits watch.new)) step self.new) }
         ensures fails { IfErr result (λ failed. K.Fails watch.new ⊎ (self.old.ticks ≡ 2 ^ 64 - 1
             ⊎ IsReadEarly (self.old.ticks + 1) (2 ^ 64 - 1) (clock_seen (K.readings watch.old) (K.waits watch.old))
             (clock_seen (K.readings watch.new) (K.waits watch.new)))) }
@@ -44,17 +52,30 @@ impl TickSchedule {
         let Some(tick) = self.ticks.checked_add(1) else {
             return Err(ClockFailed);
         };
-        let now = wait_until_due(tick, watch)?;
+        let reports = self.messages < MAX_MESSAGES;
+        let Some(now) = wait_until_due(tick, reports, watch)? else {
+            self.messages += 1;
+            return Ok(Step::Message);
+        };
         self.ticks = tick;
-        Ok(timing_of(tick, self.allowed, now))
+        self.messages = 0;
+        Ok(Step::Tick(timing_of(tick, self.allowed, now)))
     }
 }
 
-/// Waits until a tick is due. Returns the first reading of the clock at or after its time.
-fn wait_until_due<K: Watch>(tick: u64, watch: &mut K) -> Result<u64, ClockFailed>
-    ensures due { IfOk result (λ now. IsReadUntilDue tick now
+/// Waits until a tick is due. Returns the first reading of the clock at or after its time, or `None` if a message
+/// arrived before and it `reports` messages.
+fn wait_until_due<K: Watch>(
+    tick: u64,
+    reports: bool,
+    watch: &mut K,
+) -> Result<Option<u64>, ClockFailed>
+    ensures due { IfOk result (λ found. IfSome found (λ now. IsReadUntilDue tick now
         (clock_seen (K.readings watch.old) (K.waits watch.old))
-        (clock_seen (K.readings watch.new) (K.waits watch.new))) }
+        (clock_seen (K.readings watch.new) (K.waits watch.new)))) }
+    ensures message { IfOk result (λ found. IfNone found ((reports ≡ true) × ((count : ℕ) × IsReadEarly tick count
+        (clock_seen (K.readings watch.old) (K.waits watch.old))
+        (clock_seen (K.readings watch.new) (K.waits watch.new))))) }
     ensures fails { IfErr result (λ failed. K.Fails watch.new ⊎
         IsReadEarly tick (2 ^ 64 - 1) (clock_seen (K.readings watch.old) (K.waits watch.old))
         (clock_seen (K.readings watch.new) (K.waits watch.new))) }
@@ -62,9 +83,11 @@ fn wait_until_due<K: Watch>(tick: u64, watch: &mut K) -> Result<u64, ClockFailed
     for _ in 0..u64::MAX {
         let now = watch.now()?;
         let Some(time) = time_to_tick(tick, now) else {
-            return Ok(now);
+            return Ok(Some(now));
         };
-        watch.wait(time);
+        if watch.wait(time) && reports {
+            return Ok(None);
+        }
     }
     Err(ClockFailed)
 }
@@ -73,7 +96,7 @@ fn wait_until_due<K: Watch>(tick: u64, watch: &mut K) -> Result<u64, ClockFailed
 fn timing_of(tick: u64, allowed: u16, now: u64) -> Timing
     ensures value { result ≡ timing_of tick allowed now }
 {
-    if u128::from(tick) + u128::from(allowed) < u128::from(now) / 20_000_000 {
+    if u128::from(tick) + u128::from(allowed) < u128::from(now) / PERIOD {
         Timing::Late
     } else {
         Timing::OnTime

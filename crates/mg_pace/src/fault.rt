@@ -5,7 +5,7 @@ use thiserror::Error;
 /// Why a run ended before its last tick.
 #[derive(Clone, Copy, Debug, PartialEq, Eq, Error)]
 pub enum PaceFault {
-    #[error("the clock can't be read")]
+    #[error("cannot read the clock")]
     Clock,
     /// A write failed: nobody reads the lines anymore.
     #[error("the output is closed")]

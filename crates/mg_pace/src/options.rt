@@ -25,7 +25,7 @@ fn ticks_option<'a>(alloc: Global) -> Arg<'a>
     ensures rule { rule_of result ≡ number_rule (codes "ticks") 0 4294967295 }
 {
     long_number(alloc, "ticks").help(
-        "Ticks after which it ends, with the line quit [default: never]",
+        "Number of ticks before it writes quit and ends, 0–4294967295 [default: unlimited]",
     )
 }
 
@@ -36,8 +36,8 @@ fn polls_option<'a>(alloc: Global) -> Arg<'a>
     Arg::new(alloc, "polls")
         .long("polls")
         .value_name("NUMBER")
-        .value_parser(value_parser!(u16).range(1..=1000))
-        .help("Polls in each 20 ms [1–1000, default: 4]")
+        .value_parser(value_parser!(u16).range(1..=i64::from(MAX_POLLS)))
+        .help("Number of polls per 20 ms, 1–1000 [default: 4]")
 }
 
 /// Makes the program's command line.
@@ -45,7 +45,7 @@ fn command<'a>(alloc: Global) -> Result<Command<'a>, Error>
     ensures app { IfOk result (λ command. app_of command ≡ command_line) }
     ensures memory { IfErr result (λ error. kind_of error ≡ ErrorKind.OutOfMemory) }
 {
-    let about = "Writes the line tick every 20 ms, and lines poll in between";
+    let about = "Write a line `tick` every 20 ms, with lines `poll` in between";
     let command = program_command(alloc, "mg_pace", about)
         .arg(ticks_option(alloc))?
         .arg(polls_option(alloc))?;
@@ -83,7 +83,7 @@ fn options_of(matches: &ArgMatches<'_>) -> Options
 pub fn requested_options<'a, S: AsStr>(alloc: Global, words: &'a [S]) -> Result<Options, Error>
     ensures requested { IfOk result (λ options. requested (map S.text words.now) ≡ Ok options) }
     ensures some { IfOk result (λ options. 0 < options.polls) }
-    ensures few { IfOk result (λ options. options.polls ≤ 1000) }
+    ensures few { IfOk result (λ options. options.polls ≤ MAX_POLLS) }
     ensures refused { IfErr result (λ error. IsRefused (requested (map S.text words.now)) (kind_of error)) }
 {
     let matches = command(alloc)?.try_get_matches_from(words)?;

@@ -7,7 +7,7 @@ use crate::fault::PaceFault;
 use crate::lines::{write_last, write_steps};
 use crate::options::Options;
 use crate::schedule::Schedule;
-use mg_clock::Watch;
+use mg_clock::{MAX_POLLS, Watch};
 use mg_lines::WriteFailed;
 use std::io::Write;
 
@@ -16,7 +16,7 @@ fn report_left_out<E: Write>(left: u64, errors: &mut E)
     ensures quiet { left ≡ 0 → errors.new ≡ errors.old }
 {
     if left > 0 {
-        let _ = writeln!(errors, "left out {left} ticks");
+        let _ = writeln!(errors, "skipped {left} ticks");
     }
 }
 
@@ -57,7 +57,7 @@ pub fn pace<K: Watch, W: Write, E: Write>(
     errors: &mut E,
 ) -> Result<(), PaceFault>
     requires some { 0 < options.polls }
-    requires few { options.polls ≤ 1000 }
+    requires few { options.polls ≤ MAX_POLLS }
     ensures value { Paced options (K.Fails watch.new) (errors.new ≡ errors.old)
         (seen (K.readings watch.old) (K.waits watch.old) (W.contents output.old))
         (seen (K.readings watch.new) (K.waits watch.new) (W.contents output.new)) result }
@@ -68,7 +68,7 @@ pub fn pace<K: Watch, W: Write, E: Write>(
         if turn(&mut schedule, options.ticks, now, output, errors)? {
             return Ok(());
         }
-        watch.wait(schedule.wait(now));
+        let _ = watch.wait(schedule.wait(now));
     }
     Err(PaceFault::Clock)
 }

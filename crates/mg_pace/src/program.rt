@@ -8,7 +8,7 @@ use crate::fault::PaceFault;
 use crate::options::{Options, requested_options};
 use crate::pacer::pace;
 use crate::status::status_of;
-use mg_clock::Watch;
+use mg_clock::{MAX_POLLS, Watch};
 use mg_options::{Status, report_error};
 use std::alloc::Global;
 use std::convert::AsStr;
@@ -22,7 +22,7 @@ fn run<K: Watch, W: Write, E: Write>(
     errors: &mut E,
 ) -> Status
     requires some { 0 < options.polls }
-    requires few { options.polls ≤ 1000 }
+    requires few { options.polls ≤ MAX_POLLS }
     ensures value { Runs options (K.Fails watch.new) (errors.new ≡ errors.old)
         (seen (K.readings watch.old) (K.waits watch.old) (W.contents output.old))
         (seen (K.readings watch.new) (K.waits watch.new) (W.contents output.new)) result }
@@ -34,7 +34,7 @@ fn run<K: Watch, W: Write, E: Write>(
     status_of(&outcome)
 }
 
-/// Runs the program on its arguments, which come without its name. Returns its exit status.
+/// Runs the program on its arguments, which do not include its name. Returns its exit status.
 ///
 /// The status is 0 at the end of the run, if the output is closed, and after help or the version. It is 2 for invalid
 /// arguments, 3 if the clock failed, and 4 if memory ran out. The text for a status other than 0 goes to `errors`, and
@@ -47,7 +47,7 @@ pub fn program<'a, S: AsStr, K: Watch, W: Write, E: Write>(
     errors: &mut E,
 ) -> u8
     ensures status { result ≤ 4 }
-    // What the arguments ask for was done, to the extent that the status reports.
+    // The program did what the arguments ask for, as far as the status reports.
     ensures ends { EndsWith (λ options status. Runs options (K.Fails watch.new) (errors.new ≡ errors.old)
         (seen (K.readings watch.old) (K.waits watch.old) (W.contents output.old))
         (seen (K.readings watch.new) (K.waits watch.new) (W.contents output.new)) status)

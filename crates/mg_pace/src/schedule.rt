@@ -2,14 +2,14 @@ ghost use Rattle.std.specs.Prelude.{◌≡◌, ◌<◌, ◌≤◌};
 ghost use Rattle.std.specs.Duration.{as_nanos};
 ghost use Rattle.mg_pace.specs.Pace.{Advances, Waits, start};
 
-use mg_clock::{steps_due, time_to_step};
+use mg_clock::{MAX_POLLS, steps_due, time_to_step};
 use std::marker::Model;
 use std::time::Duration;
 
 /// The maximum number of ticks that are written at once after a delay: one second. Older ones are skipped.
 const CATCH_UP: u64 = 50;
 
-/// The progress of a run. A step is a poll; the last poll of each 20 ms comes with a tick.
+/// The progress of a run. A step is a poll. The last poll in every 20 ms comes with a tick.
 #[derive(Drop)]
 pub struct Schedule {
     polls: u64,
@@ -30,10 +30,10 @@ impl Model for Schedule {
 }
 
 impl Schedule {
-    /// Makes a schedule at its start, with this many polls in each 20 ms.
+    /// Makes a schedule of which no step has been written, with this many polls per 20 ms.
     pub fn new(polls: u16) -> Self
         requires some { 0 < polls }
-        requires few { polls ≤ 1000 }
+        requires few { polls ≤ MAX_POLLS }
         ensures value { result ≡ start polls }
     {
         Schedule {
@@ -43,11 +43,11 @@ impl Schedule {
         }
     }
 
-    /// Returns the polls in each 20 ms.
+    /// Returns the number of polls per 20 ms.
     pub fn polls(&self) -> u64
         ensures value { result ≡ self.now.polls }
         ensures some { 0 < result }
-        ensures few { result ≤ 1000 }
+        ensures few { result ≤ MAX_POLLS }
     {
         self.polls
     }
@@ -69,7 +69,7 @@ impl Schedule {
 
     /// Advances to a reading of the clock, in nanoseconds since the start.
     ///
-    /// The steps that are due then count as written or, in whole ticks, as skipped.
+    /// The steps due at that time count as written or, in whole ticks, as skipped.
     pub fn advance(&mut self, now: u64)
         ensures value { Advances self.old now self.new }
     {
@@ -81,7 +81,7 @@ impl Schedule {
         self.left += left;
     }
 
-    /// Returns how long after a reading of the clock the next step is due.
+    /// Returns the time from this reading of the clock until the next step is due.
     pub fn wait(&self, now: u64) -> Duration
         ensures value { Waits self.now now (as_nanos result) }
     {

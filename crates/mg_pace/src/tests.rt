@@ -3,7 +3,7 @@ use crate::options::Options;
 use crate::pacer::pace;
 use crate::program::program;
 use crate::schedule::Schedule;
-use mg_clock::{ClockFailed, Watch};
+use mg_clock::{ClockFailed, MAX_POLLS, Watch};
 use std::alloc::Global;
 use std::time::Duration;
 
@@ -30,7 +30,9 @@ impl<'a> Watch for Script<'a> {
         Err(ClockFailed)
     }
 
-    fn wait(&mut self, _time: Duration) {}
+    fn wait(&mut self, _time: Duration) -> bool {
+        false
+    }
 }
 
 /// Returns the result of a run, and what it writes to both outputs.
@@ -43,7 +45,7 @@ fn outcome(
     let mut output = Vec::new(alloc);
     let mut errors = Vec::new(alloc);
     let mut result = Err(PaceFault::Clock);
-    if 0 < options.polls && options.polls <= 1000 {
+    if 0 < options.polls && options.polls <= MAX_POLLS {
         result = pace(options, &mut watch, &mut output, &mut errors);
     }
     (result, output, errors)
@@ -89,7 +91,7 @@ fn catches_up_fifty_ticks(rt: HostRuntime) {
     assert_eq!(rt; result, Err(PaceFault::Clock));
     assert_eq!(rt; output.len(), 101 * b"poll\ntick\n".len());
     assert_eq!(rt; ticks(output.as_slice()), 101);
-    assert_eq!(rt; errors.as_slice(), b"left out 4 ticks\n".as_slice());
+    assert_eq!(rt; errors.as_slice(), b"skipped 4 ticks\n".as_slice());
 }
 
 #[test]
@@ -129,7 +131,7 @@ fn reports_a_failing_clock(rt: HostRuntime) {
     let (status, output, errors) = answer(rt.alloc(), &["--polls", "1"], &[20 * MS]);
     assert_eq!(rt; status, 3);
     assert_eq!(rt; output.as_slice(), b"poll\ntick\n".as_slice());
-    assert_eq!(rt; errors.as_slice(), b"the clock can't be read\n".as_slice());
+    assert_eq!(rt; errors.as_slice(), b"cannot read the clock\n".as_slice());
 }
 
 #[test]

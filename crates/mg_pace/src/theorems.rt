@@ -18,7 +18,7 @@ pub fn ticks_at_once_are_bounded()
     ensures theorem { Bounded }
 {}
 
-/// The readings of the clock determine the pace and the wait after each of them.
+/// The readings of the clock determine the pace, and the wait after each reading.
 pub fn pace_is_deterministic()
     ensures theorem { PaceIsDeterministic }
 {}

@@ -1,7 +1,7 @@
 use crate::payload::Payload;
 use mg_words::Peer;
 
-/// A datagram that waits at a socket.
+/// A datagram that is waiting at a socket.
 #[derive(Drop)]
 pub struct Arrival {
     pub socket: usize,

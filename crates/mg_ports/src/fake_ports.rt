@@ -40,8 +40,8 @@ fn receipt_of(
 }
 
 impl FakePorts {
-    /// Makes ports at which these datagrams wait, in this order at each socket. `failing` has the numbers of the calls
-    /// that fail, counted from 0 over all sockets.
+    /// Makes ports at which these datagrams are waiting, in this order at each socket. `failing` lists the calls that
+    /// fail, by number, counted from 0 over all sockets.
     pub fn new(alloc: Global, waiting: Vec<Arrival>, failing: Vec<u64>) -> Self {
         FakePorts {
             alloc,
@@ -72,7 +72,7 @@ impl FakePorts {
         Ok(())
     }
 
-    /// Takes the first datagram that waits at a socket.
+    /// Takes the first datagram that is waiting at a socket.
     fn take_next(
         &mut self,
         socket: usize,

@@ -7,8 +7,8 @@ use crate::port_fault::PortFault;
 use mg_clock::Timing;
 use mg_words::Peer;
 
-/// The UDP sockets of a gateway, by number: 0 is the control socket, and s + 1 is the media socket of slot s of the
-/// pool.
+/// The UDP sockets of a gateway, by number. Socket 0 is the control socket, and socket s + 1 is the media socket of
+/// slot s of the pool.
 pub trait Ports {
     /// All calls so far, if they are known.
     ghost calls: { Self → Option (List Call) } = { λ _. None };
@@ -18,8 +18,8 @@ pub trait Ports {
 
     /// Receives a datagram if one is waiting.
     ///
-    /// Returns how many of its bytes are at the front of the buffer, and its source. It never waits. A datagram that is
-    /// longer than the buffer is truncated.
+    /// Returns how many bytes it put at the front of the buffer, and the datagram's source. It never waits. A datagram
+    /// that is longer than the buffer is truncated.
     fn receive(
         &mut self,
         socket: usize,

@@ -73,7 +73,7 @@ command_line =
 -- ## The values of the options
 
 -- the configuration that the options name, at these addresses for media and for control messages;
--- options that aren't given have the standard value
+-- options that aren't given have their standard values
 unfoldable pub config_at : List ℕ → List ℕ → List Row → Config
 config_at address control found = record standard {
   address = address;

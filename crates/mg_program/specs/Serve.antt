@@ -31,8 +31,8 @@ FailsToStart config status = ⊥
 abbrev pub setup_of : Config → Service → Setup
 setup_of config service = record { config = config; controllers = service.controllers }
 
--- The ports were bound, and a gateway ran to the extent that the status reports. Its sockets don't
--- log their calls. The output is a recording if that was requested.
+-- The ports were bound, and a gateway ran, as far as the status reports. Its sockets don't log
+-- their calls. The output is a recording if that was requested.
 pub record ServesOnPorts (config : Config) (service : Service)
     (input rest held written : Option (List ℕ)) (status : Status) : Type 0 where
   pub outcome : Result Counts RunFault

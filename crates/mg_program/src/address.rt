@@ -19,13 +19,13 @@ impl AddressFault {
     pub fn message(self) -> &'static str {
         match self {
             AddressFault::Unreadable => {
-                "invalid value for '--address <ADDRESS>': it is no IPv4 address in dotted decimal"
+                "invalid value for '--address <ADDRESS>': not an IPv4 address in dotted decimal"
             }
             AddressFault::Multicast => {
-                "invalid value for '--address <ADDRESS>': callers are told this address, and it is none of one machine"
+                "invalid value for '--address <ADDRESS>': not a unicast address"
             }
             AddressFault::Unspecified => {
-                "invalid value for '--address <ADDRESS>': callers are told this address, and can't send to 0.0.0.0"
+                "invalid value for '--address <ADDRESS>': callers cannot send to 0.0.0.0"
             }
         }
     }
@@ -34,13 +34,13 @@ impl AddressFault {
     pub fn control_message(self) -> &'static str {
         match self {
             AddressFault::Unreadable => {
-                "invalid value for '--control-address <ADDRESS>': it is no IPv4 address in dotted decimal"
+                "invalid value for '--control-address <ADDRESS>': not an IPv4 address in dotted decimal"
             }
             AddressFault::Multicast => {
-                "invalid value for '--control-address <ADDRESS>': the gateway is named by this address, and it is none of one machine"
+                "invalid value for '--control-address <ADDRESS>': not a unicast address"
             }
             AddressFault::Unspecified => {
-                "invalid value for '--control-address <ADDRESS>': the gateway is named by this address, and can't be by 0.0.0.0"
+                "invalid value for '--control-address <ADDRESS>': controllers cannot send to 0.0.0.0"
             }
         }
     }

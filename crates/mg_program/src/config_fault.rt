@@ -8,15 +8,15 @@ use thiserror::Error;
 /// Why a gateway cannot start with a configuration: the first invalid option.
 #[derive(Clone, Copy, Debug, PartialEq, Eq, Error)]
 pub enum ConfigFault {
-    #[error("--slots is 0, or more than there can be terminations")]
+    #[error("--slots must be from 1 to {most}", most = TERMINATIONS)]
     Slots,
-    #[error("--first-termination is 0")]
+    #[error("--first-termination must be at least 1")]
     FirstTermination,
-    #[error("--first-context is 0, or more than a context can have")]
+    #[error("--first-context must be from 1 to {most}", most = LAST_CONTEXT)]
     FirstContext,
-    #[error("--base-port is 0 or odd, or there are not as many even ports from it on as --slots says")]
+    #[error("--base-port must be even and not 0, with room for --slots even ports")]
     BasePort,
-    #[error("--control-port is 0, or one of the media ports")]
+    #[error("--control-port must not be 0 or a media port")]
     ControlPort,
 }
 

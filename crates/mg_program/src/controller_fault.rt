@@ -1,4 +1,4 @@
-/// Why texts do not name controllers.
+/// Why a list of texts does not name controllers.
 #[derive(Clone, Copy, Debug, PartialEq, Eq)]
 pub enum ControllerFault {
     /// One of them is not an IPv4 address in dotted decimal.
@@ -12,10 +12,10 @@ impl ControllerFault {
     pub fn message(self) -> &'static str {
         match self {
             ControllerFault::Unreadable => {
-                "invalid value for '--controller <ADDRESS>': it is no IPv4 address in dotted decimal"
+                "invalid value for '--controller <ADDRESS>': not an IPv4 address in dotted decimal"
             }
             ControllerFault::TooMany => {
-                "invalid value for '--controller <ADDRESS>': there can be eight controllers at most"
+                "invalid value for '--controller <ADDRESS>': more than 8 controllers"
             }
         }
     }

@@ -15,7 +15,7 @@ use std::io::{Read, Write};
 use std::net::Net;
 use std::time::Clock;
 
-/// Runs the program on its arguments, which come without its name. Returns its exit status.
+/// Runs the program on its arguments, which do not include its name. Returns its exit status.
 ///
 /// The status is 0 on success, 1 for a bad script line, and 2 for invalid arguments or an invalid configuration. It is
 /// 3 if a read or a write failed, 4 if memory ran out, and 5 for a port that can't be bound. The text for a status
@@ -31,7 +31,7 @@ pub fn program<'a, N: Net, C: Clock, S: AsStr, R: Read, W: Write, E: Write, T: W
     reports: &mut T,
 ) -> u8
     ensures status { result ≤ 5 }
-    // What the arguments ask for was done, to the extent that the status reports.
+    // The program did what the arguments ask for, as far as the status reports.
     ensures ends { EndsWith
         (Runs R.remaining W.contents (errors.new ≡ errors.old) input.old input.new output.old output.new)
         (requested (map S.text words.now)) Status.Failed (input.new ≡ input.old) (errors.new ≡ errors.old) output.old

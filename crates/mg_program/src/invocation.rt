@@ -4,7 +4,7 @@ use mg_core::{Config, Shown};
 /// A run that the program's arguments ask for.
 #[derive(Drop)]
 pub enum Invocation {
-    /// Run a script, and write this about it.
+    /// Run a script, and write what the second field says about each event.
     Replay(Config, Shown),
     /// Run a gateway on UDP ports, driven by lines of the input.
     Serve(Config, Service),

@@ -8,15 +8,17 @@
 //! ```
 //!
 //! [`requested_run`] returns what the arguments ask for. [`Sockets`] are the sockets of a gateway, bound at the start.
-//! None of their calls waits, and a socket is not read unless the system reported a datagram. [`UdpPorts`] lend them to
-//! a session (`mg_serve`), and send no packet in a late tick.
+//! None of their calls waits, and a media socket is not read unless the system reported a datagram. [`UdpPorts`] lend
+//! them to a session (`mg_serve`), and send no packet in a late tick. [`ControlWatch`] is a clock that waits for messages
+//! too.
 //!
-//! `specs/Program.antt` defines how a run ends, and `specs/Options.antt` what arguments ask for.
+//! `specs/Program.antt` defines how a run ends, and `specs/Options.antt` defines what arguments ask for.
 #![tactic(auto)]
 
 mod address;
 mod bind_fault;
 mod config_fault;
+mod control_watch;
 mod controller_fault;
 mod controllers;
 mod entry;
@@ -33,6 +35,7 @@ mod title;
 mod udp_ports;
 
 pub use crate::bind_fault::BindFault;
+pub use crate::control_watch::ControlWatch;
 pub use crate::controller_fault::ControllerFault;
 pub use crate::controllers::Controllers;
 pub use crate::entry::program;

@@ -1,12 +1,14 @@
-ghost use Rattle.std.specs.Prelude.{◌≡◌, ◌↔◌};
+ghost use Rattle.std.specs.Prelude.{◌≡◌, ◌↔◌, ◌⊎◌, IfErr};
 ghost use Rattle.mg_clock.specs.Ticks.{clock_seen};
 ghost use Rattle.mg_engine.specs.Config.{IsValidConfig};
 ghost use Rattle.mg_serve.specs.Serve.{ServedByClock};
 ghost use Rattle.mg_program.specs.Serve.{ServesByClock, setup_of};
 ghost use Rattle.mg_program.specs.Title.{title_if};
 
+use crate::control_watch::ControlWatch;
 use crate::serve::bind;
 use crate::service::Service;
+use crate::sockets::Sockets;
 use crate::status::status_after;
 use crate::title::title_of;
 use crate::udp_ports::UdpPorts;
@@ -14,6 +16,7 @@ use mg_clock::{SystemWatch, Watch};
 use mg_core::{Config, RunFault};
 use mg_options::Status;
 use mg_ports::Ports;
+use mio::Events;
 use std::alloc::Global;
 use std::io::Write;
 use std::net::Net;
@@ -50,8 +53,8 @@ fn live_on<P: Ports, K: Watch, W: Write, T: Write>(
     )
 }
 
-/// Runs a new gateway on UDP ports, driven by the system's clock: a poll and a tick every 20 ms. It ends only on a
-/// fault, whose text goes to `errors`.
+/// Runs a new gateway on UDP ports, driven by the system's clock: a poll and a tick every 20 ms, and a poll when a
+/// message arrives in between. It ends only on a fault, whose text goes to `errors`.
 ///
 /// After a delay all missed polls and ticks are executed at once. If a tick is more than `late` ticks late, its packets
 /// are not sent. So callers hear a gap, and timestamps stay in step with the clock. `reports` receives the number of
@@ -69,20 +72,48 @@ pub fn live<N: Net, C: Clock, W: Write, E: Write, T: Write>(
 ) -> Status
     ensures value { ServesByClock W.contents config service.now late output.old output.new result }
 {
-    let sockets = match bind(net, alloc, &config, errors) {
+    let mut sockets = match bind(net, alloc, &config, errors) {
         Ok(sockets) => sockets,
         Err(status) => return status,
     };
-    let mut watch = match SystemWatch::start_now(clock) {
+    let mut watch = match watch_control(net, clock, alloc, &mut sockets, errors) {
         Ok(watch) => watch,
-        Err(failed) => {
-            let _ = writeln!(errors, "{failed}");
-            return Status::Failed;
-        }
+        Err(status) => return status,
     };
     let mut ports = UdpPorts::new(sockets);
     let fault = live_on(
         alloc, config, service, &mut ports, &mut watch, late, output, reports,
     );
     status_after(&Err(fault), &config, errors)
+}
+
+/// Starts a clock that watches the control socket, or returns how the program ends if that fails. The text of a fault
+/// goes to `errors`.
+fn watch_control<'a, N: Net, C: Clock, E: Write>(
+    net: &N,
+    clock: &'a C,
+    alloc: Global,
+    sockets: &mut Sockets,
+    errors: &mut E,
+) -> Result<ControlWatch<'a, C>, Status>
+    ensures ends { IfErr result (λ status. (status ≡ Status.NoMemory) ⊎ (status ≡ Status.Failed)) }
+{
+    let Ok(events) = Events::with_capacity(alloc, 1) else {
+        let _ = writeln!(errors, "{}", RunFault::NoMemory);
+        return Err(Status::NoMemory);
+    };
+    let watch = match SystemWatch::start_now(clock) {
+        Ok(watch) => watch,
+        Err(failed) => {
+            let _ = writeln!(errors, "{failed}");
+            return Err(Status::Failed);
+        }
+    };
+    match ControlWatch::new(net, watch, events, sockets) {
+        Ok(watch) => Ok(watch),
+        Err(error) => {
+            let _ = writeln!(errors, "the control port cannot be watched: {error}");
+            Err(Status::Failed)
+        }
+    }
 }

@@ -35,29 +35,31 @@ fn with_options<'a>(alloc: Global, command: Command<'a>) -> Result<Command<'a>, 
     let command = command
         .arg(address_option(alloc, "address").help("IPv4 address for media [default: 127.0.0.1]"))?
         .arg(address_option(alloc, "control-address").help(
-            "IPv4 address for control messages [default: the address for media]",
+            "IPv4 address for control messages [default: the value of --address]",
         ))?
         .arg(short_number(alloc, "control-port").help(
-            "UDP port for control messages [default: 2944]",
+            "UDP port for control messages, 1–65535 [default: 2944]",
         ))?
         .arg(short_number(alloc, "base-port").help(
-            "First UDP port for media [even, default: 30000]",
+            "First UDP port for media, even, 2–65534 [default: 30000]",
         ))?
-        .arg(short_number(alloc, "slots").help("How many media ports [1–256, default: 256]"))?
+        .arg(short_number(alloc, "slots").help(
+            "Number of media ports, one per termination, 1–256 [default: 256]",
+        ))?
         .arg(long_number(alloc, "first-termination").help(
-            "Number of the first termination [from 1, default: 1]",
+            "Number of the first termination, 1–4294967295 [default: 1]",
         ))?
         .arg(long_number(alloc, "first-context").help(
-            "Number of the first context [1–4294967293, default: 1]",
+            "Number of the first context, 1–4294967293 [default: 1]",
         ))?
         .arg(long_number(alloc, "ssrc").help(
-            "Base of SSRCs: termination n has this plus n [default: 0]",
+            "Base SSRC, to which a termination adds its number, 0–4294967295 [default: 0]",
         ))?
         .arg(short_number(alloc, "sequence").help(
-            "Sequence number of a termination's first packet [default: 0]",
+            "RTP sequence number of a termination's first packet, 0–65535 [default: 0]",
         ))?
         .arg(long_number(alloc, "timestamp").help(
-            "RTP timestamp of a termination's first tick [default: 0]",
+            "RTP timestamp of a termination's first tick, 0–4294967295 [default: 0]",
         ))?;
     Ok(command)
 }
@@ -70,7 +72,7 @@ fn controller_option<'a>(alloc: Global) -> Arg<'a>
         .long("controller")
         .value_name("ADDRESS")
         .action(ArgAction::Append)
-        .help("IPv4 address of a controller, up to 8 times [default: any sender]")
+        .help("IPv4 address of a controller, repeatable up to 8 times [default: any address]")
 }
 
 /// Makes an option without a value, which is set if it is given.
@@ -96,10 +98,10 @@ fn on_sockets<'a>(alloc: Global, name: &'a str, about: &'a str) -> Result<Comman
     let command = subcommand(alloc, name, about)?
         .arg(controller_option(alloc))?
         .arg(short_number(alloc, "report").help(
-            "Seconds between reports on standard error; 0 is never [default: 0]",
+            "Seconds between reports on standard error, 0–65535, 0 = never [default: 0]",
         ))?
         .arg(flag(alloc, "record").help(
-            "Records all events on standard output, for `mg_bridge replay`",
+            "Record all events on standard output, for `mg_bridge replay`",
         ))?;
     Ok(command)
 }
@@ -109,9 +111,9 @@ fn replay<'a>(alloc: Global) -> Result<Command<'a>, Error>
     ensures app { IfOk result (λ command. app_of command ≡ replay_line) }
     ensures memory { IfErr result (λ error. kind_of error ≡ ErrorKind.OutOfMemory) }
 {
-    let about = "Runs a script from standard input, and prints answers and packets";
+    let about = "Run a script from standard input, and print its answers and packets";
     let command = subcommand(alloc, "replay", about)?.arg(flag(alloc, "flows").help(
-        "Also prints how each event changes terminations and who hears whom, as comments",
+        "Also print, as comments, how each event changes terminations and who hears whom",
     ))?;
     Ok(command)
 }
@@ -121,9 +123,9 @@ fn live<'a>(alloc: Global) -> Result<Command<'a>, Error>
     ensures app { IfOk result (λ command. app_of command ≡ live_line) }
     ensures memory { IfErr result (λ error. kind_of error ≡ ErrorKind.OutOfMemory) }
 {
-    let command = on_sockets(alloc, "live", "Serves a gateway on UDP ports in real time")?.arg(
+    let command = on_sockets(alloc, "live", "Run a gateway on UDP ports in real time")?.arg(
         short_number(alloc, "late").help(
-            "How late packets are still sent, in ticks of 20 ms [default: 5]",
+            "Maximum lateness of sent packets, in ticks of 20 ms, 0–65535 [default: 5]",
         ),
     )?;
     Ok(command)
@@ -138,7 +140,7 @@ fn command<'a>(alloc: Global) -> Result<Command<'a>, Error>
     let serve = on_sockets(
         alloc,
         "serve",
-        "Serves a gateway on UDP ports, driven by lines on standard input: poll, tick, stats, quit",
+        "Run a gateway on UDP ports, driven by lines on standard input: poll, tick, stats, quit",
     )?;
     let about = "A conference media gateway controlled by Megaco/H.248";
     let command = program_command(alloc, "mg_bridge", about)

@@ -17,7 +17,8 @@ pub const SOCKETS: usize = TERMINATIONS + 1;
 /// Which sockets may have a datagram, according to the system.
 ///
 /// The system reports a socket when a datagram arrives, and only once. So the socket counts as ready from then on,
-/// until a receive finds it empty. Nothing else ends this: neither a limit on datagrams per poll nor a failed receive.
+/// until a receive finds it empty. Nothing else ends its readiness: neither a limit on datagrams per poll nor a failed
+/// receive.
 #[derive(Drop)]
 pub struct Readiness {
     poll: Poll,

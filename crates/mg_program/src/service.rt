@@ -10,7 +10,7 @@ use mg_serve::Setup;
 /// The options of a gateway on sockets that are not part of its configuration.
 #[derive(Drop)]
 pub struct Service {
-    /// Who may send it messages.
+    /// Who may send messages to the gateway.
     pub controllers: Controllers,
     /// The seconds between reports; 0 disables reports.
     pub report: u16,

@@ -7,8 +7,8 @@ use crate::readiness::{Readiness, SOCKETS};
 use arrayvec::ArrayVec;
 use mg_core::{Config, Peer};
 use mg_ports::PortFault;
-use mio::Events;
 use mio::net::UdpSocket;
+use mio::{Events, Interest, Poll, Token};
 use std::io;
 use std::io::ErrorKind;
 use std::net::{IpAddr, Ipv4Addr, Net, SocketAddr};
@@ -25,8 +25,18 @@ fn socket_address(address: [u8; 4], port: u16) -> SocketAddr {
     SocketAddr::new(IpAddr::V4(Ipv4Addr::new(a, b, c, d)), port)
 }
 
-/// Binds a socket that doesn't wait, and asks the system to report its datagrams.
-fn bind_socket<N: Net>(
+/// Binds a socket that doesn't wait.
+fn bind_socket<N: Net>(net: &N, address: [u8; 4], port: u16) -> Result<UdpSocket, BindFault>
+    ensures port { IfErr result (λ fault. fault.port ≡ port) }
+{
+    match UdpSocket::bind(net, socket_address(address, port)) {
+        Ok(socket) => Ok(socket),
+        Err(error) => Err(BindFault { port, error }),
+    }
+}
+
+/// Binds the socket of a media port, and asks the system to report its datagrams.
+fn bind_media<N: Net>(
     net: &N,
     address: [u8; 4],
     port: u16,
@@ -35,10 +45,7 @@ fn bind_socket<N: Net>(
 ) -> Result<UdpSocket, BindFault>
     ensures port { IfErr result (λ fault. fault.port ≡ port) }
 {
-    let mut socket = match UdpSocket::bind(net, socket_address(address, port)) {
-        Ok(socket) => socket,
-        Err(error) => return Err(BindFault { port, error }),
-    };
+    let mut socket = bind_socket(net, address, port)?;
     match readiness.watch(slot, &mut socket) {
         Ok(()) => Ok(socket),
         Err(error) => Err(BindFault { port, error }),
@@ -85,13 +92,23 @@ impl Sockets {
             }),
         };
         let mut sockets = ArrayVec::new();
-        sockets.push(Some(bind_socket(net, config.control_address, control, 0, &readiness)?));
+        sockets.push(Some(bind_socket(net, config.control_address, control)?));
         for slot in 0..config.slots {
             let port = config.base_port + 2 * slot;
-            let socket = bind_socket(net, config.address, port, usize::from(slot) + 1, &readiness)?;
+            let socket = bind_media(net, config.address, port, usize::from(slot) + 1, &readiness)?;
             sockets.push(Some(socket));
         }
         Ok(Sockets { sockets, readiness })
+    }
+
+    /// Asks the system to report the datagrams of the control socket to this poll.
+    pub fn report_control(&mut self, poll: &Poll) -> io::Result<()> {
+        match self.sockets.get_mut(0) {
+            Some(Some(socket)) => poll
+                .registry()
+                .register(socket, Token(0), Interest::READABLE),
+            _ => Ok(()),
+        }
     }
 
     /// Returns the socket of a slot, if it has one.
@@ -113,8 +130,8 @@ impl Sockets {
         datagram_of(self.socket(slot)?.recv_from(buffer))
     }
 
-    /// Receives from a slot's socket, if it is ready; otherwise returns `None`. A receive from the control socket first
-    /// asks the system which sockets are ready.
+    /// Receives from the control socket, or from a media socket if it is ready; otherwise returns `None`. A receive from
+    /// the control socket first asks the system which media sockets are ready.
     pub fn receive_ready(
         &mut self,
         slot: usize,
@@ -124,6 +141,7 @@ impl Sockets {
     {
         if slot == 0 {
             self.readiness.refresh();
+            return self.try_receive(slot, buffer);
         }
         if slot < self.sockets.len() && !self.readiness.is_ready(slot) {
             return Ok(None);

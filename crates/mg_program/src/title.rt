@@ -5,7 +5,7 @@ ghost use Rattle.mg_program.specs.Title.{title_text};
 use arrayvec::ArrayVec;
 use itoa::Buffer;
 use mg_core::Config;
-use mg_words::address_text;
+use mg_words::{ADDRESS_LIMIT, address_text};
 
 /// The room for a title, in bytes: the longest title and a margin.
 const TITLE_LIMIT: usize = 512;
@@ -23,9 +23,9 @@ fn push_text(title: &mut Title, text: &[u8])
 
 /// Appends an option with an IPv4 address.
 fn push_address(title: &mut Title, option: &str, address: [u8; 4])
-    requires room { length title.old.items + length option.now + 15 ≤ TITLE_LIMIT }
+    requires room { length title.old.items + length option.now + ADDRESS_LIMIT ≤ TITLE_LIMIT }
     ensures value { title.new.items ≡ title.old.items ++ (option.now ++ address_text address) }
-    ensures len { length title.new.items ≤ length title.old.items + length option.now + 15 }
+    ensures len { length title.new.items ≤ length title.old.items + length option.now + ADDRESS_LIMIT }
 {
     push_text(title, option.as_bytes());
     push_text(title, address_text(address).as_slice());

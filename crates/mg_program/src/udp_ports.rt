@@ -10,13 +10,13 @@ use mg_ports::{PortFault, Ports, Timing};
 #[derive(Drop)]
 pub struct UdpPorts {
     sockets: Sockets,
-    /// Whether the current tick, whose packets are sent, is on time.
+    /// Whether the current tick, whose packets are being sent, is on time.
     timing: Timing,
     failures: u64,
 }
 
-/// Returns whether an address cannot be a caller's. 0.0.0.0, which puts a call on hold, would be this machine's own
-/// address, and the others are multicast addresses.
+/// Returns whether no caller can have an address: it is 0.0.0.0, multicast, reserved or broadcast. The address 0.0.0.0
+/// puts a call on hold; a packet to it would reach this machine itself.
 fn is_unusable_destination(address: [u8; 4]) -> bool {
     address == [0; 4] || is_multicast(address)
 }

@@ -436,9 +436,16 @@ no_lines form i fault exits = record {
 
 -- no tick began
 no_ticks : (form : Form) (allowed : ℕ) (clock : ClockSeen) (fails : Type 0) (fault : RunFault) →
-    ClockExits form fault fails [] [] clock clock → ClockCommands form allowed clock clock fails fault []
+    ClockExits form fault fails [] (record { ticks = 0; allowed = allowed; messages = 0 }) [] clock clock →
+    ClockCommands form allowed clock clock fails fault []
 no_ticks form allowed clock fails fault exits =
-    record { timings = []; now = clock; begin = refl; exits = exits }
+    record {
+      steps = [];
+      schedule = record { ticks = 0; allowed = allowed; messages = 0 };
+      now = clock;
+      begin = (refl, refl);
+      exits = exits;
+    }
 
 -- nothing was done
 serves_nothing : (setup : Setup) (title : Option (List ℕ)) (Gave : List Command → Type 0) (x : Option (List Call))

@@ -1,16 +1,17 @@
 -- The steps of a server.
-use Rattle.std.proofs.Common.{◌≡◌, ◌≢◌, ℕ, ◌+◌, ◌<◌, inl, inr, Bool, true, false, List, [], ◌∷◌, ◌++◌, length, map, Option, refl, sym, ap, subst, ◌∙◌, arith, codes}
+use Rattle.std.proofs.Common.{◌≡◌, ◌≢◌, ℕ, zero, suc, ◌+◌, ◌-◌, ◌*◌, ◌<◌, ◌≤◌, inl, inr, Bool, true, false, List, [], ◌∷◌, ◌++◌, length, map, Option, refl, sym, ap, subst, ◌∙◌, arith, codes}
 use Rattle.std.proofs.lemmas.List.{append-nil, length_push}
 use Rattle.std.specs.List.{range_with_len}
 use Rattle.mg_clock.specs.declared.timing.Timing.{Timing}
 use Rattle.mg_serve.specs.Setup.{Setup, is_admitted}
 use Rattle.mg_words.specs.declared.peer.Peer.{Peer}
 use Rattle.mg_engine.specs.declared.datagram.Datagram.{Datagram}
+use Rattle.mg_engine.specs.declared.taken.Taken.{Taken}
 use Rattle.mg_core.specs.declared.event.Event.{Event}
 use Rattle.mg_core.specs.declared.event.Event.TheVariants as events
 use Rattle.mg_core.specs.declared.state.CoreState.{CoreState}
 use Rattle.mg_core.specs.Recording.{IsDatagram}
-use Rattle.mg_core.specs.World.{World, StandsFor, packets_of, world_after_tick}
+use Rattle.mg_core.specs.World.{World, StandsFor, TakesMedia, packets_of, world_after_tick}
 use Rattle.mg_core.specs.Step.{Sent, Packet, Step}
 use Rattle.mg_words.specs.Leads.{Leads}
 use Rattle.mg_ports.specs.declared.call.Call.{Call}
@@ -251,3 +252,14 @@ pub some_printed : (x y : Outside) (p : List TraceEntry) → x.printer.has_faile
 some_printed x y p before after logged =
     puts_failed x.printer.has_failed y.printer.has_failed (output_of x.printer.form p) x.written y.written before after
     logged.prints.puts
+
+-- an RTP datagram at a media socket
+pub media_steps : (setup : Setup) (socket port : ℕ) (source : Peer) (bytes : List ℕ) (w next : World) (taken : Taken) →
+    1 ≤ socket → port ≡ setup.config.base_port + 2 * (socket - 1) → TakesMedia w port source bytes next taken →
+    Step w (event_at setup socket source bytes) [] next
+media_steps setup zero port source bytes w next taken first is takes = absurd (omega arith)
+media_steps setup (suc s) port source bytes w next taken first is takes =
+    (taken, subst (λ (p : ℕ). TakesMedia w p source bytes next taken) (is ∙ same) takes, refl)
+  where
+    same : setup.config.base_port + 2 * (suc s - 1) ≡ setup.config.base_port + 2 * s
+    same = omega arith

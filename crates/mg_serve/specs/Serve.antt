@@ -2,8 +2,10 @@
 use Rattle.std.specs.Prelude.{◌≡◌, ◌⊎◌, ℕ, ◌+◌, ◌-◌, ◌^◌, ◌≤◌, Bool, true, false, List, [], ◌∷◌}
 use Rattle.std.specs.Prelude.{◌++◌, length, map, flat_map, Option, Some, None, Result, Ok, Err, codes}
 use Rattle.std.specs.Io.KnownBytes.{Appends, Consumes, IsAtEnd}
-use Rattle.mg_clock.specs.declared.timing.Timing.{Timing}
-use Rattle.mg_clock.specs.Ticks.{ClockSeen, IsReadEarly, TicksBegin}
+use Rattle.mg_clock.specs.declared.step.Step.{Step}
+use Rattle.mg_clock.specs.declared.step.Step.TheVariants as steps
+use Rattle.mg_clock.specs.declared.tick_schedule.TickSchedule.{TickSchedule}
+use Rattle.mg_clock.specs.Ticks.{ClockSeen, IsReadEarly, StepsBegin}
 use Rattle.mg_core.specs.declared.counts.Counts.{Counts}
 use Rattle.mg_core.specs.declared.fault.RunFault.{RunFault}
 use Rattle.mg_core.specs.declared.fault.RunFault.TheVariants as faults
@@ -21,8 +23,8 @@ use Rattle.mg_serve.specs.Session.{Session}
 use Rattle.mg_serve.specs.Setup.{Setup}
 use Rattle.mg_serve.specs.Trace.{TraceEntry, Printed, Noted, calls_of, output_of}
 
--- Why no more lines of a text are executed. Of the lines that were read, `lines` were executed, and
--- `others` should have been but were not.
+-- Why no more lines of a text are executed. Of the lines that were read, `lines` were executed;
+-- `others` should have been, but were not.
 abbrev pub Exits : {T : Type 0} → Form → Result T RunFault → (ended : Bool) → (text : List ℕ)
     → (lines others : List (List ℕ)) → Option (List ℕ) → Type 0
 -- No line is left: the input ended, or everything that follows comes after a `quit`.
@@ -52,38 +54,45 @@ pub record ReadCommands {T : Type 0} (form : Form) (old new : Option (List ℕ))
   pub are : commands ≡ map line_command lines
   pub exits : Exits form result ended text lines others new
 
--- the commands of ticks: for each 20 ms a poll and then the tick
-abbrev pub commands_at : List Timing → List Command
-commands_at timings = flat_map (λ timing. Poll ∷ Tick timing ∷ []) timings
+-- the commands of a step: a poll, and then the tick if one begins
+abbrev pub step_commands : Step → List Command
+step_commands steps.Message = Poll ∷ []
+step_commands (steps.Tick timing) = Poll ∷ Tick timing ∷ []
 
--- Why a clock stops, after these ticks began and these commands were executed.
-abbrev pub ClockExits : Form → RunFault → (fails : Type 0) → List Timing → List Command → ClockSeen
-    → ClockSeen → Type 0
--- the clock can't be read, or will never reach the next tick
-ClockExits form faults.Read fails timings commands now new =
-    (commands ≡ commands_at timings)
-    × (fails ⊎ (length timings ≡ 2 ^ 64 - 1
-    ⊎ IsReadEarly (length timings + 1) (2 ^ 64 - 1) now new))
+abbrev pub commands_of : List Step → List Command
+commands_of steps = flat_map step_commands steps
+
+-- Why a clock stops after these steps, which led to a schedule, and after these commands.
+abbrev pub ClockExits : Form → RunFault → (fails : Type 0) → List Step → TickSchedule → List Command
+    → (now new : ClockSeen) → Type 0
+-- the clock can't be read, or will never reach the next tick, or this many steps were taken
+ClockExits form faults.Read fails steps schedule commands now new =
+    (commands ≡ commands_of steps)
+    × (fails ⊎ (length steps ≡ 2 ^ 64 - 1 ⊎ (schedule.ticks ≡ 2 ^ 64 - 1
+    ⊎ IsReadEarly (schedule.ticks + 1) (2 ^ 64 - 1) now new)))
 -- A print failed: for the last command that was executed, with at most one tick left; or at the
 -- start.
-ClockExits form faults.Write fails timings commands now new =
-    (new ≡ now) × ((timings ≡ []) × (commands ≡ [])
-    ⊎ ((left : List Command) × (commands_at timings ≡ commands ++ left) × (length left ≤ 1)
+ClockExits form faults.Write fails steps schedule commands now new =
+    (new ≡ now) × ((steps ≡ []) × (commands ≡ [])
+    ⊎ ((left : List Command) × (commands_of steps ≡ commands ++ left) × (length left ≤ 1)
     × LastPrints form commands))
 -- nothing was executed
-ClockExits form faults.NoMemory fails timings commands now new =
-    (new ≡ now) × (timings ≡ []) × (commands ≡ [])
-ClockExits form faults.BadConfig fails timings commands now new =
-    (new ≡ now) × (timings ≡ []) × (commands ≡ [])
-ClockExits form (faults.Script number) fails timings commands now new = ⊥
+ClockExits form faults.NoMemory fails steps schedule commands now new =
+    (new ≡ now) × (steps ≡ []) × (commands ≡ [])
+ClockExits form faults.BadConfig fails steps schedule commands now new =
+    (new ≡ now) × (steps ≡ []) × (commands ≡ [])
+ClockExits form (faults.Script number) fails steps schedule commands now new = ⊥
 
--- The commands belong to the ticks that a clock began, each when it was due.
+-- The commands belong to the steps of a clock: to its ticks, each when it was due, and to messages
+-- in between.
 pub record ClockCommands (form : Form) (allowed : ℕ) (old new : ClockSeen) (fails : Type 0)
     (fault : RunFault) (commands : List Command) : Type 0 where
-  pub timings : List Timing
+  pub steps : List Step
+  pub schedule : TickSchedule
   pub now : ClockSeen
-  pub begin : TicksBegin allowed 1 timings old now
-  pub exits : ClockExits form fault fails timings commands now new
+  pub begin : StepsBegin (record { ticks = 0; allowed = allowed; messages = 0 }) steps old now
+      schedule
+  pub exits : ClockExits form fault fails steps schedule commands now new
 
 -- the events of a world were counted
 abbrev pub AreCounted : Result Counts RunFault → World → Type 0

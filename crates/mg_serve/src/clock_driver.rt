@@ -1,22 +1,22 @@
-ghost use Rattle.std.specs.Prelude.{◌≡◌, ◌≢◌, ◌↔◌, ◌≤◌, true, false, length, Err, IfOk, OnErr, OnOk};
+ghost use Rattle.std.specs.Prelude.{◌≡◌, ◌≢◌, ◌↔◌, ◌≤◌, ℕ, true, false, length, Err, IfOk, OnErr, OnOk};
 ghost use Rattle.mg_clock.specs.Ticks.{clock_seen};
 ghost use Rattle.mg_engine.specs.Config.{IsValidConfig};
 ghost use Rattle.mg_core.specs.World.{StandsFor, start_of};
-ghost use Rattle.mg_serve.specs.aids.Driving.{EndsByFault, RanByClock, TickTaken};
+ghost use Rattle.mg_serve.specs.aids.Driving.{EndsByFault, RanByClock, StepTaken};
 ghost use Rattle.mg_serve.specs.aids.Outside.{LeadsByTrace, outside};
 
 use crate::command::Command;
 use crate::form::Form;
 use crate::server::Server;
 use crate::setup::Setup;
-use mg_clock::{TickSchedule, Timing, Watch};
-use mg_core::{Config, RunFault, StartFault};
+use mg_clock::{Step, TickSchedule, Watch};
+use mg_core::{Config, DATAGRAM_LIMIT, RunFault, StartFault};
 use mg_lines::WriteFailed;
 use mg_ports::Ports;
 use std::alloc::Global;
 use std::io::Write;
 
-/// Drives a server with a clock: a poll and a tick every 20 ms.
+/// Drives a server with a clock: a poll and a tick every 20 ms, and a poll for each message in between.
 #[derive(Drop)]
 pub struct ClockDriver<'a, E: Write> {
     pub server: Server<'a, E>,
@@ -39,8 +39,8 @@ impl<'a, E: Write> ClockDriver<'a, E> {
         ensures start { IfOk result (λ driver. StandsFor driver.server.core.state (start_of config)) }
         ensures printer { IfOk result (λ driver.
             driver.server.printer ≡ record { form = form; has_failed = false }) }
-        ensures first { IfOk result (λ driver. driver.schedule.ticks ≡ 0) }
-        ensures allowed { IfOk result (λ driver. driver.schedule.allowed ≡ allowed) }
+        ensures schedule { IfOk result (λ driver.
+            driver.schedule ≡ record { ticks = 0; allowed = allowed; messages = 0 }) }
     {
         Ok(ClockDriver {
             server: Server::new(alloc, config, form, seconds, reports)?,
@@ -48,18 +48,18 @@ impl<'a, E: Write> ClockDriver<'a, E> {
         })
     }
 
-    /// Executes what is due every 20 ms: a poll and a tick.
-    fn take_tick<P: Ports, W: Write>(
+    /// Executes a step of the clock: a poll, and then the tick if one begins.
+    fn take_step<P: Ports, W: Write>(
         &mut self,
         alloc: Global,
         setup: &Setup<'_>,
         ports: &mut P,
         buffer: &mut [u8],
-        timing: Timing,
+        step: Step,
         writer: &mut W,
     ) -> Result<(), WriteFailed>
         requires sound { IsValidConfig setup.now.config }
-        requires room { length buffer.old ≤ 65535 }
+        requires room { length buffer.old ≤ DATAGRAM_LIMIT }
         requires whole { self.old.server.printer.has_failed ≡ false }
         ensures schedule { self.new.schedule ≡ self.old.schedule }
         ensures whole { OnOk result (self.new.server.printer.has_failed ≡ false) }
@@ -67,10 +67,13 @@ impl<'a, E: Write> ClockDriver<'a, E> {
         ensures value { LeadsByTrace self.old.server.core.state self.new.server.core.state
             (outside (P.calls ports.old) (W.contents writer.old) self.old.server.printer)
             (outside (P.calls ports.new) (W.contents writer.new) self.new.server.printer)
-            (TickTaken self.old.server.printer.form setup.now timing result) }
+            (StepTaken self.old.server.printer.form setup.now step result) }
     {
         self.server
             .take_command(alloc, setup, ports, buffer, Command::Poll, writer)?;
+        let Step::Tick(timing) = step else {
+            return Ok(());
+        };
         let tick = Command::Tick(timing);
         self.server
             .take_command(alloc, setup, ports, buffer, tick, writer)?;
@@ -88,23 +91,23 @@ impl<'a, E: Write> ClockDriver<'a, E> {
         writer: &mut W,
     ) -> RunFault
         requires sound { IsValidConfig setup.now.config }
-        requires room { length buffer.old ≤ 65535 }
+        requires room { length buffer.old ≤ DATAGRAM_LIMIT }
         requires whole { self.old.server.printer.has_failed ≡ false }
-        requires first { self.old.schedule.ticks ≡ 0 }
         ensures ends { EndsByFault result self.new.server.printer.has_failed }
         ensures started { result ≢ RunFault.BadConfig }
-        ensures value { LeadsByTrace self.old.server.core.state self.new.server.core.state
+        ensures value { (allowed : ℕ) → self.old.schedule ≡ record { ticks = 0; allowed = allowed; messages = 0 } →
+            LeadsByTrace self.old.server.core.state self.new.server.core.state
             (outside (P.calls ports.old) (W.contents writer.old) self.old.server.printer)
             (outside (P.calls ports.new) (W.contents writer.new) self.new.server.printer)
-            (RanByClock self.old.server.printer.form setup.now self.old.schedule.allowed
+            (RanByClock self.old.server.printer.form setup.now allowed
             (clock_seen (K.readings watch.old) (K.waits watch.old))
             (clock_seen (K.readings watch.new) (K.waits watch.new)) (K.Fails watch.new) result) }
     {
         for _ in 0..u64::MAX {
-            let Ok(timing) = self.schedule.next_tick(watch) else {
+            let Ok(step) = self.schedule.next_step(watch) else {
                 return RunFault::Read;
             };
-            let Ok(()) = self.take_tick(alloc, setup, ports, buffer, timing, writer) else {
+            let Ok(()) = self.take_step(alloc, setup, ports, buffer, step, writer) else {
                 return RunFault::Write;
             };
         }

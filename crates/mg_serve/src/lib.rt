@@ -9,8 +9,8 @@
 //!
 //! [`serve`] is proved for any [`Ports`](mg_ports::Ports). On return, the complete lines that it read and their effects
 //! form a session (`specs/Session.antt`). So it drops no datagram that it received, reads the ports in order, and sends
-//! each answer and each packet once. [`theorems`] says more: a session sends what a run over its events sends, and a
-//! recording of it is a script of these events.
+//! each answer and each packet once. [`theorems`] states more: a session sends what a run over its events sends, and
+//! its recording is a script of these events.
 #![tactic(auto)]
 
 mod clock_driver;
@@ -30,7 +30,7 @@ pub mod theorems;
 // A theorem can name a command in a contract only if the type is exported.
 #[doc(hidden)]
 pub use crate::command::Command;
-// The same holds for what a session prints.
+// The same is true of what a session prints.
 #[doc(hidden)]
 pub use crate::form::Form;
 pub use crate::serving::{serve, serve_by_clock};

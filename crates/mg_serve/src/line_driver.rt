@@ -12,13 +12,13 @@ use crate::form::Form;
 use crate::line::Line;
 use crate::server::Server;
 use crate::setup::Setup;
-use mg_core::{Config, RunFault, StartFault};
+use mg_core::{Config, DATAGRAM_LIMIT, RunFault, StartFault};
 use mg_lines::{READ_SIZE, WriteFailed, read_some, without_return};
 use mg_ports::Ports;
 use std::alloc::Global;
 use std::io::{Read, Write};
 
-/// Drives a server with lines, in whatever pieces they arrive.
+/// Drives a server with lines, which may arrive in any pieces.
 #[derive(Drop)]
 pub struct LineDriver<'a, E: Write> {
     pub server: Server<'a, E>,
@@ -58,7 +58,7 @@ impl<'a, E: Write> LineDriver<'a, E> {
         writer: &mut W,
     ) -> Result<bool, WriteFailed>
         requires sound { IsValidConfig setup.now.config }
-        requires room { length buffer.old ≤ 65535 }
+        requires room { length buffer.old ≤ DATAGRAM_LIMIT }
         requires whole { self.old.server.printer.has_failed ≡ false }
         ensures partial { OnOk result (self.new.partial ≡ []) }
         ensures quit { IfOk result (λ quit. quit ≡ is_quit (line_command (without_return self.old.partial))) }
@@ -88,7 +88,7 @@ impl<'a, E: Write> LineDriver<'a, E> {
         writer: &mut W,
     ) -> Result<bool, WriteFailed>
         requires sound { IsValidConfig setup.now.config }
-        requires room { length buffer.old ≤ 65535 }
+        requires room { length buffer.old ≤ DATAGRAM_LIMIT }
         requires whole { self.old.server.printer.has_failed ≡ false }
         ensures whole { OnOk result (self.new.server.printer.has_failed ≡ false) }
         ensures failed { IfErr result (λ failed. self.new.server.printer.has_failed ≡ true) }
@@ -120,7 +120,7 @@ impl<'a, E: Write> LineDriver<'a, E> {
         writer: &mut W,
     ) -> Result<(), WriteFailed>
         requires sound { IsValidConfig setup.now.config }
-        requires room { length buffer.old ≤ 65535 }
+        requires room { length buffer.old ≤ DATAGRAM_LIMIT }
         requires whole { self.old.server.printer.has_failed ≡ false }
         ensures value { LeadsByTrace self.old.server.core.state self.new.server.core.state
             (outside (P.calls ports.old) (W.contents writer.old) self.old.server.printer)
@@ -150,7 +150,7 @@ impl<'a, E: Write> LineDriver<'a, E> {
         writer: &mut W,
     ) -> Result<(), RunFault>
         requires sound { IsValidConfig setup.now.config }
-        requires room { length buffer.old ≤ 65535 }
+        requires room { length buffer.old ≤ DATAGRAM_LIMIT }
         requires whole { self.old.server.printer.has_failed ≡ false }
         requires partial { self.old.partial ≡ [] }
         ensures ends { EndsBy result self.new.server.printer.has_failed }

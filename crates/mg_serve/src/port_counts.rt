@@ -1,4 +1,4 @@
-use mg_core::{Counts, Taken};
+use mg_core::{Counts, DROP_CAUSES, Taken};
 
 /// What arrived at a media port since the last report.
 #[derive(Clone, Copy, Debug, PartialEq, Eq)]
@@ -6,7 +6,8 @@ pub struct PortCounts {
     pub counts: Counts,
     /// The termination that had the port at the last report, if its caller was expected to send.
     expected: Option<u32>,
-    /// The tick of the last packet that a play list accepted, or of the report since which packets were expected.
+    /// The tick of the last packet that a play list accepted, or of the report from which packets were expected, if
+    /// that is later.
     heard: u64,
 }
 
@@ -27,10 +28,10 @@ impl PortCounts {
         }
     }
 
-    /// Returns for how many ticks an expected caller has been silent.
+    /// Returns how many ticks an expected caller has been silent.
     ///
     /// `expected` is the termination whose caller should send now. If no packet was accepted since the report from
-    /// which it was expected, the silence starts at that report.
+    /// which packets were expected, the silence starts at that report.
     pub fn silent_ticks(&mut self, expected: Option<u32>, ticks: u64) -> u64 {
         if self.expected != expected {
             self.expected = expected;
@@ -46,7 +47,11 @@ impl PortCounts {
     /// list restarted.
     pub fn has_trouble(&self) -> bool {
         let [started, _, pushed, again, late] = self.counts.placed;
-        started > 1 || pushed > 0 || again > 0 || late > 0 || self.counts.dropped != [0; 6]
+        started > 1
+            || pushed > 0
+            || again > 0
+            || late > 0
+            || self.counts.dropped != [0; DROP_CAUSES]
     }
 
     /// Resets the counts after a report.

@@ -7,15 +7,18 @@ ghost use Rattle.mg_serve.specs.Trace.{Happened, Noted, Printed, one_line};
 ghost use Rattle.mg_serve.specs.aids.Printing.{Prints, Puts};
 
 use crate::form::Form;
-use mg_core::{EventLine, Peer};
+use mg_core::{DATAGRAM_LIMIT, EventLine, Peer};
 use mg_lines::write_whole;
 use mg_reply::Bytes;
 use std::alloc::{AllocError, Global};
 use std::io::Write;
 use std::marker::Model;
 
+/// The maximum length of a printed text, in bytes. What is longer is cut.
+const PRINTED_LIMIT: usize = 1000;
+
 /// The maximum length of a text line, in bytes: the comment mark, the text, and a line feed.
-const TEXT_ROOM: usize = 1003;
+const TEXT_ROOM: usize = 3 + PRINTED_LIMIT;
 
 /// Prints what a gateway does, with one write per line. After a failed print it prints nothing more.
 #[derive(Drop)]
@@ -29,12 +32,13 @@ pub struct Printer {
 impl Model for Printer {
     ghost use Rattle.std.specs.Prelude.{◌≡◌, ◌+◌, length};
     ghost use Rattle.mg_serve.specs.aids.Printing.{PrinterView};
+    ghost use Rattle.mg_serve.specs.declared.printer.TheConstants.{TEXT_ROOM};
 
     ghost Value = { PrinterView };
 
     ghost view = { λ p. record { form = p.form; has_failed = p.has_failed } };
 
-    ghost invariant = { λ p. p.text.room + length p.text.text ≡ 1003 };
+    ghost invariant = { λ p. p.text.room + length p.text.text ≡ TEXT_ROOM };
 }
 
 /// Writes a text, unless an earlier write has failed.
@@ -51,11 +55,11 @@ fn put<W: Write>(has_failed: &mut bool, text: &[u8], writer: &mut W)
 /// 1,000 bytes are kept.
 #[tactic(auto, using(crate::proofs::OneLine::short))]
 fn push_line(text: &[u8], out: &mut Bytes)
-    requires room { 1000 ≤ out.old.room }
+    requires room { PRINTED_LIMIT ≤ out.old.room }
     ensures value { out.new ≡ appended out.old (one_line text.now) }
-    ensures short { length (one_line text.now) ≤ 1000 }
+    ensures short { length (one_line text.now) ≤ PRINTED_LIMIT }
 {
-    let mut left: usize = 1000;
+    let mut left = PRINTED_LIMIT;
     for b in text {
         if *b == b'\n' {
             continue;
@@ -90,7 +94,7 @@ impl Printer {
 
     /// Prints that a control datagram arrived.
     pub fn control<W: Write>(&mut self, source: Peer, bytes: &[u8], writer: &mut W)
-        requires short { length bytes.now ≤ 65535 }
+        requires short { length bytes.now ≤ DATAGRAM_LIMIT }
         ensures value { Prints self.old self.new (W.contents writer.old) (W.contents writer.new)
             (Happened (events.Control source bytes.now) ∷ []) }
     {
@@ -105,7 +109,7 @@ impl Printer {
 
     /// Prints that an RTP datagram arrived at a media port.
     pub fn media<W: Write>(&mut self, port: u16, source: Peer, bytes: &[u8], writer: &mut W)
-        requires short { length bytes.now ≤ 65535 }
+        requires short { length bytes.now ≤ DATAGRAM_LIMIT }
         ensures value { Prints self.old self.new (W.contents writer.old) (W.contents writer.new)
             (Happened (events.Media port source bytes.now) ∷ []) }
     {

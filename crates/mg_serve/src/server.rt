@@ -25,7 +25,7 @@ use crate::printer::Printer;
 use crate::reports::Reports;
 use crate::setup::Setup;
 use mg_clock::Timing;
-use mg_core::{Answer, Config, Core, Counts, Datagram, Peer, StartFault};
+use mg_core::{Answer, Config, Core, Counts, DATAGRAM_LIMIT, Datagram, Peer, StartFault};
 use mg_lines::WriteFailed;
 use mg_ports::Ports;
 use std::alloc::{AllocError, Global};
@@ -85,7 +85,7 @@ fn send_packets<P: Ports>(ports: &mut P, setup: &Setup<'_>, packets: &[Datagram]
 /// States what the types of a datagram's parts imply. Has no effect.
 fn parts_fit(address: &[u8], port: u16, bytes: &[u8])
     requires four { length address.now ≡ 4 }
-    requires short { length bytes.now ≤ 65535 }
+    requires short { length bytes.now ≤ DATAGRAM_LIMIT }
     ensures fit { IsDatagram (peer address.now port) bytes.now }
 {}
 
@@ -169,7 +169,7 @@ impl<'a, E: Write> Server<'a, E> {
         bytes: &[u8],
         writer: &mut W,
     )
-        requires short { length bytes.now ≤ 65535 }
+        requires short { length bytes.now ≤ DATAGRAM_LIMIT }
         ensures value { LeadsByTrace self.old.core.state self.new.core.state
             (outside (P.calls ports.old) (W.contents writer.old) self.old.printer)
             (outside (P.calls ports.new) (W.contents writer.new) self.new.printer)
@@ -201,7 +201,7 @@ impl<'a, E: Write> Server<'a, E> {
         requires sound { IsValidConfig setup.now.config }
         requires first { 1 ≤ socket }
         requires last { socket ≤ setup.now.config.slots }
-        requires short { length bytes.now ≤ 65535 }
+        requires short { length bytes.now ≤ DATAGRAM_LIMIT }
         ensures value { Leads StandsFor self.old.core.state self.new.core.state (λ w next.
             Step w (event_at setup.now socket source bytes.now) [] next) }
         ensures printed { Prints self.old.printer self.new.printer (W.contents writer.old) (W.contents writer.new)
@@ -226,7 +226,7 @@ impl<'a, E: Write> Server<'a, E> {
     )
         requires sound { IsValidConfig setup.now.config }
         requires last { socket ≤ setup.now.config.slots }
-        requires short { length bytes.now ≤ 65535 }
+        requires short { length bytes.now ≤ DATAGRAM_LIMIT }
         ensures value { LeadsByTrace self.old.core.state self.new.core.state
             (outside (P.calls ports.old) (W.contents writer.old) self.old.printer)
             (outside (P.calls ports.new) (W.contents writer.new) self.new.printer)
@@ -253,7 +253,7 @@ impl<'a, E: Write> Server<'a, E> {
     ) -> bool
         requires sound { IsValidConfig setup.now.config }
         requires last { socket ≤ setup.now.config.slots }
-        requires room { length buffer.old ≤ 65535 }
+        requires room { length buffer.old ≤ DATAGRAM_LIMIT }
         ensures value { LeadsByTrace self.old.core.state self.new.core.state
             (outside (P.calls ports.old) (W.contents writer.old) self.old.printer)
             (outside (P.calls ports.new) (W.contents writer.new) self.new.printer)
@@ -271,7 +271,7 @@ impl<'a, E: Write> Server<'a, E> {
         }
     }
 
-    /// Handles the datagrams that wait at a socket: at most 64, and none after a failed receive.
+    /// Handles the datagrams waiting at a socket: at most 64, and none after a failed receive.
     fn turn<P: Ports, W: Write>(
         &mut self,
         alloc: Global,
@@ -283,7 +283,7 @@ impl<'a, E: Write> Server<'a, E> {
     )
         requires sound { IsValidConfig setup.now.config }
         requires last { socket ≤ setup.now.config.slots }
-        requires room { length buffer.old ≤ 65535 }
+        requires room { length buffer.old ≤ DATAGRAM_LIMIT }
         ensures value { LeadsByTrace self.old.core.state self.new.core.state
             (outside (P.calls ports.old) (W.contents writer.old) self.old.printer)
             (outside (P.calls ports.new) (W.contents writer.new) self.new.printer)
@@ -296,7 +296,7 @@ impl<'a, E: Write> Server<'a, E> {
         }
     }
 
-    /// Handles the datagrams that wait at the control port, and then at each media port in ascending order.
+    /// Handles the datagrams waiting at the control port, and then those at each media port in ascending order.
     fn poll<P: Ports, W: Write>(
         &mut self,
         alloc: Global,
@@ -306,7 +306,7 @@ impl<'a, E: Write> Server<'a, E> {
         writer: &mut W,
     )
         requires sound { IsValidConfig setup.now.config }
-        requires room { length buffer.old ≤ 65535 }
+        requires room { length buffer.old ≤ DATAGRAM_LIMIT }
         ensures value { LeadsByTrace self.old.core.state self.new.core.state
             (outside (P.calls ports.old) (W.contents writer.old) self.old.printer)
             (outside (P.calls ports.new) (W.contents writer.new) self.new.printer)
@@ -375,7 +375,7 @@ impl<'a, E: Write> Server<'a, E> {
         writer: &mut W,
     )
         requires sound { IsValidConfig setup.now.config }
-        requires room { length buffer.old ≤ 65535 }
+        requires room { length buffer.old ≤ DATAGRAM_LIMIT }
         ensures value { LeadsByTrace self.old.core.state self.new.core.state
             (outside (P.calls ports.old) (W.contents writer.old) self.old.printer)
             (outside (P.calls ports.new) (W.contents writer.new) self.new.printer)
@@ -404,7 +404,7 @@ impl<'a, E: Write> Server<'a, E> {
         writer: &mut W,
     ) -> Result<bool, WriteFailed>
         requires sound { IsValidConfig setup.now.config }
-        requires room { length buffer.old ≤ 65535 }
+        requires room { length buffer.old ≤ DATAGRAM_LIMIT }
         ensures quit { IfOk result (λ quit. quit ≡ is_quit command) }
         ensures whole { OnOk result (self.new.printer.has_failed ≡ false) }
         ensures failed { IfErr result (λ failed. self.new.printer.has_failed ≡ true) }

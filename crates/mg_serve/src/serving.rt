@@ -1,4 +1,4 @@
-ghost use Rattle.std.specs.Prelude.{◌≡◌, ◌≢◌, ◌↔◌, [], false, length, Err, IfErr, IfOk, OnOk};
+ghost use Rattle.std.specs.Prelude.{◌≡◌, ◌≢◌, ◌↔◌, ℕ, [], false, length, Err, IfErr, IfOk, OnOk};
 ghost use Rattle.std.specs.Option.{option_map};
 ghost use Rattle.mg_clock.specs.Ticks.{clock_seen};
 ghost use Rattle.mg_engine.specs.Config.{IsValidConfig};
@@ -33,7 +33,7 @@ use std::io::{Read, Write};
 /// control datagram for which there was no memory. `run` of `mg_core` runs such a script again. If a print fails, the
 /// current input line is still executed in full, and nothing more is printed.
 ///
-/// At the given interval it reports to an operator: the totals since the start, and each media port that had trouble
+/// At the given interval it prints for an operator the totals since the start, and each media port that had trouble
 /// since the last report. A report that can't be printed is skipped.
 ///
 /// On return, with or without an error, the complete lines that it read and their effects form a session of a new
@@ -94,7 +94,8 @@ fn drive<P: Ports, R: Read, W: Write, E: Write>(
 /// Runs a new gateway on the given ports in real time.
 ///
 /// It prints `ready`. Then, every 20 ms by the clock, it executes what [`serve`] executes for the lines `poll` and
-/// `tick`.
+/// `tick`. If the clock sees a message in between, it also executes what [`serve`] executes for `poll`, at most 20 times
+/// before each tick.
 ///
 /// The k-th tick begins when a reading of the clock first shows that it is due: `k * 20 ms` after the clock's start.
 /// After a delay all missed ticks are executed at once. If a tick is more than `allowed` ticks late, its packets are
@@ -146,8 +147,8 @@ fn drive_by_clock<P: Ports, K: Watch, W: Write, E: Write>(
     requires start { StandsFor driver.old.server.core.state (start_of setup.now.config) }
     requires printer { driver.old.server.printer ≡
         record { form = form_of (option_map (λ text. text.now) title); has_failed = false } }
-    requires first { driver.old.schedule.ticks ≡ 0 }
-    ensures session { ServedByClock setup.now (option_map (λ text. text.now) title.entry) driver.old.schedule.allowed
+    ensures session { (allowed : ℕ) → driver.old.schedule ≡ record { ticks = 0; allowed = allowed; messages = 0 } →
+        ServedByClock setup.now (option_map (λ text. text.now) title.entry) allowed
         (clock_seen (K.readings watch.old) (K.waits watch.old)) (clock_seen (K.readings watch.new) (K.waits watch.new))
         (K.Fails watch.new) (P.calls ports.old) (P.calls ports.new) (W.contents writer.old) (W.contents writer.new)
         result }
@@ -174,7 +175,7 @@ fn form_of(title: Option<&[u8]>) -> Form
 
 /// Allocates a buffer for the longest datagram.
 fn datagram_buffer(alloc: Global) -> Result<Vec<u8>, AllocError>
-    ensures room { IfOk result (λ buffer. length buffer.items ≡ 65535) }
+    ensures room { IfOk result (λ buffer. length buffer.items ≡ DATAGRAM_LIMIT) }
 {
     vec![in alloc; 0; DATAGRAM_LIMIT]
 }

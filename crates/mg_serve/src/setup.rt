@@ -19,7 +19,7 @@ impl<'a> Model for Setup<'a> {
 
 impl<'a> Setup<'a> {
     /// Makes the setup of a session with this configuration. Only these IPv4 addresses may send control messages; if
-    /// there are none, anybody may.
+    /// there are none, any address may.
     pub fn new(config: Config, controllers: &'a [[u8; 4]]) -> Self
         ensures value { result ≡ record { config = config; controllers = controllers.now } }
     {

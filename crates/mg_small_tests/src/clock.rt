@@ -1,18 +1,20 @@
-//! When ticks of a clock begin, and when the steps of `mg_pace` are due.
+//! When a clock's ticks begin, and when the steps of `mg_pace` are due.
 
 use mg_clock::{
-    ClockFailed, SystemWatch, TickSchedule, Timing, Watch, steps_due, time_to_step, time_to_tick,
+    ClockFailed, Step, SystemWatch, TickSchedule, Timing, Watch, steps_due, time_to_step,
+    time_to_tick,
 };
 use std::test::Fail;
 use std::time::{Duration, Instant};
 
 const MS: u64 = 1_000_000;
 
-/// A clock that returns the given readings, and then fails. It records its waits.
+/// A clock that returns the given readings, and then fails. It records its waits, the first of which end with a message.
 #[derive(Drop)]
 struct Script<'a> {
     times: &'a [u64],
     waited: u64,
+    messages: u16,
 }
 
 impl<'a> Watch for Script<'a> {
@@ -24,9 +26,12 @@ impl<'a> Watch for Script<'a> {
         Ok(*time)
     }
 
-    fn wait(&mut self, time: Duration) {
+    fn wait(&mut self, time: Duration) -> bool {
         let time = u64::try_from(time.as_nanos()).unwrap_or(u64::MAX);
         self.waited = self.waited.saturating_add(time);
+        let has_message = self.messages > 0;
+        self.messages = self.messages.saturating_sub(1);
+        has_message
     }
 }
 
@@ -35,22 +40,51 @@ fn begins_each_tick_when_it_is_due(rt: HostRuntime) {
     let mut watch = Script {
         times: &[0, 15 * MS, 20 * MS, 90 * MS, 90 * MS, 90 * MS, 99 * MS],
         waited: 0,
+        messages: 0,
     };
     let mut schedule = TickSchedule::new(1);
-    // The tick at 20 ms is waited for twice. At 90 ms the ticks at 40, 60 and 80 ms are due. The first of them is more
-    // than one tick late.
+    // Waiting for the tick at 20 ms takes two waits. At 90 ms the ticks at 40, 60 and 80 ms are due, the first of them
+    // more than one tick late.
     for (timing, waited) in [
         (Timing::OnTime, 25 * MS),
         (Timing::Late, 25 * MS),
         (Timing::OnTime, 25 * MS),
         (Timing::OnTime, 25 * MS),
     ] {
-        assert_eq!(rt; schedule.next_tick(&mut watch), Ok(timing));
+        assert_eq!(rt; schedule.next_step(&mut watch), Ok(Step::Tick(timing)));
         assert_eq!(rt; watch.waited, waited);
     }
-    assert_eq!(rt; schedule.next_tick(&mut watch), Err(ClockFailed));
+    assert_eq!(rt; schedule.next_step(&mut watch), Err(ClockFailed));
     assert_eq!(rt; watch.waited, 26 * MS);
     assert_eq!(rt; schedule.ticks, 4);
+}
+
+#[test]
+fn reports_at_most_twenty_messages_before_a_tick(rt: HostRuntime) {
+    let times = [MS; 21];
+    let mut watch = Script {
+        times: &times,
+        waited: 0,
+        messages: 21,
+    };
+    let mut schedule = TickSchedule::new(5);
+    for _ in 0..20 {
+        assert_eq!(rt; schedule.next_step(&mut watch), Ok(Step::Message));
+    }
+    // The last message is not reported: the clock is read again, and fails.
+    assert_eq!(rt; schedule.next_step(&mut watch), Err(ClockFailed));
+    assert_eq!(rt; watch.messages, 0);
+    let times = [20 * MS, 21 * MS];
+    let mut watch = Script {
+        times: &times,
+        waited: 0,
+        messages: 1,
+    };
+    assert_eq!(rt;
+        schedule.next_step(&mut watch),
+        Ok(Step::Tick(Timing::OnTime))
+    );
+    assert_eq!(rt; schedule.next_step(&mut watch), Ok(Step::Message));
 }
 
 #[test]
@@ -73,13 +107,18 @@ fn is_late_after_the_ticks_that_are_allowed(rt: HostRuntime) {
         (9, 6, 320 * MS, Timing::OnTime),
         (9, u16::MAX, u64::MAX, Timing::Late),
     ] {
-        let mut schedule = TickSchedule { ticks, allowed };
+        let mut schedule = TickSchedule {
+            ticks,
+            allowed,
+            messages: 0,
+        };
         let times = [now];
         let mut watch = Script {
             times: &times,
             waited: 0,
+            messages: 0,
         };
-        assert_eq!(rt; schedule.next_tick(&mut watch), Ok(timing));
+        assert_eq!(rt; schedule.next_step(&mut watch), Ok(Step::Tick(timing)));
     }
 }
 
@@ -90,7 +129,7 @@ fn waits_by_the_system_clock(rt: HostRuntime) -> Result<(), Fail> {
     let mut watch = SystemWatch::start_now(&rt)?;
     let mut schedule = TickSchedule::new(5);
     for _ in 0..3 {
-        schedule.next_tick(&mut watch)?;
+        schedule.next_step(&mut watch)?;
     }
     let passed = begun.elapsed(&rt)?;
     assert!(rt; passed >= Duration::from_millis(60));

@@ -12,7 +12,7 @@ use std::test::Fail;
 /// The lengths from 0 to 161 that each kernel is tested with.
 const LENGTHS: [usize; 10] = [0, 1, 7, 8, 15, 16, 17, 159, 160, 161];
 
-/// Returns a sum for an index, from -100000 to 99999.
+/// Returns a sum for an index: a number from -100000 to 99999.
 fn sum_at(i: usize) -> i32 {
     ((i as u64).wrapping_mul(7919) % 200_000) as i32 - 100_000
 }
@@ -128,7 +128,7 @@ fn is_joined(sums: &Sums, room: Room, row: Row) -> bool
     }
 }
 
-/// Returns whether at most two rows are left out, which are joined and differ.
+/// Returns whether at most two rows are left out, and these are joined to the room and differ.
 fn can_mix(sums: &Sums, room: Room, base: Option<Row>, minus: &[Row]) -> bool
     ensures { IsTrue result → AreOfRoom sums.now.rooms room (left_out_by base minus.now) }
 {

@@ -222,7 +222,7 @@ fn triple(first: TripleTerm, second: TripleTerm, association: Association) -> To
     }
 }
 
-/// Returns triples as an edit has them.
+/// Returns triples in the form that an edit takes.
 fn triples(list: &[TopologyTriple]) -> TopologyTriples {
     let mut triples = TopologyTriples::new();
     for triple in list {
@@ -417,7 +417,7 @@ fn ticks_of_many_talkers_cost_three_rows_each(rt: HostRuntime) -> Result<(), Fai
     tick_with_many(&rt, rt.alloc(), &mut engine, &mut Outbox::new())
 }
 
-/// Returns the modes of a full context in which one talks and all others listen.
+/// Returns the modes of a full context in which one member talks and all others listen.
 fn lecture() -> [Mode; MEMBERS] {
     let mut modes = [Mode::SendOnly; MEMBERS];
     modes[0] = Mode::SendReceive;

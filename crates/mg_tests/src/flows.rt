@@ -16,7 +16,7 @@ const SCRIPT: &[u8] = b"tick\n\
     say 127.0.0.1:2945 !/1 [127.0.0.1]:2945 T=4{C=${MV=RTP/3}}\n\
     say 127.0.0.1:2945 !/1 [127.0.0.1]:2945 T=5{C=1{S=RTP/2{AT{}}}}\n";
 
-/// Worked out from the script by hand. The third and the first no longer hear each other. Nobody hears the second once
+/// Worked out from the script by hand. The first and the third no longer hear each other. Nobody hears the second once
 /// it only listens. Nobody hears the one that moves away.
 const WRITTEN: &[u8] =
     b"say 127.0.0.1:2945 MEGACO/1 [127.0.0.1]:2944\\nReply=1{Context=1{Add=RTP/1,Add=RTP/2,Add=RTP/3}}\n\

@@ -1,4 +1,4 @@
-//! The core as a state machine: what no line of a script shows.
+//! The core as a state machine: what no script can show.
 
 use crate::failing_reader::FailingReader;
 use crate::failing_writer::FailingWriter;
@@ -38,7 +38,7 @@ fn has_one(core: &Core) -> bool {
     is_alone && core.rooms().members(1) == [1].as_slice()
 }
 
-/// Returns whether a core does not answer a message of the controller.
+/// Returns whether a core leaves a message of the controller without an answer.
 fn is_silent(alloc: Global, core: &mut Core, message: &[u8]) -> Result<bool, NoMemory> {
     let answer = hand(alloc, core, message)?;
     Ok(answer == Answer::Silent && core.answer().is_empty())

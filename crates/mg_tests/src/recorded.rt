@@ -18,7 +18,7 @@ struct Outcome {
     call_log: String,
 }
 
-/// Records a session of a new gateway, for which a control datagram and an RTP datagram wait.
+/// Records a session of a new gateway, for which a control datagram and an RTP datagram are waiting.
 fn record<W: Write>(
     alloc: Global,
     title: &[u8],

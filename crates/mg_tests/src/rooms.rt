@@ -120,7 +120,7 @@ fn modify_fault(rooms: &mut Rooms, settings: &Settings) -> Option<ErrorNumber> {
     rooms.modify(Target::Number(1), 1, settings).err()
 }
 
-/// Media that cannot be served changes nothing.
+/// Media that cannot be served change nothing.
 fn refuse_settings(rt: &impl Abort, rooms: &mut Rooms) {
     let unserved = Settings {
         mode: Some(Mode::SendOnly),

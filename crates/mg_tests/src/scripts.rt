@@ -4,7 +4,8 @@ use mg_core::{Config, Counts, RunFault, Shown, run};
 use std::alloc::Global;
 use std::io::{Read, Write};
 
-/// Runs a script with a given configuration. With a literal one, the contract of a run takes minutes to prove.
+/// Runs a script with a given configuration. With a literal configuration, the contract of a run takes minutes to
+/// prove.
 fn run_on<R: Read, W: Write>(
     alloc: Global,
     config: Config,

@@ -31,7 +31,7 @@ pub fn config() -> Config {
     }
 }
 
-/// Returns ports at which these datagrams wait, and at which the calls with these numbers fail.
+/// Returns ports at which these datagrams are waiting, and at which the calls with these numbers fail.
 pub fn ports(
     alloc: Global,
     waiting: &[(usize, &[u8])],
@@ -49,8 +49,8 @@ pub fn ports(
     Ok(FakePorts::new(alloc, arrivals, failing.to_vec(alloc)?))
 }
 
-/// A letter and a number for a receive or a send: a datagram `c`ame in at this socket, `n`one did, or the receive
-/// `f`ailed; an `a`nswer or a `p`acket was sent from it.
+/// Returns a letter and a socket for a receive or a send. At this socket a datagram `c`ame in, `n`one did, or the
+/// receive `f`ailed. An `a`nswer or a `p`acket was sent from it.
 fn letter(call: &Call) -> Option<(char, usize)> {
     match call {
         Call::Receive(socket, Receipt::Delivered(_, _)) => Some(('c', *socket)),
@@ -62,7 +62,7 @@ fn letter(call: &Call) -> Option<(char, usize)> {
     }
 }
 
-/// Returns each call with its socket.
+/// Returns the letter and the socket of each call.
 pub fn call_log(alloc: Global, ports: &FakePorts) -> Result<String, AllocError> {
     let mut text = String::new(alloc);
     for call in ports.calls().unwrap_or(&[]) {
@@ -414,7 +414,7 @@ fn ends_where_a_print_fails(rt: HostRuntime) -> Result<(), Fail> {
     Ok(())
 }
 
-/// Ports at which these datagrams wait, each from an address of the loopback network.
+/// Ports at which these datagrams are waiting, each from an address of the loopback network.
 fn ports_of(alloc: Global, waiting: &[(usize, u8, &[u8])]) -> Result<FakePorts, AllocError> {
     let mut arrivals = Vec::new(alloc);
     for (socket, host, bytes) in waiting {
@@ -464,7 +464,8 @@ fn takes_messages_of_controllers_alone(rt: HostRuntime) -> Result<(), Fail> {
     Ok(())
 }
 
-/// A clock that stands still until it is waited for, is two ticks late at its third reading, and then fails.
+/// A clock that reads 0, then 20 ms, then three times 80 ms, which is two ticks late, and then fails. Its waits take no
+/// time.
 #[derive(Drop)]
 struct LateClock {
     readings: usize,
@@ -481,7 +482,9 @@ impl Watch for LateClock {
         }
     }
 
-    fn wait(&mut self, _time: Duration) {}
+    fn wait(&mut self, _time: Duration) -> bool {
+        false
+    }
 }
 
 #[test]

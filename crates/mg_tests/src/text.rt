@@ -34,7 +34,7 @@ fn is_text(span: Span, source: &[u8], text: &[u8]) -> bool {
     span.text(source) == text
 }
 
-/// Returns whether a text after the head is a syntax fault.
+/// Returns whether a message with this text after the head is a syntax fault.
 fn is_fault(alloc: Global, text: &[u8]) -> Result<bool, AllocError> {
     let source = repeated(alloc, text, b"", 0, b"")?;
     Ok(matches!(read(alloc, source.as_slice()), Err(ReadFault::Syntax(_))))

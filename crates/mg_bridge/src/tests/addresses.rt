@@ -22,7 +22,7 @@ fn names_itself_by_its_address(rt: HostRuntime) {
 #[test]
 fn refuses_texts_that_are_no_address(rt: HostRuntime) {
     let wanted =
-        b"error: invalid value for '--address <ADDRESS>': it is no IPv4 address in dotted decimal\n";
+        b"error: invalid value for '--address <ADDRESS>': not an IPv4 address in dotted decimal\n";
     for text in [
         "1.2.3",
         "1.2.3.4.5",
@@ -42,8 +42,7 @@ fn refuses_texts_that_are_no_address(rt: HostRuntime) {
 #[test]
 fn rejects_the_unspecified_address(rt: HostRuntime) {
     let wanted =
-        b"error: invalid value for '--address <ADDRESS>': callers are told this address, and can't send to \
-        0.0.0.0\n";
+        b"error: invalid value for '--address <ADDRESS>': callers cannot send to 0.0.0.0\n";
     let cases: [&[&str]; 3] = [
         &["replay", "--address", "0.0.0.0"],
         &["serve", "--address", "0.0.0.0"],
@@ -59,8 +58,7 @@ fn rejects_the_unspecified_address(rt: HostRuntime) {
 
 #[test]
 fn rejects_multicast_addresses(rt: HostRuntime) {
-    let wanted =
-        b"error: invalid value for '--address <ADDRESS>': callers are told this address, and it is none of one machine\n";
+    let wanted = b"error: invalid value for '--address <ADDRESS>': not a unicast address\n";
     for text in [
         "224.0.0.1",
         "239.255.255.255",
@@ -111,12 +109,11 @@ fn takes_eight_controllers(rt: HostRuntime) {
     );
     let done = run_program(&rt, &eight, b"");
     assert_eq!(rt; done.status, 2);
-    let wanted =
-        b"error: invalid value for '--controller <ADDRESS>': there can be eight controllers at most\n";
+    let wanted = b"error: invalid value for '--controller <ADDRESS>': more than 8 controllers\n";
     assert!(rt; done.errors.as_slice().starts_with(wanted.as_slice()));
     let done = run_program(&rt, &["live", "--controller", "localhost"], b"");
     assert_eq!(rt; done.status, 2);
     let wanted =
-        b"error: invalid value for '--controller <ADDRESS>': it is no IPv4 address in dotted decimal\n";
+        b"error: invalid value for '--controller <ADDRESS>': not an IPv4 address in dotted decimal\n";
     assert!(rt; done.errors.as_slice().starts_with(wanted.as_slice()));
 }

@@ -9,8 +9,8 @@ use std::time::{Clock, Duration};
 
 const MESSAGE: &[u8] = b"MEGACO/2";
 
-/// A stranger and a controller, who each send messages to a gateway once it runs: when it first reads its input, or
-/// first waits. The stranger sends before and after the controller.
+/// A stranger and a controller, who each send messages once the gateway runs: at its first read of the input, or at its
+/// first wait. The stranger sends before and after the controller.
 #[derive(Drop)]
 struct Senders<'a> {
     stranger: &'a UdpSocket,
@@ -71,7 +71,7 @@ fn sender(rt: &HostRuntime, host: u8) -> io::Result<UdpSocket> {
     Ok(socket)
 }
 
-/// Returns how many answers wait at a socket.
+/// Returns how many answers are waiting at a socket.
 fn answers(socket: &UdpSocket) -> usize {
     let mut buffer = [0; 200];
     let mut count: usize = 0;

@@ -238,7 +238,7 @@ fn binds_only_its_addresses(rt: HostRuntime) -> Result<(), Fail> {
     take_at_two_addresses(&rt, rt.alloc(), config, &mut ports, &caller)
 }
 
-/// A waiting datagram is received. If none waits, the receive returns none.
+/// A waiting datagram is received. If none is waiting, the receive returns none.
 fn receive_what_waits(
     rt: &impl Abort,
     ports: &mut UdpPorts,

@@ -13,8 +13,8 @@ const MS: u64 = 1_000_000;
 const ONE_CALLER: &[u8] = b"MEGACO/1 [127.0.0.1]:28912 Transaction=1{Context=${\
     Add=${Media{LocalControl{Mode=SendOnly},Remote{v=0\nc=IN IP4 127.0.0.1\nm=audio 28912 RTP/AVP 0\n}}}}}";
 
-/// A clock that advances only by its waits. At its first wait a caller requests a termination, and the wait that ends
-/// at 100 ms is two seconds too long. It fails after 400 readings.
+/// A clock that advances only by waiting. During its first wait a caller requests a termination, and the wait that ends
+/// at 100 ms is two seconds too long. The clock fails after 400 readings.
 #[derive(Drop)]
 struct StallingClock<'a> {
     now: Cell<u64>,
@@ -45,7 +45,7 @@ impl<'a> Clock for StallingClock<'a> {
     }
 }
 
-/// Returns the sequence number and the timestamp of the next packet that waits at a socket.
+/// Returns the sequence number and the timestamp of the next packet waiting at a socket.
 fn next_packet(socket: &UdpSocket) -> io::Result<(u16, u32)> {
     let mut buffer = [0; 300];
     let (n, _) = socket.recv_from(&mut buffer)?;
@@ -57,7 +57,7 @@ fn next_packet(socket: &UdpSocket) -> io::Result<(u16, u32)> {
     Ok((sequence, timestamp))
 }
 
-/// Of the ticks due at 2100 ms, the hundredth and later ones are at most five ticks late.
+/// Of the ticks due at 2100 ms, those from the hundredth on are at most five ticks late.
 #[test]
 fn turns_a_stall_into_a_gap(rt: HostRuntime) -> Result<(), Fail> {
     let caller = UdpSocket::bind(&rt, local(28912))?;
@@ -114,5 +114,84 @@ fn turns_a_stall_into_a_gap(rt: HostRuntime) -> Result<(), Fail> {
     ] {
         assert_eq!(rt; next_packet(&caller)?, (sequence, timestamp));
     }
+    Ok(())
+}
+
+/// A clock that advances only by waiting, and fails after 100 ms. At its second reading, a controller sends a message;
+/// the clock keeps the time at which the answer was first seen.
+#[derive(Drop)]
+struct ListeningClock<'a> {
+    now: Cell<u64>,
+    readings: Cell<u64>,
+    controller: &'a UdpSocket,
+    answered: Cell<Option<u64>>,
+}
+
+impl<'a> ListeningClock<'a> {
+    fn look(&self) {
+        let mut answer = [0; 300];
+        if self.answered.get().is_none() && self.controller.recv_from(&mut answer).is_ok() {
+            self.answered.set(Some(self.now.get()));
+        }
+    }
+}
+
+impl<'a> Clock for ListeningClock<'a> {
+    fn monotonic(&self) -> io::Result<Duration> {
+        self.look();
+        self.readings.set(self.readings.get().saturating_add(1));
+        if self.readings.get() == 2 {
+            self.controller.send_to(b"MEGACO/2", local(28920))?;
+        }
+        if self.now.get() > 100 * MS {
+            return Err(io::Error::from(ErrorKind::Other));
+        }
+        Ok(Duration::from_nanos(self.now.get()))
+    }
+
+    fn since_1970(&self) -> io::Result<Duration> {
+        Err(io::Error::from(ErrorKind::Other))
+    }
+
+    fn sleep(&self, duration: Duration) {
+        let time = u64::try_from(duration.as_nanos()).unwrap_or(u64::MAX);
+        self.now.set(self.now.get().saturating_add(time));
+    }
+}
+
+/// The answer doesn't wait for the tick at 20 ms.
+#[test]
+fn answers_before_the_next_tick(rt: HostRuntime) -> Result<(), Fail> {
+    let controller = UdpSocket::bind(&rt, local(28924))?;
+    controller.set_nonblocking(true)?;
+    let clock = ListeningClock {
+        now: Cell::new(0),
+        readings: Cell::new(0),
+        controller: &controller,
+        answered: Cell::new(None),
+    };
+    let alloc = rt.alloc();
+    let words = [
+        "live",
+        "--control-port=28920",
+        "--base-port=28922",
+        "--slots=1",
+    ];
+    let mut input: &[u8] = b"";
+    let mut output = Vec::new(alloc);
+    let mut errors = Vec::new(alloc);
+    let mut reports = Vec::new(alloc);
+    let status = program(
+        &rt,
+        &clock,
+        alloc,
+        &words,
+        &mut input,
+        &mut output,
+        &mut errors,
+        &mut reports,
+    );
+    assert_eq!(rt; status, 3);
+    assert_eq!(rt; clock.answered.get(), Some(0));
     Ok(())
 }

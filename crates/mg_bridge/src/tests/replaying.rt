@@ -29,7 +29,7 @@ fn reports_a_bad_configuration(rt: HostRuntime) {
     let done = run_program(&rt, &["replay", "--slots", "0"], HEARTBEAT);
     assert_eq!(rt; done.status, 2);
     assert!(rt; done.output.is_empty());
-    let wanted = b"bad configuration: --slots is 0, or more than there can be terminations\n";
+    let wanted = b"bad configuration: --slots must be from 1 to 256\n";
     assert_eq!(rt; done.errors.as_slice(), wanted.as_slice());
 }
 

@@ -70,10 +70,10 @@ fn reports_the_first_taken_media_port(rt: HostRuntime) -> Result<(), Fail> {
 #[test]
 fn names_the_option_at_fault_and_binds_nothing(rt: HostRuntime) -> Result<(), Fail> {
     let _control = UdpSocket::bind(&rt, local(29300))?;
-    let slots = b"bad configuration: --slots is 0, or more than there can be terminations\n";
+    let slots = b"bad configuration: --slots must be from 1 to 256\n";
     let base =
-        b"bad configuration: --base-port is 0 or odd, or there are not as many even ports from it on as --slots says\n";
-    let control = b"bad configuration: --control-port is 0, or one of the media ports\n";
+        b"bad configuration: --base-port must be even and not 0, with room for --slots even ports\n";
+    let control = b"bad configuration: --control-port must not be 0 or a media port\n";
     let cases: [(&[&str], &[u8]); 8] = [
         (&["serve", "--control-port", "29300", "--slots", "0"], slots),
         (
@@ -90,11 +90,11 @@ fn names_the_option_at_fault_and_binds_nothing(rt: HostRuntime) -> Result<(), Fa
         ),
         (
             &["serve", "--first-termination", "0"],
-            b"bad configuration: --first-termination is 0\n",
+            b"bad configuration: --first-termination must be at least 1\n",
         ),
         (
             &["live", "--first-context", "4294967294"],
-            b"bad configuration: --first-context is 0, or more than a context can have\n",
+            b"bad configuration: --first-context must be from 1 to 4294967293\n",
         ),
         (&["serve", "--control-port", "0"], control),
         (

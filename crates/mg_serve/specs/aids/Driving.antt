@@ -1,8 +1,9 @@
 -- The steps of a server: a receive, some bytes of its input, and the last line.
 use Rattle.std.specs.Prelude.{◌≡◌, ℕ, ◌≤◌, Bool, true, false, List, [], ◌∷◌, ◌++◌, length, take, map}
 use Rattle.std.specs.Prelude.{Option, Result, Ok, Err}
-use Rattle.mg_clock.specs.declared.timing.Timing.{Timing}
-use Rattle.mg_clock.specs.Ticks.{ClockSeen, TicksBegin}
+use Rattle.mg_clock.specs.declared.step.Step.{Step}
+use Rattle.mg_clock.specs.declared.tick_schedule.TickSchedule.{TickSchedule}
+use Rattle.mg_clock.specs.Ticks.{ClockSeen, StepsBegin}
 use Rattle.mg_words.specs.declared.peer.Peer.{Peer}
 use Rattle.mg_core.specs.declared.fault.RunFault.{RunFault}
 use Rattle.mg_core.specs.declared.fault.RunFault.TheVariants as faults
@@ -11,11 +12,10 @@ use Rattle.mg_lines.specs.declared.write_failed.WriteFailed.{WriteFailed}
 use Rattle.mg_lines.specs.Lines.{lines_after}
 use Rattle.mg_serve.specs.declared.form.Form.{Form}
 use Rattle.mg_serve.specs.Lines.{LastPrints, line_command, before_quit}
-use Rattle.mg_serve.specs.Serve.{ClockCommands, ReadCommands, commands_at}
+use Rattle.mg_serve.specs.Serve.{ClockCommands, ReadCommands, commands_of, step_commands}
 use Rattle.mg_serve.specs.Session.{ReceivesDatagram, Performs, ReceivesNothing, Session}
 use Rattle.mg_serve.specs.Setup.{Setup}
 use Rattle.mg_serve.specs.declared.command.Command.{Command}
-use Rattle.mg_serve.specs.declared.command.Command.TheVariants.{Poll, Tick}
 use Rattle.mg_serve.specs.Trace.{TraceEntry}
 
 -- a receive, and whether it returned a datagram
@@ -76,18 +76,18 @@ abbrev pub RanByClock : Form → Setup → ℕ → ClockSeen → ClockSeen → (
 RanByClock form setup allowed old new fails fault w trace next =
     RanBy setup (ClockCommands form allowed old new fails fault) w trace next
 
--- a poll and a tick were executed, or a print for one of them failed
-abbrev pub TickTaken : Form → Setup → Timing → Result (Unit {0}) WriteFailed → World → List TraceEntry
+-- the commands of a step were executed, or a print for one of them failed
+abbrev pub StepTaken : Form → Setup → Step → Result (Unit {0}) WriteFailed → World → List TraceEntry
     → World → Type 0
-TickTaken form setup timing (Ok done) w trace next =
-    Session setup (Poll ∷ Tick timing ∷ []) w trace next
-TickTaken form setup timing (Err failed) w trace next =
+StepTaken form setup step (Ok done) w trace next = Session setup (step_commands step) w trace next
+StepTaken form setup step (Err failed) w trace next =
     (commands : List Command) × (left : List Command)
-    × (Poll ∷ Tick timing ∷ [] ≡ commands ++ left) × (length left ≤ 1)
+    × (step_commands step ≡ commands ++ left) × (length left ≤ 1)
     × LastPrints form commands × Session setup commands w trace next
 
--- this many ticks of a clock were executed
-abbrev pub TicksDone : Setup → ℕ → ℕ → ClockSeen → ClockSeen → World → List TraceEntry → World → Type 0
-TicksDone setup allowed count old now w trace next =
-    (timings : List Timing) × (length timings ≡ count) × TicksBegin allowed 1 timings old now
-    × Session setup (commands_at timings) w trace next
+-- this many steps of a clock were taken
+abbrev pub StepsDone : Setup → TickSchedule → ℕ → ClockSeen → ClockSeen → TickSchedule → World
+    → List TraceEntry → World → Type 0
+StepsDone setup first count old now schedule w trace next =
+    (steps : List Step) × (length steps ≡ count) × StepsBegin first steps old now schedule
+    × Session setup (commands_of steps) w trace next

@@ -5,9 +5,9 @@ use Rattle.mg_serve.proofs.Running.{not_opened_by_clock, served_by_clock}
 use Rattle.mg_serve.proofs.serving.drive_by_clock.Goals as goal
 
 pub returns-in_default-open-clause-session : goal.returns-in_default-open-clause-session
-returns-in_default-open-clause-session g c =
+returns-in_default-open-clause-session g c allowed is =
     not_opened_by_clock c.args.setup.now (option_map (λ title. title.now) c.args.title)
-    c.args.driver.now.schedule.allowed
+    allowed
     (clock_seen (g.K.Watch.readings c.args.watch.now) (g.K.Watch.waits c.args.watch.now))
     (g.K.Watch.Fails c.args.watch.now) (g.P.Ports.calls c.args.ports.now)
     c.args.driver.now.server.printer c.open.new.self.printer
@@ -15,9 +15,9 @@ returns-in_default-open-clause-session g c =
     (c.requires.printer, c.open.ensures.printed) c.in_default-open.ensures.failed
 
 pub returns-clause-session : goal.returns-clause-session
-returns-clause-session g c =
+returns-clause-session g c allowed is =
     served_by_clock c.take_all.result c.args.setup.now (option_map (λ title. title.now) c.args.title)
-    c.args.driver.now.schedule.allowed
+    allowed
     (clock_seen (g.K.Watch.readings c.args.watch.now) (g.K.Watch.waits c.args.watch.now))
     (clock_seen (g.K.Watch.readings c.take_all.new.watch) (g.K.Watch.waits c.take_all.new.watch))
     (g.K.Watch.Fails c.take_all.new.watch)
@@ -26,4 +26,4 @@ returns-clause-session g c =
     (outside (g.P.Ports.calls c.args.ports.now) (g.W.Write.contents c.open.new.writer) c.open.new.self.printer)
     (outside (g.P.Ports.calls c.take_all.new.ports) (g.W.Write.contents c.take_all.new.writer)
     c.take_all.new.self.server.printer) c.requires.start (c.requires.printer, c.open.ensures.printed)
-    c.take_all.ensures.ends (rw c.open.ensures.core at c.take_all.ensures.value)
+    c.take_all.ensures.ends (rw c.open.ensures.core at c.take_all.ensures.value allowed is)

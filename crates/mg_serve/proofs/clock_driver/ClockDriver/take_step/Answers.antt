@@ -1,12 +1,12 @@
 use Rattle.std.proofs.lemmas.Result.{err_from_is_err_and}
 use Rattle.mg_serve.specs.aids.Outside.{outside}
 use Rattle.mg_serve.proofs.Clocking.{poll_fails, tick_fails, tick_taken}
-use Rattle.mg_serve.proofs.clock_driver.ClockDriver.take_tick.Goals as goal
+use Rattle.mg_serve.proofs.clock_driver.ClockDriver.take_step.Goals as goal
 
 pub returns-in_err-take_command-clause-value : goal.returns-in_err-take_command-clause-value
 returns-in_err-take_command-clause-value g c =
     let p = err_from_is_err_and c.from_residual.result c.from_residual.ensures.1 in
-    rw p.1 (poll_fails c.args.setup.now c.args.timing p.0 c.args.self.now.server.core.state
+    rw p.1 (poll_fails c.args.setup.now c.args.step p.0 c.args.self.now.server.core.state
     c.take_command.new.self.core.state
     (outside (g.P.Ports.calls c.args.ports.now) (g.W.Write.contents c.args.writer.now) c.args.self.now.server.printer)
     (outside (g.P.Ports.calls c.take_command.new.ports) (g.W.Write.contents c.take_command.new.writer)
@@ -17,7 +17,7 @@ pub returns-in_err-take_command-2-clause-value : goal.returns-in_err-take_comman
 returns-in_err-take_command-2-clause-value g c =
     let p = err_from_is_err_and c.from_residual-in_err-take_command-2.result
     c.from_residual-in_err-take_command-2.ensures.1 in
-    rw p.1 (tick_fails c.args.setup.now c.args.timing p.0 c.args.self.now.server.core.state
+    rw (p.1, c.in-Tick.is) (tick_fails c.args.setup.now c.in-Tick.timing p.0 c.args.self.now.server.core.state
     c.take_command.new.self.core.state c.take_command-2.new.self.core.state
     (outside (g.P.Ports.calls c.args.ports.now) (g.W.Write.contents c.args.writer.now) c.args.self.now.server.printer)
     (outside (g.P.Ports.calls c.take_command.new.ports) (g.W.Write.contents c.take_command.new.writer)
@@ -29,11 +29,11 @@ returns-in_err-take_command-2-clause-value g c =
 
 pub returns-clause-value : goal.returns-clause-value
 returns-clause-value g c =
-    tick_taken c.args.self.now.server.printer.form c.args.setup.now c.args.timing c.args.self.now.server.core.state
+    rw c.in-Tick.is (tick_taken c.args.self.now.server.printer.form c.args.setup.now c.in-Tick.timing c.args.self.now.server.core.state
     c.take_command.new.self.core.state c.take_command-2.new.self.core.state
     (outside (g.P.Ports.calls c.args.ports.now) (g.W.Write.contents c.args.writer.now) c.args.self.now.server.printer)
     (outside (g.P.Ports.calls c.take_command.new.ports) (g.W.Write.contents c.take_command.new.writer)
     c.take_command.new.self.printer)
     (outside (g.P.Ports.calls c.take_command-2.new.ports) (g.W.Write.contents c.take_command-2.new.writer)
     c.take_command-2.new.self.printer)
-    c.take_command.ensures.value c.take_command-2.ensures.value
+    c.take_command.ensures.value c.take_command-2.ensures.value)

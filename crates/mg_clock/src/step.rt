@@ -1,0 +1,10 @@
+use crate::timing::Timing;
+
+/// What a schedule has waited for.
+#[derive(Clone, Copy, Debug, PartialEq, Eq)]
+pub enum Step {
+    /// A message arrived before the next tick was due.
+    Message,
+    /// The next tick begins.
+    Tick(Timing),
+}

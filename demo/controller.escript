@@ -12,8 +12,8 @@
 %%
 %% Once a second it audits a termination of its own on each gateway. A gateway that does not answer in 1.2 s is lost;
 %% one that answers with error 411 or 430 has restarted. Its conferences are then made again on others, with the same
-%% isolations. It prints lines about that. The lines `member` are for callers: member 3 of conference 1 listens at port
-%% 40004, and sends to port 30004.
+%% isolations. It prints lines about these events. The lines `member` are for callers: member 3 of conference 1 listens
+%% at port 40004, and sends to port 30004.
 %%     gateway 127.0.0.1:2944 up
 %%     gateway 127.0.0.1:2944 lost: no answer
 %%     conference 1 on 127.0.0.1:2944 context 1764079200
@@ -102,7 +102,7 @@ server(S = #server{up = Up, gateways = Gateways}) ->
     receive
         %% Once a second, not as soon as a gateway is up, so that the first conferences are spread over all of them.
         place -> erlang:send_after(1000, self(), place), server(place(none, [], S));
-        %% A gateway serves when it has received `serve`: what it was sent before it reported that it is up is ignored.
+        %% A gateway serves once it has received `serve`. It ignores whatever it was sent before it reported itself up.
         {up, Name} -> tell(Name, serve, S), server(S#server{up = [Name | Up -- [Name]]});
         {lost, Name} -> server(place(Name, [Name], S#server{up = Up -- [Name]}));
         {refused, Name, C} -> server(place(C, [Name], S));
@@ -112,7 +112,7 @@ server(S = #server{up = Up, gateways = Gateways}) ->
         {line, Words} -> server(try line(Words, S) catch _:_ -> say("not understood", []), S end)
     end.
 tell(Name, Message, S) -> maps:get(Name, S#server.gateways) ! Message.
-%% Has conferences made, those of a gateway or one by its number, each on the gateway with the most room.
+%% Has conferences made, all of a gateway's or one by its number, each on the gateway with the most room.
 place(Which, Except, S = #server{conferences = All}) ->
     Chosen = [C || {C, #conference{gateway = Name}} <- maps:to_list(All), lists:member(Which, [Name, C])],
     lists:foldl(fun(C, T) -> place_one(C, Except, T) end, S, Chosen).
@@ -134,7 +134,7 @@ line([Word, Conference, From, To], S = #server{conferences = All}) ->
     X = #conference{callers = Callers, gateway = Name, topology = Before} = maps:get(C, All),
     Pair = {A, B} = {list_to_integer(From), case To of "*" -> all; _ -> list_to_integer(To) end},
     true = A =/= B andalso {B, How} =/= {all, oneway} andalso [] =/= [lists:nth(M, Callers) || M <- [A, B], M =/= all],
-    %% It is kept, in order, for a gateway that makes the conference again.
+    %% The topology is kept, in order, for a gateway that makes the conference again.
     Topology = [Triple || Triple = {A1, B1, _} <- Before, {A1, B1} =/= Pair] ++ [{A, B, How}],
     Name =:= none orelse tell(Name, {topology, C, {A, B, How}}, S),
     S#server{conferences = All#{C := X#conference{topology = Topology}}}.

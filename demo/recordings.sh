@@ -2,13 +2,13 @@
 #     . demo/recordings.sh
 # It needs xxd, sox and tcpdump.
 
-# Writes the speech at one port of the gateway as a WAV file: PORT FILE.wav [al] < LINES. The lines are those of a
-# recording, for what its caller said, or of a replay, for what its listener was sent. The argument `al` is for A-law.
+# Writes the speech at one port of the gateway as a WAV file: PORT FILE.wav [al] < LINES. The lines come
+# from a recording, for what its caller said, or from a replay, for what its listener was sent. Pass `al` for A-law.
 sound() {
     grep "^rtp $1 " | cut -d ' ' -f 4 | cut -c 25- | xxd -r -p | sox -t "${3:-ul}" -r 8000 -c 1 - "$2"
 }
 
-# Writes the RTP packets of a capture that a port of the gateway was sent, or sent: PORT in|out < CAPTURE. A line has a
+# Writes the RTP packets of a capture that a port of the gateway received or sent: PORT in|out < CAPTURE. A line has a
 # port, a peer and the packet's bytes, as in a recording and a replay. The link is Ethernet or loopback.
 captured() {
     tcpdump -r - -nn -x "udp and $([ "$2" = in ] && echo dst || echo src) port $1" 2> /dev/null | awk -v way="$2" '

@@ -1,4 +1,4 @@
-// Nanoseconds a sample to encode and decode frames of 160 samples, compared with C tables that the same functions
+// Nanoseconds per sample to encode and decode frames of 160 samples, compared with C tables that the same functions
 // filled: 65,536 bytes to encode, 256 samples to decode.
 #include <stdint.h>
 #include <stdio.h>
@@ -16,7 +16,7 @@ static uint8_t bytes[FRAMES][FRAME];
 static uint8_t encode_table[2][65536];
 static int16_t decode_table[2][256];
 
-// Not inlined, since calls into the library are not either.
+// Not inlined, because calls into the library are not inlined either.
 __attribute__((noinline)) static void table_encode(int a_law, const int16_t *in, uint8_t *out) {
     const uint8_t *table = encode_table[a_law];
     for (int i = 0; i < FRAME; i++) out[i] = table[(uint16_t)in[i]];
@@ -33,7 +33,7 @@ static double now(void) {
     return t.tv_sec * 1e9 + t.tv_nsec;
 }
 
-// The least time of several runs, since other work on the machine disturbs it least.
+// The minimum of several runs, because other work on the machine disturbs it least.
 #define LEAST_NS(STEP) ({ \
     double least = 1e18; \
     for (int run = 0; run < RUNS; run++) { \

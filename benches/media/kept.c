@@ -1,4 +1,4 @@
-// A mixer written by hand, to compare a tick with. It receives packets of G.711, keeps the total of each conference,
+// A hand-written mixer, for comparing ticks. It receives packets of G.711, keeps the total of each conference,
 // and sends each caller the total without its own frame. It checks less than the gateway, keeps no counters, and has
 // one mode and no topology.
 #define _POSIX_C_SOURCE 199309L
@@ -43,7 +43,7 @@ __attribute__((noinline)) static void decode(int alaw, const uint8_t *restrict i
 
 #define LEAST(a, b) ((a) < (b) ? (a) : (b))
 
-// The level is the least of several lines, which gcc vectorizes: these seven, and one before them in mu-law.
+// The level is the minimum of several lines, which gcc vectorizes: these seven, and one before them in mu-law.
 static inline int16_t least_of_seven(int16_t x) {
     int16_t level = (int16_t)(x >> 4);
     level = LEAST(level, (int16_t)((x >> 5) + 16));
@@ -172,7 +172,7 @@ static double arriving(unsigned n, int talkers) {
     return all;
 }
 
-// The least times of a tick and of the arrivals before it.
+// The minimum times of a tick and of the arrivals before it.
 static void tell(int count, int talkers, int rooms) {
     double least_tick = 1e18, least_arrivals = 1e18;
     memset(callers, 0, sizeof callers);

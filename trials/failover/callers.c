@@ -1,10 +1,9 @@
-/* Callers who follow a controller: each listens at a port of its own, sends a packet of 20 ms every 20 ms to where the
-   controller's lines say, and receives what it is sent from there.
+/* Callers who follow a controller: each listens at its own port, sends a packet of 20 ms every 20 ms to the place that
+   the controller's lines name, and receives what is sent from there.
    usage: callers CALLERS FIRST_PORT [noise]
    Standard input has the controller's lines (demo/controller.escript). Further lines are `mark`, which starts a period;
-   `report`, which reports on it; and `quit`. Members 1 and 2 of a conference speak, each at a level of its own, which
-   differs from conference to conference; the others are silent. With `noise` all speak, and what is heard is not
-   checked. */
+   `report`, which reports on it; and `quit`. Members 1 and 2 of a conference speak, each at its own level, which
+   differs between conferences; the others are silent. With `noise` all speak, and what is heard is not checked. */
 #define _GNU_SOURCE
 #include <arpa/inet.h>
 #include <fcntl.h>
@@ -140,7 +139,7 @@ static int line(const char *text)
     return strcmp(text, "quit") == 0;
 }
 
-/* Handles the lines that wait; returns whether to end. */
+/* Handles the waiting lines; returns whether to end. */
 static int lines(void)
 {
     static char text[1 << 16];

@@ -2,9 +2,9 @@
 
 usage: pages.py [--try] PAGE ..
 
-Such a command is a block of `sh` in parentheses that calls `rt run` or `rt try`. Its output must be one of the blocks
-that follow it, up to the next block of `sh`. Exits with 1 if one differs. With --try, `rt try` takes the place of
-`rt run`: nothing is proved, and a command takes about a minute.
+Such a command is a block of `sh` that begins with `dist/mg_bridge` or `demo/hear`. Its output must be one of the blocks
+that follow it, up to the next block of `sh`. Exits with 1 if one differs. With --try, `rt try` runs the sources in place
+of dist/mg_bridge: nothing is proved, and a command takes about a minute. `demo/hear` is left out.
 """
 import re
 import subprocess
@@ -20,13 +20,17 @@ def commands(page):
     """Each command that needs no network, with the blocks that follow it."""
     found = blocks(page)
     for i, (language, text) in enumerate(found):
-        if language == "sh" and re.match(r"\(cd .* rt (run|try) ", text, re.S):
+        if language == "sh" and re.match(r"(dist/mg_bridge|demo/hear)\s", text):
             following = []
             for other, shown in found[i + 1:]:
                 if other == "sh":
                     break
                 following.append(shown)
             yield text.strip(), following
+
+
+# What `dist/mg_bridge` is replaced by.
+TRY = 'mg_bridge() { (cd crates/mg_bridge && rt try -- "$@"); }\n'
 
 
 def main():
@@ -36,7 +40,9 @@ def main():
     for path in [word for word in words if word != "--try"]:
         with open(path) as page:
             for command, shown in commands(page.read()):
-                typed = command.replace(" rt run ", " rt try ") if unproved else command
+                if unproved and command.startswith("demo/hear"):
+                    continue
+                typed = TRY + command.replace("dist/mg_bridge", "mg_bridge") if unproved else command
                 run = subprocess.run(["bash", "-c", typed], stdout=subprocess.PIPE, stderr=subprocess.PIPE, text=True)
                 holds = run.stdout in shown
                 wrong += not holds

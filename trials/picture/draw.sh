@@ -1,5 +1,5 @@
 #!/bin/sh
-# Draws what a replay with --flows printed as demo/recording.html shows it, with the pointer at a tick of a row (from 0).
+# Draws the output of a replay with --flows as demo/recording.html shows it. The pointer is at a tick of a row (from 0).
 # usage: draw.sh SHOWN.txt PICTURE.png [TICK [ROW [WIDTH,HEIGHT]]]
 # It needs chromium. docs/recording.png was made with it.
 set -eu

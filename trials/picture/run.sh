@@ -1,7 +1,7 @@
 #!/bin/sh
 # Runs the tests of the page that draws a recording, demo/recording.html, in a headless browser. Prints how many
-# passed, and exits with 1 if one failed. Then it breaks the page in one place after another, by wrong.txt, and exits
-# with 1 if the tests miss one. Last it draws the page's sample into FOLDER, or into a temporary folder.
+# passed, and exits with 1 if one failed. Then it breaks the page in one place after another, as wrong.txt lists, and
+# exits with 1 if the tests miss one. Last it draws the page's sample into FOLDER, or into a temporary folder.
 # usage: run.sh [FOLDER]
 # It needs chromium. It takes about a minute.
 set -eu

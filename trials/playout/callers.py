@@ -3,7 +3,7 @@
 usage: callers.py BRIDGE
 
 Two callers are in a conference. The first sends frames that name their sequence numbers, at computed times without
-waiting. A tick is every 20 ms, half way between two packets of a punctual caller. In each tick the second is sent the
+waiting. A tick comes every 20 ms, halfway between two packets of a punctual caller. In each tick the second is sent the
 number of a frame, or silence.
 """
 import struct

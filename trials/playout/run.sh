@@ -1,5 +1,5 @@
 #!/bin/sh
-# Prints what is heard of callers whose clocks drift, whose sequence numbers jump, who send in bursts, or who share a
+# Prints what others hear of callers whose clocks drift, whose sequence numbers jump, who send in bursts, or who share a
 # port.
 # usage: run.sh
 # It needs python3 and rt. `mg_bridge` is the one that `rt run` leaves in crates/mg_bridge/out. What is not built yet

@@ -3,11 +3,11 @@
 usage: schedules.py BRIDGE LIBRARY SCHEDULES SEED
 
 A schedule is several bursts and polls in random order. A burst goes to one port; some have 64 datagrams, as many as a
-poll receives from a port, some one more or 64 more. The schedule does not wait for the gateway, so that datagrams
-arrive while it polls. Then it is polled as often as the fullest port needs, and must have counted each datagram once.
-Messages of the schedule must be answered in the order in which they were sent. A session has a hundred schedules. In
-two of three sessions a call fails: a receive, or the one that asks which sockets are ready. Exits with 1 at the first
-failure.
+poll receives from a port, and some have one more or 64 more. The schedule does not wait for the gateway, so that
+datagrams arrive while it polls. Then it is polled as often as the fullest port needs, and must have counted each
+datagram once. Messages of the schedule must be answered in the order in which they were sent. A session has a hundred
+schedules. In two of three sessions a call fails: a receive, or the one that asks which sockets are ready. Exits with 1
+at the first failure.
 """
 import os
 import random

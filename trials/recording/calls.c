@@ -1,6 +1,6 @@
 /* Callers in conferences of a gateway, each of whom sends a packet of 20 ms every 20 ms, and a controller who sends a
-   change ten times a second. Writes what they sent and what they were sent to two files (streams.h), and prints how
-   much it was.
+   change ten times a second. Writes what they sent and what they received to two files (streams.h), and prints how
+   much that was.
    usage: calls CALLERS SECONDS SENT CAME
    The choices are pseudo-random, the same in each run. */
 #define _GNU_SOURCE
@@ -86,7 +86,7 @@ static void told(const char *answer)
     added = NULL;
 }
 
-/* Receives what waits at a socket, the controller's or a caller's. */
+/* Receives what is waiting at a socket, the controller's or a caller's. */
 static void hear(int i)
 {
     static uint8_t bytes[ANSWER];
@@ -191,8 +191,8 @@ static void change(void)
         set_topology(a);
 }
 
-/* Sends each caller's packet of a period, noise of low level. Of 200 packets, one is lost, one is too short, one has
-   another payload type, and one is sent twice. */
+/* Sends each caller's packet of a period, quiet noise. Of 200 packets, one is lost, one is too short, one has another
+   payload type, and one is sent twice. */
 static void say(long period)
 {
     static uint8_t packet[PACKET];

@@ -1,11 +1,11 @@
 #!/bin/bash
-# Calls a gateway that records, under a controller who changes conferences all the time; replays the recording, and
-# looks whether for each port of the gateway and of a caller the recording has the datagrams that were sent, and the
-# replay those that came, in their order.
+# Calls a gateway that records, under a controller who keeps changing conferences, and replays the recording. Checks,
+# for each port of the gateway and of a caller, that the recording has the datagrams that were sent, and the replay
+# those that arrived, in order.
 # usage: calls.sh [--wrong[=KIND]] [SECONDS] [CALLERS]
-# With --wrong a line of a kind, rtp, tick or control, is taken out of the midst of the recording before it is replayed,
-# and the difference has to be found.
-# It needs gcc, and for ten minutes of 128 callers 1.5 GB. Ends with 0 where all of it held.
+# With --wrong, a line of a kind (rtp, tick or control) is removed from the middle of the recording before the replay,
+# and the difference must be found.
+# It needs gcc, and 1.5 GB for ten minutes of 128 callers. Exits with 0 if every check passes.
 set -euo pipefail
 wrong='' wanted=0
 case ${1:-} in
@@ -30,7 +30,7 @@ names='address|control-address|control-port|base-port|slots|first-termination|fi
 [[ $title =~ ^'# mg_bridge replay'(\ --($names)=[0-9.]+)*$ ]] || { echo "no title: $title"; exit 1; }
 read -ra words <<< "$title"
 
-# Prints the whole lines of the recording, but for the one of a kind in its midst, if a kind is named.
+# Prints the complete lines of the recording, without the middle one of a kind, if a kind is named.
 recording() {
     if [ -n "${1:-}" ]; then
         recording | awk -v kind="$1" -v half=$(($(grep -c "^$1" "$work/out") / 2)) '$1 != kind || n++ != half'
@@ -38,7 +38,7 @@ recording() {
         head -n "$(wc -l < "$work/out")" "$work/out"
     fi
 }
-# Tells whether two lists of datagrams are equal, or how they differ.
+# Reports whether two lists of datagrams are equal, or how they differ.
 compare() {
     if diff "$work/$1" "$work/$2" > "$work/differences"; then
         echo equal

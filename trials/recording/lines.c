@@ -1,5 +1,5 @@
-/* Reads a recording or the output of its replay on standard input, and prints its datagrams as `calls` prints those
-   that it sent and was sent.
+/* Reads a recording or the output of its replay on standard input, and prints its datagrams in the form
+   in which `calls` prints those that it sent and received.
    usage: lines */
 #define _GNU_SOURCE
 #include "streams.h"

@@ -1,5 +1,5 @@
 /* Datagrams to or from a gateway on 127.0.0.1, as a count and a hash for each pair of the gateway's port and another.
-   The hash is the 64-bit FNV-1a over all datagrams in order: of each its length in two bytes, and its bytes. */
+   The hash is the 64-bit FNV-1a over all datagrams in order, each as its length in two bytes and its bytes. */
 #include <stdint.h>
 #include <stdio.h>
 #include <stdlib.h>

@@ -1,11 +1,11 @@
-/* Fault injection: a preloaded library that lets one of a program's calls fail.
+/* Fault injection: a preloaded library that makes one of a program's calls fail.
  *
- * REFUSE       the kind of call: memory, read, write, receive, send or wait, which asks which sockets are ready
+ * REFUSE       the kind of call: memory, read, write, receive, send or wait (for ready sockets)
  * REFUSE_AT    the number of the call of that kind that fails, from 1 on; 0 or absent: none
- * REFUSE_TOLD  a file that is made when a call fails
- * REFUSE_PIECE the greatest number of bytes of a read or a write; 0 or absent: no limit
+ * REFUSE_TOLD  a file that is created when a call fails
+ * REFUSE_PIECE the maximum number of bytes in a read or a write; 0 or absent: no limit
  *
- * An allocation that fails returns NULL, every other call EIO. */
+ * A failing allocation returns NULL, any other failing call EIO. */
 #define _GNU_SOURCE
 #include <dlfcn.h>
 #include <errno.h>

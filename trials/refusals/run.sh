@@ -1,7 +1,7 @@
 #!/bin/sh
-# Makes each allocation, read, write, receive, send and wait of the gateway fail in turn, one in a run, until a run has
-# no such call left. Checks what follows each failure. Prints how many runs there were, and exits with 1 at the first
-# that is wrong.
+# Makes each allocation, read, write, receive, send and wait of the gateway fail in turn, one per run, until no such
+# call is left. Checks what follows each failure. Prints how many runs there were, and exits with 1 at the first
+# wrong one.
 # usage: run.sh
 # It needs gcc, python3 and rt. `mg_bridge` is the one that `rt run` leaves in crates/mg_bridge/out. What is not built
 # yet is proved and built first, which takes half an hour. The runs take less than a minute.
@@ -26,7 +26,7 @@ wrong() {
     exit 1
 }
 
-# Runs a program while a call of a kind fails, with reads and writes of at most so many bytes.
+# Runs a program while a call of a kind fails, with reads and writes of at most PIECE bytes.
 # usage: refused KIND AT PIECE INPUT PROGRAM WORD ..
 refused() {
     kind=$1 at=$2 piece=$3 input=$4
@@ -47,7 +47,7 @@ ended() {
     [ "$(cat "$work/errors")" = "$2" ] || wrong "not '$2'"
 }
 
-# Checks that the output is the front of the stored output.
+# Checks that the output is a prefix of the stored output.
 is_front() {
     head -c "$(wc -c < "$work/out")" "$output" | cmp -s - "$work/out" \
         || wrong 'what was written is no front of the output'
@@ -58,7 +58,7 @@ is_whole_lines() {
     [ -z "$(tail -c 1 "$work/out")" ] || wrong 'what was written ends within a line'
 }
 
-# Checks that the output is that of the complete lines in so many bytes of the script.
+# Checks that the output is that of the complete lines in the given number of bytes of the script.
 is_of_bytes() {
     head -c "$1" "$script" > "$work/bytes"
     head -n "$(wc -l < "$work/bytes")" "$work/bytes" > "$work/lines"
@@ -72,7 +72,7 @@ is_whole() {
     cmp -s "$work/out" "$1" || wrong 'the output is not as stored'
 }
 
-# Checks the run in which no call fails any more, after at least one in which a call failed.
+# Checks the run in which no call fails anymore, after at least one in which a call failed.
 is_last() {
     [ "$at" -gt 1 ] || wrong 'nothing was refused'
     is_whole "$1"
@@ -93,7 +93,7 @@ while replay memory "$k"; was_refused; do
         [ "$spared" = 1 ] || wrong 'not status 4'
         is_whole "$output"
     else
-        ended 4 'no memory'
+        ended 4 'out of memory'
         is_front
         is_whole_lines
     fi

@@ -3,7 +3,7 @@
 usage: serve.py BRIDGE LIBRARY KIND
 
 Each session is a conversation of a controller and two callers: an Add of both, 20 ms of speech, three ticks and a
-heartbeat. What is not answered, or not counted, is sent again or polled for again. Exits with 1 at the first session
+heartbeat. Whatever is not answered or not counted is sent or polled for again. Exits with 1 at the first session
 that is wrong.
 """
 import os
@@ -31,7 +31,7 @@ FAILED = {"read": "read failed\n", "write": "write failed\n"}
 
 
 class Wrong(Exception):
-    """What was seen is not what must follow."""
+    """What happened is not what must happen."""
 
 
 class Ended(Exception):
@@ -44,7 +44,7 @@ def expect(holds, what):
 
 
 def came(s):
-    """Returns the datagrams that wait at a socket."""
+    """Returns the datagrams waiting at a socket."""
     datagrams = []
     while True:
         try:
@@ -186,7 +186,7 @@ class Session:
         if refused and KIND in FAILED:
             expect((status, errors) == (3, FAILED[KIND]), f"status {status}, {errors!r}")
         elif refused and KIND == "memory" and not self.printed:
-            expect((status, errors) == (4, "no memory\n"), f"status {status}, {errors!r}")
+            expect((status, errors) == (4, "out of memory\n"), f"status {status}, {errors!r}")
         else:
             expect(not ended and (status, errors) == (0, ""), f"status {status}, {errors!r}")
             failed = self.counts["failed"]

@@ -18,7 +18,7 @@ at_address text = codes "serve" ∷ codes "--address" ∷ text ∷ []
 
 -- under anybody's control, with a report every so many seconds, and without a recording
 abbrev anybody : ℕ → Service
-anybody report = record { controllers = []; report = report; records = false }
+anybody report = record { controllers = []; report = report; records = false; symmetric_rtp = false }
 
 replay_by_itself : requested (codes "replay" ∷ []) ≡ Ok (Replay standard Sent)
 unfolding requested command_line options config_at clap_on_literals
@@ -60,6 +60,11 @@ live_records : requested (codes "live" ∷ codes "--record" ∷ codes "--late=1"
     Ok (Live standard (record (anybody 0) { records = true }) 1)
 unfolding requested command_line options config_at clap_on_literals
 live_records = refl
+
+live_symmetric : requested (codes "live" ∷ codes "--symmetric-rtp" ∷ []) ≡
+    Ok (Live standard (record (anybody 0) { symmetric_rtp = true }) 5)
+unfolding requested command_line options config_at clap_on_literals
+live_symmetric = refl
 
 records_no_value : requested (codes "live" ∷ codes "--record=yes" ∷ []) ≡ Err (kind.TooManyValues ∷ [])
 unfolding requested command_line options config_at clap_on_literals

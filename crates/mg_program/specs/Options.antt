@@ -52,8 +52,9 @@ flag_rule name = record (new_rule name) { long = Some name; action = Some SetTru
 -- a subcommand of a gateway on sockets
 abbrev pub sockets_line : Text → App
 sockets_line name =
-    with_rule (with_rule (with_rule (subcommand_line name) controller_rule)
-    (number_rule (codes "report") 0 65535)) (flag_rule (codes "record"))
+    with_rule (with_rule (with_rule (with_rule (subcommand_line name) controller_rule)
+    (number_rule (codes "report") 0 65535)) (flag_rule (codes "record")))
+    (flag_rule (codes "symmetric-rtp"))
 
 -- the subcommand that runs a script
 abbrev pub replay_line : App
@@ -110,6 +111,7 @@ service_of controllers found = record {
   controllers = controllers;
   report = number_or 65536 (codes "report") 0 found;
   records = is_set (codes "record") found;
+  symmetric_rtp = is_set (codes "symmetric-rtp") found;
 }
 
 -- the run that a subcommand asks for, with the maximum lateness, in ticks, of a tick whose packets

@@ -29,7 +29,11 @@ FailsToStart config status = ⊥
 
 -- the setup of a session, as the program makes it
 abbrev pub setup_of : Config → Service → Setup
-setup_of config service = record { config = config; controllers = service.controllers }
+setup_of config service = record {
+  config = config;
+  controllers = service.controllers;
+  symmetric_rtp = service.symmetric_rtp;
+}
 
 -- The ports were bound, and a gateway ran, as far as the status reports. Its sockets don't log
 -- their calls. The output is a recording if that was requested.

@@ -102,6 +102,9 @@ fn on_sockets<'a>(alloc: Global, name: &'a str, about: &'a str) -> Result<Comman
         ))?
         .arg(flag(alloc, "record").help(
             "Record all events on standard output, for `mg_bridge replay`",
+        ))?
+        .arg(flag(alloc, "symmetric-rtp").help(
+            "Accept RTP only from the address and port of a termination's Remote (RFC 4961)",
         ))?;
     Ok(command)
 }
@@ -242,6 +245,7 @@ fn service_of(controllers: Controllers, matches: &ArgMatches<'_>) -> Service
         controllers,
         report: report_of(matches),
         records: is_set("record", matches),
+        symmetric_rtp: is_set("symmetric-rtp", matches),
     }
 }
 

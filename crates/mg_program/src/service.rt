@@ -16,6 +16,8 @@ pub struct Service {
     pub report: u16,
     /// Whether the output is a recording.
     pub records: bool,
+    /// Whether callers use symmetric RTP: their packets come from the address and port of their Remote.
+    pub symmetric_rtp: bool,
 }
 
 impl Service {
@@ -23,7 +25,7 @@ impl Service {
     pub fn setup(&self, config: Config) -> Setup<'_>
         ensures value { result ≡ setup_of config self.now }
     {
-        Setup::new(config, self.controllers.as_slice())
+        Setup::new(config, self.controllers.as_slice(), self.symmetric_rtp)
     }
 
     /// Returns the title of the output, if it is a recording.

@@ -143,7 +143,7 @@ comes_read : (setup : Setup) (socket : ℕ) → IsValidConfig setup.config → s
     (datagram : Peer × List ℕ) (w next : World) (p : List TraceEntry) → ReceivesDatagram setup socket datagram w p next → AreRead p
 comes_read setup socket valid lt datagram w next p (others, fits, is, h) =
     read_as p (Called (Receive socket (Delivered datagram.0 datagram.1)) ∷ others) is
-    (become_read (is_admitted setup socket datagram.0.address) setup socket valid lt datagram w next others fits h)
+    (become_read (is_admitted setup w socket datagram.0) setup socket valid lt datagram w next others fits h)
 
 ends_read : (socket arrived : ℕ) (p : List TraceEntry) → EndsTurn socket arrived p → AreRead p
 ends_read socket arrived p (inl h) = read_as p [] h.1 (All-nil IsRecorded)

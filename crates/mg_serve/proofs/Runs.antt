@@ -114,7 +114,7 @@ comes_ran setup socket datagram w next p (others, fits, is, h) =
     let receive = Called (Receive socket (Delivered datagram.0 datagram.1)) in
     ran_as setup w next p (receive ∷ others) is
     (ran_both setup w w next (receive ∷ []) others (no_run setup w w (receive ∷ []) refl refl refl)
-    (become_ran (is_admitted setup socket datagram.0.address) setup socket datagram w next others h))
+    (become_ran (is_admitted setup w socket datagram.0) setup socket datagram w next others h))
 
 ends_ran : (setup : Setup) (socket n : ℕ) (w : World) (p : List TraceEntry) → EndsTurn socket n p → SendsAreARun setup w p w
 ends_ran setup socket n w p (inl h) = ran_as setup w w p [] h.1 (no_run setup w w [] refl refl refl)

@@ -66,14 +66,27 @@ pub not_admitted : (setup : Setup) (socket : ℕ) (datagram : Peer × List ℕ) 
     LeadsByTrace core core x x (Becomes false setup socket datagram)
 not_admitted setup socket datagram core x = takes_none core x (Becomes false setup socket datagram) (λ w. (refl, refl))
 
+-- what a datagram becomes, by whether its sender is admitted in this world
+abbrev pub BecomesIfAdmitted : Setup → ℕ → Peer × List ℕ → World → List TraceEntry → World → Type 0
+BecomesIfAdmitted setup socket datagram w trace next =
+    Becomes (is_admitted setup w socket datagram.0) setup socket datagram w trace next
+
+pub by_admission : (admitted : Bool) (setup : Setup) (socket : ℕ) (datagram : Peer × List ℕ) (old new : CoreState)
+    (x y : Outside) → ((w : World) → StandsFor old w → admitted ≡ is_admitted setup w socket datagram.0) →
+    LeadsByTrace old new x y (Becomes admitted setup socket datagram) →
+    LeadsByTrace old new x y (BecomesIfAdmitted setup socket datagram)
+by_admission admitted setup socket datagram old new x y same h w stands =
+    let (trace, next, logged, becomes, after) = h w stands in
+    (trace, next, logged, subst (λ (b : Bool). Becomes b setup socket datagram w trace next) (same w stands) becomes, after)
+
 -- a receive that gave a datagram
 pub arrived : (setup : Setup) (socket : ℕ) (source : Peer) (bytes : List ℕ) (old new : CoreState) (x y z : Outside) →
     IsDatagram source bytes → LogsTrace x y (Called (Receive socket (Delivered source bytes)) ∷ []) →
-    LeadsByTrace old new y z (Becomes (is_admitted setup socket source.address) setup socket (source, bytes)) →
+    LeadsByTrace old new y z (BecomesIfAdmitted setup socket (source, bytes)) →
     LeadsByTrace old new x z (Received setup socket true)
 arrived setup socket source bytes old new x y z fits logged h =
     takes_after old new x y z (Called (Receive socket (Delivered source bytes)) ∷ [])
-    (Becomes (is_admitted setup socket source.address) setup socket (source, bytes))
+    (BecomesIfAdmitted setup socket (source, bytes))
     (Received setup socket true) logged h (λ w next q s. ((source, bytes), (q, fits, refl, s)))
 
 -- ## A turn
@@ -204,7 +217,7 @@ quiet_comes : (setup : Setup) (socket : ℕ) (datagram : Peer × List ℕ) (w ne
     ReceivesDatagram setup socket datagram w p next → IsQuiet p
 quiet_comes setup socket datagram w next p (others, fits, is, h) =
     quiet_as p (Called (Receive socket (Delivered datagram.0 datagram.1)) ∷ others) is
-    (quiet_becomes (is_admitted setup socket datagram.0.address) setup socket datagram w next others h)
+    (quiet_becomes (is_admitted setup w socket datagram.0) setup socket datagram w next others h)
 
 quiet_end : (socket arrived : ℕ) (p : List TraceEntry) → EndsTurn socket arrived p → IsQuiet p
 quiet_end socket arrived p (inl h) = quiet_as p [] h.1 refl

@@ -66,7 +66,7 @@ abbrev pub ReceivesDatagram : Setup → ℕ → Peer × List ℕ → World → L
 ReceivesDatagram setup socket datagram w trace next =
     (others : List TraceEntry) × IsDatagram datagram.0 datagram.1
     × (trace ≡ Called (Receive socket (Delivered datagram.0 datagram.1)) ∷ others)
-    × Becomes (is_admitted setup socket datagram.0.address) setup socket datagram w others next
+    × Becomes (is_admitted setup w socket datagram.0) setup socket datagram w others next
 
 -- ## A poll
 

@@ -4,6 +4,8 @@ use mg_core::{Counts, DROP_CAUSES, Taken};
 #[derive(Clone, Copy, Debug, PartialEq, Eq)]
 pub struct PortCounts {
     pub counts: Counts,
+    /// RTP datagrams that were dropped because of their sender.
+    pub strangers: u64,
     /// The termination that had the port at the last report, if its caller was expected to send.
     expected: Option<u32>,
     /// The tick of the last packet that a play list accepted, or of the report from which packets were expected, if
@@ -15,6 +17,7 @@ impl PortCounts {
     pub fn new() -> Self {
         PortCounts {
             counts: Counts::new(),
+            strangers: 0,
             expected: None,
             heard: 0,
         }
@@ -26,6 +29,11 @@ impl PortCounts {
         if let Taken::Placed(_) = taken {
             self.heard = ticks;
         }
+    }
+
+    /// Counts an RTP datagram that was dropped because of its sender.
+    pub fn count_stranger(&mut self) {
+        self.strangers = self.strangers.saturating_add(1);
     }
 
     /// Returns how many ticks an expected caller has been silent.
@@ -44,7 +52,7 @@ impl PortCounts {
     }
 
     /// Returns whether the caller would sound bad: packets were dropped, late, too early or duplicates, or the play
-    /// list restarted.
+    /// list restarted; or whether strangers sent to the port.
     pub fn has_trouble(&self) -> bool {
         let [started, _, pushed, again, late] = self.counts.placed;
         started > 1
@@ -52,10 +60,12 @@ impl PortCounts {
             || again > 0
             || late > 0
             || self.counts.dropped != [0; DROP_CAUSES]
+            || self.strangers > 0
     }
 
     /// Resets the counts after a report.
     pub fn clear(&mut self) {
         self.counts = Counts::new();
+        self.strangers = 0;
     }
 }

@@ -41,6 +41,13 @@ impl<'a, E: Write> Reports<'a, E> {
         }
     }
 
+    /// Counts an RTP datagram at a media socket that was dropped because of its sender.
+    pub fn count_stranger(&mut self, slot: u16) {
+        if let Some(port) = self.ports.get_mut(usize::from(slot).wrapping_sub(1)) {
+            port.count_stranger();
+        }
+    }
+
     /// Counts the packets of a late tick. The next tick that is on time prints how many there were.
     pub fn count_late(&mut self, timing: Timing, packets: u64) {
         if timing == Timing::Late {
@@ -77,7 +84,7 @@ impl<'a, E: Write> Reports<'a, E> {
             print_port(
                 config.base_port.wrapping_add(2 * u16::from(slot)),
                 held.map_or(0, |record| record.number),
-                &port.counts,
+                port,
                 silent / TICKS,
                 self.writer,
             );
@@ -123,14 +130,22 @@ fn print_totals<E: Write>(counts: &Counts, strangers: u64, writer: &mut E) {
 }
 
 /// Prints what arrived at a media port since the last report. `termination` is 0 if no termination has the port.
-fn print_port<E: Write>(port: u16, termination: u32, counts: &Counts, silent: u64, writer: &mut E) {
+fn print_port<E: Write>(
+    port: u16,
+    termination: u32,
+    arrived: &PortCounts,
+    silent: u64,
+    writer: &mut E,
+) {
+    let counts = arrived.counts;
+    let strangers = arrived.strangers;
     let [started, _, pushed, again, late] = counts.placed;
     let [a, b, c, d, e, f] = counts.dropped;
     let packets = counts.media;
     let mut line = Text::new();
     let _ = writeln!(
         line,
-        "trouble port={port} termination={termination} packets={packets} started={started} pushed={pushed} again={again} late={late} dropped={a},{b},{c},{d},{e},{f} silent={silent}"
+        "trouble port={port} termination={termination} packets={packets} started={started} pushed={pushed} again={again} late={late} dropped={a},{b},{c},{d},{e},{f} strangers={strangers} silent={silent}"
     );
     write_line(&line, writer);
 }

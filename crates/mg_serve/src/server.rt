@@ -9,10 +9,11 @@ ghost use Rattle.mg_ports.specs.Calls.{Logged};
 ghost use Rattle.mg_serve.specs.Lines.{is_quit};
 ghost use Rattle.mg_core.specs.Peer.{peer};
 ghost use Rattle.mg_core.specs.Recording.{IsDatagram};
-ghost use Rattle.std.specs.Option.{option_map};
+ghost use Rattle.mg_rooms.specs.Registry.{holder_of};
+ghost use Rattle.std.specs.Option.{option_and_then, option_map};
 ghost use Rattle.mg_serve.specs.Serve.{opening};
 ghost use Rattle.mg_serve.specs.Session.{Becomes, Performs, HandlesEvent, LacksMemory, SocketTurn, event_at, send_of};
-ghost use Rattle.mg_serve.specs.Setup.{is_admitted};
+ghost use Rattle.mg_serve.specs.Setup.{is_admitted, is_remote};
 ghost use Rattle.mg_serve.specs.Trace.{Called, Happened};
 ghost use Rattle.mg_serve.specs.aids.Driving.{Received};
 ghost use Rattle.mg_serve.specs.aids.Printing.{Prints};
@@ -28,6 +29,7 @@ use mg_clock::Timing;
 use mg_core::{Answer, Config, Core, Counts, DATAGRAM_LIMIT, Datagram, Peer, StartFault};
 use mg_lines::WriteFailed;
 use mg_ports::Ports;
+use mg_sdp::Chosen;
 use std::alloc::{AllocError, Global};
 use std::io::Write;
 
@@ -79,6 +81,16 @@ fn send_packets<P: Ports>(ports: &mut P, setup: &Setup<'_>, packets: &[Datagram]
             &packet.bytes,
             sent,
         );
+    }
+}
+
+/// Returns whether a peer has the address and the port of a Remote.
+fn is_remote(remote: Option<Chosen>, peer: Peer) -> bool
+    ensures value { result ≡ is_remote remote peer }
+{
+    match remote {
+        Some(to) => to.address == peer.address && to.port == peer.port,
+        None => false,
     }
 }
 
@@ -213,6 +225,27 @@ impl<'a, E: Write> Server<'a, E> {
         self.reports.count(socket, taken, self.core.counts().ticks);
     }
 
+    /// Returns whether a datagram from this peer is accepted at a socket.
+    fn admits(&self, setup: &Setup<'_>, socket: u16, source: Peer) -> bool
+        requires sound { IsValidConfig setup.now.config }
+        requires last { socket ≤ setup.now.config.slots }
+        ensures value { (w : World) → StandsFor self.now.core.state w →
+            result ≡ is_admitted setup.now w socket source }
+    {
+        if socket == 0 {
+            return setup.may_command(source.address);
+        }
+        !setup.symmetric_rtp() || is_remote(self.remote((socket - 1) as u8), source)
+    }
+
+    /// Returns the Remote of the termination in a slot.
+    fn remote(&self, slot: u8) -> Option<Chosen>
+        ensures value { (w : World) → StandsFor self.now.core.state w →
+            result ≡ option_and_then (λ r. r.remote) (holder_of w.gateway.rooms slot) }
+    {
+        self.core.rooms().held(slot)?.remote
+    }
+
     /// Handles a datagram from a socket, if its sender is admitted.
     fn take<P: Ports, W: Write>(
         &mut self,
@@ -230,10 +263,11 @@ impl<'a, E: Write> Server<'a, E> {
         ensures value { LeadsByTrace self.old.core.state self.new.core.state
             (outside (P.calls ports.old) (W.contents writer.old) self.old.printer)
             (outside (P.calls ports.new) (W.contents writer.new) self.new.printer)
-            (Becomes (is_admitted setup.now socket source.address) setup.now socket (source, bytes.now)) }
+            (λ w. Becomes (is_admitted setup.now w socket source) setup.now socket (source, bytes.now) w) }
     {
-        if !setup.admits(socket, source.address) {
+        if !self.admits(setup, socket, source) {
             self.strangers = self.strangers.saturating_add(1);
+            self.reports.count_stranger(socket);
         } else if socket == 0 {
             self.take_control(alloc, setup, ports, source, bytes, writer);
         } else {

@@ -30,7 +30,7 @@ fn record<W: Write>(
     let mut reports = Vec::new(alloc);
     let result = serve(
         alloc,
-        &Setup::new(config(), &[]),
+        &Setup::new(config(), &[], false),
         Some(title),
         &mut ports,
         &mut input,

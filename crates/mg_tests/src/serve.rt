@@ -95,7 +95,7 @@ fn session(
     let mut reports = Vec::new(alloc);
     let result = serve(
         alloc,
-        &Setup::new(config(), &[]),
+        &Setup::new(config(), &[], false),
         None,
         &mut ports,
         &mut input,
@@ -134,7 +134,7 @@ fn loses_the_packet_whose_send_fails(rt: HostRuntime) -> Result<(), Fail> {
     let mut reports = Vec::new(alloc);
     let result = serve(
         alloc,
-        &Setup::new(config(), &[]),
+        &Setup::new(config(), &[], false),
         None,
         &mut ports,
         &mut input,
@@ -297,7 +297,7 @@ fn reported(alloc: Global, seconds: u16, ticks: u64) -> Result<Vec<u8>, AllocErr
     let mut reports = Vec::new(alloc);
     let _ = serve(
         alloc,
-        &Setup::new(config(), &[]),
+        &Setup::new(config(), &[], false),
         None,
         &mut ports,
         &mut input,
@@ -316,12 +316,12 @@ fn reports_what_had_trouble(rt: HostRuntime) -> Result<(), Fail> {
     let first =
         b"totals control=1 media=2 ticks=50 sent=51 failed=0 strangers=0 started=0 placed=0 pushed=0 again=0 late=0 \
         dropped=1,0,0,1,0,0 concealed=0\n\
-        trouble port=30000 termination=1 packets=1 started=0 pushed=0 again=0 late=0 dropped=0,0,0,1,0,0 silent=0\n\
-        trouble port=30002 termination=0 packets=1 started=0 pushed=0 again=0 late=0 dropped=1,0,0,0,0,0 silent=0\n";
+        trouble port=30000 termination=1 packets=1 started=0 pushed=0 again=0 late=0 dropped=0,0,0,1,0,0 strangers=0 silent=0\n\
+        trouble port=30002 termination=0 packets=1 started=0 pushed=0 again=0 late=0 dropped=1,0,0,0,0,0 strangers=0 silent=0\n";
     let second =
         b"totals control=1 media=2 ticks=100 sent=101 failed=0 strangers=0 started=0 placed=0 pushed=0 again=0 late=0 \
         dropped=1,0,0,1,0,0 concealed=0\n\
-        trouble port=30000 termination=1 packets=0 started=0 pushed=0 again=0 late=0 dropped=0,0,0,0,0,0 silent=1\n";
+        trouble port=30000 termination=1 packets=0 started=0 pushed=0 again=0 late=0 dropped=0,0,0,0,0,0 strangers=0 silent=1\n";
     let both = reported(alloc, 1, 100)?;
     assert_eq!(rt;
         both.as_slice().strip_prefix(first.as_slice()),
@@ -343,7 +343,7 @@ fn refuses_a_bad_configuration(rt: HostRuntime) -> Result<(), Fail> {
     let mut reports = Vec::new(alloc);
     let result = serve(
         alloc,
-        &Setup::new(config, &[]),
+        &Setup::new(config, &[], false),
         None,
         &mut ports,
         &mut input,
@@ -370,7 +370,7 @@ fn ends_where_a_read_fails(rt: HostRuntime) -> Result<(), Fail> {
     let mut reports = Vec::new(alloc);
     let result = serve(
         alloc,
-        &Setup::new(config(), &[]),
+        &Setup::new(config(), &[], false),
         None,
         &mut ports,
         &mut input,
@@ -391,7 +391,7 @@ fn call_log_with_writer(alloc: Global, calls: usize, lines: &[u8]) -> Result<Str
     let mut reports = Vec::new(alloc);
     let result = serve(
         alloc,
-        &Setup::new(config(), &[]),
+        &Setup::new(config(), &[], false),
         None,
         &mut ports,
         &mut input,
@@ -449,7 +449,7 @@ fn takes_messages_of_controllers_alone(rt: HostRuntime) -> Result<(), Fail> {
     let mut reports = Vec::new(alloc);
     let result = serve(
         alloc,
-        &Setup::new(config(), &controllers),
+        &Setup::new(config(), &controllers, false),
         None,
         &mut ports,
         &mut input,
@@ -461,6 +461,56 @@ fn takes_messages_of_controllers_alone(rt: HostRuntime) -> Result<(), Fail> {
     assert_eq!(rt; call_log(alloc, &ports)?.as_str(), "c0c0a0c0c0a0n0c1n1n2");
     let wanted: &[u8] = b"totals control=2 media=1 ticks=50 sent=2 failed=0 strangers=2 ";
     assert!(rt; reports.as_slice().starts_with(wanted));
+    Ok(())
+}
+
+/// Returns the reports of a session of 50 ticks. A termination's Remote is port 40000 of 127.0.0.1. Packets arrive at its
+/// port from there and from port 40001, and at a port without a termination.
+fn reported_with(alloc: Global, symmetric_rtp: bool) -> Result<Vec<u8>, AllocError> {
+    let mut arrivals = Vec::new(alloc);
+    let waiting: [(usize, u16, &[u8]); 4] = [
+        (0, 2945, ADD),
+        (1, 40000, b"x"),
+        (1, 40001, b"x"),
+        (2, 40000, b"x"),
+    ];
+    for (socket, port, bytes) in waiting {
+        let address = [127, 0, 0, 1];
+        arrivals.push(Arrival {
+            socket,
+            source: Peer { address, port },
+            payload: Payload::new(alloc, bytes)?,
+        })?;
+    }
+    let mut ports = FakePorts::new(alloc, arrivals, Vec::new(alloc));
+    let lines = poll_and_ticks(alloc, 50)?;
+    let mut input = lines.as_bytes();
+    let mut printed = Vec::new(alloc);
+    let mut reports = Vec::new(alloc);
+    let _ = serve(
+        alloc,
+        &Setup::new(config(), &[], symmetric_rtp),
+        None,
+        &mut ports,
+        &mut input,
+        &mut printed,
+        1,
+        &mut reports,
+    );
+    Ok(reports)
+}
+
+#[test]
+fn takes_packets_from_remotes_alone(rt: HostRuntime) -> Result<(), Fail> {
+    let alloc = rt.alloc();
+    let wanted =
+        b"totals control=1 media=1 ticks=50 sent=51 failed=0 strangers=2 started=0 placed=0 pushed=0 again=0 late=0 \
+        dropped=0,0,0,1,0,0 concealed=0\n\
+        trouble port=30000 termination=1 packets=1 started=0 pushed=0 again=0 late=0 dropped=0,0,0,1,0,0 strangers=1 silent=0\n\
+        trouble port=30002 termination=0 packets=0 started=0 pushed=0 again=0 late=0 dropped=0,0,0,0,0,0 strangers=1 silent=0\n";
+    assert_eq!(rt; reported_with(alloc, true)?.as_slice(), wanted.as_slice());
+    let wanted: &[u8] = b"totals control=1 media=3 ticks=50 sent=51 failed=0 strangers=0 ";
+    assert!(rt; reported_with(alloc, false)?.as_slice().starts_with(wanted));
     Ok(())
 }
 
@@ -496,7 +546,7 @@ fn begins_ticks_by_the_clock_until_it_fails(rt: HostRuntime) -> Result<(), Fail>
     let mut reports = Vec::new(alloc);
     let fault = serve_by_clock(
         alloc,
-        &Setup::new(config(), &[]),
+        &Setup::new(config(), &[], false),
         None,
         &mut ports,
         &mut watch,

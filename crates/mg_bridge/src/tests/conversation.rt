@@ -84,7 +84,7 @@ fn serve_lines<P: Ports>(
     let mut reports = Vec::new(alloc);
     let result = serve(
         alloc,
-        &Setup::new(config, &[]),
+        &Setup::new(config, &[], false),
         None,
         ports,
         &mut input,

@@ -9,4 +9,5 @@ returns-clause-app c =
     c.controller_option.ensures.rule refl in
     let report = adds_rule _ _ _ _ _ c.in_ok-arg-2.ensures controller
     (ap rule_of c.help.ensures ∙ c.short_number.ensures.rule) refl in
-    adds_rule _ _ _ _ _ c.in_ok-command.ensures report (ap rule_of c.help-2.ensures ∙ c.flag.ensures.rule) refl
+    let record_rule = adds_rule _ _ _ _ _ c.in_ok-arg-3.ensures report (ap rule_of c.help-2.ensures ∙ c.flag.ensures.rule) refl in
+    adds_rule _ _ _ _ _ c.in_ok-command.ensures record_rule (ap rule_of c.help-3.ensures ∙ c.flag-2.ensures.rule) refl

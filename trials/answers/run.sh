@@ -4,12 +4,7 @@
 # It needs gcc and python3, and tries the program in dist/, or the one at PATH. It takes a minute and a half.
 set -eu
 here=$(CDPATH= cd -- "$(dirname -- "$0")" && pwd)
-gateway=$here/../../dist/mg_bridge
-case "$# ${1:-}" in
-    '0 ') ;;
-    '2 --gateway') gateway=$2 ;;
-    *) echo 'usage: run.sh [--gateway PATH]' >&2; exit 2 ;;
-esac
+. "$here/../gateway_option.sh"
 # The scheduling policy of the unit file, if it is allowed.
 policy=
 if chrt -f 10 true 2> /dev/null; then policy='chrt -f 10'; fi

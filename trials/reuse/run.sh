@@ -4,10 +4,5 @@
 # It needs python3, and tries the program in dist/, or the one at PATH. It takes ten seconds.
 set -eu
 here=$(CDPATH= cd -- "$(dirname -- "$0")" && pwd)
-gateway=$here/../../dist/mg_bridge
-case "$# ${1:-}" in
-    '0 ') ;;
-    '2 --gateway') gateway=$2 ;;
-    *) echo 'usage: run.sh [--gateway PATH]' >&2; exit 2 ;;
-esac
+. "$here/../gateway_option.sh"
 PYTHONPATH=$here/.. exec python3 "$here/reuse.py" "$gateway"

@@ -11,8 +11,8 @@
 //! ```
 //!
 //! [`run`] does this for each line of a script. Contracts describe the worlds that a core's state represents
-//! (`StandsFor` in `specs/World.antt`). When a core handles an event, each of these worlds takes the step that `Step` in
-//! `specs/Step.antt` defines. So after any list of events, its flows, totals and packets equal the recomputed ones
+//! (`StandsFor` in `specs/World.antt`). Every event advances each of these worlds by one `Step` (`specs/Step.antt`). So
+//! after any list of events, the core's flows, totals and packets equal those recomputed from scratch
 //! (`specs/Headline.antt`). A retransmitted request is answered with its kept reply, and is not run twice
 //! (`specs/Retransmissions.antt`).
 #![tactic(auto)]

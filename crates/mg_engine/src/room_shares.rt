@@ -43,7 +43,7 @@ impl RoomShares {
         self.shares.clear();
     }
 
-    /// Finds a packet with the sum of these talkers in this law, among the newest packets.
+    /// Searches the newest packets for one that carries the sum of these talkers, encoded in this law.
     ///
     /// If everybody in a room talks, no two members hear the same sum. The room then has a packet for each member, and
     /// searching all of them for every member would be quadratic. Members that only listen find theirs among the newest.
@@ -67,7 +67,7 @@ impl RoomShares {
     }
 }
 
-/// Returns the first packet with the sum of these talkers in this law.
+/// Returns the first packet that carries the sum of these talkers, encoded in this law.
 fn packet_among(shares: &[Share], talkers: Mask, law: Law) -> Option<u8>
     ensures found { IfSome result (λ packet. Contains shares.now
         (record { talkers = talkers; law = law; packet = packet })) }

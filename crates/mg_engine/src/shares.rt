@@ -47,7 +47,7 @@ impl Shares {
         clear_all(&mut self.rooms);
     }
 
-    /// Finds a packet to this room with the sum of these talkers in this law.
+    /// Searches this room's newest packets for one that carries the sum of these talkers, encoded in this law.
     pub fn find(&self, room: u8, talkers: Mask, law: Law) -> Option<u8>
         requires room { room < context_limit }
         ensures found { IfSome result (λ packet. Contains (shares_in self.now room)

@@ -124,8 +124,8 @@ pub fn agreement_lasts()
 
 /// A packet depends only on what its listener hears and on the progress of the listener's packets.
 ///
-/// So suppose that two gateways agree outside some terminations, and that a listener hears none of these. In a tick,
-/// both send that listener the same packet, byte for byte.
+/// Take two gateways that differ only in some terminations, and a listener that hears none of them. In a tick, both
+/// gateways send this listener the same packet, byte for byte.
 pub fn packets_depend_on_heard()
     ensures theorem { PacketsDependOnHeard }
     ensures packets { SamePackets }

@@ -9,8 +9,8 @@
 //!
 //! [`serve`] is proved for any [`Ports`](mg_ports::Ports). On return, the complete lines that it read and their effects
 //! form a session (`specs/Session.antt`). So it drops no datagram that it received, reads the ports in order, and sends
-//! each answer and each packet once. [`theorems`] states more: a session sends what a run over its events sends, and
-//! its recording is a script of these events.
+//! each answer and each packet once. [`theorems`] goes further: a session sends what a run over its events sends, and
+//! reading its recording back gives the same events.
 #![tactic(auto)]
 
 mod clock_driver;

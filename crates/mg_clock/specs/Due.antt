@@ -5,12 +5,12 @@ use Rattle.std.specs.Prelude.{ℕ, ◌+◌, ◌*◌, ◌/◌, ◌<◌, ◌≤◌
 abbrev pub period : ℕ
 period = 20000000
 
--- How many ticks are due at a time: the k-th tick is due k * 20 ms after the start.
+-- How many ticks are due by a given time: the k-th tick is due k * 20 ms after the start.
 abbrev pub ticks_due : ℕ → ℕ
 ticks_due t = t / period
 
--- How many steps are due at a time, with this many polls per 20 ms. The j-th step is due at exactly
--- j * 20 ms / polls. A step is a poll, and the last step of each 20 ms is also a tick.
+-- How many steps are due by a given time, with this many polls per 20 ms. The j-th step is due at
+-- exactly j * 20 ms / polls. A step is a poll, and the last step of each 20 ms is also a tick.
 abbrev pub steps_due : ℕ → ℕ → ℕ
 steps_due polls t = t * polls / period
 

@@ -42,7 +42,7 @@ pub record IsReadUntilDue (tick now : ℕ) (old new : ClockSeen) : Type 0 where
   pub last : Appends before new.readings (now ∷ [])
   pub due : tick ≤ ticks_due now
 
--- whether a tick that begins at a time is late, if it may be this many ticks late
+-- whether a tick that begins at `now` counts as late: more than `allowed` ticks late
 abbrev pub timing_of : (tick allowed now : ℕ) → Timing
 timing_of tick allowed now = if nat_lt (tick + allowed) (ticks_due now) then Late else OnTime
 

@@ -9,13 +9,13 @@
 //! let step = schedule.next_step(&mut watch)?;
 //! ```
 //!
-//! A step is a poll; there are one or more per 20 ms. The last step of each 20 ms is a tick too ([`steps_due`]).
+//! A step is a poll; there are one or more per 20 ms. The last step of each 20 ms is also a tick ([`steps_due`]).
 //!
 //! [`Watch`] is a clock that can wait, and [`SystemWatch`] is the system's monotonic clock. Times are in nanoseconds
 //! since the start.
 //!
-//! Contracts describe a clock by its readings and waits. These are known for a scripted clock, but not for the
-//! system's.
+//! Contracts describe a clock by its readings and waits. These are known for a scripted clock, but not for the system
+//! clock.
 #![tactic(auto)]
 
 mod clock_failed;

@@ -35,8 +35,8 @@ impl TickSchedule {
         }
     }
 
-    /// Waits until the next tick is due and begins it, or until a message arrives before. After a delay, the ticks that
-    /// were missed are due at once. At most 20 messages are reported before each tick.
+    /// Waits until the next tick is due and begins it, or until a message arrives before that. After a delay, the ticks
+    /// that were missed are due at once. At most 20 messages are reported before each tick.
     ///
     /// [`ClockFailed`]: the clock can't be read, or 18,446,744,073,709,551,615 ticks have begun, or that many readings
     /// in a row were before the tick's time.
@@ -63,8 +63,8 @@ impl TickSchedule {
     }
 }
 
-/// Waits until a tick is due. Returns the first reading of the clock at or after its time, or `None` if a message
-/// arrived before and it `reports` messages.
+/// Waits until a tick is due. Returns the first reading of the clock at which it is due, or `None` if a message arrived
+/// before that and `reports` is true.
 fn wait_until_due<K: Watch>(
     tick: u64,
     reports: bool,

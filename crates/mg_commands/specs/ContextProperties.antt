@@ -1,6 +1,6 @@
 -- What an action asks of its context, in addition to its commands (RFC 3525, sections 7.1.18 and
--- 8.2.1): a topology, and an audit of it. The numbers of errors and the order of the checks are
--- this project's own.
+-- 8.2.1): a topology, and an audit of it. The error numbers and the order of the checks are this
+-- project's own.
 use Rattle.std.specs.Prelude.{ℕ, nat_lt, Bool, true, false, not, List, [], ◌∷◌, ◌++◌, length}
 use Rattle.std.specs.Prelude.{map, Option, Some, None, Result, Ok, if◌then◌else◌}
 use Rattle.std.specs.List.{list_any}

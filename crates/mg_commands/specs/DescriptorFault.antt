@@ -1,4 +1,4 @@
--- The first fault in a command's descriptors, in order of the text (RFC 3525, section 7.1). Which
+-- The first fault in a command's descriptors, in text order (RFC 3525, section 7.1). Which
 -- descriptors are supported is this project's choice.
 use Rattle.std.specs.Prelude.{ℕ, Bool, true, false, ◌&&◌, ◌==◌, List, [], Option, Some, None, codes}
 use Rattle.std.specs.Prelude.{if◌then◌else◌}
@@ -54,7 +54,7 @@ is_same_part source (parts.LocalControl n) (parts.LocalControl k) = n == k
 is_same_part source (parts.Control n a) (parts.Control k b) = n == k && same_control source a b
 is_same_part source _ _ = false
 
--- a descriptor that is not supported may be bare or have empty braces
+-- an unsupported descriptor may be bare or have empty braces
 abbrev pub is_unserved : Part → Bool
 is_unserved (parts.Other word has_content) = has_content
 is_unserved (parts.TerminationState has_content) = has_content

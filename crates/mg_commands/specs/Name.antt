@@ -9,7 +9,7 @@ use Rattle.mg_words.specs.Term.{rtp_name}
 use Rattle.mg_commands.specs.declared.name.Name.{Name}
 use Rattle.mg_commands.specs.declared.name.Name.TheVariants.{Root, Choose, All, Number, Other}
 
--- after RTP/: a mark, or a number without a leading zero
+-- after RTP/: $, *, or a number without a leading zero
 unfoldable pub name_in_rtp : List ℕ → Name
 name_in_rtp text =
     if bytes_eq text (codes "$") then Choose

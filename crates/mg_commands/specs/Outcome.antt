@@ -1,6 +1,6 @@
 -- The outcome of a command: the error of the first check that fails, or the result (RFC 3525,
--- section 7.2). The numbers of errors and the order of the checks are this project's own. The order
--- is: support, the descriptors, the properties, the name, then terminations and contexts.
+-- section 7.2). The error numbers and the order of the checks are this project's own. The order is:
+-- support, the descriptors, the properties, the name, then terminations and contexts.
 use Rattle.std.specs.Prelude.{ℕ, ◌&&◌, not, Bool, true, false, List, [], ◌∷◌, map, Option, Some}
 use Rattle.std.specs.Prelude.{None, is_some, Result, Ok, Err, codes, if◌then◌else◌}
 use Rattle.std.specs.Option.{option_and_then, option_map}
@@ -51,8 +51,8 @@ is_served_word words.Subtract = true
 is_served_word words.AuditValue = true
 is_served_word _ = false
 
--- What a command asks for, if its text is supported. W-, one reply for all matches (RFC 3525,
--- section 8.2.2), is not supported.
+-- What a command asks for, if its text is supported. W-, which requests one reply for all matches
+-- (RFC 3525, section 8.2.2), is not supported.
 abbrev pub check_command : List ℕ → Command → Result CommandParameters ErrorNumber
 check_command source c = do
   _ ← passes (is_served_word c.word && not c.wants_wildcard) errors.NotServed
@@ -185,8 +185,8 @@ pub record Trial : Type 0 where
   pub parameters : CommandParameters
   pub names : List Name
 
--- The checks before any name is tried: support, the descriptors, the properties, and for * the
--- identifier.
+-- The checks before any name is tried: support, the descriptors, the properties and, for *, whether
+-- it is allowed and matches a member.
 abbrev pub trial_of : List ℕ → Gateway → Target → Command → Result Trial ErrorNumber
 trial_of source w target c = do
   parameters ← check_command source c

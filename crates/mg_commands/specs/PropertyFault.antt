@@ -1,4 +1,4 @@
--- The first faulty property in a command's descriptors, in order of the text. Which properties are
+-- The first faulty property in a command's descriptors, in text order. Which properties are
 -- supported is this project's choice.
 use Rattle.std.specs.Prelude.{ℕ, ◌==◌, ◌&&◌, List, Option, Some, None, is_some}
 use Rattle.std.specs.Prelude.{if◌then◌else◌}

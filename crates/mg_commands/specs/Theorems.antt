@@ -81,8 +81,7 @@ abbrev pub depends_on_commands : Action → Bool
 depends_on_commands a =
     not (list_any is_topology a.properties) || list_any (λ c. not c.is_optional) a.commands
 
--- if every command of a request that was tried was rejected, the request leaves the gateway
--- unchanged
+-- if all commands that a request tried were rejected, the request leaves the gateway unchanged
 abbrev pub RefusedRequestsChangeNothing : Type 0
 RefusedRequestsChangeNothing =
     (source : List ℕ) (request : Request) (w : Gateway)

@@ -1,5 +1,5 @@
 -- A transaction: a request's commands and actions in order (RFC 3525, section 8.2.2). After an
--- error, nothing more is executed. Only the failure of an optional command stops nothing.
+-- error, nothing more is executed, unless the command that failed is optional.
 use Rattle.std.specs.Prelude.{ℕ, Bool, ◌&&◌, true, false, not, List, [], ◌∷◌, ◌++◌, Option}
 use Rattle.std.specs.Prelude.{None, Result, Ok, Err, if◌then◌else◌}
 use Rattle.std.specs.List.{fold}
@@ -58,14 +58,14 @@ with_name source c parameters s name =
     after_outcome c.word (written_as (text_of source c.term) name) s
     (outcome c.word s.gateway s.target name parameters)
 
--- a command that may be tried is tried for each name: a failure for one does not stop the others
+-- a command that can be tried is tried for each name: a failure for one does not stop the others
 abbrev pub with_trial : List ℕ → Command → TransactionState → Result Trial ErrorNumber
     → TransactionState
 with_trial source c s (Ok trial) = fold (with_name source c trial.parameters) s trial.names
 with_trial source c s (Err e) =
     after_outcome c.word (written_name (text_of source c.term)) s (Err e)
 
--- the failure of an optional command (O-) stops nothing
+-- an optional command (O-) that fails does not stop the transaction
 abbrev pub unless_optional : Command → TransactionState → TransactionState
 unless_optional c s = record s { has_stopped = s.has_stopped && not c.is_optional }
 

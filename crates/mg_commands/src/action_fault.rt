@@ -69,7 +69,7 @@ fn context_property_fault(
     }
 }
 
-/// Returns the first error of the properties, in order of the text.
+/// Returns the first error of the properties, in text order.
 #[tactic(auto, using(crate::proofs::FaultSteps::walking))]
 fn context_properties_fault(properties: &[ContextProperty]) -> Option<ErrorNumber>
     ensures value { result ≡ first_after context_property_fault [] properties.now }
@@ -85,7 +85,7 @@ fn context_properties_fault(properties: &[ContextProperty]) -> Option<ErrorNumbe
 
 /// Returns why an action is rejected as a whole, or `None` if it isn't.
 ///
-/// In that case, its topology has no more triples than the engine accepts.
+/// If it isn't, its topology has no more triples than the engine accepts.
 #[tactic(auto, using(crate::proofs::PropertySteps::few_triples))]
 pub fn action_fault(action: &Action) -> Option<ErrorNumber>
     ensures value { result ≡ action_fault action.now }

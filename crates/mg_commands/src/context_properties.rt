@@ -51,7 +51,7 @@ fn triples_of(source: &[u8], made: Option<u32>, triples: &[NamedTriple]) -> Topo
     topology
 }
 
-/// Returns the triples of the first Topology among properties, if there is one.
+/// Returns the triples of the first Topology among the properties, if there is one.
 fn topology_in(properties: &[ContextProperty]) -> &[NamedTriple]
     ensures value { result.now ≡ unwrap_or (first_of triples_in properties.now) [] }
 {

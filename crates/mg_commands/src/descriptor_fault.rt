@@ -166,7 +166,7 @@ fn stream_part_fault(
     }
 }
 
-/// Returns the first fault in a Stream after parts of its Media descriptor.
+/// Returns the first fault in a Stream, given the parts before it in its Media descriptor.
 #[tactic(auto, using(crate::proofs::FaultSteps::walking))]
 fn stream_fault(
     source: &[u8],

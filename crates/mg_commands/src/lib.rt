@@ -17,7 +17,7 @@
 //!
 //! A Modify, Subtract or AuditValue of `*` (RFC 3525, section 6.2.2) is tried on each current member of the action's
 //! context, in order of entry. The reply has an item for each. An error for one does not stop the others, but the
-//! command then counts as failed. If it may not be tried at all, the reply has one item, named `*`. That happens, for
+//! command then counts as failed. If it cannot be tried at all, the reply has one item, named `*`. That happens, for
 //! example, if a descriptor is faulty or the context has no members.
 //!
 //! A command marked `O-` (section 8.2.2) is optional: if it fails, the reply reports its error, and the next commands

@@ -7,8 +7,8 @@ use mg_text::RtpName;
 use mg_words::MEMBERS;
 use std::marker::Model;
 
-/// A member of a context with the name of its termination, so that the name is built only once. Contracts see the
-/// member.
+/// A member of a context, together with the name of its termination, so that the name is built only once. Contracts see
+/// the member.
 #[derive(Drop)]
 pub struct NamedMember {
     seated: SeatedMember,
@@ -28,7 +28,7 @@ impl Model for NamedMember {
 }
 
 impl NamedMember {
-    /// Makes the name of a member.
+    /// Returns a member together with its name.
     pub fn new(seated: SeatedMember) -> Self
         ensures value { result ≡ seated }
     {
@@ -63,7 +63,7 @@ impl Default for NamedMember {
     }
 }
 
-/// Makes the names of members.
+/// Returns members together with their names.
 pub fn named_members(members: &[SeatedMember]) -> ArrayVec<NamedMember, MEMBERS>
     requires few { length members.now ≤ MEMBERS }
     ensures value { result.items ≡ members.now }

@@ -1,14 +1,14 @@
 //! Properties of every transaction.
 //!
-//! The functions have no effect: their contracts are the theorems.
+//! The functions have empty bodies: their contracts are the theorems.
 
 ghost use Rattle.mg_commands.specs.aids.Agreement.{RequestsKeepAgreement};
 ghost use Rattle.mg_commands.specs.Theorems.{RefusedNamesChangeNothing, RefusedCommandsChangeNothing, RefusedActionsChangeNothing, RefusedTopologiesChangeNothing, OthersAreTried, RefusedRequestsChangeNothing, RequestsAreConsistent};
 
-/// Whatever is rejected changes only the reply, which reports the error.
+/// A rejection changes only the reply, which reports the error.
 ///
 /// The gateway, the action's context and the meaning of `$` are unchanged. This holds for a command on one name and for
-/// a command that may not be tried at all. It also holds for an action that is rejected before its commands. If an
+/// a command that cannot be tried at all. It also holds for an action that is rejected before its commands. If an
 /// action's topology is rejected, the effects of its commands remain. If a command for all members (`*`) is rejected
 /// for one of them, the others are still tried. So a request leaves the gateway unchanged if each command that was
 /// tried was rejected.
@@ -23,7 +23,7 @@ pub fn refused_commands_change_nothing()
 
 /// Every request preserves the consistency of terminations and contexts.
 ///
-/// So it holds after any requests, and a proof can use it without an engine.
+/// So they are consistent after any requests, and a proof can use this without an engine.
 pub fn requests_are_consistent()
     ensures theorem { RequestsAreConsistent }
 {

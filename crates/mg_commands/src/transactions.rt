@@ -87,7 +87,7 @@ fn try_members(
     (progress, were_done)
 }
 
-/// Reports that a command may not be tried at all.
+/// Reports that a command cannot be tried at all.
 fn put_refusal(source: &[u8], command: &Command, number: ErrorNumber, reply: &mut Reply)
     requires proper { command_is_proper source.now command.now ≡ true }
     ensures value { reply.new ≡ after_put reply.old
@@ -245,21 +245,21 @@ fn try_actions(engine: &mut Engine, source: &[u8], actions: &[Action], reply: &m
     }
 }
 
-/// Runs a request of the message `source`, and puts the outcomes of its commands into the reply, which it empties
-/// first.
+/// Runs a request from the message `source`, and puts the outcomes of its commands into the reply, which it first
+/// empties.
 ///
 /// Commands are tried in order, up to the first that fails. A command for all members (`*`) is tried on all of them,
-/// and fails if it fails for any. The failure of an optional command (`O-`) ends nothing. After its commands, an
-/// action's triples are applied, all or none, and then its audit is answered. An action that is rejected as a whole,
-/// before or after its commands, ends the request even if its commands are optional.
+/// and fails if it fails for any. If an optional command (`O-`) fails, the next commands are still tried. After its
+/// commands, an action's triples are applied, all or none, and then its audit is answered. An action that is rejected
+/// as a whole, before or after its commands, ends the request even if its commands are optional.
 pub fn transaction(engine: &mut Engine, source: &[u8], request: &Request, reply: &mut Reply)
     requires proper { request_is_proper source.now request.now ≡ true }
     ensures ran { Leads StandsFor engine.old engine.new (λ w next. ((replied source.now request.now w).gateway ≡ next)
         × (reply.new ≡ after_all (new_reply request.now.number) (replied source.now request.now w).items)) }
     ensures whole { IsWhole reply.new }
 
-    // Each item has at least 10 bytes with its comma, and the last one ends an action. So whether a reply is too long
-    // depends only on the length of its text.
+    // Each item has at least 10 bytes, including its comma, and the last one ends an action. So whether a reply is too
+    // long depends only on the length of its text.
     ensures wide { (w : Gateway) → list_all is_wide (replied source.now request.now w).items ≡ true }
     ensures ended { (w : Gateway) → (is_refusal (replied source.now request.now w).items
         || last_is_action false (replied source.now request.now w).items) ≡ true }

@@ -45,8 +45,8 @@ has_requests xs = list_any is_request xs
 
 -- ## A request
 
--- The reply to a request that is run, and the world after it: the gateway after its commands, and
--- the reply is kept.
+-- The reply to a request that is run, and the world after it, with the gateway after its commands
+-- and the reply kept.
 abbrev pub run_and_kept : List ℕ → ℕ → World → TransactionState → List ℕ × World
 run_and_kept sender n w s =
     let text = sent_text n s.items in (
@@ -57,8 +57,8 @@ run_and_kept sender n w s =
       },
     )
 
--- The reply to a sender's request, and the world after it (RFC 3525, section 8.2). If its reply is
--- kept, that is sent, and the world is unchanged.
+-- The reply to a sender's request, and the world after it (RFC 3525, section 8.2). If a reply to it
+-- is kept, that reply is sent and the world is unchanged.
 abbrev pub request_replied : List ℕ → List ℕ → Request → World → List ℕ × World
 request_replied source sender request w =
     option_map_or (λ text. (text, w)) (kept_text w.replies sender request.number)
@@ -72,19 +72,19 @@ without_ranges sender [] replies = replies
 without_ranges sender (x ∷ xs) replies =
     without_ranges sender xs (without_range sender x.first x.last replies)
 
--- what is written, with a text in front
+-- what is written, with this text in front
 abbrev pub with_front : List ℕ → List ℕ × World → List ℕ × World
 with_front text p = (text ++ p.0, p.1)
 
--- What is written for an item of a sender, and the world after it. For a request: a mark and its
--- reply. For an acknowledgement: nothing.
+-- What is written for an item of a sender, and the world after it. For a request: a separator and
+-- its reply. For an acknowledgement: nothing.
 abbrev pub item_replied : List ℕ → List ℕ → List ℕ → MessageItem → World → List ℕ × World
 item_replied source sender mark (items.Request request) w =
     with_front mark (request_replied source sender request w)
 item_replied source sender mark (items.Acknowledgement ranges) w =
     ([], record w { replies = without_ranges sender ranges w.replies })
 
--- the mark before the next reply: a line feed after the first reply
+-- the separator before the next reply: a line feed after the first reply
 abbrev pub mark_after : List ℕ → MessageItem → List ℕ
 mark_after mark (items.Request request) = 10 ∷ []
 mark_after mark (items.Acknowledgement ranges) = mark
@@ -93,7 +93,7 @@ mark_after mark (items.Acknowledgement ranges) = mark
 abbrev pub followed : (World → List ℕ × World) → List ℕ × World → List ℕ × World
 followed rest p = with_front p.0 (rest p.1)
 
--- The replies to the requests among the items, with this mark before the first, and the world
+-- The replies to the requests among the items, with this separator before the first, and the world
 -- after all of them. Each item is handled in the world that the previous one left.
 unfoldable pub replied_to : List ℕ → List ℕ → List ℕ → List MessageItem → World → List ℕ × World
 replied_to source sender mark [] w = ([], w)

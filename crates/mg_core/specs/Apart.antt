@@ -27,7 +27,7 @@ abbrev pub key_of : KeptReply → List ℕ × ℕ
 key_of reply = (reply.sender, reply.number)
 
 -- Two worlds agree outside some terminations if their gateways do and they keep replies to the same
--- requests. The counts of events may differ, and so may packets received in the texts of these
+-- requests. The counts of events may differ, and so may the numbers of received packets in these
 -- replies.
 pub record AgreeOutside (some : List ℕ) (a b : World) : Type 0 where
   pub gateway : engine.AgreeOutside some a.gateway b.gateway
@@ -39,7 +39,7 @@ pub record AgreeOutside (some : List ℕ) (a b : World) : Type 0 where
 abbrev pub next_packets : ℕ → World → List Datagram
 next_packets port w = filter (λ d. d.from == port) (packets_of w)
 
--- in the next tick, the termination with this port hears none of some terminations
+-- in the next tick, the termination with this port hears none of these terminations
 abbrev pub HearsNoneAt : List ℕ → Gateway → ℕ → Type 0
 HearsNoneAt some w port =
     AllByRecursion (λ r. slot_port w.rooms.limits r.slot ≡ port → HearsNone some w r.number)
@@ -71,7 +71,7 @@ to_second (Both event ∷ xs) = event ∷ to_second xs
 to_second (FirstOnly port source bytes ∷ xs) = to_second xs
 to_second (SecondOnly port source bytes ∷ xs) = Media port source bytes ∷ to_second xs
 
--- each RTP datagram that is in only one of the lists arrives at the port of one of some
+-- each RTP datagram that is in only one of the lists arrives at the port of one of these
 -- terminations
 abbrev pub DifferAtPortsOf : List ℕ → World → List Happening → Type 0
 DifferAtPortsOf some w [] = Unit {0}
@@ -84,9 +84,9 @@ DifferAtPortsOf some w (FirstOnly port source bytes ∷ xs) =
 DifferAtPortsOf some w (SecondOnly port source bytes ∷ xs) =
     IsPortAmong some w.gateway port × DifferAtPortsOf some w xs
 
--- Two worlds agree outside some terminations, and receive events that differ only in RTP datagrams
--- at ports of these. They still agree afterwards. The next tick sends the same to each listener who
--- hears none of these terminations in that tick, whatever the listener heard before.
+-- If two worlds agree outside some terminations, and receive events that differ only in RTP
+-- datagrams at ports of these, they still agree afterwards. The next tick sends the same to each
+-- listener who hears none of these terminations in that tick, whatever the listener heard before.
 abbrev pub UnheardChangesNothing : Type 0
 UnheardChangesNothing =
     (some : List ℕ) (port : ℕ) (a b x y : World) (xs : List Happening) (s t : List Sent)
@@ -103,8 +103,8 @@ UnheardInHistories =
     → HasHistory config (to_first xs) s v one → HasHistory config (to_second xs) t w other
     → NextTickIsSame some port v w
 
--- The first events lead to the world w, and then there is a tick. The first events, this tick and
--- everything after it send the datagrams.
+-- The first events lead to the world w, and a tick follows. The first events, this tick and
+-- everything after it send these datagrams.
 abbrev pub HasTickAfter : Config → List Event → List Sent → World → Type 0
 HasTickAfter config events sent w =
     (before after : List Sent) × Run (start_of config) events before w

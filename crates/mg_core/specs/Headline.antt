@@ -76,7 +76,7 @@ GatewayDeterminesFuture =
 abbrev pub IsStart : Config → Type 0
 IsStart config = IsValidConfig config × (config.first_termination < 2 ^ 32)
 
--- After any events terminations and contexts are consistent. So the terminations are in order of
+-- After any events, terminations and contexts are consistent. So the terminations are in order of
 -- their numbers, and a tick sends its packets in that order.
 abbrev pub WorldsAreConsistent : Type 0
 WorldsAreConsistent =

@@ -44,8 +44,7 @@ events_in (Noted text ∷ entries) = events_in entries
 
 -- ## What can be read back
 
--- a datagram as it can arrive: from an IPv4 address and a port of 16 bits, with at most 65,535
--- bytes
+-- a datagram that can arrive: from an IPv4 address and a 16-bit port, with at most 65,535 bytes
 pub record IsDatagram (source : Peer) (bytes : List ℕ) : Type 0 where
   pub four : length source.address ≡ 4
   pub parts : All (λ b. b < 256) source.address

@@ -102,7 +102,7 @@ RepliesPersist =
     → again.number ≡ number → str_eq_ignore_ascii_case sender same ≡ true
     → request_replied source same again last ≡ (text, last)
 
--- When a request was run, its reply is the newest.
+-- After a request is run, its reply is the newest.
 abbrev pub NewReplyIsNewest : Type 0
 NewReplyIsNewest =
     (source sender : List ℕ) (request : Request) (w : World)
@@ -143,7 +143,7 @@ DroppedRequestsAreRerun =
     → request_replied source same again last
     ≡ run_and_kept same again.number last (replied source again last.gateway)
 
--- After any events the kept replies satisfy their invariant: there are at most 32, and they answer
+-- After any events, the kept replies satisfy their invariant: there are at most 32, and they answer
 -- different requests.
 abbrev pub RepliesAreKept : Type 0
 RepliesAreKept =

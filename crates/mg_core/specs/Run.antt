@@ -64,8 +64,8 @@ TextIsDetermined =
 
 -- ## Lines of the input
 
--- Lines were run from the world w. They are these events, which send these datagrams and lead to
--- the last world, and a writer has received their text.
+-- Lines were run, starting in the world w. Their events send these datagrams and lead to the last
+-- world, and a writer has received their text.
 pub record Ran (shown : Shown) (w : World) (lines : List (List ℕ)) (last : World)
     (old new : Option (List ℕ)) : Type 0 where
   pub events : List Event
@@ -78,14 +78,14 @@ pub record Ran (shown : Shown) (w : World) (lines : List (List ℕ)) (last : Wor
 
 -- ## How far a script was read
 
--- this text was read from an input, and then its end, if the input has ended
+-- this text was read from an input, up to its end if the input has ended
 pub record HasRead (input rest : Option (List ℕ)) (text : List ℕ) (ended : Bool) : Type 0 where
   pub consumed : Consumes input rest text
   pub at_end : ended ≡ true → IsAtEnd rest
 
--- These lines of a text were run before more of it was read. They are all lines that end before the
--- last piece that was read, and perhaps some that end within it. That piece is at most 4096 bytes,
--- or only the end.
+-- These lines of the text were run before more of it was read. They are all lines that end before
+-- the last piece that was read, and perhaps some that end within it. That piece is at most 4096
+-- bytes long, or is just the end.
 pub record RanBeforeMore (text : List ℕ) (ended : Bool) (lines : List (List ℕ)) : Type 0 where
   pub before : List ℕ
   pub given : List ℕ
@@ -118,8 +118,8 @@ abbrev pub IsNextLine : (text : List ℕ) → (ended : Bool) → (lines : List (
 IsNextLine text ended lines line =
     (others : List (List ℕ)) × (lines_of ended text ≡ lines ++ line ∷ others)
 
--- Why a run stopped after these lines of a text, in the world w. Their output led from the old
--- bytes of a writer to the held ones.
+-- Why a run stopped after these lines of the text, in the world w. A writer had the content `held`
+-- after their output.
 abbrev pub Stops : RunFault → Shown → (text : List ℕ) → (ended : Bool) → (lines : List (List ℕ))
     → World → (held new : Option (List ℕ)) → Type 0
 -- The next line has this number and is bad, whatever text may follow; nothing follows the end.

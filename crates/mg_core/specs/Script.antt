@@ -25,8 +25,8 @@ escaped_byte b =
     if b == 110 then Some 10 else (if b == 114 then Some 13
     else (if b == 92 then Some 92 else None))
 
--- The bytes of a text with escapes: \n, \r and \\ are a line feed, a carriage return and a
--- backslash. The flag says that a backslash precedes the text.
+-- The bytes of text with escapes: \n, \r and \\ are a line feed, a carriage return and a backslash.
+-- The flag says whether a backslash precedes the text.
 unfoldable pub unescaped : Bool → List ℕ → Option (List ℕ)
 unescaped true [] = None
 unescaped false [] = Some []
@@ -60,7 +60,7 @@ spelling_of key =
     if bytes_eq key (codes "say") then Some Text
     else (if bytes_eq key (codes "control") then Some Digits else None)
 
--- the bytes of a line's last part: a text with escapes, or hexadecimal digits in either case
+-- the bytes of a line's last part: text with escapes, or hexadecimal digits in either case
 abbrev pub spelled_bytes : Option Spelling → List ℕ → Option (List ℕ)
 spelled_bytes (Some Text) spelled = unescaped false spelled
 spelled_bytes (Some Digits) spelled = ok_of (decode_of spelled)

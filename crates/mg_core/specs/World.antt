@@ -42,7 +42,7 @@ start_of config = record { gateway = engine.start_of config; replies = []; tally
 
 -- ## Counting
 
--- the place of a result's number in the list
+-- the index of a result's count in the list
 abbrev pub result_place : Taken → ℕ
 result_place (takens.Placed placed.Started) = 0
 result_place (takens.Placed placed.Placed) = 1
@@ -67,7 +67,7 @@ with_taken result t =
 abbrev pub with_tick : ℕ → Tally → Tally
 with_tick concealed t = record t { ticks = t.ticks + 1; concealed = t.concealed + concealed }
 
--- a count that reaches the largest value of 64 bits stays there
+-- a count that reaches the largest 64-bit value stays there
 abbrev pub capped : ℕ → ℕ
 capped n = min n (2 ^ 64 - 1)
 

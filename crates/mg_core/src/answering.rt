@@ -87,7 +87,7 @@ fn put_reply(reply: &mut Reply, answer: &mut Bytes)
     write_reply(reply, answer).unwrap();
 }
 
-/// Runs a sender's request, and writes and keeps its reply. No reply to it may be kept yet.
+/// Runs a sender's request, and writes and keeps its reply. It must not have a kept reply yet.
 fn run_request(
     state: &mut CoreState,
     source: &[u8],
@@ -152,9 +152,9 @@ fn acknowledge(kept: &mut Kept, sender: &[u8], ranges: &[Range])
     }
 }
 
-/// Handles an item of the message `source`. For a request, writes a mark and its reply.
+/// Handles an item of the message `source`. For a request, writes the separator `mark` and its reply.
 ///
-/// Returns the mark of the next reply.
+/// Returns the separator before the next reply.
 #[tactic(auto, using(crate::proofs::ReplyLemmas::one_reply))]
 fn put_item<'m>(
     state: &mut CoreState,

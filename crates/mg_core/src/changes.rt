@@ -154,7 +154,7 @@ fn push_name(number: u32, out: &mut Bytes)
     push_number(u64::from(number), out);
 }
 
-/// Writes the names of terminations, or that there is none.
+/// Writes the names of terminations, or that there are none.
 #[tactic(auto, using(crate::proofs::ChangeLemmas::steps))]
 fn push_names(numbers: &[u32], out: &mut Bytes)
     requires few { length numbers.now ≤ MEMBERS }

@@ -16,7 +16,7 @@ use std::marker::Model;
 pub struct KeptListener {
     pub number: u32,
     pub context: u32,
-    /// The UDP port at which it receives.
+    /// The UDP port on which it receives.
     pub port: u16,
     pub mode: Mode,
     /// In order of their numbers.

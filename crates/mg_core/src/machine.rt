@@ -37,7 +37,7 @@ pub const ANSWER_LIMIT: usize = HEAD_LIMIT + REQUEST_LIMIT * REPLY_ROOM - 1;
 
 /// The gateway as a state machine: datagrams and ticks go in, answers and packets come out.
 ///
-/// It opens nothing, waits for nothing, and knows no clock. It keeps no history, so contracts speak of every world that
+/// It opens nothing, waits for nothing, and reads no clock. It keeps no history, so contracts speak of every world that
 /// its state represents, before and after a call.
 #[derive(Drop)]
 pub struct Core {
@@ -98,7 +98,7 @@ impl Core {
 
     /// Handles a control datagram; [`Core::answer`] returns its answer.
     ///
-    /// Only reading allocates. If memory runs out, only the last answer changes: it is then empty.
+    /// Only reading the datagram allocates. If memory runs out, only the last answer changes: it is then empty.
     pub fn control(&mut self, alloc: Global, source: Peer, bytes: &[u8]) -> Result<Answer, NoMemory>
         ensures answered { IfOk result (λ answer. Leads StandsFor self.old.state self.new.state (λ w next.
             Step w (events.Control source bytes.now) (answer_to source (reported answer self.new.answer)) next)) }

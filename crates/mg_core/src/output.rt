@@ -24,7 +24,7 @@ const DIGITS_LEN: usize = 2 * PACKET_LEN;
 /// The maximum length of a packet's line, in bytes: `rtp`, three spaces, a port, a peer, the digits and a line feed.
 const PACKET_LINE: usize = 7 + PORT_LIMIT + PEER_LIMIT + DIGITS_LEN;
 
-/// Writes a byte of a text, escaped if necessary.
+/// Writes a byte of text, escaped if necessary.
 fn push_escape(b: u8, out: &mut Bytes)
     requires room { 2 ≤ out.old.room }
     ensures value { out.new ≡ appended out.old (escape_of b) }
@@ -37,7 +37,7 @@ fn push_escape(b: u8, out: &mut Bytes)
     }
 }
 
-/// Writes a text with escapes.
+/// Writes text with escapes.
 #[tactic(auto, using(crate::proofs::OutputLemmas::steps))]
 fn push_escaped(text: &[u8], out: &mut Bytes)
     requires room { 2 * length text.now ≤ out.old.room }

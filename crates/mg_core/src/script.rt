@@ -46,14 +46,14 @@ impl<T: Drop> From<AllocFailed<T>> for ParseFault {
     }
 }
 
-/// Returns whether a byte needs no escape in a text: visible ASCII or a space.
+/// Returns whether a byte needs no escape in text: visible ASCII or a space.
 fn is_plain(b: u8) -> bool
     ensures value { result ≡ is_plain b }
 {
     matches!(b, 0x20..=0x7E)
 }
 
-/// Returns the byte that a backslash and this byte stand for, or `None` if they are no escape.
+/// Returns the byte that a backslash and this byte stand for, or `None` if they are not an escape.
 fn escaped_byte(b: u8) -> Option<u8>
     ensures value { result ≡ escaped_byte b }
 {
@@ -65,7 +65,7 @@ fn escaped_byte(b: u8) -> Option<u8>
     }
 }
 
-/// Parses a text with escapes.
+/// Parses text with escapes.
 #[tactic(auto, using(crate::proofs::EscapeSteps::steps))]
 fn unescape(alloc: Global, text: &[u8]) -> Result<Vec<u8>, ParseFault>
     ensures { Reads (λ bytes. bytes.items) result (unescaped false text.now) }
@@ -107,7 +107,7 @@ fn unhex(alloc: Global, digits: &[u8]) -> Result<Vec<u8>, ParseFault>
 /// How a script line encodes a datagram. The first word of the line determines it.
 #[derive(Clone, Copy, Debug, PartialEq, Eq)]
 enum Spelling {
-    /// A text with escapes.
+    /// Text with escapes.
     Text,
     /// Hexadecimal digits.
     Digits,

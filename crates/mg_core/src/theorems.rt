@@ -126,7 +126,7 @@ pub fn changes_are_reported()
     ensures exact { OnlyChangesAreReported }
 {}
 
-/// The counts of control datagrams, RTP datagrams and ticks are their numbers, and each RTP datagram has one result.
+/// The counts equal the numbers of control datagrams, RTP datagrams and ticks, and each RTP datagram has one result.
 pub fn events_are_counted()
     ensures theorem { EventsAreCounted }
 {}

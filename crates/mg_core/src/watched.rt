@@ -14,7 +14,7 @@ use std::io::Write;
 use std::marker::Model;
 use std::mem;
 
-/// The maximum length of the reported changes, in bytes: every termination ends and as many are new.
+/// The maximum length of the reported changes, in bytes: every termination ends and as many new ones are made.
 const CHANGES_LIMIT: usize = TERMINATIONS * (ENDED_LIMIT + NEW_LIMIT);
 
 /// The terminations of a gateway after its last changes. Contracts see them as a list.

@@ -1,6 +1,6 @@
 -- The triples of a topology descriptor in an edit: which members their terms match, and which
--- errors they cause (RFC 3525, section 7.1.18). The numbers of errors and the order of the checks
--- are this project's own.
+-- errors they cause (RFC 3525, section 7.1.18). The error numbers and the order of the checks are
+-- this project's own.
 use Rattle.std.specs.Prelude.{ℕ, Bool, true, false, not, ◌&&◌, ◌||◌, List, [], ◌∷◌, Result, Ok}
 use Rattle.std.specs.List.{list_any}
 use Rattle.mg_words.specs.declared.association.Association.TheVariants.{Isolate}

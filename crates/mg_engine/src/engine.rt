@@ -351,7 +351,7 @@ impl Engine {
         }
     }
 
-    /// Returns the context to which triples of an action would be applied, or the error if it does not exist.
+    /// Returns the context to which the triples of an action would be applied, or the error if it does not exist.
     ///
     /// That is the result of a topology without triples.
     pub fn topology_context(&self, target: Target) -> Result<u32, ErrorNumber>
@@ -433,8 +433,8 @@ impl Engine {
 
     /// Returns whether `listener` hears `talker`, regardless of modes.
     ///
-    /// They must be different members of the same context, and the last word on the two must allow it. The listener
-    /// comes first.
+    /// It does if they are different members of the same context and the last word on the two allows it. The first
+    /// argument is the listener.
     pub fn hears(&self, listener: u32, talker: u32) -> bool
         ensures value { (w : Gateway) → StandsFor self.now w → result ≡ hears w talker listener }
     {
@@ -459,7 +459,7 @@ impl Engine {
         seated_members(&self.rooms, self.rooms.members(context))
     }
 
-    /// Returns whether `listener` hears `talker`, regardless of modes. The listener comes first.
+    /// Returns whether `listener` hears `talker`, regardless of modes. The first argument is the listener.
     pub fn hears_seated(&self, listener: SeatedMember, talker: SeatedMember) -> bool
         requires listener { IsOnSeat self.now.rooms listener }
         requires talker { IsOnSeat self.now.rooms talker }
@@ -597,7 +597,7 @@ impl Engine {
         address_last(outbox, from, Peer { address, port }, header);
     }
 
-    /// Appends a packet whose payload is what a member is sent. Its header and addresses are set later.
+    /// Appends a packet whose payload is what is sent to a member. Its header and addresses are set later.
     ///
     /// In Loopback that is its own frame, otherwise the sum of everyone whose speech flows to it.
     fn put_payload(&mut self, sender: &Record, law: Law, outbox: &mut Outbox)
@@ -624,7 +624,7 @@ impl Engine {
 
     /// Appends a packet whose payload is what the member at a place hears.
     ///
-    /// Listeners that hear the same in the same law share a payload, which is computed once.
+    /// Listeners that hear the same talkers in the same law share a payload, which is computed once.
     fn put_heard(&mut self, listener: &Record, place: Place, law: Law, outbox: &mut Outbox)
         requires place { IsOnPlace self.old.rooms listener.now.number listener.now place }
         requires listens { IsTrue (listens listener.now.mode) }

@@ -1,4 +1,4 @@
-//! Joins rows to the rooms of contexts: the rows of members that talk.
+//! Joins the rows of talking members to the rooms of their contexts.
 
 ghost use Rattle.std.specs.Prelude.{◌≡◌, ◌<◌, ◌↔◌, IsTrue, None, Some, length};
 ghost use Rattle.mg_words.specs.Limits.{context_limit, termination_limit};

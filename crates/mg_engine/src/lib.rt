@@ -1,7 +1,7 @@
 //! The state of a conference gateway, changed by edits, media and ticks.
 //!
 //! [`Engine::new`] allocates all memory. Commands arrive as calls, or as [`Edit`]s. Each is either applied, or rejected
-//! with an [`ErrorNumber`](mg_rooms::ErrorNumber) and changes nothing:
+//! with an [`ErrorNumber`](mg_rooms::ErrorNumber) without any change:
 //!
 //! ```rust
 //! let mut engine = Engine::new(alloc, Config::default())?;
@@ -16,8 +16,9 @@
 //! A tick costs two rows for each termination that talks: its old frame is subtracted from the total, and its new frame
 //! is added. A packet costs one row (the total without the listener itself), plus one for each talker that the topology
 //! silences for the listener. In Loopback a termination is sent its own frame, which costs none. Listeners of one
-//! context that hear the same in the same law share a payload, if it is among the newest eight of their context.
-//! `specs/Work.antt` has the proved bound for a tick. An edit costs at most four rows, and an RTP datagram none.
+//! context that hear the same talkers in the same law share a payload, if it is among the newest eight of their
+//! context. `specs/Work.antt` has the proved bound for a tick. An edit costs at most four rows, and an RTP datagram
+//! none.
 //!
 //! The engine keeps no history, so one state may represent several gateways. Its contracts speak of every `Gateway`
 //! (`specs/Gateway.antt`) that the state represents, before and after a call (`StandsFor` in `specs/Stands.antt`).

@@ -64,7 +64,7 @@ pub fn triples_are_limited()
 
 /// The terminations and contexts of a new gateway are consistent, and each edit and RTP datagram preserves that.
 ///
-/// So it holds after any edits and datagrams, and a proof can use it without an engine.
+/// So they are consistent after any edits and datagrams, and a proof can use this without an engine.
 pub fn worlds_are_consistent()
     ensures start { (config : Config) → IsValidConfig config → config.first_termination ≤ LAST_TERMINATION →
         IsConsistent (start_of config).rooms }

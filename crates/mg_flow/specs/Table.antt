@@ -67,7 +67,7 @@ StandsForSome table = ∥ ((es : List FlowEdit) × StandsFor table es) ∥₁
 abbrev pub KeepsOthers : List RoomFlows → List RoomFlows → ℕ → Type 0
 KeepsOthers old new room = (other : ℕ) → other ≢ room → room_at new other ≡ room_at old other
 
--- Whether the place is held, talks and listens is as given; every other place is unchanged.
+-- The place is now held, talks and listens as the three flags say; every other place is unchanged.
 pub record SetsPlace (old new : List RoomFlows) (place : Place)
     (is_held does_talk does_listen : Bool) : Type 0 where
   pub held : (p : Place) →
@@ -77,13 +77,13 @@ pub record SetsPlace (old new : List RoomFlows) (place : Place)
   pub listeners : (p : Place) →
       listens_at new p ≡ (if is_same_place p place then does_listen else listens_at old p)
 
--- which places are held, which talk, and which listen is unchanged
+-- the same places are held, talk and listen as before
 pub record KeepsPlaces (old new : List RoomFlows) : Type 0 where
   pub held : (p : Place) → holds new p ≡ holds old p
   pub talkers : (p : Place) → talks_at new p ≡ talks_at old p
   pub listeners : (p : Place) → listens_at new p ≡ listens_at old p
 
--- whether the listener hears the talker after the triples in order, given whether it did before
+-- whether the listener hears the talker after these triples, in order, given whether it did before
 abbrev pub hears_after : List Triple → ℕ → ℕ → Bool → Bool
 hears_after [] talker listener did = did
 hears_after (x ∷ xs) talker listener did =

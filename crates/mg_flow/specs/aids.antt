@@ -1,3 +1,3 @@
--- Tools of the proofs.
+-- Tools for the proofs.
 pub mod RoomFlows
 pub mod Table

@@ -17,8 +17,8 @@ use std::marker::Model;
 /// Who hears whom in all rooms of a gateway, and for each listener the masks of its talkers.
 ///
 /// Contracts see the list of rooms, each with its topology and the masks of who talks and who listens. They describe it
-/// in the words of `specs/Table.antt`. [`FlowTable::new`] represents the empty list of edits, and each call adds its
-/// edits to the lists that the table represents. So every table represents some list ([`each_table_represents_edits`]).
+/// in terms of `specs/Table.antt`. [`FlowTable::new`] represents the empty list of edits, and each call adds its edits
+/// to the lists that the table represents. So every table represents some list ([`each_table_represents_edits`]).
 ///
 /// [`each_table_represents_edits`]: crate::theorems::each_table_represents_edits
 #[derive(Debug, Drop)]
@@ -82,7 +82,7 @@ impl FlowTable {
     /// Returns whether `listener` hears `talker`: they are different members of one room, and the last word on the two
     /// allows it.
     ///
-    /// The listener comes first.
+    /// The first argument is the listener.
     pub fn hears(&self, listener: Place, talker: Place) -> bool
         ensures kept { result ≡ hears self.now talker listener }
         ensures edits { (es : List FlowEdit) → StandsFor self.now es →

@@ -25,7 +25,7 @@ abbrev pub is_in_range : List ℕ → ℕ → ℕ → KeptReply → Bool
 is_in_range sender first last reply =
     nat_le first reply.number && nat_le reply.number last && is_from sender reply
 
--- the kept text for a request
+-- the text of the kept reply to a request
 abbrev pub kept_text : List KeptReply → List ℕ → ℕ → Option (List ℕ)
 kept_text replies sender number =
     option_map (λ reply. reply.text) (find (is_reply_to sender number) replies)

@@ -13,7 +13,7 @@
 //! assert_eq!(rt; kept.find(b"<mgc.example>:2945", 7), None);
 //! ```
 //!
-//! [`Kept::new`] allocates memory for all texts; no other call allocates. `specs/KeptReplies.antt` has the rules, and
+//! [`Kept::new`] allocates memory for all replies; no other call allocates. `specs/KeptReplies.antt` has the rules, and
 //! [`theorems`] states the consequences.
 #![tactic(auto)]
 

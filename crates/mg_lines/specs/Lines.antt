@@ -1,4 +1,4 @@
--- The lines of a text.
+-- The lines of text.
 use Rattle.std.specs.Prelude.{ℕ, ◌-◌, Bool, ◌==◌, List, [], ◌∷◌, ◌++◌, length, take, slice_index}
 use Rattle.std.specs.Prelude.{if◌then◌else◌}
 
@@ -7,8 +7,8 @@ abbrev pub without_return : List ℕ → List ℕ
 without_return line =
     if slice_index line (length line - 1) == 13 then take (length line - 1) line else line
 
--- The lines of a text after a partial line: those that end in a line feed. If the text has ended,
--- the rest is a last line without a line feed, unless it is empty.
+-- The lines that a partial line and the text after it form: those that end in a line feed. If the
+-- text has ended, the rest is a last line without a line feed, unless it is empty.
 unfoldable pub lines_after : Bool → List ℕ → List ℕ → List (List ℕ)
 lines_after ended partial [] =
     if length partial == 0 then [] else (if ended then partial ∷ [] else [])

@@ -12,7 +12,7 @@ ReadsSome buffer old new (Ok None) = Keeps old new × IsAtEnd new
 ReadsSome buffer old new (Ok (Some n)) = (n ≤ length buffer) × Consumes old new (take n buffer)
 ReadsSome buffer old new (Err failed) = Keeps old new
 
--- a proper prefix of a text was written
+-- a proper prefix of the text was written
 pub record WritesFront (text : List ℕ) (old new : Option (List ℕ)) : Type 0 where
   pub front : List ℕ
   pub rest : List ℕ
@@ -20,7 +20,7 @@ pub record WritesFront (text : List ℕ) (old new : Option (List ℕ)) : Type 0 
   pub cut : 0 < length rest
   pub written : Appends old new front
 
--- a whole text was written, or only a proper prefix of it
+-- the whole text was written, or only a proper prefix of it
 abbrev pub Writes : List ℕ → Option (List ℕ) → Option (List ℕ) → Result (Unit {0}) WriteFailed
     → Type 0
 Writes text old new (Ok done) = Appends old new text

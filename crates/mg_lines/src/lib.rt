@@ -1,4 +1,4 @@
-//! Text input and output by lines: reads piece by piece, and writes in full.
+//! Line-based text I/O: reads in chunks, and writes in full.
 //!
 //! ```rust
 //! let mut buffer = [0; READ_SIZE];
@@ -8,7 +8,7 @@
 //! ```
 //!
 //! Contracts apply to readers whose remaining input is known, and to writers whose content is known. Both are known for
-//! in-memory ones. `specs/Lines.antt` defines the lines of a text.
+//! in-memory ones. `specs/Lines.antt` defines what a line is.
 #![tactic(auto)]
 
 mod line;

@@ -9,8 +9,8 @@ use Rattle.mg_options.specs.Status.{code_of}
 use Rattle.mg_options.specs.declared.status.Status.{Status}
 use Rattle.mg_options.specs.declared.status.Status.TheVariants.{Done, Usage, NoMemory}
 
--- What happens to an output when an error of this kind is reported: help and version texts are
--- printed on it, unless that fails. Other errors go elsewhere.
+-- What happens to an output when an error of this kind is reported: help and the version are
+-- printed to it, unless that fails. Other errors go elsewhere.
 abbrev pub ReportsError : {W : Type 0} → ErrorKind → (unprinted : Status) → W → W → Status → Type 0
 ReportsError OutOfMemory unprinted old new status = (status ≡ NoMemory) × (new ≡ old)
 ReportsError DisplayHelp unprinted old new status = (status ≡ Done) ⊎ (status ≡ unprinted)
@@ -26,8 +26,8 @@ pub record ReportsOneError {A W : Type 0} (requested : Result A Kinds) (unprinte
   pub reported : ReportsError kind unprinted old new status
   pub quiet : status ≡ Done → silent
 
--- How a program ends, with its exit status: like a run that the arguments ask for, or with an error
--- reported.
+-- How a program ends, with its exit status: as the run that the arguments ask for, or with a
+-- reported error.
 pub record EndsWith {A W : Type 0} (Runs : A → Status → Type 0) (requested : Result A Kinds)
     (unprinted : Status) (left silent : Type 0) (old new : W) (code : ℕ) : Type 0 where
   pub status : Status

@@ -8,6 +8,6 @@ abbrev pub program_line : Text → App
 program_line name =
     on_top (λ top. record top { no_binary_name = true; has_version = true }) (new_app name)
 
--- an option that takes one text
+-- an option that takes one string
 abbrev pub text_rule : Text → Rule
 text_rule name = record (new_rule name) { long = Some name; value_names = 1 }

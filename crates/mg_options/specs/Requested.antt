@@ -5,7 +5,7 @@ use Rattle.clap.specs.Kinds.{Kinds, IsAmong}
 use Rattle.clap.specs.declared.error.kind.ErrorKind.{ErrorKind}
 use Rattle.clap.specs.declared.error.kind.ErrorKind.TheVariants.{OutOfMemory}
 
--- the result of reading the arguments, unless their parser has an error
+-- the result of reading the arguments, unless their parser reports an error
 abbrev pub requested_by : {A : Type 0} → Kinds → Result A Kinds → Result A Kinds
 requested_by [] read = read
 requested_by (kind ∷ kinds) read = Err (kind ∷ kinds)

@@ -25,8 +25,8 @@ fn report_error<E: Write>(error: &io::Error, errors: &mut E) -> Status
 
 /// Returns the running program's arguments without its name, or how the program ends if they cannot be read.
 ///
-/// Reading them fails if an argument is not valid UTF-8, which is a usage error, or if memory runs out. The text of an
-/// error goes to `errors`.
+/// Reading them fails if an argument is not valid UTF-8, which is a usage error, or if memory runs out. Errors are
+/// reported to `errors`.
 pub fn program_arguments<E: Write>(
     rt: &HostRuntime,
     errors: &mut E,

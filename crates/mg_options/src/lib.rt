@@ -1,6 +1,6 @@
-//! The common parts of the programs' command lines, over `clap`.
+//! The command-line handling that the programs share, built on `clap`.
 //!
-//! This crate covers options that take one number, the version, error reports, and exit statuses.
+//! This crate handles numeric options, `--version`, error reports and exit statuses.
 //!
 //! ```rust
 //! let command = program_command(alloc, "gateway", "Joins calls").arg(short_number(alloc, "port"))?;
@@ -11,7 +11,7 @@
 //! ExitCode::from(status.code())
 //! ```
 //!
-//! A number is decimal, with an optional plus sign. The parser rejects any other text, and a number that is too large.
+//! A number is decimal, with an optional plus sign. The parser rejects anything else, and numbers that are too large.
 //! So a value is missing only if the option was not given. `specs/Numbers.antt` defines this, and `specs/Ends.antt`
 //! defines how a program ends.
 #![tactic(auto)]

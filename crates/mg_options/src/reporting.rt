@@ -7,7 +7,7 @@ use clap::Error;
 use clap::error::ErrorKind;
 use std::io::Write;
 
-/// Reports that a text could not be printed, unless the program succeeds anyway.
+/// Reports that help or the version could not be printed, unless the program succeeds anyway.
 fn report_unprinted<E: Write>(unprinted: Status, errors: &mut E)
     ensures quiet { unprinted ≡ Status.Done → errors.new ≡ errors.old }
 {

@@ -34,12 +34,12 @@ pub record Advances (old : Pace) (t : ℕ) (new : Pace) : Type 0 where
   -- more than 49 are written if a tick was skipped
   pub needed : old.left < new.left → old.steps + 49 * old.polls < new.steps
 
--- the wait d after a reading t: the next step is due at its end, and no step is due before
+-- the wait d after a reading t: the next step is due at its end, and none is due before that
 abbrev pub Waits : Pace → ℕ → ℕ → Type 0
 Waits p t d = IsTimeTo p.polls (steps_past p) t d
 
--- What happens at these readings, in order, with these waits: one after each reading, and none
--- after a last one at which the run ends.
+-- What happens at these readings, in order, with these waits: one after each reading, except after
+-- a last one at which the run ends.
 abbrev pub Paces : Pace → List ℕ → List ℕ → Pace → Type 0
 Paces p [] [] q = q ≡ p
 Paces p [] (d ∷ ds) q = ⊥

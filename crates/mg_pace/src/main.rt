@@ -1,6 +1,6 @@
 //! The program `mg_pace`, which drives a gateway in real time.
 //!
-//! Using the monotonic clock, it writes the line `tick` every 20 ms and lines `poll` in between. So
+//! Using the monotonic clock, it writes a `tick` line every 20 ms and `poll` lines in between. So
 //! `mg_pace | mg_bridge serve` runs a gateway in real time.
 #![tactic(auto)]
 

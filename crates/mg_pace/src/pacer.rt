@@ -47,7 +47,7 @@ fn turn<W: Write, E: Write>(
     Ok(true)
 }
 
-/// Writes polls and ticks when they are due by a clock, until the requested number of ticks has been written.
+/// Writes polls and ticks when a clock says that they are due, until the requested number of ticks has been written.
 ///
 /// `Clock`: the clock cannot be read, or was read 18,446,744,073,709,551,615 times. `Closed`: the output is closed.
 pub fn pace<K: Watch, W: Write, E: Write>(

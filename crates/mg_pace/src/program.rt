@@ -14,7 +14,7 @@ use std::alloc::Global;
 use std::convert::AsStr;
 use std::io::Write;
 
-/// Makes a run, and reports a failure of the clock.
+/// Does one run, and reports an error if the clock fails.
 fn run<K: Watch, W: Write, E: Write>(
     options: Options,
     watch: &mut K,
@@ -36,9 +36,9 @@ fn run<K: Watch, W: Write, E: Write>(
 
 /// Runs the program on its arguments, which do not include its name. Returns its exit status.
 ///
-/// The status is 0 at the end of the run, if the output is closed, and after help or the version. It is 2 for invalid
-/// arguments, 3 if the clock failed, and 4 if memory ran out. The text for a status other than 0 goes to `errors`, and
-/// so does a line if ticks are skipped.
+/// The status is 0 when the run finishes, when the output is closed, or after printing help or the version. It is 2 for
+/// invalid arguments, 3 if the clock failed, and 4 if memory ran out. If the status is nonzero, the message goes to
+/// `errors`; skipped ticks are also reported there.
 pub fn program<'a, S: AsStr, K: Watch, W: Write, E: Write>(
     alloc: Global,
     words: &'a [S],
@@ -47,7 +47,7 @@ pub fn program<'a, S: AsStr, K: Watch, W: Write, E: Write>(
     errors: &mut E,
 ) -> u8
     ensures status { result ≤ 4 }
-    // The program did what the arguments ask for, as far as the status reports.
+    // The program did what the arguments ask for, as far as the status says.
     ensures ends { EndsWith (λ options status. Runs options (K.Fails watch.new) (errors.new ≡ errors.old)
         (seen (K.readings watch.old) (K.waits watch.old) (W.contents output.old))
         (seen (K.readings watch.new) (K.waits watch.new) (W.contents output.new)) status)

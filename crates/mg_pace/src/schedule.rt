@@ -30,7 +30,7 @@ impl Model for Schedule {
 }
 
 impl Schedule {
-    /// Makes a schedule of which no step has been written, with this many polls per 20 ms.
+    /// Makes a schedule with this many polls per 20 ms. No step has been written yet.
     pub fn new(polls: u16) -> Self
         requires some { 0 < polls }
         requires few { polls ≤ MAX_POLLS }

@@ -91,7 +91,7 @@ placed list ssrc sequence frame =
     else (filled list place frame, answer.Placed)
 
 -- A tick: the play list after it, and what it plays. What was at place 0 in this tick, a frame or
--- none, becomes the last frame. An empty list plays no place, and forgets the last frame.
+-- none, becomes the last frame. An empty list plays silence, and forgets the last frame.
 abbrev pub ticked_in : Phase → PlayList → PlayList × Played
 ticked_in Idle list = (list, Silence)
 ticked_in (Wait ticks) list =

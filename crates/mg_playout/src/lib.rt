@@ -8,9 +8,9 @@
 //! none is left. A missing frame is replaced by the previous one at half its level; if the next frame is missing too,
 //! silence is played for it.
 //!
-//! A frame starts the list if there is no sequence to continue: at first, after the list ran empty, or if the source
-//! changes. A frame also starts the list if its number is [`MAX_DROPOUT`] or more ahead, or more than [`MAX_MISORDER`]
-//! behind.
+//! A frame starts the list if there is no sequence to continue: at the beginning, after the list runs empty, or when
+//! the source changes. A frame also starts the list if its number is [`MAX_DROPOUT`] or more ahead, or more than
+//! [`MAX_MISORDER`] behind.
 //!
 //! ```rust
 //! let mut playout = Playout::new(alloc)?;

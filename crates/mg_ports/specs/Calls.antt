@@ -14,7 +14,7 @@ Logged old None calls = Unit {0}
 Logged None (Some all) calls = ⊥
 Logged (Some before) (Some all) calls = all ≡ before ++ calls
 
--- a failure was counted, by a count that stays at its maximum
+-- a failure was counted, by a counter that stays at its maximum
 abbrev pub IsCounted : ℕ → ℕ → Type 0
 IsCounted old new = (old < new) ⊎ (old ≡ 2 ^ 64 - 1)
 

@@ -2,9 +2,9 @@
 //!
 //! Socket 0 is the control socket, and socket s + 1 is the media socket of slot s of the pool.
 //!
-//! [`Ports`] is what a gateway needs from its sockets: to receive a datagram without waiting, to send one, and to count
-//! the calls that failed. [`FakePorts`] are in-memory ports for tests: datagrams wait at them, calls with chosen
-//! numbers fail, and each call is logged.
+//! [`Ports`] is what a gateway needs from its sockets: to receive a datagram without blocking, to send one, and to
+//! count the calls that failed. [`FakePorts`] are in-memory ports for tests: they return given datagrams, fail on
+//! chosen calls, and log each call.
 //!
 //! ```rust
 //! let mut ports = FakePorts::new(alloc, waiting, failing);

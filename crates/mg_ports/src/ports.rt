@@ -18,7 +18,7 @@ pub trait Ports {
 
     /// Receives a datagram if one is waiting.
     ///
-    /// Returns how many bytes it put at the front of the buffer, and the datagram's source. It never waits. A datagram
+    /// Returns how many bytes it put at the front of the buffer, and the datagram's source. It never blocks. A datagram
     /// that is longer than the buffer is truncated.
     fn receive(
         &mut self,
@@ -29,7 +29,7 @@ pub trait Ports {
         ensures logged { Logged (calls self.old) (calls self.new) (Receive socket (receipt_of result buffer.new) ∷ []) }
         ensures fault { OnErr result (IsCounted (failed self.old) (failed self.new)) };
 
-    /// Sends a datagram. It never waits.
+    /// Sends a datagram. It never blocks.
     fn send(&mut self, socket: usize, to: Peer, bytes: &[u8]) -> Result<(), PortFault>
         ensures logged { Logged (calls self.old) (calls self.new) (Send socket to bytes.now ∷ []) }
         ensures fault { OnErr result (IsCounted (failed self.old) (failed self.new)) };

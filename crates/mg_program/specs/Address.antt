@@ -12,7 +12,7 @@ use Rattle.mg_program.specs.declared.address.AddressFault.TheVariants.{Multicast
 abbrev pub is_multicast : List ℕ → Bool
 is_multicast address = nat_le 224 (slice_index address 0)
 
--- The address that a text in dotted decimal names. It appears in session descriptions, or as the
+-- The address that a string in dotted decimal names. It appears in session descriptions, or as the
 -- gateway's name. So it isn't 0.0.0.0, and it is unicast.
 abbrev pub own_address : List ℕ → Result (List ℕ) AddressFault
 own_address text = do

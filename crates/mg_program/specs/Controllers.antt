@@ -1,4 +1,4 @@
--- The controllers that texts name.
+-- The controllers that strings name.
 use Rattle.std.specs.Prelude.{ℕ, nat_lt, List, [], ◌∷◌, length, ok_or, Result, Ok, Err, if◌then◌else◌}
 use Rattle.mg_words.specs.Address.{address_of}
 use Rattle.mg_words.specs.ResultSteps.{◌>>=◌}
@@ -6,7 +6,7 @@ use Rattle.mg_program.specs.declared.controller_fault.ControllerFault.{Controlle
 use Rattle.mg_program.specs.declared.controller_fault.ControllerFault.TheVariants.{Unreadable}
 use Rattle.mg_program.specs.declared.controller_fault.ControllerFault.TheVariants.{TooMany}
 
--- the addresses that texts in dotted decimal name, in their order
+-- the addresses that strings in dotted decimal name, in their order
 abbrev pub all_named : List (List ℕ) → Result (List (List ℕ)) ControllerFault
 all_named [] = Ok []
 all_named (text ∷ texts) = do

@@ -74,7 +74,7 @@ command_line =
 -- ## The values of the options
 
 -- the configuration that the options name, at these addresses for media and for control messages;
--- options that aren't given have their standard values
+-- options that aren't given have their default values
 unfoldable pub config_at : List ℕ → List ℕ → List Row → Config
 config_at address control found = record standard {
   address = address;
@@ -123,7 +123,7 @@ run_of name config controllers found =
     then Live config (service_of controllers found) (number_or 65536 (codes "late") 5 found)
     else Replay config (if is_set (codes "flows") found then SentAndFlows else Sent))
 
--- a text that doesn't name anything is a fault of the arguments
+-- a string that doesn't name anything is a fault of the arguments
 abbrev pub valid : {A E : Type 0} → Result A E → Result A Kinds
 valid (Ok value) = Ok value
 valid (Err fault) = Err (ValueValidation ∷ [])

@@ -7,8 +7,8 @@ use Rattle.mg_program.specs.declared.invocation.Invocation.TheVariants.{Replay, 
 use Rattle.mg_program.specs.Replay.{Replays}
 use Rattle.mg_program.specs.Serve.{Serves, ServesByClock}
 
--- A run took place, as far as the status reports, and a successful run prints no error. A
--- clock-driven run reads no input.
+-- A run took place, as far as the status says, and a successful run prints no error. A clock-driven
+-- run reads no input.
 abbrev pub Runs : {R W : Type 0} → (R → Option (List ℕ)) → (W → Option (List ℕ))
     → (silent : Type 0) → R → R → W → W → Invocation → Status → Type 0
 Runs remaining contents silent input rest old new (Replay config shown) status =

@@ -35,8 +35,8 @@ setup_of config service = record {
   symmetric_rtp = service.symmetric_rtp;
 }
 
--- The ports were bound, and a gateway ran, as far as the status reports. Its sockets don't log
--- their calls. The output is a recording if that was requested.
+-- The ports were bound, and a gateway ran, as far as the status says. Its sockets don't log their
+-- calls. The output is a recording if that was requested.
 pub record ServesOnPorts (config : Config) (service : Service)
     (input rest held written : Option (List ℕ)) (status : Status) : Type 0 where
   pub outcome : Result Counts RunFault

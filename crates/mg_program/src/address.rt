@@ -3,7 +3,7 @@ ghost use Rattle.mg_program.specs.Address.{is_multicast, own_address};
 
 use mg_words::address_of;
 
-/// Why a text is not an address that a gateway can have.
+/// Why a string is not an address that a gateway can have.
 #[derive(Clone, Copy, Debug, PartialEq, Eq)]
 pub enum AddressFault {
     /// It is not an IPv4 address in dotted decimal.

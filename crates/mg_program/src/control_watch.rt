@@ -5,7 +5,7 @@ use std::io;
 use std::net::Net;
 use std::time::{Clock, Duration};
 
-/// The minimum length of a wait after one that a message ended, in milliseconds.
+/// The minimum length of a wait that follows one ended by a message, in milliseconds.
 const GAP_MS: u64 = 1;
 
 /// The system's monotonic clock. A datagram at the control socket ends a wait.
@@ -20,7 +20,7 @@ pub struct ControlWatch<'a, C: Clock> {
 }
 
 impl<'a, C: Clock> ControlWatch<'a, C> {
-    /// Makes a clock that watches the control socket. The caller allocates the room for the system's reports, so this
+    /// Makes a clock that watches the control socket. The caller allocates the buffer for the system's reports, so this
     /// call allocates nothing.
     pub fn new<N: Net>(
         net: &N,
@@ -38,8 +38,8 @@ impl<'a, C: Clock> ControlWatch<'a, C> {
         })
     }
 
-    /// Waits for a datagram at the control socket, and returns whether one arrived. The system waits for whole
-    /// milliseconds, so what is left by the clock is slept.
+    /// Waits for a datagram at the control socket, and returns whether one arrived. The system waits in whole
+    /// milliseconds, so the rest of the time is slept by the clock.
     fn message_within(&mut self, time: Duration) -> bool {
         let begun = self.watch.now();
         let millis = u64::try_from(time.as_millis()).unwrap_or(u64::MAX);

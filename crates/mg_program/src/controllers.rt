@@ -24,7 +24,7 @@ impl Model for Controllers {
 }
 
 impl Controllers {
-    /// Parses addresses: IPv4 addresses in dotted decimal.
+    /// Parses IPv4 addresses in dotted decimal.
     pub fn of(texts: &[&str]) -> Result<Self, ControllerFault>
         ensures value { result ≡ controllers_of (map (λ text. text.now) texts.now) }
     {

@@ -18,8 +18,8 @@ use std::time::Clock;
 /// Runs the program on its arguments, which do not include its name. Returns its exit status.
 ///
 /// The status is 0 on success, 1 for a bad script line, and 2 for invalid arguments or an invalid configuration. It is
-/// 3 if a read or a write failed, 4 if memory ran out, and 5 for a port that can't be bound. The text for a status
-/// other than 0 goes to `errors`, and a gateway's periodic reports go to `reports`.
+/// 3 if a read or a write failed, 4 if memory ran out, and 5 for a port that can't be bound. If the status is nonzero,
+/// the message goes to `errors`. A gateway's periodic reports go to `reports`.
 pub fn program<'a, N: Net, C: Clock, S: AsStr, R: Read, W: Write, E: Write, T: Write>(
     net: &N,
     clock: &C,
@@ -31,7 +31,7 @@ pub fn program<'a, N: Net, C: Clock, S: AsStr, R: Read, W: Write, E: Write, T: W
     reports: &mut T,
 ) -> u8
     ensures status { result ≤ 5 }
-    // The program did what the arguments ask for, as far as the status reports.
+    // The program did what the arguments ask for, as far as the status says.
     ensures ends { EndsWith
         (Runs R.remaining W.contents (errors.new ≡ errors.old) input.old input.new output.old output.new)
         (requested (map S.text words.now)) Status.Failed (input.new ≡ input.old) (errors.new ≡ errors.old) output.old

@@ -4,11 +4,11 @@ use mg_core::{Config, Shown};
 /// A run that the program's arguments ask for.
 #[derive(Drop)]
 pub enum Invocation {
-    /// Run a script, and write what the second field says about each event.
+    /// Run a script, and write for each event what the second field selects.
     Replay(Config, Shown),
     /// Run a gateway on UDP ports, driven by lines of the input.
     Serve(Config, Service),
-    /// Run a gateway on UDP ports, driven by the clock. The number is the maximum lateness of a tick, in ticks: packets
-    /// of a later tick are not sent.
+    /// Run a gateway on UDP ports, driven by the clock. The number is the maximum lateness of a tick, in ticks: if a
+    /// tick is later than that, its packets are not sent.
     Live(Config, Service, u16),
 }

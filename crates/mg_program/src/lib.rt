@@ -1,6 +1,6 @@
 //! What `mg_bridge` does: a conference media gateway that runs a script, or serves the system's UDP sockets.
 //!
-//! [`program`] does everything, from the arguments of the command line to the exit status:
+//! [`program`] does everything, from the command-line arguments to the exit status:
 //!
 //! ```rust
 //! let words = ["replay", "--slots", "4"];
@@ -8,9 +8,9 @@
 //! ```
 //!
 //! [`requested_run`] returns what the arguments ask for. [`Sockets`] are the sockets of a gateway, bound at the start.
-//! None of their calls waits, and a media socket is not read unless the system reported a datagram. [`UdpPorts`] lend
-//! them to a session (`mg_serve`), and send no packet in a late tick. [`ControlWatch`] is a clock that waits for messages
-//! too.
+//! None of their calls blocks, and a media socket is not read unless the system reported a datagram. [`UdpPorts`] lend
+//! them to a session (`mg_serve`), and send no packet in a late tick. [`ControlWatch`] is a clock that also waits for
+//! messages.
 //!
 //! `specs/Program.antt` defines how a run ends, and `specs/Options.antt` defines what arguments ask for.
 #![tactic(auto)]

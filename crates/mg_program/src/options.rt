@@ -168,7 +168,7 @@ fn address_of(
     }
 }
 
-/// Returns the configuration that the options give, with these addresses for media and for control messages.
+/// Returns the configuration that the options specify, with these addresses for media and for control messages.
 ///
 /// An option that was not given keeps its default.
 fn config_at(address: [u8; 4], control_address: [u8; 4], matches: &ArgMatches<'_>) -> Config

@@ -35,7 +35,7 @@ impl Model for Readiness {
 }
 
 impl Readiness {
-    /// Makes a state in which no socket is watched and all count as ready. The caller allocates the room for the
+    /// Makes a state in which no socket is watched and all count as ready. The caller allocates the buffer for the
     /// system's reports, so this call allocates nothing.
     pub fn new<N: Net>(net: &N, events: Events) -> io::Result<Self> {
         Ok(Readiness {
@@ -45,15 +45,15 @@ impl Readiness {
         })
     }
 
-    /// Asks the system to report the socket of a slot.
+    /// Registers a slot's socket, so that the system reports when a datagram arrives.
     pub fn watch<S: Source>(&self, slot: usize, socket: &mut S) -> io::Result<()> {
         self.poll
             .registry()
             .register(socket, Token(slot), Interest::READABLE)
     }
 
-    /// Asks the system which sockets have received a datagram since the last call. It doesn't wait. If the system can't
-    /// report, all sockets count as ready.
+    /// Asks the system which sockets have received a datagram since the last call. It doesn't block. If the system
+    /// can't report, all sockets count as ready.
     pub fn refresh(&mut self)
         ensures kept { AreStillReady self.old self.new }
     {

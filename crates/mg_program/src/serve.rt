@@ -19,7 +19,7 @@ use std::alloc::Global;
 use std::io::{Read, Write};
 use std::net::Net;
 
-/// Binds the sockets of a gateway, or returns how the program ends if that fails. The text of a fault goes to `errors`.
+/// Binds the sockets of a gateway, or returns how the program ends if that fails. A fault is reported to `errors`.
 ///
 /// An invalid configuration is reported before a port is bound.
 pub fn bind<N: Net, E: Write>(
@@ -77,8 +77,8 @@ fn serve_on<P: Ports, R: Read, W: Write, T: Write>(
     )
 }
 
-/// Runs a new gateway on UDP ports, driven by lines of the input. The text of a fault goes to `errors`, and periodic
-/// reports, if they are enabled, to `reports`.
+/// Runs a new gateway on UDP ports, driven by lines of the input. A fault is reported to `errors`. Periodic reports, if
+/// they are enabled, go to `reports`.
 ///
 /// An invalid configuration is reported before a port is bound, and a port that can't be bound is reported before a
 /// line is read.

@@ -13,7 +13,7 @@ use std::io;
 use std::io::ErrorKind;
 use std::net::{IpAddr, Ipv4Addr, Net, SocketAddr};
 
-/// UDP sockets: the control socket, and then the media sockets in ascending order of port. No call waits.
+/// UDP sockets: the control socket, and then the media sockets in ascending order of port. No call blocks.
 #[derive(Drop)]
 pub struct Sockets {
     sockets: ArrayVec<Option<UdpSocket>, SOCKETS>,
@@ -25,7 +25,7 @@ fn socket_address(address: [u8; 4], port: u16) -> SocketAddr {
     SocketAddr::new(IpAddr::V4(Ipv4Addr::new(a, b, c, d)), port)
 }
 
-/// Binds a socket that doesn't wait.
+/// Binds a non-blocking socket.
 fn bind_socket<N: Net>(net: &N, address: [u8; 4], port: u16) -> Result<UdpSocket, BindFault>
     ensures port { IfErr result (λ fault. fault.port ≡ port) }
 {
@@ -35,7 +35,7 @@ fn bind_socket<N: Net>(net: &N, address: [u8; 4], port: u16) -> Result<UdpSocket
     }
 }
 
-/// Binds the socket of a media port, and asks the system to report its datagrams.
+/// Binds and registers the socket of a media port, so that the system reports when a datagram arrives.
 fn bind_media<N: Net>(
     net: &N,
     address: [u8; 4],
@@ -63,7 +63,7 @@ fn peer_of(address: SocketAddr) -> Result<Peer, PortFault> {
     }
 }
 
-/// Returns the datagram that a socket received, or `None` if it would have to wait.
+/// Returns the datagram that a socket received, or `None` if the receive would block.
 fn datagram_of(answer: io::Result<(usize, SocketAddr)>) -> Result<Option<(usize, Peer)>, PortFault>
     ensures within { (limit : ℕ) → IfOk answer (λ received. received.0 ≤ limit)
         → IfOk result (λ received. IfSome received (λ d. d.0 ≤ limit)) }
@@ -77,7 +77,7 @@ fn datagram_of(answer: io::Result<(usize, SocketAddr)>) -> Result<Option<(usize,
 
 impl Sockets {
     /// Binds the ports of a gateway: the control port, and then the media ports in ascending order. The error is the
-    /// first port that can't be bound. The caller allocates the room for the system's reports, so this call allocates
+    /// first port that can't be bound. The caller allocates the buffer for the system's reports, so this call allocates
     /// nothing.
     pub fn bind<N: Net>(net: &N, config: &Config, events: Events) -> Result<Sockets, BindFault>
         requires sound { IsValidConfig config.now }
@@ -101,7 +101,7 @@ impl Sockets {
         Ok(Sockets { sockets, readiness })
     }
 
-    /// Asks the system to report the datagrams of the control socket to this poll.
+    /// Registers the control socket with this poll, so that the system reports when a datagram arrives.
     pub fn report_control(&mut self, poll: &Poll) -> io::Result<()> {
         match self.sockets.get_mut(0) {
             Some(Some(socket)) => poll

@@ -13,7 +13,7 @@ const TITLE_LIMIT: usize = 512;
 /// The first line of a recording, without its line feed.
 pub type Title = ArrayVec<u8, TITLE_LIMIT>;
 
-/// Appends a text.
+/// Appends a string.
 fn push_text(title: &mut Title, text: &[u8])
     requires room { length title.old.items + length text.now ≤ TITLE_LIMIT }
     ensures value { title.new.items ≡ title.old.items ++ text.now }

@@ -6,7 +6,7 @@ use crate::sockets::Sockets;
 use mg_core::Peer;
 use mg_ports::{PortFault, Ports, Timing};
 
-/// The ports of a gateway on UDP sockets of the system.
+/// A gateway's ports, on the system's UDP sockets.
 #[derive(Drop)]
 pub struct UdpPorts {
     sockets: Sockets,
@@ -15,8 +15,8 @@ pub struct UdpPorts {
     failures: u64,
 }
 
-/// Returns whether no caller can have an address: it is 0.0.0.0, multicast, reserved or broadcast. The address 0.0.0.0
-/// puts a call on hold; a packet to it would reach this machine itself.
+/// Returns whether an address cannot be a caller's: it is 0.0.0.0, multicast, reserved or broadcast. The address
+/// 0.0.0.0 puts a call on hold; a packet to it would reach this machine itself.
 fn is_unusable_destination(address: [u8; 4]) -> bool {
     address == [0; 4] || is_multicast(address)
 }

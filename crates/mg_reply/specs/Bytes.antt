@@ -1,7 +1,7 @@
 -- A text buffer of fixed capacity.
 use Rattle.std.specs.Prelude.{ℕ, ◌-◌, List, ◌++◌, length}
 
--- a text, and the room that remains after it
+-- the text, and the room that remains after it
 pub record Written : Type 0 where
   pub text : List ℕ
   pub room : ℕ

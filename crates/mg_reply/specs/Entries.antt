@@ -35,11 +35,11 @@ is_of Commands (Command word term outcome) = true
 is_of Faults (Fault e) = true
 is_of _ _ = false
 
--- the texts of the items of a kind, in order
+-- the text of each item of a kind, in order
 abbrev pub texts_of : EntryKind → List Item → List (List ℕ)
 texts_of kind items = map item_text (filter (is_of kind) items)
 
--- all triples together as one entry, if there is any
+-- all triples together as one entry, if there are any
 abbrev pub topology_entry : List (List ℕ) → List (List ℕ)
 topology_entry [] = []
 topology_entry (x ∷ xs) = (listed (codes "Topology{") (x ∷ xs) ++ codes "}") ∷ []

@@ -5,7 +5,7 @@ use Rattle.mg_reply.specs.declared.item.Item.{Item}
 use Rattle.mg_reply.specs.declared.item.Item.TheVariants.{Fault, Action}
 
 -- The number of the transaction, the items so far, and the room that remains. Then whether items
--- wait for the end of their action, and whether an item found no room.
+-- wait for the end of their action, and whether there was no room for an item.
 pub record Answered : Type 0 where
   pub number : ℕ
   pub items : List Item

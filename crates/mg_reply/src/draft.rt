@@ -8,7 +8,7 @@ use mg_words::REPLY_LIMIT;
 use std::marker::Model;
 use std::mem;
 
-/// A reply that is being written after an existing text. It stops growing once it is too long.
+/// A reply that is being written after existing text. It stops growing once it is too long.
 #[derive(Drop)]
 pub struct Draft {
     bytes: Bytes,

@@ -17,7 +17,7 @@ pub enum Item {
     /// The error of an action, or of the whole request if it is the only item.
     Fault(ErrorNumber),
     /// The end of an action in this context. The action has the items since the end of the previous action. They are
-    /// written in the order topology, commands, errors, however they were put.
+    /// written in the order topology, commands, errors, whatever order they were put in.
     Action(ContextId),
 }
 

@@ -12,10 +12,10 @@
 //! assert!(rt; write_reply(&reply, &mut text).is_ok());
 //! ```
 //!
-//! Put the end of an action after its items, which may be in any order: the text lists topology, commands and errors. A
-//! reply whose only item is an [`Item::Fault`] rejects the whole request. [`write_reply`] returns [`TooLong`], and
-//! writes nothing, if the reply had more items than room or if its text would exceed 16,000 bytes. [`theorems`] states
-//! properties of replies.
+//! Put the end of an action after its items, which may be in any order: the text lists the topology, then commands,
+//! then errors. A reply whose only item is an [`Item::Fault`] rejects the whole request. [`write_reply`] returns
+//! [`TooLong`], and writes nothing, if the reply had no room for an item or if its text would exceed 16,000 bytes.
+//! [`theorems`] states properties of replies.
 #![tactic(auto)]
 
 mod action_writing;

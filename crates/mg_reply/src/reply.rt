@@ -6,7 +6,7 @@ use crate::item::Item;
 use std::alloc::{AllocError, Global};
 use std::marker::Model;
 
-/// The number of items for which a reply has room. The end of an action that has items needs no room.
+/// How many items a reply has room for. The end of an action that has items needs no room.
 pub const ITEM_LIMIT: usize = 1600;
 
 /// A reply that is collected item by item, in memory that was allocated at the start.
@@ -112,7 +112,7 @@ impl Reply {
         }
     }
 
-    /// Returns whether the reply is marked as too long, because an item found no room.
+    /// Returns whether the reply is marked as too long, because there was no room for an item.
     pub fn is_long(&self) -> bool
         ensures value { result ≡ self.now.is_long }
     {

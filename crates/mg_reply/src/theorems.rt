@@ -1,6 +1,6 @@
 //! Properties of replies.
 //!
-//! The functions have no effect: their contracts are the theorems. A proof that needs one calls the function.
+//! The functions have empty bodies: their contracts are the theorems. A proof that needs one calls the function.
 
 ghost use Rattle.mg_reply.specs.Theorems.{NoProperPrefix};
 ghost use Rattle.mg_reply.specs.aids.Width.{TooLongByText, AllItemsAreKept};
@@ -10,7 +10,7 @@ pub fn no_proper_prefix()
     ensures prefix { NoProperPrefix }
 {}
 
-/// Whether a reply is too long depends only on the text of its items, not on whether they found room.
+/// Whether a reply is too long depends only on the text of its items, not on whether there was room for them.
 ///
 /// This holds if each item, with its comma, has at least 10 bytes.
 pub fn too_long_by_text()

@@ -58,7 +58,7 @@ free_slot w =
 abbrev pub free_room : Registry → Option ℕ
 free_room w = least_below context_limit (λ room. not (list_any (λ x. x.room == room) w.contexts))
 
--- the lowest seat of the context without a termination
+-- the lowest seat of the context that no termination has
 abbrev pub free_seat : Registry → ℕ → Option ℕ
 free_seat w c =
     least_below member_limit (λ seat. not

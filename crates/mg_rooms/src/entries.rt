@@ -1,4 +1,4 @@
-//! Searches in the tables by slot and by room, and changes of one entry.
+//! Lookups in the tables by slot and by room, and changes to one entry.
 
 ghost use Rattle.std.specs.Prelude.{◌≡◌, ℕ, ◌<◌, ◌==◌, ◌&&◌, ◌||◌, true, not, length, replicate, None, is_none, IfOk, IfSome, slice_index_or};
 ghost use Rattle.std.specs.List.{position_from, list_any};

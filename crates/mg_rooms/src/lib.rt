@@ -4,8 +4,8 @@
 //!
 //! [`Rooms`] stores terminations by slot and contexts by room. A slot belongs to a termination and its media port, a
 //! room to a context, and a seat to a member of a context. Slots, rooms and seats are small numbers that are reused, so
-//! that the crates above can use tables of fixed size. The numbers of terminations and contexts increase, and none is
-//! used twice.
+//! that the crates above can use fixed-size tables. The numbers of terminations and contexts increase, and none is used
+//! twice.
 //!
 //! Each command names the action's context as a [`Target`] and, except for an Add, a termination by its number. It
 //! either succeeds, or is rejected by the first check that fails and changes nothing:

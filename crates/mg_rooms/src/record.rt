@@ -12,9 +12,9 @@ pub struct Record {
     pub number: u32,
     /// The number of its context.
     pub context: u32,
-    /// Its slot until it is subtracted, below the gateway's number of slots.
+    /// The slot that it holds until it is subtracted, below the gateway's number of slots.
     pub slot: u8,
-    /// Its seat while it is in this context, below [`MEMBERS`](crate::MEMBERS).
+    /// The seat that it holds while it is in this context, below [`MEMBERS`](crate::MEMBERS).
     pub seat: u8,
     /// The mode of its stream.
     pub mode: Mode,

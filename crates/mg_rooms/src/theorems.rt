@@ -35,8 +35,8 @@ pub fn exhausted_resources_are_refused()
         ((CONTEXTS ≤ length w.contexts) ⊎ (LAST_CONTEXT < w.next_context)) }
 {}
 
-/// A new gateway is consistent, and every command preserves that. So it holds after any commands, and a proof can use
-/// it without tables.
+/// A new gateway is consistent, and every command preserves that. So it is consistent after any commands, and a proof
+/// can use this without tables.
 pub fn outcomes_are_consistent()
     ensures start { (limits : Limits) → AreValidLimits limits → limits.first_termination ≤ LAST_TERMINATION →
         IsConsistent (start_of limits) }

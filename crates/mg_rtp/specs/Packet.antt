@@ -32,7 +32,7 @@ abbrev pub IsExtension : Bool → List ℕ → Type 0
 IsExtension false bytes = bytes ≡ []
 IsExtension true bytes = CountsWords bytes
 
--- padding: bytes of any value, where the last one is their count
+-- padding: bytes of any value, the last of which is their count
 pub record CountsItself (bytes : List ℕ) : Type 0 where
   pub filler : List ℕ
   pub joined : bytes ≡ filler ++ (length filler + 1) ∷ []

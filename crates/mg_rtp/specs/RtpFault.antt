@@ -1,5 +1,5 @@
 -- Why bytes are not a packet. The faults and their order are this project's own. A fault names the
--- first part that is not as section 5.1 of RFC 3550 requires.
+-- first part that violates section 5.1 of RFC 3550.
 use Rattle.std.specs.Prelude.{◌≡◌, ◌≢◌, ℕ, ◌+◌, ◌-◌, ◌*◌, ◌/◌, ◌<◌, ◌≤◌, IsTrue, List, [], ◌++◌}
 use Rattle.std.specs.Prelude.{length, drop, slice_index, codes, ◌⊎◌}
 use Rattle.byteorder.specs.Endian.{big_number}

@@ -1,7 +1,7 @@
 use std::error::Error;
 use std::fmt;
 
-/// Why a datagram is not a packet: the first fault, from the beginning.
+/// Why a datagram is not a packet: the first fault in it.
 #[derive(Clone, Copy, Debug, PartialEq, Eq, Hash)]
 pub enum RtpFault {
     /// The datagram ends within the twelve bytes of the header, or within the contributing sources.

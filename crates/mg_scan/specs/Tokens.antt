@@ -1,5 +1,5 @@
--- The tokens of a text (RFC 3525, Annex B.2). Which bytes are words and white space is this
--- gateway's profile.
+-- The tokens of a source (RFC 3525, Annex B.2). This gateway's profile decides which bytes are
+-- words and which are white space.
 use Rattle.std.specs.Prelude.{ℕ, ◌+◌, Bool, true, false, ◌||◌, ◌&&◌, ◌==◌, not, List, [], ◌∷◌, ◌++◌}
 use Rattle.std.specs.Prelude.{take, drop, Option, Some, None, Result, Ok, Err, codes, if◌then◌else◌}
 use Rattle.std.specs.List.{prefix_len, position_or_len, list_any}
@@ -45,7 +45,7 @@ abbrev pub token_and_rest : TokenKind → List ℕ → List ℕ → Option (Resu
 token_and_rest kind text rest =
     Some (Ok (record { piece = record { kind = kind; text = text }; rest = rest }))
 
--- a quoted text with what follows it, if it is closed
+-- quoted text and what follows it, if the quote is closed
 abbrev pub closed_at : List ℕ → List ℕ → Option (Result TokenAndRest ScanFault)
 closed_at text [] = Some (Err OpenQuote)
 closed_at text (b ∷ bs) = if b == 34 then token_and_rest Quoted text bs else Some (Err OpenQuote)

@@ -1,4 +1,4 @@
--- Connection lines (RFC 4566, section 5.7) of IPv4.
+-- Connection lines (RFC 4566, section 5.7) for IPv4.
 use Rattle.std.specs.Prelude.{ℕ, ◌&&◌, List, [], ◌∷◌, Option, None, codes, if◌then◌else◌}
 use Rattle.std.specs.Str.{str_eq_ignore_ascii_case}
 use Rattle.mg_words.specs.Address.{address_of}

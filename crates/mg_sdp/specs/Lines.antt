@@ -12,12 +12,12 @@ use Rattle.mg_words.specs.LineEnd.{is_line_end}
 abbrev pub is_space_or_tab : ℕ → Bool
 is_space_or_tab b = b == byte " " || b == byte "\t"
 
--- a text that is not empty
+-- text that is not empty
 abbrev pub is_filled : List ℕ → Bool
 is_filled [] = false
 is_filled (b ∷ text) = true
 
--- a text without spaces and tabs at its end, and without those at both ends
+-- text without spaces and tabs at its end, and without those at both ends
 abbrev pub trimmed_end : List ℕ → List ℕ
 trimmed_end text = take (length text - suffix_len is_space_or_tab text) text
 

@@ -1,4 +1,4 @@
--- Media lines (RFC 4566, section 5.14) of G.711 over RTP (RFC 3551, section 6: payload types 0 and
+-- Media lines (RFC 4566, section 5.14) for G.711 over RTP (RFC 3551, section 6: payload types 0 and
 -- 8). A $ leaves the choice to the gateway (RFC 3525, section 7.1.8).
 use Rattle.std.specs.Prelude.{ℕ, ◌&&◌, List, ◌∷◌, Option, Some, None, codes, slice_get}
 use Rattle.std.specs.Prelude.{if◌then◌else◌}

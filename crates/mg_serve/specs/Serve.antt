@@ -23,7 +23,7 @@ use Rattle.mg_serve.specs.Session.{Session}
 use Rattle.mg_serve.specs.Setup.{Setup}
 use Rattle.mg_serve.specs.Trace.{TraceEntry, Printed, Noted, calls_of, output_of}
 
--- Why no more lines of a text are executed. Of the lines that were read, `lines` were executed;
+-- Why no more lines of the text are executed. Of the lines that were read, `lines` were executed;
 -- `others` should have been, but were not.
 abbrev pub Exits : {T : Type 0} → Form → Result T RunFault → (ended : Bool) → (text : List ℕ)
     → (lines others : List (List ℕ)) → Option (List ℕ) → Type 0
@@ -33,7 +33,7 @@ Exits form (Ok value) ended text lines others left =
     ⊎ ((more : List ℕ) → before_quit (lines_of true (text ++ more)) ≡ lines))
 -- All lines that were read completely were executed.
 Exits form (Err faults.Read) ended text lines others left = (ended ≡ false) × (others ≡ [])
--- A print failed: for the last line that was executed, or at the start.
+-- Printing failed: for the last line that was executed, or at the start.
 Exits form (Err faults.Write) ended text lines others left =
     ((lines ≡ []) × (text ≡ [])) ⊎ LastPrints form (map line_command lines)
 -- nothing was read
@@ -41,7 +41,7 @@ Exits form (Err faults.NoMemory) ended text lines others left = (lines ≡ []) �
 Exits form (Err faults.BadConfig) ended text lines others left = (lines ≡ []) × (text ≡ [])
 Exits form (Err (faults.Script number)) ended text lines others left = ⊥
 
--- A text was read. The commands come from its lines before the first `quit`, or, if a print failed,
+-- Text was read. The commands come from its lines before the first `quit` or, if printing failed,
 -- from the first of these lines.
 pub record ReadCommands {T : Type 0} (form : Form) (old new : Option (List ℕ))
     (result : Result T RunFault) (commands : List Command) : Type 0 where
@@ -70,7 +70,7 @@ ClockExits form faults.Read fails steps schedule commands now new =
     (commands ≡ commands_of steps)
     × (fails ⊎ (length steps ≡ 2 ^ 64 - 1 ⊎ (schedule.ticks ≡ 2 ^ 64 - 1
     ⊎ IsReadEarly (schedule.ticks + 1) (2 ^ 64 - 1) now new)))
--- A print failed: for the last command that was executed, with at most one tick left; or at the
+-- Printing failed: for the last command that was executed, with at most one tick left; or at the
 -- start.
 ClockExits form faults.Write fails steps schedule commands now new =
     (new ≡ now) × ((steps ≡ []) × (commands ≡ [])
@@ -94,7 +94,7 @@ pub record ClockCommands (form : Form) (allowed : ℕ) (old new : ClockSeen) (fa
       schedule
   pub exits : ClockExits form fault fails steps schedule commands now new
 
--- the events of a world were counted
+-- the counts match the events of a world
 abbrev pub AreCounted : Result Counts RunFault → World → Type 0
 AreCounted (Ok counts) w = record counts { lines = 0; sent = 0; failed = 0 } ≡ counts_of w.tally
 AreCounted (Err fault) w = Unit {0}
@@ -115,7 +115,7 @@ Opens title (Err faults.NoMemory) first = first ≡ []
 Opens title (Err faults.BadConfig) first = first ≡ []
 Opens title result first = first ≡ opening title
 
--- Everything to be printed was printed or, if a print failed, a proper prefix of it.
+-- Everything to be printed was printed or, if printing failed, a proper prefix of it.
 abbrev pub IsOutput : Result Counts RunFault → List ℕ → Option (List ℕ) → Option (List ℕ) → Type 0
 IsOutput (Err faults.Write) text old new = WritesFront text old new
 IsOutput _ text old new = Appends old new text

@@ -100,7 +100,7 @@ Ticks setup timing w trace next =
     × HandlesEvent setup events.Tick w others next
 
 -- `poll` is a turn of the control socket and then of each media socket in ascending order. `tick`
--- is one tick. `stats` prints a text, which is not specified here.
+-- is one tick. `stats` prints text that is not specified here.
 abbrev pub Performs : Setup → Command → World → List TraceEntry → World → Type 0
 Performs setup Poll w trace next =
     Each (SocketTurn setup) (range_with_len 0 (setup.config.slots + 1)) w trace next

@@ -59,7 +59,8 @@ CutSessionsAreReadBack =
     × (script.events_of (lines_of false front) ≡ Some first)
 
 -- A run over a script wrote the lines of the datagrams that a run over a session's events sends.
--- These are the datagrams that the session sent. It ended in the session's world.
+-- These are the datagrams that the session sent. The run over the script ended in the session's
+-- world.
 pub record WroteWhatWasSent (setup : Setup) (trace : List TraceEntry) (next last : World)
     (old new : Option (List ℕ)) : Type 0 where
   pub session : SendsAreARun setup (start_of setup.config) trace next

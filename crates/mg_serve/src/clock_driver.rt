@@ -80,7 +80,7 @@ impl<'a, E: Write> ClockDriver<'a, E> {
         Ok(())
     }
 
-    /// Executes polls and ticks when the clock says that they are due, until the clock or a print fails.
+    /// Executes polls and ticks when the clock says that they are due, until the clock or printing fails.
     pub fn take_all<P: Ports, K: Watch, W: Write>(
         &mut self,
         alloc: Global,

@@ -6,7 +6,7 @@ use mg_clock::Timing;
 /// A command to a gateway: what it does next.
 #[derive(Clone, Copy, Debug, PartialEq, Eq)]
 pub enum Command {
-    /// Receive what arrived at the sockets.
+    /// Receive the datagrams that arrived at the sockets.
     Poll,
     /// Advance by 20 ms, and send the packets unless the tick is late.
     Tick(Timing),

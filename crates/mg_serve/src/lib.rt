@@ -1,7 +1,7 @@
 //! A gateway on UDP ports, driven by lines or by a clock.
 //!
-//! The line `poll` receives what arrived at the ports, and `tick` advances by 20 ms and sends the packets. `stats`
-//! prints the counts, and `quit` ends the run. Whoever writes the lines is the gateway's clock.
+//! The line `poll` receives the datagrams that arrived at the ports, and `tick` advances by 20 ms and sends the
+//! packets. `stats` prints the counts, and `quit` ends the run. Whoever writes the lines is the gateway's clock.
 //!
 //! ```rust
 //! let counts = serve(alloc, Config::default(), None, &mut ports, &mut input, &mut output, 0, &mut reports)?;
@@ -30,7 +30,7 @@ pub mod theorems;
 // A theorem can name a command in a contract only if the type is exported.
 #[doc(hidden)]
 pub use crate::command::Command;
-// The same is true of what a session prints.
+// The same is true of the form in which a session is printed.
 #[doc(hidden)]
 pub use crate::form::Form;
 pub use crate::serving::{serve, serve_by_clock};

@@ -18,7 +18,7 @@ use mg_ports::Ports;
 use std::alloc::Global;
 use std::io::{Read, Write};
 
-/// Drives a server with lines, which may arrive in any pieces.
+/// Drives a server with lines, which may arrive in pieces of any size.
 #[derive(Drop)]
 pub struct LineDriver<'a, E: Write> {
     pub server: Server<'a, E>,

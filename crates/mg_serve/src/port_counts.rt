@@ -51,8 +51,8 @@ impl PortCounts {
         }
     }
 
-    /// Returns whether the caller would sound bad: packets were dropped, late, too early or duplicates, or the play
-    /// list restarted; or whether strangers sent to the port.
+    /// Returns whether the caller would sound bad (packets were dropped, late, too early or duplicates, or the play
+    /// list restarted), or strangers sent to the port.
     pub fn has_trouble(&self) -> bool {
         let [started, _, pushed, again, late] = self.counts.placed;
         started > 1

@@ -14,13 +14,13 @@ use std::alloc::{AllocError, Global};
 use std::io::Write;
 use std::marker::Model;
 
-/// The maximum length of a printed text, in bytes. What is longer is cut.
+/// The maximum length of printed text, in bytes. Longer text is cut.
 const PRINTED_LIMIT: usize = 1000;
 
 /// The maximum length of a text line, in bytes: the comment mark, the text, and a line feed.
 const TEXT_ROOM: usize = 3 + PRINTED_LIMIT;
 
-/// Prints what a gateway does, with one write per line. After a failed print it prints nothing more.
+/// Prints what a gateway does, with one write per line. Once printing has failed, it prints nothing more.
 #[derive(Drop)]
 pub struct Printer {
     form: Form,
@@ -41,7 +41,7 @@ impl Model for Printer {
     ghost invariant = { λ p. p.text.room + length p.text.text ≡ TEXT_ROOM };
 }
 
-/// Writes a text, unless an earlier write has failed.
+/// Writes `text`, unless an earlier write has failed.
 fn put<W: Write>(has_failed: &mut bool, text: &[u8], writer: &mut W)
     requires some { ¬ (text.now ≡ []) }
     ensures value { Puts has_failed.old has_failed.new text.now (W.contents writer.old) (W.contents writer.new) }
@@ -51,8 +51,8 @@ fn put<W: Write>(has_failed: &mut bool, text: &[u8], writer: &mut W)
     }
 }
 
-/// Appends a text as one line, without a line feed at the end. Line feeds in the text are left out, and only the first
-/// 1,000 bytes are kept.
+/// Appends `text` as one line, without a line feed at the end. Line feeds in it are left out, and only the first 1,000
+/// bytes are kept.
 #[tactic(auto, using(crate::proofs::OneLine::short))]
 fn push_line(text: &[u8], out: &mut Bytes)
     requires room { PRINTED_LIMIT ≤ out.old.room }
@@ -85,7 +85,7 @@ impl Printer {
         })
     }
 
-    /// Returns whether a print has failed.
+    /// Returns whether printing has failed.
     pub fn has_failed(&self) -> bool
         ensures value { result ≡ self.now.has_failed }
     {
@@ -133,7 +133,7 @@ impl Printer {
         }
     }
 
-    /// Prints a line: a start and a text.
+    /// Prints a line: `front` and `text`.
     fn put_line<W: Write>(&mut self, front: &[u8], text: &[u8], writer: &mut W)
         requires front { length front.now ≤ 2 }
         ensures form { self.new.form ≡ self.old.form }
@@ -147,7 +147,7 @@ impl Printer {
         put(&mut self.has_failed, self.text.as_slice(), writer);
     }
 
-    /// Prints a text for whoever drives the gateway, as one line.
+    /// Prints `text` as one line, for whoever drives the gateway.
     pub fn print<W: Write>(&mut self, text: &[u8], writer: &mut W)
         ensures value { Prints self.old self.new (W.contents writer.old) (W.contents writer.new)
             (Printed text.now ∷ []) }
@@ -158,7 +158,7 @@ impl Printer {
         }
     }
 
-    /// Prints a text as one line, only in a recording.
+    /// Prints `text` as one line, but only in a recording.
     pub fn note<W: Write>(&mut self, text: &[u8], writer: &mut W)
         ensures value { Prints self.old self.new (W.contents writer.old) (W.contents writer.new)
             (Noted text.now ∷ []) }

@@ -12,7 +12,7 @@ const TICKS: u64 = 50;
 /// Prints reports for an operator.
 ///
 /// Every `every` ticks it prints the totals since the start, and a line for each media port that had trouble since the
-/// last report. After a stall it prints how many packets were too late to be sent. A print that fails is skipped.
+/// last report. After a stall it prints how many packets were too late to be sent. What can't be printed is skipped.
 #[derive(Drop)]
 pub struct Reports<'a, E: Write> {
     every: u64,

@@ -44,7 +44,7 @@ pub struct Server<'a, E: Write> {
     reports: Reports<'a, E>,
     /// Lines that were executed.
     pub lines: u64,
-    /// Answers and packets whose send succeeded.
+    /// Answers and packets that were sent successfully.
     pub sent: u64,
     /// Control datagrams that were dropped because memory ran out while they were read.
     pub unread: u64,
@@ -427,7 +427,7 @@ impl<'a, E: Write> Server<'a, E> {
         }
     }
 
-    /// Executes a command, and returns whether it was `quit`. The command is executed in full even if a print fails.
+    /// Executes a command, and returns whether it was `quit`. The command is executed in full even if printing fails.
     pub fn take_command<P: Ports, W: Write>(
         &mut self,
         alloc: Global,

@@ -30,11 +30,11 @@ use std::io::{Read, Write};
 ///
 /// With a title, the output is a recording: a script with one line for each event (`control`, `rtp` or `tick`), in
 /// order. Its first line is the title, as a comment. Everything else that is printed is a comment too, including a
-/// control datagram for which there was no memory. `run` of `mg_core` runs such a script again. If a print fails, the
+/// control datagram for which there was no memory. `run` of `mg_core` runs such a script again. If printing fails, the
 /// current input line is still executed in full, and nothing more is printed.
 ///
-/// At the given interval it prints for an operator the totals since the start, and each media port that had trouble
-/// since the last report. A report that can't be printed is skipped.
+/// At the given interval it prints, for an operator, the totals since the start and a line for each media port that had
+/// trouble since the last report. A report that can't be printed is skipped.
 ///
 /// On return, with or without an error, the complete lines that it read and their effects form a session of a new
 /// gateway. `Read` and `Write` mean that the input or the output failed; it also returns `Read` after 4,294,967,295
@@ -101,7 +101,7 @@ fn drive<P: Ports, R: Read, W: Write, E: Write>(
 /// After a delay all missed ticks are executed at once. If a tick is more than `allowed` ticks late, its packets are
 /// not sent. The next tick that is on time reports how many there were.
 ///
-/// It ends only on a fault: `Read` if the clock can't be read, `Write` if a print failed, `NoMemory` or `BadConfig`
+/// It ends only on a fault: `Read` if the clock can't be read, `Write` if printing failed, `NoMemory` or `BadConfig`
 /// before anything is executed.
 pub fn serve_by_clock<P: Ports, K: Watch, W: Write, E: Write>(
     alloc: Global,

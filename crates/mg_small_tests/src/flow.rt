@@ -114,7 +114,7 @@ fn last_of_two_triples_wins(rt: HostRuntime) -> Result<(), Fail> {
     let oneway = triple(0b01, 0b10, Association::Oneway);
     let all_to_one = triple(mask::FULL, 0b01, Association::Oneway);
 
-    // An overlap applies no triple.
+    // If sets overlap, no triple is applied.
     assert_eq!(rt; table.on_triples(0, &[isolate, all_to_one]), Err(Overlap));
     assert_masks(&rt, &table, FIRST, 0b10, 0);
     assert_masks(&rt, &table, SECOND, 0b01, 0);

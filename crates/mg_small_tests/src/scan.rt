@@ -3,7 +3,7 @@
 use mg_scan::{ScanFault, Scanner, TokenKind};
 use std::test::Fail;
 
-/// Returns the kinds and texts of the tokens before a fault or the end.
+/// Part of a message with short keywords, a comment and a quoted string.
 const SHORT: &[u8] = b"!/1 [127.0.0.1]:2945 ; hello\n\tt = 1 { c = - { av = \"a b\", } }";
 
 #[test]

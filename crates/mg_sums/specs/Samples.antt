@@ -3,7 +3,7 @@ use Rattle.std.specs.Prelude.{ℕ, ℤ, pos, negsuc, ◌+ℤ◌, List, [], ◌�
 use Rattle.std.specs.Prelude.{None, replicate}
 use Rattle.std.specs.Int.{int_min, int_max}
 
--- the number at a place of a row
+-- the number at an index of a row
 abbrev pub sample : List ℤ → ℕ → ℤ
 sample row i = slice_index_or row i (pos 0)
 

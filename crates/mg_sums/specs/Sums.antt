@@ -83,7 +83,7 @@ pub record AreAllOfRoom (rooms : List (Option ℕ)) (room : ℕ) (rows : List �
   pub are : AreOfRoom rooms room rows
   pub all : (row : ℕ) → IsTrue (is_joined rooms room row) → Contains rows row
 
--- the counter of work after this many more kernel calls
+-- the work counter after this many more kernel calls
 abbrev pub work_after : ℕ → ℕ → ℕ
 work_after calls work = (work + calls) % 2 ^ 32
 

@@ -116,7 +116,7 @@ fn difference_chunk(out: &mut [i32], at: usize, total: &[i32; LANES], chunk: &[i
     rest.copy_to_slice(&mut out[at..]);
 }
 
-/// Limits each sum to the nearest number of 16 bits.
+/// Limits each sum to the nearest 16-bit number.
 pub fn limit(samples: &mut [i16], sums: &[i32])
     requires same_length { length samples.old ≡ length sums.now }
     ensures limits { EachIndex samples.new (λ i.

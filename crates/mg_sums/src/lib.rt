@@ -3,7 +3,7 @@
 //! Each termination has a [`Row`], numbered by its slot, and each context has a [`Room`]. A [`Sums`] keeps the frame of
 //! each row and the room that it is joined to, if any. A row is joined while its termination talks. For each room it
 //! keeps the sum of the joined frames, sample by sample, as 160 numbers of 32 bits. These totals are never limited: at
-//! most [`TERMINATIONS`] samples of 16 bits are added.
+//! most [`TERMINATIONS`] 16-bit samples are added.
 //!
 //! So a listener's mix needs no sum over all talkers. It is the room's total minus the rows that the listener must not
 //! hear: its own (the base) and those silenced for it. It is limited once to 16 bits, and encoded as G.711.

@@ -27,7 +27,7 @@ const LINE: &[u8] =
 const REPLY_LINE: &[u8] =
     b"say 127.0.0.1:2945 MEGACO/1 [127.0.0.1]:2944\\nReply=1{Context=-{AuditValue=ROOT}}\n";
 
-/// Passes a message of the controller to a core.
+/// Passes a message from the controller to a core.
 fn hand(alloc: Global, core: &mut Core, message: &[u8]) -> Result<Answer, NoMemory> {
     core.control(alloc, CONTROLLER, message)
 }
@@ -38,13 +38,13 @@ fn has_one(core: &Core) -> bool {
     is_alone && core.rooms().members(1) == [1].as_slice()
 }
 
-/// Returns whether a core leaves a message of the controller without an answer.
+/// Returns whether a core leaves a message from the controller unanswered.
 fn is_silent(alloc: Global, core: &mut Core, message: &[u8]) -> Result<bool, NoMemory> {
     let answer = hand(alloc, core, message)?;
     Ok(answer == Answer::Silent && core.answer().is_empty())
 }
 
-/// Returns whether a core answers a datagram of the controller with this text.
+/// Returns whether a core answers a datagram from the controller with this text.
 fn is_answered(
     alloc: Global,
     core: &mut Core,
@@ -251,7 +251,7 @@ const DROPPED: [&[u8]; 6] = [
     b"rtp 30000 127.0.0.1:5004 800000010000000000000063\n",
 ];
 
-/// Makes a termination without a Local, at port 30006.
+/// Makes a termination without a Local, on port 30006.
 const NO_LOCAL: &[u8] = b"say 127.0.0.1:2945 !/1 [127.0.0.1]:2945 T=2{C=1{A=$}}\n";
 
 /// Appends a frame of the first caller, in hexadecimal, this many times.
@@ -322,7 +322,7 @@ fn names_a_long_line_within_a_script(rt: HostRuntime) -> Result<(), Fail> {
     Ok(())
 }
 
-/// Returns a text repeated `count` times.
+/// Returns `text` repeated `count` times.
 fn times(alloc: Global, text: &[u8], count: usize) -> Result<Vec<u8>, Fail> {
     let mut whole = Vec::new(alloc);
     for _ in 0..count {
@@ -403,7 +403,7 @@ const TWO_ADDS: &[u8] = b"!/1 [127.0.0.1]:2945 T=1{C=${A=$,A=$}}";
 const LAST_ADDED: &[u8] =
     b"MEGACO/1 [127.0.0.1]:2944\nReply=1{Context=1{Add=RTP/4294967295,Add=${Error=432{\"no termination or port left\"}}}}";
 
-/// Returns whether a core answers each message of the controller with its text.
+/// Returns whether a core answers each message from the controller with its text.
 fn answers_each(
     alloc: Global,
     core: &mut Core,
@@ -417,7 +417,7 @@ fn answers_each(
     Ok(true)
 }
 
-/// Returns whether a new core answers each message of the controller with its text.
+/// Returns whether a new core answers each message from the controller with its text.
 ///
 /// It is false if the configuration is invalid.
 fn answers_all(

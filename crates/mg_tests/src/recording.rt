@@ -70,7 +70,7 @@ fn writes_rtp_datagrams(rt: HostRuntime) -> Result<(), Fail> {
     Ok(())
 }
 
-/// Returns a text, the digits of this many exclamation marks, and a line feed.
+/// Returns `front`, the digits of this many exclamation marks, and a line feed.
 fn line_of(alloc: Global, front: &[u8], marks: usize) -> Result<Vec<u8>, Fail> {
     let mut line = Vec::from_slice(alloc, front)?;
     for _ in 0..marks {
@@ -129,7 +129,7 @@ fn runs_control_datagrams(rt: HostRuntime) -> Result<(), Fail> {
     Ok(())
 }
 
-/// Makes a termination at port 30000 that accepts mu-law from any address.
+/// Makes a termination on port 30000 that accepts mu-law from any address.
 const ADD: &[u8] = b"!/1 [127.0.0.1]:2945 T=1{C=${\
     A=${M{O{MO=SR},L{v=0\nc=IN IP4 $\nm=audio $ RTP/AVP 0\n}}}}}";
 

@@ -15,7 +15,7 @@ const CALLER: Peer = Peer {
     port: 40000,
 };
 
-/// Makes context 1 with a termination that talks and listens, and whose caller is at port 40000.
+/// Makes context 1 with a termination that talks and listens, and whose caller is on port 40000.
 const ADD: &[u8] = b"MEGACO/1 [127.0.0.1]:2945 Transaction=1{Context=${Add=${Media{\
     LocalControl{Mode=SendReceive},Local{v=0\nc=IN IP4 $\nm=audio $ RTP/AVP 0\n},\
     Remote{v=0\nc=IN IP4 127.0.0.1\nm=audio 40000 RTP/AVP 0\n}}}}}";
@@ -225,7 +225,7 @@ fn counts_lines_up_to_the_end(rt: HostRuntime) -> Result<(), Fail> {
     Ok(())
 }
 
-/// Returns how often a letter occurs in a text.
+/// Returns how often a letter occurs in `text`.
 fn count(text: &str, letter: u8) -> usize {
     text.as_bytes().iter().filter(|b| **b == letter).count()
 }
@@ -414,7 +414,7 @@ fn ends_where_a_print_fails(rt: HostRuntime) -> Result<(), Fail> {
     Ok(())
 }
 
-/// Ports at which these datagrams are waiting, each from an address of the loopback network.
+/// Returns ports at which these datagrams are waiting, each from an address of the loopback network.
 fn ports_of(alloc: Global, waiting: &[(usize, u8, &[u8])]) -> Result<FakePorts, AllocError> {
     let mut arrivals = Vec::new(alloc);
     for (socket, host, bytes) in waiting {

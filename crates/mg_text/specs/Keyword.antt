@@ -84,7 +84,7 @@ keywords =
     ReservedValue ∷ ReservedGroup ∷ Statistics ∷ Error ∷ Signals ∷ Events ∷ Modem ∷ Mux ∷
     DigitMap ∷ EventBuffer ∷ ObservedEvents ∷ Packages ∷ Priority ∷ Emergency ∷ []
 
--- the keyword that a text spells, in either form
+-- the keyword that the text spells, in either form
 unfoldable pub keyword_of : List ℕ → Option Keyword
 keyword_of text = find (is_named text) keywords
 

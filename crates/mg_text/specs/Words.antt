@@ -14,7 +14,7 @@ use Rattle.mg_text.specs.declared.descriptor.AuditWord.TheVariants as audits
 use Rattle.mg_text.specs.declared.body.Range.{Range}
 use Rattle.mg_text.specs.Keyword.{keyword_of}
 
--- the value of a text that is one form of a keyword
+-- the value of a string that is one form of a keyword
 abbrev pub by_keyword : {X : Type 0} → (Keyword → Option X) → List ℕ → Option X
 by_keyword meaning text = option_and_then meaning (keyword_of text)
 

@@ -180,7 +180,7 @@ pub fn same_word(a: &[u8], b: &[u8]) -> bool
     a.len() == b.len() && same_letters(a, b)
 }
 
-/// Returns whether a text is one of the two forms of a keyword.
+/// Returns whether a string is one of the two forms of a keyword.
 #[tactic(auto, unfolding(crate::specs::Keyword::is_named))]
 pub fn is_named(text: &[u8], keyword: Keyword) -> bool
     ensures value { result ≡ is_named text.now keyword }
@@ -268,7 +268,7 @@ fn word_among(words: &[Keyword], text: &[u8]) -> Option<Keyword>
         .find(|keyword| is_named(text, *keyword))
 }
 
-/// Returns the keyword that a text spells, in either form.
+/// Returns the keyword that the text spells, in either form.
 ///
 /// It compares only forms that have the text's first letter and its length.
 pub fn keyword_of(text: &[u8]) -> Option<Keyword>

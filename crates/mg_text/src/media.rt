@@ -6,7 +6,7 @@ use mg_words::Mode;
 #[derive(Clone, Copy, Debug, PartialEq, Eq)]
 pub enum PropertyValue {
     Word(Span),
-    /// A quoted text, without its quotation marks.
+    /// Quoted text, without its quotation marks.
     Quoted(Span),
     /// A group, whose content is not kept.
     Group,

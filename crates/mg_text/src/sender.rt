@@ -12,21 +12,21 @@ fn is_domain_byte(b: u8) -> bool
     b.is_ascii_alphanumeric() || b == b'-' || b == b'.'
 }
 
-/// Returns whether each byte of a text is allowed in a domain name.
+/// Returns whether each byte of a string is allowed in a domain name.
 fn all_domain_bytes(text: &[u8]) -> bool
     ensures value { result ≡ list_all is_domain_byte text.now }
 {
     text.iter().all(|b| is_domain_byte(*b))
 }
 
-/// Returns whether a text is a domain name of 1 to 64 bytes.
+/// Returns whether a string is a domain name of 1 to 64 bytes.
 fn is_domain(text: &[u8]) -> bool
     ensures value { result ≡ is_domain text.now }
 {
     !text.is_empty() && text.len() <= TERM_LIMIT && all_domain_bytes(text)
 }
 
-/// Returns whether a text is empty, or a colon and a port.
+/// Returns whether a string is empty, or a colon and a port.
 fn is_port_part(text: &[u8]) -> bool
     ensures value { result ≡ is_port_part text.now }
 {
@@ -37,7 +37,7 @@ fn is_port_part(text: &[u8]) -> bool
     }
 }
 
-/// Returns whether a text after `[` is an IPv4 address, `]`, and an optional port.
+/// Returns whether the text after `[` is an IPv4 address, `]`, and an optional port.
 fn is_address_host(text: &[u8]) -> bool
     ensures value { result ≡ is_host is_address (cut 93 text.now) }
 {
@@ -47,7 +47,7 @@ fn is_address_host(text: &[u8]) -> bool
     }
 }
 
-/// Returns whether a text after `<` is a domain name, `>`, and an optional port.
+/// Returns whether the text after `<` is a domain name, `>`, and an optional port.
 fn is_domain_host(text: &[u8]) -> bool
     ensures value { result ≡ is_host is_domain (cut 62 text.now) }
 {

@@ -1,6 +1,6 @@
 //! Properties of all datagrams.
 //!
-//! The functions have no effect: their contracts are the theorems.
+//! The functions have empty bodies: their contracts are the theorems.
 
 ghost use Rattle.std.specs.Prelude.{◌≡◌, ℕ, List, Option};
 ghost use Rattle.mg_scan.specs.declared.fault.ScanFault.{ScanFault};
@@ -31,7 +31,7 @@ fn bytes_are_tokens(source: &[u8])
 }
 
 /// Every datagram is exactly one of these: a message with its tree, one that exceeds a limit, one of another version,
-/// or not a message.
+/// or something that is not a message.
 pub fn one_reading(source: &[u8])
     ensures some { (reading : MessageReading) × IsMessageReading source.now reading }
     ensures at_most_one { (bytes : List ℕ) (a b : MessageReading) →

@@ -18,7 +18,7 @@ is_held (Enter n ∷ es) seat = if seat == n then true else is_held es seat
 is_held (Leave n ∷ es) seat = if seat == n then false else is_held es seat
 is_held (Apply triple ∷ es) seat = is_held es seat
 
--- the last word on a pair: the last triple that mentions it since both entered, if any
+-- the last word on a pair: the last triple to mention it since both entered, if any
 abbrev pub last_word : List TopologyEdit → ℕ → ℕ → Option Triple
 last_word [] a b = None
 last_word (Enter n ∷ es) a b = if (a == n) || (b == n) then None else last_word es a b

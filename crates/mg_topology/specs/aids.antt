@@ -1,2 +1,2 @@
--- Tools of the proofs.
+-- Tools for the proofs.
 pub mod Word

@@ -1,9 +1,9 @@
 //! Who hears whom among the members of one context.
 //!
 //! Each member of a context has a seat, a number below [`SEATS`]. A [`Topology`] keeps which seats are held and, for
-//! each pair, the last word on it. That is the last [`Triple`] of a topology descriptor (RFC 3525, section 7.1.18) that
-//! mentions the pair since both entered. Without one, the two hear each other. So a newcomer hears everyone and is
-//! heard by everyone, whatever triples named its seat before; that is this project's own rule.
+//! each pair, the last word on it. That is the last [`Triple`] of a topology descriptor (RFC 3525, section 7.1.18) to
+//! mention the pair since both entered. Without one, the two hear each other. So a newcomer hears everyone and is heard
+//! by everyone, whatever triples named its seat before; that is this project's own rule.
 //!
 //! ```rust
 //! let mut topology = Topology::new();

@@ -127,7 +127,7 @@ impl Topology {
     /// Returns whether `listener` hears `talker`: both seats are held, they differ, and the last word on the pair
     /// allows it.
     ///
-    /// The listener comes first.
+    /// The first argument is the listener.
     pub fn hears(&self, listener: usize, talker: usize) -> bool
         ensures kept { result ≡ hears self.now talker listener }
         ensures edits { (es : List TopologyEdit) → StandsFor self.now es →

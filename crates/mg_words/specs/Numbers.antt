@@ -27,7 +27,7 @@ number_of text = decimal_of 10 4294967295 text
 abbrev pub uint16_of : List ℕ → Option ℕ
 uint16_of text = decimal_of 5 65535 text
 
--- a port is a number of 16 bits
+-- a port is a 16-bit number
 abbrev pub port_of : List ℕ → Option ℕ
 port_of text = uint16_of text
 

@@ -4,7 +4,7 @@
 //! text. Another type holds a termination's counters. The crate also has parsers for the numbers, ports and IPv4
 //! addresses in control messages, session descriptions and scripts.
 //!
-//! Each parser expects a whole text and returns its value, or `None` if it has none. Leading zeros are allowed; signs
+//! Each parser takes a whole string and returns its value, or `None` if it has none. Leading zeros are allowed; signs
 //! and spaces are not:
 //!
 //! ```rust

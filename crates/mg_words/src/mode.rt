@@ -3,7 +3,8 @@ ghost use Rattle.mg_words.specs.Mode.{mode_text, talks, listens};
 
 /// The direction of a termination's media stream, seen from outside the context (RFC 3525, section 7.1.7).
 ///
-/// A termination sends what it hears in the context to its peer, and receives from its peer what it says there.
+/// A termination sends what it hears in the context to its peer, and says in the context what it receives from its
+/// peer.
 #[derive(Clone, Copy, Debug, Default, PartialEq, Eq)]
 pub enum Mode {
     /// Neither sends nor receives.

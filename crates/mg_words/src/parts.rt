@@ -3,7 +3,7 @@ ghost use Rattle.mg_words.specs.Cut.{cut, after_prefix};
 
 use memchr::memchr;
 
-/// Splits a text at the first occurrence of a byte. Returns `None` if the byte does not occur.
+/// Splits `text` at the first occurrence of a byte. Returns `None` if the byte does not occur.
 pub fn cut(byte: u8, text: &[u8]) -> Option<(&[u8], &[u8])>
     ensures value { MatchOption result (cut byte text.now ≡ None)
         (λ parts. cut byte text.now ≡ Some (parts.0.now, parts.1.now)) }
@@ -18,7 +18,7 @@ pub fn cut(byte: u8, text: &[u8]) -> Option<(&[u8], &[u8])>
     }
 }
 
-/// Returns the rest of a text after a prefix, ignoring case. Returns `None` if the text does not start with it.
+/// Returns the rest of `text` after a prefix, ignoring case. Returns `None` if `text` does not start with it.
 #[tactic(auto, unfolding(crate::specs::Cut::after_prefix), using(crate::proofs::CutLemmas::too_short))]
 pub fn after_prefix<'a>(prefix: &[u8], text: &'a [u8]) -> Option<&'a [u8]>
     ensures value { MatchOption result (after_prefix prefix.now text.now ≡ None)

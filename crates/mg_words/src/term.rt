@@ -33,7 +33,7 @@ fn all_word_bytes(text: &[u8]) -> bool
     text.iter().all(|b| is_word_byte(*b))
 }
 
-/// Returns whether a text is the name of a termination: a word of 1 to 64 bytes.
+/// Returns whether a string is the name of a termination: a word of 1 to 64 bytes.
 pub fn is_term(text: &[u8]) -> bool
     ensures value { result ≡ is_term text.now }
 {
@@ -63,14 +63,14 @@ impl Term {
         Term::new(b"ROOT").unwrap()
     }
 
-    /// Returns `$`, by which an Add requests a new termination.
+    /// Returns `$`, with which an Add requests a new termination.
     pub fn choose() -> Self
         ensures value { result ≡ codes "$" }
     {
         Term::new(b"$").unwrap()
     }
 
-    /// Returns `*`, by which a command names all terminations of a context.
+    /// Returns `*`, with which a command names all terminations of a context.
     pub fn all() -> Self
         ensures value { result ≡ codes "*" }
     {

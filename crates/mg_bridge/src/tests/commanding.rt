@@ -9,14 +9,14 @@ use std::time::{Clock, Duration};
 
 const MESSAGE: &[u8] = b"MEGACO/2";
 
-/// A stranger and a controller, who each send messages once the gateway runs: at its first read of the input, or at its
-/// first wait. The stranger sends before and after the controller.
+/// A stranger and a controller. Each sends messages once the gateway is running: at its first read of the input, or at
+/// its first wait. The stranger sends before and after the controller.
 #[derive(Drop)]
 struct Senders<'a> {
     stranger: &'a UdpSocket,
     controller: &'a UdpSocket,
     port: u16,
-    /// The input of the gateway.
+    /// The gateway's input.
     text: &'a [u8],
     has_sent: Cell<bool>,
     now: Cell<u64>,
@@ -83,8 +83,8 @@ fn answers(socket: &UdpSocket) -> usize {
     count
 }
 
-/// Returns how many answers a stranger and a controller get from the program with these arguments. The controller is
-/// 127.0.0.2, and the control port is this one.
+/// Returns how many answers a stranger and the controller 127.0.0.2 get from the program with these arguments and this
+/// control port.
 fn answered(rt: &HostRuntime, port: u16, words: &[&str]) -> Result<(usize, usize), Fail> {
     let alloc = rt.alloc();
     let stranger = sender(rt, 1)?;

@@ -10,7 +10,7 @@ use std::net::{IpAddr, Ipv4Addr, SocketAddr, UdpSocket};
 use std::process::Abort;
 use std::test::Fail;
 
-/// Makes two terminations that talk and listen, with callers at ports 29510 and 29512.
+/// Makes two terminations that talk and listen, with callers on ports 29510 and 29512.
 const TWO_CALLERS: &[u8] = b"MEGACO/1 [127.0.0.1]:29510 Transaction=1{Context=${\
     Add=${Media{LocalControl{Mode=SendReceive},Local{v=0\nc=IN IP4 $\nm=audio $ RTP/AVP 0\n},\
     Remote{v=0\nc=IN IP4 127.0.0.1\nm=audio 29510 RTP/AVP 0\n}}},\
@@ -29,7 +29,7 @@ const ONE_UNREACHABLE: &[u8] = b"MEGACO/1 [127.0.0.1]:29612 Transaction=1{Contex
     Add=${Media{LocalControl{Mode=SendOnly},\
     Remote{v=0\nc=IN IP4 127.0.0.1\nm=audio 29612 RTP/AVP 0\n}}}}}";
 
-/// Returns the configuration of a gateway with this many media ports, the first of which is the control port plus two.
+/// Returns the configuration of a gateway with this many media ports, starting at the control port plus two.
 fn config(control_port: u16, slots: u16) -> Config {
     Config {
         control_port,
@@ -238,7 +238,7 @@ fn binds_only_its_addresses(rt: HostRuntime) -> Result<(), Fail> {
     take_at_two_addresses(&rt, rt.alloc(), config, &mut ports, &caller)
 }
 
-/// A waiting datagram is received. If none is waiting, the receive returns none.
+/// A waiting datagram is received. If none is waiting, the receive returns `None`.
 fn receive_what_waits(
     rt: &impl Abort,
     ports: &mut UdpPorts,
@@ -285,7 +285,7 @@ fn padded(alloc: Global, length: usize) -> Result<Vec<u8>, AllocError> {
     Ok(message)
 }
 
-/// The longest message is read. Longer messages, up to the longest that UDP carries, are rejected.
+/// A message of the maximum length is read. Longer messages, up to the longest that UDP carries, are rejected.
 fn take_messages(
     rt: &impl Abort,
     alloc: Global,

@@ -9,12 +9,12 @@ use std::time::{Clock, Duration};
 
 const MS: u64 = 1_000_000;
 
-/// Makes a termination that sends to a caller at port 28912.
+/// Makes a termination that sends to a caller on port 28912.
 const ONE_CALLER: &[u8] = b"MEGACO/1 [127.0.0.1]:28912 Transaction=1{Context=${\
     Add=${Media{LocalControl{Mode=SendOnly},Remote{v=0\nc=IN IP4 127.0.0.1\nm=audio 28912 RTP/AVP 0\n}}}}}";
 
-/// A clock that advances only by waiting. During its first wait a caller requests a termination, and the wait that ends
-/// at 100 ms is two seconds too long. The clock fails after 400 readings.
+/// A clock that advances only when it waits. During its first wait a caller requests a termination, and the wait that
+/// ends at 100 ms is two seconds too long. The clock fails after 400 readings.
 #[derive(Drop)]
 struct StallingClock<'a> {
     now: Cell<u64>,
@@ -117,8 +117,8 @@ fn turns_a_stall_into_a_gap(rt: HostRuntime) -> Result<(), Fail> {
     Ok(())
 }
 
-/// A clock that advances only by waiting, and fails after 100 ms. At its second reading, a controller sends a message;
-/// the clock keeps the time at which the answer was first seen.
+/// A clock that advances only when it waits, and fails after 100 ms. At its second reading, a controller sends a
+/// message; the clock records the time at which the answer was first seen.
 #[derive(Drop)]
 struct ListeningClock<'a> {
     now: Cell<u64>,

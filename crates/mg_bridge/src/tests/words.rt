@@ -50,7 +50,7 @@ fn prints_help(rt: HostRuntime) {
     }
 }
 
-/// Returns the arguments of the command in the title of a recording.
+/// Returns the arguments of the command in a recording's title.
 fn title_words(alloc: Global, config: &Config) -> Result<Vec<String>, AllocError> {
     let title = title_of(config);
     let mut words = Vec::new(alloc);

@@ -1,5 +1,5 @@
--- A transaction by calls of calls, as the program runs it: each step returns whether it succeeded.
--- `replied` of `Transaction` has the same gateway and items.
+-- A transaction as nested calls, as the program runs it: each step returns whether it succeeded.
+-- `replied` of `Transaction` results in the same gateway and items.
 use Rattle.std.specs.Prelude.{ℕ, Bool, ◌&&◌, ◌||◌, true, false, List, [], ◌∷◌, ◌++◌, Option}
 use Rattle.std.specs.Prelude.{None, Result, Ok, Err}
 use Rattle.std.specs.Option.{option_map_or}
@@ -66,7 +66,7 @@ with_names source c parameters [] run = (run, true)
 with_names source c parameters (x ∷ xs) run =
     and_then (with_names source c parameters xs) (with_name source c parameters x run)
 
--- the action after a command, if it may be tried at all
+-- the action after a command, if it can be tried at all
 abbrev pub with_trial : List ℕ → Command → ActionState → Result Trial ErrorNumber
     → ActionState × Bool
 with_trial source c run (Ok trial) = with_names source c trial.parameters trial.names run
@@ -76,7 +76,7 @@ with_trial source c run (Err e) =
 abbrev pub with_command : List ℕ → Command → ActionState → ActionState × Bool
 with_command source c run = with_trial source c run (trial_of source run.gateway run.target c)
 
--- the failure of an optional command (O-) ends nothing
+-- an optional command (O-) that fails does not end the action
 abbrev pub unless_optional : Command → ActionState × Bool → ActionState × Bool
 unless_optional c (run, is_done) = (run, c.is_optional || is_done)
 

@@ -16,12 +16,12 @@ use Rattle.mg_commands.specs.aids.Steps.{all_names}
 use Rattle.mg_commands.specs.aids.ByActions.{ActionState, ActionsState, with_trial}
 use Rattle.mg_commands.specs.Work.{edits_reported}
 
--- the state before a request: the reply that was started, and the engine's counter of work
+-- the state before a request: the reply that was started, and the engine's work counter
 pub record Base : Type 0 where
   pub reply : Answered
   pub work : ℕ
 
--- the counter of work increased by at most four for each edit that the items report
+-- the work counter increased by at most four for each edit that the items report
 abbrev pub IsPaid : Base → List Item → EngineState → Type 0
 IsPaid base items engine = RisesAtMost (4 * edits_reported items) base.work engine.sums.work
 

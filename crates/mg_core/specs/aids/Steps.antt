@@ -55,7 +55,7 @@ refusal_of (readings.Version n) = Some numbers.Version
 refusal_of readings.TooMany = Some numbers.NotServed
 refusal_of readings.NoMemory = None
 
--- a counter after this many datagrams were sent, which stays at the largest value of 64 bits
+-- a counter after these datagrams were sent; it stays at the largest 64-bit value
 unfoldable pub after_sent : ℕ → List Sent → ℕ
 after_sent n [] = n
 after_sent n (s ∷ sent) = after_sent (capped (n + 1)) sent

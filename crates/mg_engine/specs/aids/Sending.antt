@@ -33,7 +33,7 @@ use Rattle.mg_engine.specs.aids.Found.{has_destination}
 abbrev pub sample_at : List (List ℤ) → ℕ → ℕ → ℤ
 sample_at frames slot i = sample_in frames i slot
 
--- whether speech flows from one place to another; none flows from or to no place
+-- whether speech flows from one place to another; none flows if either place is missing
 abbrev pub flows_between : List flow.RoomFlows → Option Place → Option Place → Bool
 flows_between table (Some p) (Some q) = flow.flows table p q
 flows_between table (Some p) None = false

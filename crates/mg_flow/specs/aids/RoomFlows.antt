@@ -11,7 +11,7 @@ pub record IsVacant (room : RoomFlows) : Type 0 where
   pub talks : IsEmpty room.talks
   pub listens : IsEmpty room.listens
 
--- Whether the seat is held, talks and listens is as given; every other seat is unchanged.
+-- The seat is now held, talks and listens as the three flags say; every other seat is unchanged.
 pub record SetsSeat (old new : RoomFlows) (seat : ℕ)
     (is_held does_talk does_listen : Bool) : Type 0 where
   pub held : (s : ℕ) →

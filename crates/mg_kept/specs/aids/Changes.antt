@@ -1,4 +1,4 @@
--- What one change does to kept replies: the steps of the laws over time.
+-- What one change does to kept replies: the steps of the theorems about a reply over time.
 use Rattle.std.specs.Prelude.{◌≡◌, ℕ, ◌+◌, ◌<◌, ◌≤◌, ◌&&◌, nat_le, true, false, List, []}
 use Rattle.std.specs.Prelude.{length, Some, None}
 use Rattle.std.specs.Str.{str_eq_ignore_ascii_case}
@@ -16,7 +16,7 @@ FewNewerStay =
     × (length (newer_than (with_reply reply replies) sender number)
     ≡ length (newer_than replies sender number) + 1)
 
--- If the limit of newer replies is reached, keeping one more drops the reply.
+-- If the limit on newer replies is reached, keeping one more drops the reply.
 abbrev pub NewerRepliesEvict : Type 0
 NewerRepliesEvict =
     (replies : List KeptReply) (reply : KeptReply) (sender : List ℕ) (number : ℕ)

@@ -1,4 +1,4 @@
--- Shortening a text.
+-- Shortening text.
 use Rattle.std.specs.Prelude.{ℕ, ◌+◌, ◌-◌, length, take}
 use Rattle.mg_reply.specs.Bytes.{Written}
 

@@ -1,4 +1,4 @@
--- A reply that is being written after an existing text, up to a limit.
+-- A reply that is being written after existing text, up to a limit.
 use Rattle.std.specs.Prelude.{◌≡◌, ℕ, ◌+◌, ◌-◌, ◌≤◌, Bool, true, false, nat_le, List, ◌++◌, length}
 use Rattle.std.specs.Prelude.{Option, Some, None, if◌then◌else◌}
 use Rattle.mg_words.specs.Limits.{reply_limit}
@@ -14,7 +14,7 @@ abbrev pub text_unless : Bool → List ℕ → Option (List ℕ)
 text_unless true text = None
 text_unless false text = Some text
 
--- a text, unless it is too long for a reply
+-- the text, unless it is too long for a reply
 abbrev pub limited : List ℕ → Option (List ℕ)
 limited text = if nat_le (length text) reply_limit then Some text else None
 

@@ -1,4 +1,5 @@
--- When items fit into a reply: the steps of the rule that a reply too long is replaced by an error.
+-- When items fit into a reply: the steps of the rule that a reply that is too long is replaced by
+-- an error.
 use Rattle.std.specs.Prelude.{◌≡◌, ℕ, Bool, true, false, ◌||◌, nat_le, nat_lt, List, [], length}
 use Rattle.std.specs.List.{list_all}
 use Rattle.mg_reply.specs.declared.item.Item.{Item}
@@ -16,12 +17,12 @@ is_wide (Command word term outcome) = nat_le 9 (length (item_text (Command word 
 is_wide (Fault e) = nat_le 9 (length (item_text (Fault e)))
 is_wide (Action id) = nat_le 9 (length (action_text id []))
 
--- a reply that is too long, by its mark or by its text
+-- whether a reply is too long: it is marked as such, or its text is
 abbrev pub is_too_long : Answered → Bool
 is_too_long r = r.is_long || nat_lt reply_limit (length (reply_text r.number r.items))
 
 -- Complete items, put into a new reply, make it too long if and only if their whole text exceeds
--- the limit, including those that found no room. Otherwise, all of them are in the reply.
+-- the limit, including items for which there was no room. Otherwise, all of them are in the reply.
 abbrev pub TooLongByText : Type 0
 TooLongByText =
     (n : ℕ) (xs : List Item) → list_all is_wide xs ≡ true

@@ -1,4 +1,4 @@
--- What the invariant of a gateway says about lookups. `sound_if` proves it of every consistent
+-- What the invariant of a gateway says about lookups. `sound_if` proves it for every consistent
 -- registry.
 use Rattle.std.specs.Prelude.{◌≡◌, ℕ, ◌<◌, ◌≤◌, ◌==◌, ◌↔◌, Some, IsSome, IsTrue, length}
 use Rattle.std.specs.Prelude.{slice_index_or}

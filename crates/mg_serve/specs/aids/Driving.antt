@@ -25,7 +25,7 @@ Received setup socket true w trace next =
 Received setup socket false w trace next = ReceivesNothing socket trace × (next ≡ w)
 
 -- The lines that end in these bytes were executed, and the first 8 bytes of the partial line after
--- them are kept. Or a line was the last one, or a print for a line failed.
+-- them are kept. Or a line was the last one, or printing failed for a line.
 abbrev pub BytesTaken : Form → Setup → List ℕ → List ℕ → List ℕ → Result Bool WriteFailed → World
     → List TraceEntry → World → Type 0
 BytesTaken form setup partial bytes kept (Ok false) w trace next =
@@ -49,7 +49,7 @@ abbrev pub Finished : Setup → List ℕ → World → List TraceEntry → World
 Finished setup [] w trace next = (trace ≡ []) × (next ≡ w)
 Finished setup (b ∷ bs) w trace next = Performs setup (line_command (b ∷ bs)) w trace next
 
--- a run ends with `Write` if and only if a print has failed
+-- a run ends with `Write` if and only if printing has failed
 abbrev pub EndsBy : {T : Type 0} → Result T RunFault → (has_failed : Bool) → Type 0
 EndsBy (Ok value) has_failed = has_failed ≡ false
 EndsBy (Err faults.Read) has_failed = has_failed ≡ false
@@ -76,7 +76,7 @@ abbrev pub RanByClock : Form → Setup → ℕ → ClockSeen → ClockSeen → (
 RanByClock form setup allowed old new fails fault w trace next =
     RanBy setup (ClockCommands form allowed old new fails fault) w trace next
 
--- the commands of a step were executed, or a print for one of them failed
+-- the commands of a step were executed, or printing failed for one of them
 abbrev pub StepTaken : Form → Setup → Step → Result (Unit {0}) WriteFailed → World → List TraceEntry
     → World → Type 0
 StepTaken form setup step (Ok done) w trace next = Session setup (step_commands step) w trace next

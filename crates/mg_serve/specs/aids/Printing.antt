@@ -1,17 +1,17 @@
--- Steps of a printer, which prints nothing more after a failed print.
+-- Steps of a printer, which prints nothing more once printing has failed.
 use Rattle.std.specs.Prelude.{◌≡◌, ◌≢◌, ℕ, Bool, true, false, List, [], Option}
 use Rattle.std.specs.Io.KnownBytes.{Keeps, Appends}
 use Rattle.mg_lines.specs.Streams.{WritesFront}
 use Rattle.mg_serve.specs.declared.form.Form.{Form}
 use Rattle.mg_serve.specs.Trace.{TraceEntry, output_of}
 
--- the form of the output, and whether a print has failed
+-- the form of the output, and whether printing has failed
 pub record PrinterView : Type 0 where
   pub form : Form
   pub has_failed : Bool
 
--- A text was printed or, if a print fails now, a proper prefix of it; if a print had failed before,
--- nothing was printed.
+-- The text was printed or, if printing fails now, a proper prefix of it; if printing had failed
+-- before, nothing was printed.
 abbrev pub Puts : Bool → Bool → List ℕ → Option (List ℕ) → Option (List ℕ) → Type 0
 Puts false false text old new = Appends old new text
 Puts false true text old new = (text ≢ []) × WritesFront text old new

@@ -15,6 +15,6 @@ ending fault = option_map Err fault
 abbrev pub kept : List (Option MessageItem) → List MessageItem
 kept xs = filter_map (λ x. x) xs
 
--- a datagram within the limit of length
+-- a datagram within the length limit
 abbrev pub IsShort : List ℕ → Type 0
 IsShort source = length source ≤ message_limit

@@ -18,8 +18,8 @@ use Rattle.mg_text.specs.Keyword.{is_named, keyword_of}
 use Rattle.mg_words.specs.ContextId.{context_id_of}
 use Rattle.mg_words.specs.Term.{is_term}
 
--- The result of a parser, seen by view, matches the definition, unless memory ran out. The fault of
--- a definition is the position of a syntax fault.
+-- The result of a parser, seen through view, matches the definition, unless memory ran out. The
+-- fault of a definition is the position of a syntax fault.
 abbrev pub Fails : {Y : Type 0} → ReadFault → Result Y ℕ → Type 0
 Fails NoMemory read = Unit {0}
 Fails (Syntax place) read = read ≡ Err place

@@ -1,8 +1,8 @@
 #!/bin/sh
-# Proves, builds and runs the program FOLDER/main.rt.in over crates of this repository. Needs rt.
+# Proves, builds and runs the program FOLDER/main.rt.in, which uses these crates of the repository. Needs rt.
 # usage: program.sh FOLDER CRATE ..
-# It builds in a folder of its own, which it removes at the end. It runs TURNS times (default: 1) on one processor,
-# each time followed by the program BESIDE, if there is one.
+# It builds in a temporary folder, which it removes at the end. It runs the program TURNS times (default: 1) on one
+# processor, followed each time by the program BESIDE, if that is set.
 set -eu
 folder=$1
 shift

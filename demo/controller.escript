@@ -1,19 +1,19 @@
 #!/usr/bin/env escript
 %% -*- erlang -*-
 %%! +sbwt none
-%% A controller of several gateways, on Erlang's megaco as Debian packages it: apt-get install erlang-base
+%% A controller for several gateways, based on Erlang's megaco as packaged by Debian: apt-get install erlang-base
 %% erlang-megaco
 %%     controller.escript [--here HOST:PORT] [--conferences N] [--members N] [--callers HOST:PORT] [--room N] GATEWAY ..
 %% A gateway is HOST:PORT. The controller makes N conferences (1) of N members (3), each on the gateway with the most
-%% room; a gateway has room for `--room` callers (256). Caller k, counted from 0, listens at the port of `--callers`
+%% room; a gateway has room for `--room` callers (256). Caller k, counted from 0, listens on the port of `--callers`
 %% (127.0.0.1:40000) plus 2k. The controller itself is at `--here` (127.0.0.1:2945). It reads lines: `isolate C A B`,
-%% `oneway C A B` (B hears A) and `release C A B`, of members A and B of conference C, where B may be `*`; `stats`; and
+%% `oneway C A B` (B hears A) and `release C A B`, for members A and B of conference C, where B may be `*`; `stats`; and
 %% `quit`, which ends the conferences.
 %%
-%% Once a second it audits a termination of its own on each gateway. A gateway that does not answer in 1.2 s is lost;
-%% one that answers with error 411 or 430 has restarted. Its conferences are then made again on others, with the same
-%% isolations. It prints lines about these events. The lines `member` are for callers: member 3 of conference 1 listens
-%% at port 40004, and sends to port 30004.
+%% Once a second, it audits one of its terminations on each gateway. A gateway that does not answer within 1.2 s is
+%% lost; one that answers with error 411 or 430 has restarted. In both cases, its conferences are made again on others,
+%% with the same isolations. The controller prints lines about these events. The `member` lines are for callers: member
+%% 3 of conference 1 listens on port 40004, and sends to port 30004.
 %%     gateway 127.0.0.1:2944 up
 %%     gateway 127.0.0.1:2944 lost: no answer
 %%     conference 1 on 127.0.0.1:2944 context 1764079200
@@ -23,7 +23,7 @@
 -mode(compile).
 -export([main/1, handle_connect/3, handle_disconnect/4, handle_syntax_error/4, handle_message_error/4,
          handle_trans_request/4, handle_unexpected_trans/4]).
-%% Megaco's records are written as tuples, by megaco_message_v1.hrl, which is in another package.
+%% Megaco's records are written as tuples, following megaco_message_v1.hrl, which is in another package.
 -define(NONE, asn1_NOVALUE).
 -define(CHOOSE, 16#FFFFFFFE).
 -define(ALL, {megaco_term_id, true, ["*"]}).
@@ -46,7 +46,7 @@ options(["--" ++ _ | _], _) -> none;
 options(Names, Options) -> {Options, Names}.
 
 run(Options = #{"here" := Here, "callers" := FirstCaller}, Names) ->
-    %% Standard output is for events; warnings of libraries go to standard error.
+    %% Standard output is for events; warnings from libraries go to standard error.
     logger:remove_handler(default),
     logger:add_handler(default, logger_std_h, #{config => #{type => standard_error}}),
     register(server, self()),
@@ -66,9 +66,9 @@ address(Text) ->
     {Address, list_to_integer(Port)}.
 mid({Address, Port}) -> {ip4Address, {'IP4Address', tuple_to_list(Address), Port}}.
 
-%% Connections to the gateways, over one socket. Replies are acknowledged. A request is sent four times, 300 ms apart.
-%% Transactions are numbered from the clock, in hundredths of a second, so that a restarted controller does not get the
-%% replies of the one before. There is room for answers, datagrams of up to 64,036 bytes.
+%% Connections to the gateways, over one socket. Replies are acknowledged. A request is sent up to four times, 300 ms
+%% apart. Transactions are numbered from the clock, in hundredths of a second, so that a restarted controller does not
+%% get its predecessor's replies. The buffers can hold answers of up to 64,036 bytes.
 connect(Here, Names) ->
     Self = {Address, Port} = address(Here),
     Known = [{Name, address(Name)} || Name <- Names],
@@ -112,7 +112,7 @@ server(S = #server{up = Up, gateways = Gateways}) ->
         {line, Words} -> server(try line(Words, S) catch _:_ -> say("not understood", []), S end)
     end.
 tell(Name, Message, S) -> maps:get(Name, S#server.gateways) ! Message.
-%% Has conferences made, all of a gateway's or one by its number, each on the gateway with the most room.
+%% Has conferences made (all of a gateway's, or one by number), each on the gateway with the most room.
 place(Which, Except, S = #server{conferences = All}) ->
     Chosen = [C || {C, #conference{gateway = Name}} <- maps:to_list(All), lists:member(Which, [Name, C])],
     lists:foldl(fun(C, T) -> place_one(C, Except, T) end, S, Chosen).
@@ -134,12 +134,12 @@ line([Word, Conference, From, To], S = #server{conferences = All}) ->
     X = #conference{callers = Callers, gateway = Name, topology = Before} = maps:get(C, All),
     Pair = {A, B} = {list_to_integer(From), case To of "*" -> all; _ -> list_to_integer(To) end},
     true = A =/= B andalso {B, How} =/= {all, oneway} andalso [] =/= [lists:nth(M, Callers) || M <- [A, B], M =/= all],
-    %% The topology is kept, in order, for a gateway that makes the conference again.
+    %% The topology is kept, in order, for a gateway that has to make the conference again.
     Topology = [Triple || Triple = {A1, B1, _} <- Before, {A1, B1} =/= Pair] ++ [{A, B, How}],
     Name =:= none orelse tell(Name, {topology, C, {A, B, How}}, S),
     S#server{conferences = All#{C := X#conference{topology = Topology}}}.
 
-%% A process for each gateway, so that a lost one delays no other. An answer that is not understood counts as none.
+%% A process for each gateway, so that a lost one delays no other. An answer that it can't parse counts as none.
 gateway(G) ->
     receive
         quit -> leave(G), server ! ended;
@@ -165,7 +165,7 @@ isolate({C, Context, Terminations = [T | _]}, Triple = {A, B, How}, G) ->
     say("conference ~b ~w ~w ~w: ~w~s", [C, How, A, B, Outcome, [[" ", integer_to_list(Code)] || Code > 0]]),
     case Outcome of gone -> lost(G, "no answer"); _ -> G end.
 
-%% Audits its oldest termination, in its context; without one, the gateway itself.
+%% Audits the gateway's oldest termination, in its context, or if there is none, the gateway itself.
 check(G = #gateway{own = [{_, Context, [T | _]} | _]}) ->
     case ask([action(Context, ?NONE, [audit(T, [])])], G) of
         {ok, _, _} -> G;
@@ -182,13 +182,13 @@ check(G = #gateway{name = Name, up = Up}) ->
 lost(G = #gateway{name = Name, own = Own, stale = Stale, up = Up}, Why) ->
     Up andalso begin say("gateway ~s lost: ~s", [Name, Why]), server ! {lost, Name} end,
     G#gateway{up = false, own = [], stale = [Context || {_, Context, _} <- Own] ++ Stale}.
-%% Ends the contexts that it has, and those that it may have. One that no longer exists is no error.
+%% Ends the contexts that it has, and those that it may have. It is no error if one no longer exists.
 leave(#gateway{own = Own, stale = Stale} = G) ->
     Subtract = {'CommandRequest', {subtractReq, {'SubtractRequest', [?ALL], {'AuditDescriptor', []}}}, 'NULL', ?NONE},
     Contexts = [Context || {_, Context, _} <- Own] ++ Stale,
     Contexts =:= [] orelse ask([action(Context, ?NONE, [Subtract]) || Context <- Contexts], G).
 
-%% Makes a conference, and prints where its members send to.
+%% Makes a conference, and prints which address each member sends to.
 make(C, Callers, Topology, G = #gateway{name = Name, own = Own, stale = Stale}) ->
     case add(?CHOOSE, Callers, [], Topology, G) of
         {ok, Context, Members} ->
@@ -203,8 +203,8 @@ make(C, Callers, Topology, G = #gateway{name = Name, own = Own, stale = Stale}) 
         {gone, _, Contexts} -> lost(G#gateway{stale = Contexts ++ Stale}, "no answer")
     end.
 
-%% Adds the members inactive, sixteen in a message of at most 8192 bytes. When all are there and the isolations are
-%% set, lets them speak and hear.
+%% Adds the members as Inactive, sixteen per message, to stay within 8192 bytes. When all have been added and the
+%% isolations are set, lets them speak and hear.
 add(Context, [], Members, Topology, G) ->
     Speak = amm(modReq, ?ALL, {'StreamParms', mode(sendRecv), ?NONE, ?NONE}),
     case ask([action(Context, topology(Topology, [T || {T, _} <- Members]), [Speak])], G) of

@@ -1,15 +1,15 @@
-# Extracts what was said and heard from a recording, with tools that every distribution has. Source it in a shell:
+# Extracts what was said and heard from a recording, using tools that every distribution has. Source it in a shell:
 #     . demo/recordings.sh
 # It needs xxd, sox and tcpdump.
 
-# Writes the speech at one port of the gateway as a WAV file: PORT FILE.wav [al] < LINES. The lines come
-# from a recording, for what its caller said, or from a replay, for what its listener was sent. Pass `al` for A-law.
+# Writes the speech at one port of the gateway as a WAV file: PORT FILE.wav [al] < LINES. The lines come from a
+# recording (for what the caller said) or from a replay (for what the listener was sent). Pass `al` for A-law.
 sound() {
     grep "^rtp $1 " | cut -d ' ' -f 4 | cut -c 25- | xxd -r -p | sox -t "${3:-ul}" -r 8000 -c 1 - "$2"
 }
 
-# Writes the RTP packets of a capture that a port of the gateway received or sent: PORT in|out < CAPTURE. A line has a
-# port, a peer and the packet's bytes, as in a recording and a replay. The link is Ethernet or loopback.
+# Writes the RTP packets that a port of the gateway received or sent, from a network capture: PORT in|out < CAPTURE.
+# Each line has a port, a peer and the packet's bytes, as in a recording or a replay. The link is Ethernet or loopback.
 captured() {
     tcpdump -r - -nn -x "udp and $([ "$2" = in ] && echo dst || echo src) port $1" 2> /dev/null | awk -v way="$2" '
         function put() { if (hex) print "rtp", port, peer, substr(hex, 57) }

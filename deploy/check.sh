@@ -1,5 +1,5 @@
 #!/bin/sh
-# Checks the unit file and the firewall's rules with systemd-analyze and nft, if these are installed. nft needs root.
+# Checks the unit file and the firewall rules with systemd-analyze and nft, if these are installed. nft needs root.
 set -eu
 here=$(CDPATH= cd -- "$(dirname -- "$0")" && pwd)
 work=$(mktemp -d)

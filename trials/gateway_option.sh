@@ -1,5 +1,5 @@
-# For trials/*/run.sh to source: takes [--gateway PATH] and sets gateway, which is the program in dist/ without the option.
-# The script has set here to its own folder.
+# For trials/*/run.sh to source: parses [--gateway PATH], and sets `gateway` to PATH or, without the option, to the
+# program in dist/. The script must have set `here` to its own folder.
 gateway=$here/../../dist/mg_bridge
 case "$# ${1:-}" in
     '0 ') ;;

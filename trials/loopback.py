@@ -1,4 +1,4 @@
-"""Ports of 127.0.0.1 for the trials."""
+"""Ports on 127.0.0.1 for the trials."""
 import socket
 import sys
 
@@ -12,7 +12,7 @@ def udp(port=0):
 
 
 def free_ports(slots):
-    """Returns a free control port, and a base port from which as many even ports are free."""
+    """Returns a free control port, and a base port from which this many even ports are free."""
     for base in range(31000, 39000, 2 * slots + 2):
         try:
             for s in [udp(base + 2 * slot) for slot in range(slots + 1)]:

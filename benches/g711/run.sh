@@ -1,7 +1,7 @@
 #!/bin/sh
 # Compares mg_g711 with C tables, in nanoseconds per sample. Run it from anywhere. It needs rt and gcc. It builds in a
-# folder of its own, which it removes at the end.
-# Further arguments go to `rt lib`, as in `run.sh --cpu=x86-64-v3`.
+# temporary folder, which it removes at the end.
+# Arguments go to `rt lib`, as in `run.sh --cpu=x86-64-v3`.
 set -eu
 here=$(CDPATH= cd -- "$(dirname -- "$0")" && pwd)
 root=$here

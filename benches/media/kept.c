@@ -1,4 +1,4 @@
-// A hand-written mixer, for comparing ticks. It receives packets of G.711, keeps the total of each conference,
+// A hand-written mixer, for comparing ticks. It receives G.711 packets, keeps the total of each conference,
 // and sends each caller the total without its own frame. It checks less than the gateway, keeps no counters, and has
 // one mode and no topology.
 #define _POSIX_C_SOURCE 199309L
@@ -35,7 +35,7 @@ static void fill_tables(void) {
     }
 }
 
-// A table of 256 samples is at least as fast as the vector code that gcc makes of the formula.
+// A table of 256 samples is at least as fast as the vector code that gcc generates from the formula.
 __attribute__((noinline)) static void decode(int alaw, const uint8_t *restrict in, int16_t *restrict out) {
     const int16_t *table = alaw ? alaw_samples : ulaw_samples;
     for (int i = 0; i < FRAME; i++) out[i] = table[in[i]];
@@ -43,7 +43,7 @@ __attribute__((noinline)) static void decode(int alaw, const uint8_t *restrict i
 
 #define LEAST(a, b) ((a) < (b) ? (a) : (b))
 
-// The level is the minimum of several lines, which gcc vectorizes: these seven, and one before them in mu-law.
+// The level is the minimum of several linear functions, which gcc vectorizes: these seven, and one more in mu-law.
 static inline int16_t least_of_seven(int16_t x) {
     int16_t level = (int16_t)(x >> 4);
     level = LEAST(level, (int16_t)((x >> 5) + 16));

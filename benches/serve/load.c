@@ -1,4 +1,4 @@
-/* Callers in conferences of a gateway: each sends a packet of 20 ms every 20 ms, and receives what it is sent.
+/* Callers in conferences on a gateway: each sends a 20 ms packet every 20 ms, and receives what it is sent.
    usage: load CALLERS A_CONFERENCE SECONDS
    The gateway is on 127.0.0.1, with control port 2944 and media ports from 30000 on. */
 #define _GNU_SOURCE

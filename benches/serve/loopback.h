@@ -40,7 +40,7 @@ static inline double now(void)
     return t.tv_sec + t.tv_nsec * 1e-9;
 }
 
-/* The sum of a statistic over all terminations of an answer. */
+/* The sum of a statistic over all terminations in an answer. */
 static inline long sum_of(const char *answer, const char *name)
 {
     long sum = 0;

@@ -13,8 +13,8 @@ trap 'rm -rf "$work"; kill $(jobs -p) 2> /dev/null || true' EXIT
 for program in load bare; do
     gcc -O2 -Wall -o "$work/$program" "$here/$program.c"
 done
-# Makes calls. Prints the processor time of the program of this process since it was ready, its memory, and how many
-# packets were too late.
+# Makes calls. Prints the processor time that a process has used since it was ready, its memory, and how many packets
+# were too late.
 measure() {
     name=$1 process=$2
     until grep -q ready "$work/out" 2> /dev/null; do sleep 0.1; done

@@ -1,10 +1,10 @@
-"""Sends messages to `mg_bridge live`, and measures when they are answered.
+"""Sends messages to `mg_bridge live`, and measures how soon they are answered.
 
 usage: answers.py BRIDGE CALLERS
 
-CALLERS is the program of trials/failover/callers.c. Each trial starts a gateway with 256 media ports and prints a line.
-Exits with 1 if a median exceeds 1 ms, a message outside the flood is not answered, a caller is sent nothing, or a
-packet is lost during the flood.
+CALLERS is the program built from trials/failover/callers.c. Each trial starts a gateway with 256 media ports and prints
+a line. Exits with 1 if a median exceeds 1 ms, a message outside the flood is not answered, a caller is sent nothing, or
+a packet is lost during the flood.
 """
 import os
 import random
@@ -30,7 +30,7 @@ ADD = "A=${M{O{MO=SR},L{c=IN IP4 $\nm=audio $ RTP/AVP 0\n},R{c=IN IP4 127.0.0.1\
 
 
 def received(s, seconds=0.0):
-    """Yields the datagrams that arrive at a socket, until none arrives within a time."""
+    """Yields the datagrams that arrive at a socket, until none arrives within this time."""
     while select.select([s], [], [], seconds)[0]:
         yield s.recv(65535)
 
@@ -55,13 +55,13 @@ class Gateway:
         self.process.wait()
 
     def send(self, action, size=0):
-        """Sends a message with a new transaction number, padded to a size with blanks."""
+        """Sends a message with a new transaction number, padded to this size with blanks."""
         self.sent += 1
         text = f"MEGACO/1 [127.0.0.1]:2945 Transaction={self.sent}{{{action}}}"
         self.controller.sendto(text.ljust(size).encode(), ("127.0.0.1", self.port))
 
     def answers(self, seconds=0.0):
-        """Yields the answers that arrive, each after its transaction number, until none arrives within a time."""
+        """Yields each answer that arrives, with its transaction number, until none arrives within this time."""
         for answer in received(self.controller, seconds):
             reply = re.search(rb"Reply=(\d+)", answer)
             if not reply or b"Error=" in answer:
@@ -77,12 +77,12 @@ class Gateway:
         raise TimeoutError(f"message {self.sent} was not answered")
 
     def conference(self, callers):
-        """Puts callers at these ports into a new conference, and returns the gateway's port for each."""
+        """Puts the callers on these ports into a new conference, and returns the gateway's port for each."""
         answer = self.ask("Context=${%s}" % ",".join(ADD % port for port in callers))
         return [int(port) for port in re.findall(r"m=audio (\d+)", answer)]
 
     def times(self):
-        """Sends messages one after the other at random intervals, and measures when they are answered."""
+        """Sends messages one after another at random intervals, and measures how soon they are answered."""
         times = []
         for _ in range(MESSAGES):
             time.sleep(random.uniform(0.001, 0.045))
@@ -107,7 +107,7 @@ def nobody():
 
 
 def join(gateway, callers, first):
-    """Puts callers at ports from a first one on into conferences, and has them send there."""
+    """Puts the callers, whose ports start at `first`, into conferences, and has them send to the gateway's ports."""
     for conference in range(CONFERENCES):
         own = range(first + 2 * conference, first + 2 * SLOTS, 2 * CONFERENCES)
         for member, (port, to) in enumerate(zip(own, gateway.conference(own)), 1):
@@ -132,7 +132,7 @@ def bursts():
     answered = {}
     with Gateway() as gateway:
         for _ in range(BURSTS):
-            # At any moment between two ticks.
+            # Start at a random moment between two ticks.
             start = time.monotonic() + random.uniform(0, 0.02)
             for n in range(BURST):
                 time.sleep(max(0, start + n * BURST_MS / BURST / 1000 - time.monotonic()))
@@ -143,7 +143,7 @@ def bursts():
 
 
 def flood():
-    """Floods a gateway that skips the packets of ticks that are 20 ms late."""
+    """Floods a gateway that doesn't send the packets of ticks that are 20 ms late."""
     caller, said, heard, answered = udp(), 0, set(), {}
     with Gateway("--late", "0") as gateway:
         to = gateway.conference([caller.getsockname()[1]])[0]

@@ -1,11 +1,11 @@
 #!/bin/sh
 # Measures how soon a gateway answers messages, and checks that it answers them all and delays no tick.
 # usage: run.sh [--gateway PATH]
-# It needs gcc and python3, and tries the program in dist/, or the one at PATH. It takes a minute and a half.
+# It needs gcc and python3, and tests the program in dist/, or the one at PATH. It takes a minute and a half.
 set -eu
 here=$(CDPATH= cd -- "$(dirname -- "$0")" && pwd)
 . "$here/../gateway_option.sh"
-# The scheduling policy of the unit file, if it is allowed.
+# The scheduling policy of the unit file, if permitted.
 policy=
 if chrt -f 10 true 2> /dev/null; then policy='chrt -f 10'; fi
 work=$(mktemp -d)

@@ -1,7 +1,7 @@
-/* Callers who follow a controller: each listens at its own port, sends a packet of 20 ms every 20 ms to the place that
+/* Callers who follow a controller: each listens on its own port, sends a 20 ms packet every 20 ms to the address that
    the controller's lines name, and receives what is sent from there.
    usage: callers CALLERS FIRST_PORT [noise]
-   Standard input has the controller's lines (demo/controller.escript). Further lines are `mark`, which starts a period;
+   Standard input has the controller's lines (demo/controller.escript). Other lines are `mark`, which starts a period;
    `report`, which reports on it; and `quit`. Members 1 and 2 of a conference speak, each at its own level, which
    differs between conferences; the others are silent. With `noise` all speak, and what is heard is not checked. */
 #define _GNU_SOURCE
@@ -24,7 +24,7 @@ struct caller {
     int came, sequence;           /* whether a packet arrived from there, and the number of the last one */
     double at;                    /* when that was */
     int moved;                    /* since the mark */
-    double heard;                 /* after the mark: when the others' speech first arrived from where it was moved to */
+    double heard;                 /* after the mark: when the others' speech first arrived from its new address */
     long missing, leaked;         /* missing numbers; packets with speech to an isolated caller */
     double gap;                   /* the longest time between two packets, in seconds */
 };
@@ -40,14 +40,14 @@ static double now(void)
     return t.tv_sec + t.tv_nsec * 1e-9;
 }
 
-/* The magnitude of a code of mu-law (G.711). Codes from 128 on are positive. */
+/* The magnitude of a mu-law code (G.711). Codes from 128 on are positive. */
 static int level(int code)
 {
     int bits = ~code & 0x7f;
     return (((bits & 15) * 2 + 33) << (bits >> 4)) - 33;
 }
 
-/* Finds pairs of codes whose sum has its own code: what members 1 and 2 of each conference say, and the sum. */
+/* Finds pairs of codes whose sum is exactly a code: what members 1 and 2 of each conference say, and the sum. */
 static void find_levels(void)
 {
     int n = 0;
@@ -139,7 +139,7 @@ static int line(const char *text)
     return strcmp(text, "quit") == 0;
 }
 
-/* Handles the waiting lines; returns whether to end. */
+/* Handles the lines that are waiting; returns whether to end. */
 static int lines(void)
 {
     static char text[1 << 16];

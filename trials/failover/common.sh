@@ -1,4 +1,4 @@
-# Starts gateways on this host, callers who follow a controller, and the controller of `demo`. run.sh and cost.sh
+# Starts gateways on this host, callers who follow a controller, and the controller in `demo`. run.sh and cost.sh
 # source it. BRIDGE is the program; by default it is the one that `rt run` leaves in crates/mg_bridge/out. If that is
 # missing, it is proved and built first, which takes half an hour.
 root=$here/../..
@@ -8,23 +8,23 @@ work=$(mktemp -d)
 trap 'kill $(jobs -p) 2> /dev/null || true; rm -rf "$work"' EXIT
 gcc -O2 -Wall -o "$work/callers" "$here/callers.c"
 
-# The scheduling policy of the unit file, if it is allowed.
+# The scheduling policy of the unit file, if permitted.
 policy=
 if chrt -f 10 true 2> /dev/null; then policy='chrt -f 10'; fi
 
-# Waits up to ten seconds until a file has a line a number of times: FILE PATTERN TIMES
+# Waits up to ten seconds until a file has this many matching lines: FILE PATTERN COUNT
 until_told() {
     for ((i = 0; i < 100; i++)); do
         if [ "$(cat "$work/$1" 2> /dev/null | grep -c -- "$2")" -ge "$3" ]; then return; fi
         sleep 0.1
     done
-    echo "$1: not told: $2"
+    echo "$1: missing: $2"
     grep -v '^member' "$work/log" || true
     errors
     exit 1
 }
 
-# Starts gateway N, whose numbers start at the seconds of the clock.
+# Starts gateway N, whose first numbers are the clock's time in seconds.
 declare -A process
 start() {
     numbers=$(date +%s)

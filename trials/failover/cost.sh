@@ -1,7 +1,7 @@
 #!/bin/bash
-# Compares the processor time of four gateways with 64 callers each and of one with 256 callers, in as many
-# conferences. It is the user and system time of /proc/PID/stat while all callers speak. Runs of one and of four
-# alternate, and the minimum counts.
+# Compares the processor time of four gateways with 64 callers each with that of one gateway with 256 callers, in as
+# many conferences. It is the user and system time in /proc/PID/stat while all callers speak. Runs of one gateway and of
+# four alternate, and the minimum counts.
 # usage: cost.sh [SECONDS] [TURNS]
 # It needs what run.sh needs.
 set -eu

@@ -1,5 +1,5 @@
 #!/bin/bash
-# Runs four gateways on this host under the controller of `demo`, with 64 callers on each. One is killed; later another
+# Runs four gateways on this host under the controller in `demo`, with 64 callers on each. One is killed; later another
 # is killed and restarts at once. Each time its callers must hear the others again within 3 s, on another gateway.
 # Isolated callers must hear nobody, and the callers of the other gateways must not miss a packet.
 # usage: run.sh
@@ -8,8 +8,8 @@ set -eu
 here=$(CDPATH= cd -- "$(dirname -- "$0")" && pwd)
 . "$here/common.sh"
 
-# Runs a command at any moment between two audits, gives the controller and the callers five seconds, and prints what
-# happened to the callers: WHAT COMMAND ..
+# Runs a command at a random moment between two audits, gives the controller and the callers five seconds, and prints
+# what happened to the callers: WHAT COMMAND ..
 failed=0 reports=0
 after() {
     sleep "0.$((RANDOM % 900 + 100))"

@@ -1,9 +1,9 @@
-"""Runs the commands of pages that need no network and compares their output with what the page shows.
+"""Runs those commands in pages that need no network, and compares their output with what the pages show.
 
 usage: pages.py [--try] PAGE ..
 
-Such a command is a block of `sh` that begins with `dist/mg_bridge` or `demo/hear`. Its output must be one of the blocks
-that follow it, up to the next block of `sh`. Exits with 1 if one differs. With --try, `rt try` runs the sources in place
+Such a command is an `sh` block that begins with `dist/mg_bridge` or `demo/hear`. Its output must be one of the blocks
+that follow it, up to the next `sh` block. Exits with 1 if one differs. With --try, `rt try` runs the sources in place
 of dist/mg_bridge: nothing is proved, and a command takes about a minute. `demo/hear` is left out.
 """
 import re
@@ -29,7 +29,7 @@ def commands(page):
             yield text.strip(), following
 
 
-# What `dist/mg_bridge` is replaced by.
+# What `dist/mg_bridge` is replaced with.
 TRY = 'mg_bridge() { (cd crates/mg_bridge && rt try -- "$@"); }\n'
 
 

@@ -1,5 +1,5 @@
 #!/bin/sh
-# Runs the commands of all pages that need no network, and compares their output with what the pages show.
+# Runs those commands in all pages that need no network, and compares their output with what the pages show.
 # usage: run.sh [--try]
 # It needs python3 and bash, and runs the program in dist/. With --try it runs the sources, unproved: that needs rt, and
 # a command takes about a minute.

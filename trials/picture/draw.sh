@@ -1,5 +1,5 @@
 #!/bin/sh
-# Draws the output of a replay with --flows as demo/recording.html shows it. The pointer is at a tick of a row (from 0).
+# Draws the output of a replay with --flows as demo/recording.html shows it, with the pointer at TICK in ROW (from 0).
 # usage: draw.sh SHOWN.txt PICTURE.png [TICK [ROW [WIDTH,HEIGHT]]]
 # It needs chromium. docs/recording.png was made with it.
 set -eu
@@ -8,7 +8,7 @@ shown=$1 picture=$2 tick=${3:-0} row=${4:-0} size=${5:-1200,640}
 work=$(mktemp -d)
 trap 'rm -rf "$work"' EXIT
 {
-    # The page, with the text in it and a last step that opens it.
+    # The page, with the text embedded and a last step that opens it.
     sed '/^<\/script>$/,$d' "$here/../../demo/recording.html"
     printf 'const text = document.getElementById("shown").textContent;\n'
     printf 'await open(new File([text], "%s"));\n' "$(basename "$shown")"

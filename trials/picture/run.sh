@@ -1,7 +1,7 @@
 #!/bin/sh
 # Runs the tests of the page that draws a recording, demo/recording.html, in a headless browser. Prints how many
-# passed, and exits with 1 if one failed. Then it breaks the page in one place after another, as wrong.txt lists, and
-# exits with 1 if the tests miss one. Last it draws the page's sample into FOLDER, or into a temporary folder.
+# passed, and exits with 1 if one failed. Then it breaks the page in one place after another, as listed in wrong.txt,
+# and exits with 1 if the tests miss one. Finally, it draws the page's sample into FOLDER, or into a temporary folder.
 # usage: run.sh [FOLDER]
 # It needs chromium. It takes about a minute.
 set -eu
@@ -11,7 +11,7 @@ folder=${1:-$(mktemp -d)}
 work=$(mktemp -d)
 trap 'rm -rf "$work"' EXIT
 
-# Opens a page with further options of the browser.
+# Opens a page, with additional browser options.
 # usage: browse URL OPTION ..
 browse() {
     url=$1
@@ -20,7 +20,7 @@ browse() {
         --virtual-time-budget=20000 --window-size=1400,900 "$@" "$url" 2> "$work/errors"
 }
 
-# Prints the result line of a page's tests, and those that failed.
+# Prints the result line of a page's tests, and the tests that failed.
 tests_of() {
     browse "file://$1#test" --dump-dom > "$work/dom" || { cat "$work/errors" >&2; exit 1; }
     sed -n '/id="told"/,$p' "$work/dom" | sed 's/.*id="told"[^>]*>//; /<\/span>/ { s/<\/span>.*//; q }'
@@ -33,7 +33,7 @@ case $told in
     *) exit 1 ;;
 esac
 
-# A line of wrong.txt: what is broken, a text of the page, and its replacement.
+# A line of wrong.txt: what is broken, a string in the page, and its replacement.
 wrong=0
 while IFS=@ read -r name from to; do
     grep -qF -- "$from" "$page" || { echo "$name: the page has no '$from'" >&2; exit 1; }
@@ -43,13 +43,13 @@ while IFS=@ read -r name from to; do
     told=$(tests_of "$work/wrong.html")
     case $told in
         *passed,\ 0\ failed | [!0-9]* | '')
-            echo "$name: no test tells: $told" >&2
+            echo "$name: no test noticed: $told" >&2
             exit 1
             ;;
     esac
     wrong=$((wrong + 1))
 done < "$here/wrong.txt"
-echo "$wrong wrong pages are told"
+echo "$wrong wrong pages were rejected"
 
 mkdir -p "$folder"
 browse "file://$page#sample" --screenshot="$folder/recording.png"

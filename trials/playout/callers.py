@@ -1,10 +1,10 @@
-"""Runs callers whose packets are early, late or from two sources through `mg_bridge replay`, and prints what is heard.
+"""Simulates callers whose packets are early, late or from two sources, in `mg_bridge replay`. Prints what is heard.
 
 usage: callers.py BRIDGE
 
-Two callers are in a conference. The first sends frames that name their sequence numbers, at computed times without
-waiting. A tick comes every 20 ms, halfway between two packets of a punctual caller. In each tick the second is sent the
-number of a frame, or silence.
+Two callers are in a conference. The first sends frames that contain their sequence numbers, at simulated times. A tick
+comes every 20 ms, halfway between two packets of a punctual caller. In each tick, the second caller is sent the number
+of a frame, or silence.
 """
 import struct
 import subprocess
@@ -12,12 +12,12 @@ import sys
 
 ADD = ("Add=${Media{LocalControl{Mode=SendReceive%s},Local{v=0\\nc=IN IP4 $\\nm=audio $ RTP/AVP 0\\n},"
        "Remote{v=0\\nc=IN IP4 127.0.0.1\\nm=audio %d RTP/AVP 0\\n}}}")
-# Codes of mu-law from 128 on have one level each, and 255 is silence. A frame is a code for its number modulo this.
+# Each mu-law code from 128 on has its own level, and 255 is silence. A frame is the code for its number modulo this.
 NUMBERS = 97
 
 
 def packet(at, number, source=7, size=160):
-    """Returns a packet that arrives at a time in milliseconds."""
+    """Returns a packet that arrives at this time, in milliseconds."""
     head = struct.pack("!BBHII", 0x80, 0, number % 65536, number * 160 % 2 ** 32, source)
     return at, "rtp 30000 127.0.0.1:40000 " + head.hex() + "%02x" % (128 + number % NUMBERS) * size
 
@@ -39,7 +39,7 @@ def heard(packets, seconds, depth=80):
 
 
 def gaps(frames):
-    """Returns the runs of silent ticks between frames: the start of each in seconds, and its ticks."""
+    """Returns the runs of silent ticks between frames: the start of each in seconds, and its length in ticks."""
     found, silent, begun = [], 0, False
     for tick, frame in enumerate(frames):
         if frame is None:
@@ -52,7 +52,7 @@ def gaps(frames):
 
 
 def left_out(frames):
-    """Returns how many frames were skipped between two consecutive ones."""
+    """Returns how many frames were skipped between consecutive ticks."""
     pairs = [(a, b) for a, b in zip(frames, frames[1:]) if a is not None and b is not None]
     return sum((b - a - 1) % NUMBERS for a, b in pairs)
 

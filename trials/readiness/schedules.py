@@ -2,12 +2,12 @@
 
 usage: schedules.py BRIDGE LIBRARY SCHEDULES SEED
 
-A schedule is several bursts and polls in random order. A burst goes to one port; some have 64 datagrams, as many as a
+A schedule consists of bursts and polls in random order. A burst goes to one port; some have 64 datagrams, as many as a
 poll receives from a port, and some have one more or 64 more. The schedule does not wait for the gateway, so that
-datagrams arrive while it polls. Then it is polled as often as the fullest port needs, and must have counted each
-datagram once. Messages of the schedule must be answered in the order in which they were sent. A session has a hundred
-schedules. In two of three sessions a call fails: a receive, or the one that asks which sockets are ready. Exits with 1
-at the first failure.
+datagrams arrive while it polls. Then the gateway is polled as often as the fullest port needs, and must have counted
+each datagram once. The schedule's messages must be answered in the order in which they were sent. A session has a
+hundred schedules. In two out of three sessions, a call fails: a receive, or the call that asks which sockets are ready.
+Exits with 1 at the first failure.
 """
 import os
 import random
@@ -76,7 +76,7 @@ class Session:
                 self.say(b"poll")
             elif self.sent[slot] - before[slot] + count <= MOST_AT_A_PORT:
                 self.send(slot, count)
-        # A failed call may lose one poll.
+        # A failed call may cost one poll.
         fullest = max(now - then for now, then in zip(self.sent, before))
         for _ in range(fullest // 64 + 2):
             self.say(b"poll")
@@ -106,7 +106,7 @@ def main():
             if fault:
                 sys.exit(f"wrong: schedule {done} of seed {SEED}: {fault}")
         if session.end() != 0:
-            sys.exit(f"wrong: the session of schedule {done} ended with another status than 0")
+            sys.exit(f"wrong: the session of schedule {done} ended with a nonzero status")
         datagrams += sum(session.sent)
         refused[session.refused] += 1
     print(f"{done} schedules, {datagrams} datagrams: each came out")

@@ -1,8 +1,8 @@
-/* Callers in conferences of a gateway, each of whom sends a packet of 20 ms every 20 ms, and a controller who sends a
+/* Callers in conferences on a gateway, each of whom sends a 20 ms packet every 20 ms, and a controller that makes a
    change ten times a second. Writes what they sent and what they received to two files (streams.h), and prints how
    much that was.
    usage: calls CALLERS SECONDS SENT CAME
-   The choices are pseudo-random, the same in each run. */
+   The choices are pseudo-random, but the same in each run. */
 #define _GNU_SOURCE
 #include "../../benches/serve/loopback.h"
 #include "streams.h"
@@ -45,7 +45,7 @@ static int send_off(int s, int gateway, int other, const void *bytes, int n)
     return 0;
 }
 
-/* Sends a request on a context; one in eight twice, as if its answer had been lost. */
+/* Sends a request about a context; sends one in eight twice, as if its answer had been lost. */
 __attribute__((format(printf, 1, 2))) static void ask(const char *format, ...)
 {
     static char text[8192];
@@ -86,7 +86,7 @@ static void told(const char *answer)
     added = NULL;
 }
 
-/* Receives what is waiting at a socket, the controller's or a caller's. */
+/* Receives what is waiting at a caller's socket or the controller's. */
 static void hear(int i)
 {
     static uint8_t bytes[ANSWER];
@@ -191,8 +191,8 @@ static void change(void)
         set_topology(a);
 }
 
-/* Sends each caller's packet of a period, quiet noise. Of 200 packets, one is lost, one is too short, one has another
-   payload type, and one is sent twice. */
+/* Sends each caller's packet for a period: quiet noise. On average, of 200 packets, one is lost, one is too short, one
+   has another payload type, and one is sent twice. */
 static void say(long period)
 {
     static uint8_t packet[PACKET];
@@ -212,7 +212,7 @@ static void say(long period)
     }
 }
 
-/* What the kernel dropped at the ports from the first on, before the last. */
+/* How many datagrams the kernel dropped at the ports from `first` up to, but not including, `end`. */
 static long dropped(int first, int end)
 {
     char text[512];

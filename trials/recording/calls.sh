@@ -1,10 +1,10 @@
 #!/bin/bash
-# Calls a gateway that records, under a controller who keeps changing conferences, and replays the recording. Checks,
+# Calls a gateway that records, under a controller that keeps changing conferences, and replays the recording. Checks,
 # for each port of the gateway and of a caller, that the recording has the datagrams that were sent, and the replay
 # those that arrived, in order.
 # usage: calls.sh [--wrong[=KIND]] [SECONDS] [CALLERS]
-# With --wrong, a line of a kind (rtp, tick or control) is removed from the middle of the recording before the replay,
-# and the difference must be found.
+# With --wrong, a line of this kind (rtp, tick or control) is removed from the middle of the recording before the
+# replay, and the difference must be found.
 # It needs gcc, and 1.5 GB for ten minutes of 128 callers. Exits with 0 if every check passes.
 set -euo pipefail
 wrong='' wanted=0
@@ -30,7 +30,7 @@ names='address|control-address|control-port|base-port|slots|first-termination|fi
 [[ $title =~ ^'# mg_bridge replay'(\ --($names)=[0-9.]+)*$ ]] || { echo "no title: $title"; exit 1; }
 read -ra words <<< "$title"
 
-# Prints the complete lines of the recording, without the middle one of a kind, if a kind is named.
+# Prints the complete lines of the recording. If a kind is named, leaves out the middle line of that kind.
 recording() {
     if [ -n "${1:-}" ]; then
         recording | awk -v kind="$1" -v half=$(($(grep -c "^$1" "$work/out") / 2)) '$1 != kind || n++ != half'

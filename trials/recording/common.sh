@@ -1,7 +1,7 @@
 # The gateway and the tools of this folder. calls.sh and cost.sh source it, and set how many callers there are. BRIDGE
 # is the program; by default it is the one that `rt run` leaves in crates/mg_bridge/out. If that is missing, it is
-# proved and built first, which takes half an hour. Recordings are in a folder of their own in TMPDIR or /tmp, which is
-# removed at the end. An hour of a caller takes 70 MB there.
+# proved and built first, which takes half an hour. Recordings go into a new folder in TMPDIR or /tmp, which is removed
+# at the end. They take 70 MB per caller and hour.
 root=$here/../..
 bridge=${BRIDGE:-$root/crates/mg_bridge/out/mg_bridge}
 [ -x "$bridge" ] || (cd "$root/crates/mg_bridge" && rt run -- --help > /dev/null)
@@ -11,8 +11,8 @@ for program in calls lines; do
     gcc -O2 -Wall -Wextra -o "$work/$program" "$here/$program.c"
 done
 
-# Starts a gateway at the ports of streams.h, with further arguments. Its output goes to a file. Its numbers start so
-# that they wrap. No packet is too late for it, since a recording does not say which packets were not sent.
+# Starts a gateway on the ports of streams.h, with additional arguments. Its output goes to a file. Its RTP numbers
+# start so high that they wrap. No packet counts as too late, because a recording does not say which were not sent.
 start() {
     : > "$work/out"
     "$bridge" live --control-port 15944 --base-port 16000 --slots "$callers" --first-termination 1000 \

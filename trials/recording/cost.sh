@@ -1,7 +1,7 @@
 #!/bin/bash
 # Measures the cost of recording: the processor time of a gateway with --record and without, in turn, and the size of
-# the recording, also after gzip. The time is the user and system time of /proc/PID/stat from the start to the end of
-# the calls.
+# the recording, before and after gzip. The time is the user and system time in /proc/PID/stat from the start to the end
+# of the calls.
 # usage: cost.sh [SECONDS] [CALLERS] [TURNS]
 # It needs what calls.sh needs, and gzip.
 set -eu
@@ -10,7 +10,7 @@ here=$(CDPATH= cd -- "$(dirname -- "$0")" && pwd)
 . "$here/common.sh"
 hz=$(getconf CLK_TCK)
 
-# Runs one turn: its name, and the gateway's arguments.
+# Runs one turn: NAME [ARGUMENT].., with these arguments for the gateway.
 turn() {
     start "${@:2}"
     "$work/calls" "$callers" "$seconds" "$work/sent" "$work/came" > "$work/told"

@@ -1,5 +1,5 @@
-/* Reads a recording or the output of its replay on standard input, and prints its datagrams in the form
-   in which `calls` prints those that it sent and received.
+/* Reads a recording or the output of its replay from standard input, and prints its datagrams in the form
+   in which `calls` writes those that it sent and received.
    usage: lines */
 #define _GNU_SOURCE
 #include "streams.h"
@@ -17,7 +17,7 @@ static size_t read_digits(const char *at, const char *end)
     return n;
 }
 
-/* Parses a text with the escapes \n, \r and \\. */
+/* Parses text with the escapes \n, \r and \\. */
 static size_t read_text(const char *at, const char *end)
 {
     size_t n = 0;
@@ -29,7 +29,7 @@ static size_t read_text(const char *at, const char *end)
     return n;
 }
 
-/* Reads the datagram of a line, if it has one; returns whether it is a line of either kind. */
+/* Reads the datagram of a line, if it has one; returns whether the line can occur in a recording or replay. */
 static int line(char *at, const char *end)
 {
     const char *host = "127.0.0.1:";

@@ -1,5 +1,5 @@
-/* Datagrams to or from a gateway on 127.0.0.1, as a count and a hash for each pair of the gateway's port and another.
-   The hash is the 64-bit FNV-1a over all datagrams in order, each as its length in two bytes and its bytes. */
+/* Datagrams to or from a gateway on 127.0.0.1, as a count and a hash for each pair of a gateway port and another port.
+   The hash is the 64-bit FNV-1a over all datagrams in order, each as a two-byte length followed by its bytes. */
 #include <stdint.h>
 #include <stdio.h>
 #include <stdlib.h>
@@ -41,7 +41,7 @@ static int by_ports(const void *a, const void *b)
     return s->gateway != t->gateway ? s->gateway - t->gateway : s->other - t->other;
 }
 
-/* Writes `GATEWAY OTHER COUNT HASH` for each, in order of ports. */
+/* Writes `GATEWAY OTHER COUNT HASH` for each pair, ordered by port. */
 static void write_streams(struct stream *streams, FILE *out)
 {
     int n = 0;

@@ -1,11 +1,11 @@
 /* Fault injection: a preloaded library that makes one of a program's calls fail.
  *
  * REFUSE       the kind of call: memory, read, write, receive, send or wait (for ready sockets)
- * REFUSE_AT    the number of the call of that kind that fails, from 1 on; 0 or absent: none
+ * REFUSE_AT    which call of that kind fails, counted from 1; 0 or absent: none
  * REFUSE_TOLD  a file that is created when a call fails
  * REFUSE_PIECE the maximum number of bytes in a read or a write; 0 or absent: no limit
  *
- * A failing allocation returns NULL, any other failing call EIO. */
+ * An allocation fails by returning NULL, and any other call with EIO. */
 #define _GNU_SOURCE
 #include <dlfcn.h>
 #include <errno.h>

@@ -1,7 +1,7 @@
 #!/bin/sh
 # Makes each allocation, read, write, receive, send and wait of the gateway fail in turn, one per run, until no such
-# call is left. Checks what follows each failure. Prints how many runs there were, and exits with 1 at the first
-# wrong one.
+# call is left. Checks what follows each failure. Prints how many runs there were, and exits with 1 at the first run
+# that goes wrong.
 # usage: run.sh
 # It needs gcc, python3 and rt. `mg_bridge` is the one that `rt run` leaves in crates/mg_bridge/out. What is not built
 # yet is proved and built first, which takes half an hour. The runs take less than a minute.
@@ -26,7 +26,7 @@ wrong() {
     exit 1
 }
 
-# Runs a program while a call of a kind fails, with reads and writes of at most PIECE bytes.
+# Runs a program in which one call of this kind fails, with reads and writes of at most PIECE bytes.
 # usage: refused KIND AT PIECE INPUT PROGRAM WORD ..
 refused() {
     kind=$1 at=$2 piece=$3 input=$4
@@ -50,7 +50,7 @@ ended() {
 # Checks that the output is a prefix of the stored output.
 is_front() {
     head -c "$(wc -c < "$work/out")" "$output" | cmp -s - "$work/out" \
-        || wrong 'what was written is no front of the output'
+        || wrong 'what was written is not a prefix of the output'
 }
 
 # Checks that the output ends at the end of a line.
@@ -58,15 +58,15 @@ is_whole_lines() {
     [ -z "$(tail -c 1 "$work/out")" ] || wrong 'what was written ends within a line'
 }
 
-# Checks that the output is that of the complete lines in the given number of bytes of the script.
+# Checks that the output is that of the complete lines in the script's first bytes: COUNT
 is_of_bytes() {
     head -c "$1" "$script" > "$work/bytes"
     head -n "$(wc -l < "$work/bytes")" "$work/bytes" > "$work/lines"
     "$bridge" replay < "$work/lines" > "$work/wanted"
-    cmp -s "$work/out" "$work/wanted" || wrong 'what was written is not what the lines that were read write'
+    cmp -s "$work/out" "$work/wanted" || wrong 'what was written is not the output of the lines that were read'
 }
 
-# Checks a run in which nothing is missing.
+# Checks a run with complete output.
 is_whole() {
     ended 0 ''
     cmp -s "$work/out" "$1" || wrong 'the output is not as stored'
@@ -88,7 +88,7 @@ spared=0
 k=1
 while replay memory "$k"; was_refused; do
     if [ "$status" = 0 ]; then
-        # It allocates for all arguments at once first, and then for one.
+        # It first allocates for all arguments at once, and then for one.
         spared=$((spared + 1))
         [ "$spared" = 1 ] || wrong 'not status 4'
         is_whole "$output"
@@ -148,7 +148,7 @@ while refused memory "$k" 0 /dev/null "$here/out/control"; was_refused; do
     if [ "$(cat "$work/out")" = 'no memory at the start' ]; then
         starts=$((starts + 1))
     else
-        # One of the two messages was answered again, and nothing else differs.
+        # One of the two messages was answered when sent again, and nothing else differs.
         [ "$(grep -c ': as before, and answered again$' "$work/out")" = 1 ] || wrong 'no message was answered again'
         sed 's/: as before, and answered again$/: answered/' "$work/out" | cmp -s - "$work/answered" \
             || wrong 'another outcome'

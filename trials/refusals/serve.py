@@ -3,8 +3,8 @@
 usage: serve.py BRIDGE LIBRARY KIND
 
 Each session is a conversation of a controller and two callers: an Add of both, 20 ms of speech, three ticks and a
-heartbeat. Whatever is not answered or not counted is sent or polled for again. Exits with 1 at the first session
-that is wrong.
+heartbeat. A message that isn't answered is sent again, and a datagram that isn't counted is polled for again. Exits
+with 1 at the first session that goes wrong.
 """
 import os
 import signal
@@ -26,12 +26,12 @@ TOLD = b"Add=RTP/%d{Media{Stream=1{Local{v=0\r\nc=IN IP4 127.0.0.1\r\nm=audio %d
 HEARTBEAT = b"MEGACO/1 [127.0.0.1]:2945 Transaction=2{Context=-{AuditValue=ROOT{Audit{}}}}"
 ALIVE = b"Reply=2{Context=-{AuditValue=ROOT}}"
 STATS = "control={control} media={media} ticks={ticks} sent={sent} failed={failed} dropped=0,0,0,0,0,0 concealed=0"
-# The text of a read or a write that fails.
+# What the gateway prints if a read or a write fails.
 FAILED = {"read": "read failed\n", "write": "write failed\n"}
 
 
 class Wrong(Exception):
-    """What happened is not what must happen."""
+    """The gateway did something wrong."""
 
 
 class Ended(Exception):
@@ -54,9 +54,9 @@ def came(s):
 
 
 def packet(number, tick):
-    """The packet of a tick, from 0 on, to one of the two callers.
+    """The packet of a tick, counted from 0, to one of the two callers.
 
-    In the third tick the second hears the first, who says 80.
+    In the third tick, the second caller hears the first, who says 80.
     """
     payload = b"\x80" if (number, tick) == (2, 2) else b"\xff"
     head = bytes([0x80, 0x80 if tick == 0 else 0]) + tick.to_bytes(2, "big")
@@ -85,7 +85,7 @@ class Session:
         return os.path.exists(self.mark)
 
     def line(self):
-        """Returns the next printed line, completely."""
+        """Returns the next complete line that is printed."""
         text = b""
         while not text.endswith(b"\n"):
             byte = self.program.stdout.read(1)
@@ -138,7 +138,7 @@ class Session:
             self.after(counts, control=0 if KIND == "memory" else 1)
 
     def speak(self):
-        """Sends the first caller's speech, and polls until it was accepted."""
+        """Sends the first caller's speech, and polls until it is accepted."""
         speech = bytes([0x80, 0, 0, 1, 0, 0, 0, 0, 0, 0, 0, 99]) + 160 * b"\x80"
         self.callers[0].sendto(speech, ("127.0.0.1", self.base_port))
         counts = self.do("poll")
@@ -214,13 +214,13 @@ def main():
         signal.alarm(20)
         try:
             if not session.run():
-                # If a read or a write failed, the front of this was printed.
+                # If a read or a write failed, a prefix of this was printed.
                 if KIND in FAILED:
-                    expect(all(session.printed.startswith(front) for front in fronts), "no front was printed")
+                    expect(all(session.printed.startswith(front) for front in fronts), "not a prefix was printed")
                 break
             fronts.append(session.printed)
             spared += session.is_spared
-            # It allocates for all arguments at once first, and then for some.
+            # It first allocates for all arguments at once, and then for some.
             expect(spared <= 1, "no failure was counted")
         except Wrong as wrong:
             sys.exit(f"serve, {KIND} {at} refused: {wrong}")

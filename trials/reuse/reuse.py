@@ -1,11 +1,12 @@
-"""Measures what is heard of a caller who goes on sending after its call, when another caller gets its port.
+"""Measures what is heard from a caller who keeps sending after the call has ended and another caller has its port.
 
 usage: reuse.py BRIDGE
 
-A, B and D are in a conference of `mg_bridge live`; D's termination has no Remote. A and D send tones, and B listens.
-After a second the controller subtracts A and adds C, who gets A's port. A goes on sending. After another second C sends
-a tone too. All callers are at 127.0.0.1. Prints a line with `--symmetric-rtp` and one without. Exits with 1 if, with
-the option, B hears anything but A in its call and C when it speaks, or the reports don't count each dropped packet.
+A, B and D are in a conference on `mg_bridge live`; D's termination has no Remote. A and D send tones, and B listens.
+After a second, the controller subtracts A and adds C, who gets A's port. A keeps sending. After another second, C sends
+a tone too. All callers are on 127.0.0.1. Prints one line for a run with `--symmetric-rtp` and one for a run without it.
+Exits with 1 if, with the option, B hears anything but A during A's call and C when C speaks, or if the reports don't
+count each dropped packet.
 """
 import math
 import re
@@ -22,7 +23,7 @@ BRIDGE, SLOTS = sys.argv[1], 4
 # G.711: samples per second and per packet, and packets per second.
 RATE, FRAME, PACKETS = 8000, 160, 50
 LOUDNESS = 8000
-# What B is to hear of A, C and D in each second. A trace of a tone is half a packet in a second.
+# How loud B must hear A, C and D in each second. Less than half a packet of a tone in a second counts as none.
 DUE = [1, 0, 0, 0, 0, 0, 0, 1, 0]
 TRACE = 0.5 / PACKETS
 TONES = "A %.1f %%, C %.1f %%, D %.1f %%"
@@ -30,7 +31,7 @@ HEARD = (f"B heard {TONES} in A's call; {TONES} when C was silent; {TONES} when 
          "strangers at C's port, at D's and in all: %s of %s")
 ADD = "Add=${Media{LocalControl{Mode=SendReceive},Local{v=0\nc=IN IP4 $\nm=audio $ RTP/AVP 0\n}%s}}"
 REMOTE = ",Remote{v=0\nc=IN IP4 127.0.0.1\nm=audio %d RTP/AVP 0\n}"
-# By byte of mu-law: the sample that it denotes.
+# For each mu-law byte, the sample that it denotes.
 LEVELS = [4 * (((2 * (code & 0x0F) + 33) << (code >> 4)) - 33) for code in range(128)]
 SAMPLES = [-one for one in reversed(LEVELS)] + LEVELS[::-1]
 
@@ -42,7 +43,7 @@ def tone(pitch):
 
 
 def level(samples, pitch):
-    """Returns how loud a tone is in the samples: 1 is as loud as it was sent. This is Goertzel's algorithm."""
+    """Returns how loud a tone is in the samples: 1 means as loud as it was sent. Uses Goertzel's algorithm."""
     turn = 2 * math.pi * pitch / RATE
     last = before = 0.0
     for sample in samples:
@@ -64,7 +65,7 @@ class Caller:
         self.sent += 1
 
     def samples(self):
-        """Yields the samples in the packets that wait at its socket."""
+        """Yields the samples in the packets that are waiting at its socket."""
         while select.select([self.socket], [], [], 0)[0]:
             yield from (SAMPLES[code] for code in self.socket.recv(2048)[12:])
 
@@ -89,7 +90,7 @@ class Gateway:
         self.process.wait()
 
     def ask(self, action):
-        """Sends a request, and returns the gateway's ports in its answer."""
+        """Sends a request, and returns the gateway's ports that the answer names."""
         self.asked += 1
         text = b"MEGACO/1 [127.0.0.1]:2945 Transaction=%d{%s}" % (self.asked, action.encode())
         self.controller.sendto(text, ("127.0.0.1", self.port))
@@ -108,7 +109,7 @@ class Gateway:
 
 def second(speakers, listener):
     """Has callers speak for a second, and returns the samples that a listener receives meanwhile."""
-    list(listener.samples())  # those from before
+    list(listener.samples())  # discard earlier ones
     start, samples = time.monotonic(), []
     for n in range(1, PACKETS + 1):
         for caller in speakers:
@@ -129,7 +130,7 @@ def trial(*options):
         c.to, = gateway.ask("Context=1{%s}" % (ADD % c.remote))
         took = 1000 * (time.monotonic() - start)
         spans += [second([a, d], b), second([a, c, d], b)]
-        time.sleep(1.2)  # until there was another report
+        time.sleep(1.2)  # until the next report
     if c.to != a.to:
         sys.exit("C did not get A's port")
     levels = [level(samples, caller.pitch) for samples in spans for caller in (a, c, d)]

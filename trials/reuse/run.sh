@@ -1,7 +1,7 @@
 #!/bin/sh
-# Checks that symmetric RTP keeps a stream that outlives its call out of the next call at its port.
+# Checks that symmetric RTP keeps a stream that outlives its call out of the next call on the same port.
 # usage: run.sh [--gateway PATH]
-# It needs python3, and tries the program in dist/, or the one at PATH. It takes ten seconds.
+# It needs python3, and tests the program in dist/, or the one at PATH. It takes ten seconds.
 set -eu
 here=$(CDPATH= cd -- "$(dirname -- "$0")" && pwd)
 . "$here/../gateway_option.sh"

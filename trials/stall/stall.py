@@ -1,9 +1,9 @@
-"""Stops `mg_bridge live` for some seconds while callers in conferences of up to 64 send packets, and checks what they
+"""Stops `mg_bridge live` for a few seconds while callers in conferences of up to 64 send packets, and checks what they
 are sent.
 
 usage: stall.py BRIDGE CALLERS SECONDS
 
-After the stall no caller may be sent more than six packets at once, those of ticks at most five ticks late, and the
+After the stall, no caller may be sent more than six packets at once (those of ticks at most five ticks late), and the
 timestamps must agree with the clock. Exits with 1 otherwise.
 """
 import re
@@ -34,7 +34,7 @@ def ask(controller, to, text):
 
 
 def conference(control, callers):
-    """Puts the callers into conferences, and returns the gateway's port of each."""
+    """Puts the callers into conferences, and returns the gateway's port for each."""
     controller = udp()
     ports = []
     for first in range(0, CALLERS, A_REQUEST):
@@ -94,7 +94,7 @@ def trial(bridge, control):
                 pass
     at_once, missing, early, late = 0, 0, 0.0, 0.0
     for came in arrivals:
-        # When the tick of timestamp 0 was due, by the packet that arrived with the least delay.
+        # When the tick of timestamp 0 was due, judging by the packet that arrived with the least delay.
         origin = min(at - stamp for at, stamp in came if at < stopped)
         first = next(at for at, _ in came if at >= going)
         at_once = max(at_once, sum(first <= at and origin + stamp < first for at, stamp in came))

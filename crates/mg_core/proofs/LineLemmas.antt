@@ -53,7 +53,7 @@ abbrev pub event_result : Result (Unit {0}) WriteFailed → Result (Unit {0}) Ev
 event_result (Ok done) = Ok tt
 event_result (Err failed) = Err events.Write
 
--- the lines for what an event sends, whole or cut short
+-- the lines for what is sent at an event, whole or cut short
 pub written_ran : (event : Event) (sent : List Sent) (text : List ℕ) (w next : World) (n m : ℕ)
     (a b : Option (List ℕ)) (r : Result (Unit {0}) WriteFailed) → Step w event sent next → text ≡ lines_for sent →
     Writes text a b r → OnOk r (m ≡ after_sent n sent) → EventRan shows.Sent event w next n m a b (event_result r)

@@ -116,8 +116,8 @@ changes_by w next =
 abbrev pub but_port : Listener → Listener
 but_port x = record x { port = 0 }
 
--- The lines determine the outcome. If two outcomes of one state have the same lines, they have the
--- same terminations, contexts and modes, and the same speech goes to each termination.
+-- The lines determine the outcome. If two outcomes from the same state have the same lines, they
+-- have the same terminations, contexts and modes, and the same speech goes to each termination.
 abbrev pub ReportDeterminesOutcome : Type 0
 ReportDeterminesOutcome =
     (ticks : ℕ) (u v w : Gateway)

@@ -26,8 +26,9 @@ abbrev pub reported : Answer → List ℕ → Option (List ℕ)
 reported Send text = Some text
 reported Silent text = None
 
--- In the world w, an event sends these datagrams in this order, and leads to the next world. A
--- control datagram is answered, an RTP datagram is handled, and a tick sends its packets.
+-- In the world w, the gateway sends these datagrams in response to an event, in this order, and the
+-- next world results. A control datagram is answered, an RTP datagram is handled, and a tick's
+-- packets are sent.
 abbrev pub Step : World → Event → List Sent → World → Type 0
 Step w (Control source bytes) sent next =
     (answer : Option (List ℕ)) × Answers bytes (with_control w) answer next

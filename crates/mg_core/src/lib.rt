@@ -1,4 +1,4 @@
-//! The core of a conference media gateway: a state machine without IO.
+//! The core of a conference media gateway: a state machine without I/O.
 //!
 //! Control datagrams, RTP datagrams and ticks go in; answers and packets come out. The commands of a controller act on
 //! the terminations and contexts of an [`Engine`](mg_engine::Engine).

@@ -59,7 +59,7 @@ talks_in = last_setting (λ talks listens. talks)
 abbrev pub listens_in : List FlowEdit → Place → Bool
 listens_in = last_setting (λ talks listens. listens)
 
--- whether the last word on two places of one room lets the listener hear the talker
+-- whether the last word on two places in the same room lets the listener hear the talker
 abbrev pub may_hear : List FlowEdit → Place → Place → Bool
 may_hear es talker listener =
     topology.may_hear (edits_in talker.room es) talker.seat listener.seat

@@ -1,4 +1,4 @@
-//! Kept replies, which answer retransmitted requests without running them twice.
+//! Keeps replies, to answer retransmitted requests without running them again.
 //!
 //! See RFC 3525, section 8.2 and annex D.1.
 //!

@@ -1,4 +1,4 @@
-//! Line-based text I/O: reads in chunks, and writes in full.
+//! Line-based text I/O: chunked reads and complete writes.
 //!
 //! ```rust
 //! let mut buffer = [0; READ_SIZE];

@@ -5,7 +5,7 @@ ghost use Rattle.mg_playout.specs.Sequence.{distance_of};
 
 /// The minimum distance ahead of the next sequence number at which a packet restarts a play list.
 ///
-/// The name and the value are from RFC 3550, appendix A.1, which waits for a second packet first.
+/// The name and the value are from RFC 3550, appendix A.1, whose algorithm waits for a second packet first.
 pub const MAX_DROPOUT: i16 = 3000;
 
 /// The maximum distance behind the next sequence number at which a packet is late and does not restart a play list.

@@ -15,7 +15,7 @@ pub enum AddressFault {
 }
 
 impl AddressFault {
-    /// Returns the error text for the address for media.
+    /// Returns the error message for a bad media address.
     pub fn message(self) -> &'static str {
         match self {
             AddressFault::Unreadable => {
@@ -30,7 +30,7 @@ impl AddressFault {
         }
     }
 
-    /// Returns the error text for the address for control messages.
+    /// Returns the error message for a bad control address.
     pub fn control_message(self) -> &'static str {
         match self {
             AddressFault::Unreadable => {

@@ -1,4 +1,4 @@
-//! The scanner of control messages in text encoding (Megaco, RFC 3525, Annex B).
+//! The scanner for control messages in text encoding (Megaco, RFC 3525, Annex B).
 //!
 //! A message is a sequence of words, marks and quoted strings, separated by white space and comments. [`Scanner`]
 //! returns its tokens one by one, in one pass, and does not allocate:

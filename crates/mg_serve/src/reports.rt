@@ -93,7 +93,7 @@ impl<'a, E: Write> Reports<'a, E> {
     }
 }
 
-/// Returns the number of the termination, if its caller should send packets: it has a Local and a mode that talks.
+/// Returns the number of the termination, if its caller should send packets: it has a Local and is set to talk.
 fn expected(held: Option<Record>) -> Option<u32> {
     match held {
         Some(record) if record.local.is_some() && mode_talks(record.mode) => Some(record.number),

@@ -37,7 +37,7 @@ impl FromTokens for NamedTriple {
     }
 }
 
-/// Parses a priority after its keyword.
+/// Parses a Priority value, after its keyword.
 #[tactic(auto, unfolding(crate::specs::aids::Requests::priority_at))]
 fn priority_at<'t>(
     source: &[u8],
@@ -50,7 +50,7 @@ fn priority_at<'t>(
     Ok((ContextProperty::Priority(word), rest))
 }
 
-/// Parses an emergency after its keyword.
+/// Parses an Emergency value, after its keyword.
 #[tactic(auto, unfolding(crate::specs::aids::Requests::emergency_at))]
 fn emergency_at<'t>(
     source: &[u8],

@@ -1,4 +1,4 @@
-//! The parser of control messages in text encoding (Megaco, RFC 3525, Annex B).
+//! The parser for control messages in text encoding (Megaco, RFC 3525, Annex B).
 //!
 //! [`read`] parses the bytes of a datagram as a [`Message`], or returns why they are not a message. The tree refers to
 //! text by its span in the source, and copies none. Replies are collected in a [`Reply`] and written by [`write_reply`]

@@ -16,7 +16,7 @@ last_word-append (Enter n ∷ es) older a b p = grind (arith, last_word-append e
 last_word-append (Leave n ∷ es) older a b p = last_word-append es older a b p
 last_word-append (Apply triple ∷ es) older a b p = grind (arith, last_word-append es older a b)
 
--- after an Enter of one of the two, there is no word until a newer edit touches them
+-- after an Enter for either one, there is no word until a newer edit touches them
 pub last_word-entered : (newer older : List TopologyEdit) (n a b : ℕ) → ((a == n) || (b == n)) ≡ true →
     list_any (λ edit. touches edit a b) newer ≡ false → last_word (newer ++ Enter n ∷ older) a b ≡ None
 last_word-entered newer older n a b p q = last_word-append newer (Enter n ∷ older) a b q ∙

@@ -31,7 +31,7 @@ pub const MESSAGE_LIMIT: usize = 8192;
 /// The maximum number of requests in a message.
 pub const REQUEST_LIMIT: usize = 4;
 
-/// The maximum number of commands in all requests of a message.
+/// The maximum number of commands in a message.
 pub const COMMAND_LIMIT: usize = 64;
 
 /// The maximum length of a termination's name, a domain name or a device name, in bytes.

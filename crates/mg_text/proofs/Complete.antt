@@ -1,6 +1,5 @@
--- What is in the grammar is read: marks, words, groups and lists. Each part also has no more tokens after it than
--- before it, which bounds the length of a list.
-use Rattle.std.proofs.Common.{◌≡◌, ℕ, zero, suc, ◌-◌, ◌+◌, ◌<◌, ◌≤◌, ◌≢◌, eqb, Bool, true, false, List, [], ◌∷◌, length, Option, Some, None, Result, Ok, refl, inl, inr, ap, ◌∙◌, arith}
+-- What is in the grammar is read: marks, words, groups and lists. The number of tokens bounds the length of a list.
+use Rattle.std.proofs.Common.{◌≡◌, ℕ, zero, suc, ◌-◌, ◌<◌, ◌≤◌, ◌≢◌, eqb, Bool, true, false, List, [], ◌∷◌, length, Option, Some, None, Result, Ok, refl, inl, inr, ◌∙◌, arith}
 use Rattle.std.proofs.lemmas.Bool.{ne_eqb}
 use Rattle.mg_scan.specs.declared.kind.TokenKind.{TokenKind}
 use Rattle.mg_scan.specs.declared.kind.TokenKind.TheVariants.{Word, Open, Close, Comma, Equals}
@@ -12,8 +11,9 @@ use Rattle.mg_scan.specs.Span.{text_of}
 use Rattle.mg_words.specs.Term.{is_term}
 use Rattle.mg_text.specs.Keyword.{is_named}
 use Rattle.mg_text.specs.Production.{Production}
-use Rattle.mg_text.specs.Grammar.{IsMark, IsSpan, IsWord, IsWordThat, IsWorded, IsMore, IsListed, IsBraced, IsOptionalBraced, IsAnyBraced, IsBalanced, nothing, plain, nested, IsGroup, IsContent}
-use Rattle.mg_text.proofs.Sound.{is_kind-true, is_kind-same, balanced_shorter}
+use Rattle.mg_text.specs.Grammar.{IsMark, IsSpan, IsWord, IsWordThat, IsWorded, IsListed, IsBraced, IsOptionalBraced, IsAnyBraced, IsBalanced, nothing, plain, nested, IsGroup, IsContent}
+use Rattle.mg_text.proofs.Sound.{is_kind-true, is_kind-same}
+use Rattle.mg_text.proofs.Shorter.{by_count, list_shorter}
 
 is_kind-other : (a b : TokenKind) → a ≢ b → is_kind a b ≡ false
 is_kind-other a b apart = by_cases (is_kind a b) refl
@@ -127,51 +127,10 @@ filled_read source false ts rest stops (inl none) = rw (none, stops) refl
 filled_read source false ts rest stops (inr empty) =
     rw (after_read Open ts empty.0 empty.1, after_read Close empty.0 rest empty.2) refl
 
-pub mark_shorter : (kind : TokenKind) (ts rest : List Token) → IsMark kind ts rest → length rest < length ts
-mark_shorter kind ts rest m = omega (arith, ap length m.1)
-
-pub span_shorter : (kind : TokenKind) (w : Span) (ts rest : List Token) → IsSpan kind w ts rest →
-    length rest < length ts
-span_shorter kind w ts rest m = omega (arith, ap length m)
-
-pub worded_shorter : {X : Type 0} (meaning : List ℕ → Option X) (source : List ℕ) (x : X) (ts rest : List Token) →
-    IsWorded meaning source x ts rest → length rest < length ts
-worded_shorter meaning source x ts rest m = span_shorter Word m.0 ts rest m.2
-
-pub group_shorter : (ts rest : List Token) → IsGroup ts rest → length rest < length ts
-group_shorter ts rest m = omega (
-  arith,
-  mark_shorter Open ts m.0 m.1,
-  balanced_shorter m.0 m.2.0 m.2.1,
-  mark_shorter Close m.2.0 rest m.2.2,
-)
-
-pub content_shorter : (b : Bool) (ts rest : List Token) → IsContent b ts rest → length rest ≤ length ts
-content_shorter true ts rest m = omega (arith, group_shorter ts rest m.0)
-content_shorter false ts rest (inl none) = omega (arith, ap length none)
-content_shorter false ts rest (inr empty) =
-    omega (arith, mark_shorter Open ts empty.0 empty.1, mark_shorter Close empty.0 rest empty.2)
-
 module _ {X : Type 0} (source : List ℕ) (read : List Token → Result (X × List Token) ℕ)
     (P : X → Production)
     (complete : (ts : List Token) (x : X) (rest : List Token) → Stops rest → P x ts rest → read ts ≡ Ok (x, rest))
     (shorter : (ts : List Token) (x : X) (rest : List Token) → P x ts rest → length rest ≤ length ts) where
-  more_shorter : (xs : List X) (ts rest : List Token) → IsMore P xs ts rest → length xs + length rest < length ts
-  more_shorter [] ts rest m = omega (arith, mark_shorter Close ts rest m)
-  more_shorter (x ∷ xs) ts rest m = omega (
-    arith,
-    mark_shorter Comma ts m.0 m.1,
-    shorter m.0 x m.2.0 m.2.1,
-    more_shorter xs m.2.0 rest m.2.2,
-  )
-
-  list_shorter : (xs : List X) (ts rest : List Token) → IsListed P xs ts rest → length xs + length rest ≤ length ts
-  list_shorter [] ts rest h = absurd h
-  list_shorter (x ∷ xs) ts rest h = omega (arith, shorter ts x h.0 h.1, more_shorter xs h.0 rest h.2)
-
-  pub items_shorter : (xs : List X) (ts rest : List Token) → IsListed P xs ts rest → length rest ≤ length ts
-  items_shorter xs ts rest h = omega (arith, list_shorter xs ts rest h)
-
   list_reads : (n : ℕ) (x : X) (xs : List X) (ts rest : List Token) → length xs < n → IsListed P (x ∷ xs) ts rest →
       list_at source read n ts ≡ Ok (x ∷ xs, rest)
   unfolding list_at
@@ -192,15 +151,13 @@ module _ {X : Type 0} (source : List ℕ) (read : List Token → Result (X × Li
   pub items_read : (xs : List X) (ts rest : List Token) → IsListed P xs ts rest →
       items_at source read ts ≡ Ok (xs, rest)
   items_read [] ts rest h = absurd h
-  items_read (x ∷ xs) ts rest h = list_reads (length ts) x xs ts rest (omega (arith, list_shorter (x ∷ xs) ts rest h)) h
+  items_read (x ∷ xs) ts rest h =
+      list_reads (length ts) x xs ts rest (omega (arith, list_shorter by_count P shorter (x ∷ xs) ts rest h)) h
 
   pub braced_read : (xs : List X) (ts rest : List Token) → IsBraced P xs ts rest →
       braced_at source read ts ≡ Ok (xs, rest)
   unfolding braced_at
   braced_read xs ts rest m = rw (mark_read source Open ts m.0 m.1, items_read xs m.0 rest m.2) refl
-
-  pub braced_shorter : (xs : List X) (ts rest : List Token) → IsBraced P xs ts rest → length rest < length ts
-  braced_shorter xs ts rest m = omega (arith, mark_shorter Open ts m.0 m.1, items_shorter xs m.0 rest m.2)
 
   pub optional_braced_read : (xs : List X) (ts rest : List Token) → after_mark Open rest ≡ None →
       IsOptionalBraced P xs ts rest → optional_braced_at source read ts ≡ Ok (xs, rest)
@@ -208,11 +165,6 @@ module _ {X : Type 0} (source : List ℕ) (read : List Token → Result (X × Li
   optional_braced_read [] ts rest stops m = rw (m, stops) refl
   optional_braced_read (x ∷ xs) ts rest stops m =
       rw (after_read Open ts m.0 m.1, items_read (x ∷ xs) m.0 rest m.2) refl
-
-  pub optional_braced_shorter : (xs : List X) (ts rest : List Token) → IsOptionalBraced P xs ts rest →
-      length rest ≤ length ts
-  optional_braced_shorter [] ts rest m = omega (arith, ap length m)
-  optional_braced_shorter (x ∷ xs) ts rest m = omega (arith, braced_shorter (x ∷ xs) ts rest m)
 
   -- where an item stands, no closing brace does
   module _ (begins : (ts : List Token) (x : X) (rest : List Token) → P x ts rest → after_mark Close ts ≡ None) where
@@ -226,23 +178,11 @@ module _ {X : Type 0} (source : List ℕ) (read : List Token → Result (X × Li
       items_read (x ∷ xs) m.0 rest m.2,
     ) refl
 
-    pub any_braced_shorter : (xs : List X) (ts rest : List Token) → IsAnyBraced P xs ts rest → length rest < length ts
-    any_braced_shorter [] ts rest m = omega (
-      arith,
-      mark_shorter Open ts m.0 m.1,
-      mark_shorter Close m.0 rest m.2,
-    )
-    any_braced_shorter (x ∷ xs) ts rest m = braced_shorter (x ∷ xs) ts rest m
-
 -- words that stand for values, as items of a list
 module _ {X : Type 0} (meaning : List ℕ → Option X) (source : List ℕ) where
   pub each_word_read : (ts : List Token) (x : X) (rest : List Token) → Stops rest →
       IsWorded meaning source x ts rest → meaning_at meaning source ts ≡ Ok (x, rest)
   each_word_read ts x rest stops m = worded_read meaning source x ts rest m
-
-  pub each_word_shorter : (ts : List Token) (x : X) (rest : List Token) → IsWorded meaning source x ts rest →
-      length rest ≤ length ts
-  each_word_shorter ts x rest m = omega (arith, worded_shorter meaning source x ts rest m)
 
   pub each_word_begins : (ts : List Token) (x : X) (rest : List Token) → IsWorded meaning source x ts rest →
       after_mark Close ts ≡ None

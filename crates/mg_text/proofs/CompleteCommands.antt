@@ -1,5 +1,5 @@
 -- Commands and their descriptors that are in the grammar are read.
-use Rattle.std.proofs.Common.{◌≡◌, ℕ, ◌<◌, ◌≤◌, Bool, true, false, List, [], ◌∷◌, length, None, Ok, refl, inl, inr, ap, ◌∙◌, arith}
+use Rattle.std.proofs.Common.{◌≡◌, ℕ, Bool, true, false, List, [], ◌∷◌, None, Ok, refl, inl, inr, ◌∙◌}
 use Rattle.mg_scan.specs.declared.kind.TokenKind.TheVariants.{Word, Open, Close, Equals}
 use Rattle.mg_scan.specs.declared.token.Token.{Token}
 use Rattle.mg_text.specs.declared.keyword.Keyword.TheVariants as keywords
@@ -20,23 +20,17 @@ use Rattle.mg_text.specs.aids.Commands.{audit_words_at, assigned_at, content_at,
 use Rattle.mg_text.specs.Production.{◌▹◌}
 use Rattle.mg_text.specs.Grammar.{IsMark, IsWorded, IsAnyBraced, IsContent, IsOtherContent, keyword_for, IsMediaPart, IsAudit, IsDescriptor, IsOptionalAudit, IsSkipped, IsDescribed, IsCommand}
 use Rattle.mg_text.specs.aids.Words.{head_of}
-use Rattle.mg_text.proofs.Complete.{Stops, mark_read, after_read, after_other, word_read, span_other, worded_read, inside_read, term_read, filled_read, mark_shorter, span_shorter, worded_shorter, group_shorter, content_shorter, braced_read, braced_shorter, optional_braced_read, optional_braced_shorter, any_braced_read, any_braced_shorter, each_word_read, each_word_shorter, each_word_begins}
+use Rattle.mg_text.proofs.Complete.{Stops, mark_read, after_read, after_other, word_read, span_other, worded_read, inside_read, term_read, filled_read, braced_read, optional_braced_read, any_braced_read, each_word_read, each_word_begins}
 use Rattle.mg_text.proofs.SoundCommands.{IsAssignedContent}
-use Rattle.mg_text.proofs.CompleteMedia.{media_part_read, media_part_shorter}
+use Rattle.mg_text.proofs.CompleteMedia.{media_part_read}
+use Rattle.mg_text.proofs.Shorter.{by_count, each_word_shorter, media_part_shorter, descriptor_shorter}
 use Rattle.mg_text.proofs.WordLemmas.{worded_head}
 
 audit_words_read : (source : List ℕ) (xs : List AuditWord) (ts rest : List Token) →
     IsAnyBraced (IsWorded (by_keyword audit_word_named) source) xs ts rest → audit_words_at source ts ≡ Ok (xs, rest)
 audit_words_read source xs ts rest m = any_braced_read source (meaning_at (by_keyword audit_word_named) source)
     (IsWorded (by_keyword audit_word_named) source) (each_word_read (by_keyword audit_word_named) source)
-    (each_word_shorter (by_keyword audit_word_named) source)
-    (each_word_begins (by_keyword audit_word_named) source) xs ts rest m
-
-audit_words_shorter : (source : List ℕ) (xs : List AuditWord) (ts rest : List Token) →
-    IsAnyBraced (IsWorded (by_keyword audit_word_named) source) xs ts rest → length rest < length ts
-audit_words_shorter source xs ts rest m = any_braced_shorter source (meaning_at (by_keyword audit_word_named) source)
-    (IsWorded (by_keyword audit_word_named) source) (each_word_read (by_keyword audit_word_named) source)
-    (each_word_shorter (by_keyword audit_word_named) source)
+    (each_word_shorter by_count (by_keyword audit_word_named) source)
     (each_word_begins (by_keyword audit_word_named) source) xs ts rest m
 
 assigned_read : (source : List ℕ) (ts rest : List Token) → after_mark Open rest ≡ None →
@@ -49,14 +43,6 @@ assigned_read source ts rest stops (inr m) =
       word_read source m.1.0 ts m.0 m.1.1,
       filled_read source m.2.0 m.0 rest stops m.2.1,
     ) refl
-
-assigned_shorter : (ts rest : List Token) → IsAssignedContent ts rest → length rest < length ts
-assigned_shorter ts rest (inl m) = group_shorter ts rest m
-assigned_shorter ts rest (inr m) = omega (
-  arith,
-  span_shorter Word m.1.0 ts m.0 m.1.1,
-  content_shorter m.2.0 m.0 rest m.2.1,
-)
 
 -- where a group stands or nothing, no equals sign does
 no_equals : (b : Bool) (ts rest : List Token) → after_mark Equals rest ≡ None → IsContent b ts rest →
@@ -79,11 +65,6 @@ content_read source true ts rest stops (inl m) = plain_content_read source true 
 content_read source true ts rest stops (inr m) =
     rw (after_read Equals ts m.0 m.1, assigned_read source m.0 rest stops.«open» m.2) refl
 
-other_shorter : (b : Bool) (ts rest : List Token) → IsOtherContent b ts rest → length rest ≤ length ts
-other_shorter false ts rest m = content_shorter false ts rest m
-other_shorter true ts rest (inl m) = content_shorter true ts rest m
-other_shorter true ts rest (inr m) = omega (arith, mark_shorter Equals ts m.0 m.1, assigned_shorter m.0 rest m.2)
-
 other_named : (source : List ℕ) (word : OtherWord) (place : ℕ) (ts : List Token) →
     descriptor_named source (keyword_for word) place ts ≡ other_at source word ts
 other_named source others.Signals place ts = refl
@@ -100,31 +81,13 @@ descriptor_read source ts (descriptors.Media xs) rest stops m =
     rw (
       worded_read keyword_of source keywords.Media ts m.0 m.1,
       braced_read source (media_part_at source) (IsMediaPart source) (media_part_read source)
-          (media_part_shorter source) xs m.0 rest m.2,
+          (media_part_shorter by_count source) xs m.0 rest m.2,
     ) refl
 descriptor_read source ts (descriptors.Audit xs) rest stops m =
     rw (worded_read keyword_of source keywords.Audit ts m.0 m.1, audit_words_read source xs m.0 rest m.2) refl
 descriptor_read source ts (descriptors.Other word b) rest stops m =
     rw (worded_read keyword_of source (keyword_for word) ts m.0 m.1)
     (other_named source word _ m.0 ∙ (rw (content_read source b m.0 rest stops m.2) refl))
-
-descriptor_shorter : (source : List ℕ) (ts : List Token) (x : Descriptor) (rest : List Token) →
-    IsDescriptor source x ts rest → length rest ≤ length ts
-descriptor_shorter source ts (descriptors.Media xs) rest m =
-    omega (
-      arith,
-      worded_shorter keyword_of source keywords.Media ts m.0 m.1,
-      braced_shorter source (media_part_at source) (IsMediaPart source) (media_part_read source)
-          (media_part_shorter source) xs m.0 rest m.2,
-    )
-descriptor_shorter source ts (descriptors.Audit xs) rest m =
-    omega (
-      arith,
-      worded_shorter keyword_of source keywords.Audit ts m.0 m.1,
-      audit_words_shorter source xs m.0 rest m.2,
-    )
-descriptor_shorter source ts (descriptors.Other word b) rest m =
-    omega (arith, worded_shorter keyword_of source (keyword_for word) ts m.0 m.1, other_shorter b m.0 rest m.2)
 
 audit_read : (source : List ℕ) (xs : List AuditWord) (ts rest : List Token) → IsAudit source xs ts rest →
     audit_at source ts ≡ Ok (xs, rest)
@@ -151,19 +114,6 @@ optional_audit_read source [] ts rest stops m = rw (m, stops) refl
 optional_audit_read source (descriptors.Audit xs ∷ []) ts rest stops m = audit_braced_read source xs ts rest m
 optional_audit_read source _ ts rest stops m = absurd m
 
-optional_audit_shorter : (source : List ℕ) (xs : List Descriptor) (ts rest : List Token) →
-    IsOptionalAudit source xs ts rest → length rest ≤ length ts
-optional_audit_shorter source [] ts rest m = omega (arith, ap length m)
-optional_audit_shorter source (descriptors.Audit xs ∷ []) ts rest m =
-    omega (
-      arith,
-      mark_shorter Open ts m.0 m.1,
-      worded_shorter keyword_of source keywords.Audit m.0 m.2.1.0 m.2.1.1,
-      audit_words_shorter source xs m.2.1.0 m.2.0 m.2.1.2,
-      mark_shorter Close m.2.0 rest m.2.2,
-    )
-optional_audit_shorter source _ ts rest m = absurd m
-
 skipped_read : (source : List ℕ) (xs : List Descriptor) (ts rest : List Token) → after_mark Open rest ≡ None →
     IsSkipped xs ts rest → skipped_at source ts ≡ Ok (xs, rest)
 unfolding skipped_at
@@ -173,35 +123,18 @@ described_read : (source : List ℕ) (word : CommandWord) (xs : List Descriptor)
     after_mark Open rest ≡ None → IsDescribed source word xs ts rest → descriptors_at source word ts ≡ Ok (xs, rest)
 described_read source commands.Add xs ts rest stops m =
     optional_braced_read source (descriptor_at source) (IsDescriptor source) (descriptor_read source)
-    (descriptor_shorter source) xs ts rest stops m
+    (descriptor_shorter by_count source) xs ts rest stops m
 described_read source commands.Modify xs ts rest stops m =
     optional_braced_read source (descriptor_at source) (IsDescriptor source) (descriptor_read source)
-    (descriptor_shorter source) xs ts rest stops m
+    (descriptor_shorter by_count source) xs ts rest stops m
 described_read source commands.Move xs ts rest stops m =
     optional_braced_read source (descriptor_at source) (IsDescriptor source) (descriptor_read source)
-    (descriptor_shorter source) xs ts rest stops m
+    (descriptor_shorter by_count source) xs ts rest stops m
 described_read source commands.Subtract xs ts rest stops m = optional_audit_read source xs ts rest stops m
 described_read source commands.AuditValue xs ts rest stops m = optional_audit_read source xs ts rest stops m
 described_read source commands.AuditCapability xs ts rest stops m = skipped_read source xs ts rest stops m
 described_read source commands.Notify xs ts rest stops m = skipped_read source xs ts rest stops m
 described_read source commands.ServiceChange xs ts rest stops m = skipped_read source xs ts rest stops m
-
-described_shorter : (source : List ℕ) (word : CommandWord) (xs : List Descriptor) (ts rest : List Token) →
-    IsDescribed source word xs ts rest → length rest ≤ length ts
-described_shorter source commands.Add xs ts rest m =
-    optional_braced_shorter source (descriptor_at source) (IsDescriptor source) (descriptor_read source)
-    (descriptor_shorter source) xs ts rest m
-described_shorter source commands.Modify xs ts rest m =
-    optional_braced_shorter source (descriptor_at source) (IsDescriptor source) (descriptor_read source)
-    (descriptor_shorter source) xs ts rest m
-described_shorter source commands.Move xs ts rest m =
-    optional_braced_shorter source (descriptor_at source) (IsDescriptor source) (descriptor_read source)
-    (descriptor_shorter source) xs ts rest m
-described_shorter source commands.Subtract xs ts rest m = optional_audit_shorter source xs ts rest m
-described_shorter source commands.AuditValue xs ts rest m = optional_audit_shorter source xs ts rest m
-described_shorter source commands.AuditCapability xs ts rest m = content_shorter m.1.0 ts rest m.1.1
-described_shorter source commands.Notify xs ts rest m = content_shorter m.1.0 ts rest m.1.1
-described_shorter source commands.ServiceChange xs ts rest m = content_shorter m.1.0 ts rest m.1.1
 
 pub command_read : (source : List ℕ) (ts : List Token) (x : Command) (rest : List Token) → Stops rest →
     IsCommand source x ts rest → command_at source ts ≡ Ok (x, rest)
@@ -214,14 +147,3 @@ command_read source ts x rest stops m =
       described_read source x.word x.descriptors m.2.2.0 rest stops.«open»
           m.2.2.2,
     ) refl
-
-pub command_shorter : (source : List ℕ) (ts : List Token) (x : Command) (rest : List Token) →
-    IsCommand source x ts rest → length rest ≤ length ts
-command_shorter source ts x rest m =
-    omega (
-      arith,
-      worded_shorter command_of source (head_of x) ts m.0 (worded_head source (head_of x) ts m.0 m.1),
-      mark_shorter Equals m.0 m.2.0 m.2.1,
-      span_shorter Word x.term m.2.0 m.2.2.0 m.2.2.1.1,
-      described_shorter source x.word x.descriptors m.2.2.0 rest m.2.2.2,
-    )

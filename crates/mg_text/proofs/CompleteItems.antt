@@ -1,7 +1,7 @@
 -- Properties, actions, the items of a message and its text that are in the grammar are read.
-use Rattle.std.proofs.Common.{◌≡◌, ℕ, zero, suc, ◌+◌, ◌<◌, ◌≤◌, eqb, true, false, List, [], ◌∷◌, length, Option, Some, None, Result, Ok, refl, inl, inr, sym, ap, ◌∙◌, arith}
+use Rattle.std.proofs.Common.{◌≡◌, ℕ, zero, suc, ◌<◌, ◌≤◌, eqb, true, false, List, [], ◌∷◌, length, Option, Some, None, Result, Ok, refl, inl, inr, sym, ap, ◌∙◌, arith}
 use Rattle.std.proofs.lemmas.Bool.{ne_eqb}
-use Rattle.mg_scan.specs.declared.kind.TokenKind.TheVariants.{Word, Open, Close, Comma, Equals}
+use Rattle.mg_scan.specs.declared.kind.TokenKind.TheVariants.{Open, Close, Comma, Equals}
 use Rattle.mg_scan.specs.declared.span.Span.{Span}
 use Rattle.mg_scan.specs.declared.token.Token.{Token}
 use Rattle.mg_scan.specs.Span.{text_of}
@@ -33,13 +33,13 @@ use Rattle.mg_text.specs.aids.Reading.{meaning_at}
 use Rattle.mg_text.specs.aids.Commands.{command_at}
 use Rattle.mg_text.specs.aids.Requests.{triple_at, priority_at, emergency_at, property_at, is_property, begins_property, parts_at, action_at, request_at, ranges_at, answer_at, item_at, sequence_at, error_at, body_at}
 use Rattle.mg_text.specs.aids.Text.{version_at, sender_at, text_at}
-use Rattle.mg_text.specs.Production.{◌or◌}
-use Rattle.mg_text.specs.Grammar.{IsWordThat, IsWorded, IsName, IsListed, IsCommand, IsTriple, IsContextProperty, IsParts, IsAction, IsAnswer, IsItem, IsSequence, body_of, IsItems, IsBody, IsText}
+use Rattle.mg_text.specs.Grammar.{IsWordThat, IsWorded, IsListed, IsCommand, IsTriple, IsContextProperty, IsParts, IsAction, IsAnswer, IsItem, IsSequence, body_of, IsItems, IsBody, IsText}
 use Rattle.mg_text.specs.aids.Words.{head_of}
 use Rattle.mg_text.specs.aids.Parts.{kept}
 use Rattle.mg_text.proofs.KeywordLemmas.{named_is}
-use Rattle.mg_text.proofs.Complete.{Stops, at_comma, at_close, mark_read, after_read, after_other, word_read, named_read, worded_read, group_read, term_read, mark_shorter, span_shorter, worded_shorter, group_shorter, items_shorter, items_read, braced_read, braced_shorter, each_word_read, each_word_shorter}
-use Rattle.mg_text.proofs.CompleteCommands.{command_read, command_shorter}
+use Rattle.mg_text.proofs.Complete.{Stops, at_comma, at_close, mark_read, after_read, after_other, word_read, named_read, worded_read, group_read, term_read, items_read, braced_read, each_word_read}
+use Rattle.mg_text.proofs.Shorter.{by_count, each_word_shorter, command_shorter, triple_shorter, parts_shorter, action_shorter, sequence_shorter}
+use Rattle.mg_text.proofs.CompleteCommands.{command_read}
 use Rattle.mg_text.proofs.WordLemmas.{association_means, worded_head}
 
 triple_read : (source : List ℕ) (ts : List Token) (x : NamedTriple) (rest : List Token) → Stops rest →
@@ -55,34 +55,21 @@ triple_read source ts x rest stops m =
           (association_means source x.association m.2.2.2.0 rest m.2.2.2.2),
     ) refl
 
-triple_shorter : (source : List ℕ) (ts : List Token) (x : NamedTriple) (rest : List Token) → IsTriple source x ts rest →
-    length rest ≤ length ts
-triple_shorter source ts x rest m =
-    omega (
-      arith,
-      span_shorter Word x.first ts m.0 m.1.1,
-      mark_shorter Comma m.0 m.2.0 m.2.1,
-      span_shorter Word x.second m.2.0 m.2.2.0 m.2.2.1.1,
-      mark_shorter Comma m.2.2.0 m.2.2.2.0 m.2.2.2.1,
-      worded_shorter (by_keyword association_named) source x.association m.2.2.2.0 rest
-          (association_means source x.association m.2.2.2.0 rest m.2.2.2.2),
-    )
-
 property_read : (source : List ℕ) (x : ContextProperty) (ts rest : List Token) → Stops rest →
     IsContextProperty source x ts rest → property_at source ts ≡ Ok (x, rest)
 unfolding property_at priority_at emergency_at
 property_read source (properties.Topology xs) ts rest stops m =
     rw (
       worded_read keyword_of source keywords.Topology ts m.0 m.1,
-      braced_read source (triple_at source) (IsTriple source) (triple_read source) (triple_shorter source) xs m.0
-          rest m.2,
+      braced_read source (triple_at source) (IsTriple source) (triple_read source) (triple_shorter by_count source) xs
+          m.0 rest m.2,
     ) refl
 property_read source (properties.ContextAudit xs) ts rest stops m =
     rw (
       worded_read keyword_of source keywords.ContextAudit ts m.0 m.1,
       braced_read source (meaning_at (by_keyword context_word_named) source)
           (IsWorded (by_keyword context_word_named) source) (each_word_read (by_keyword context_word_named) source)
-          (each_word_shorter (by_keyword context_word_named) source) xs m.0 rest m.2,
+          (each_word_shorter by_count (by_keyword context_word_named) source) xs m.0 rest m.2,
     ) refl
 property_read source (properties.Priority w) ts rest stops m =
     rw (
@@ -98,40 +85,6 @@ property_read source (properties.Emergency (Some w)) ts rest stops m =
       after_read Equals m.0 m.2.0 m.2.1,
       word_read source w m.2.0 rest m.2.2,
     ) refl
-
-property_shorter : (source : List ℕ) (x : ContextProperty) (ts rest : List Token) →
-    IsContextProperty source x ts rest → length rest < length ts
-property_shorter source (properties.Topology xs) ts rest m =
-    omega (
-      arith,
-      worded_shorter keyword_of source keywords.Topology ts m.0 m.1,
-      braced_shorter source (triple_at source) (IsTriple source) (triple_read source) (triple_shorter source) xs m.0
-          rest m.2,
-    )
-property_shorter source (properties.ContextAudit xs) ts rest m =
-    omega (
-      arith,
-      worded_shorter keyword_of source keywords.ContextAudit ts m.0 m.1,
-      braced_shorter source (meaning_at (by_keyword context_word_named) source)
-          (IsWorded (by_keyword context_word_named) source) (each_word_read (by_keyword context_word_named) source)
-          (each_word_shorter (by_keyword context_word_named) source) xs m.0 rest m.2,
-    )
-property_shorter source (properties.Priority w) ts rest m =
-    omega (
-      arith,
-      worded_shorter keyword_of source keywords.Priority ts m.0 m.1,
-      mark_shorter Equals m.0 m.2.0 m.2.1,
-      span_shorter Word w m.2.0 rest m.2.2,
-    )
-property_shorter source (properties.Emergency None) ts rest m =
-    omega (arith, worded_shorter keyword_of source keywords.Emergency ts m.0 m.1, ap length m.2)
-property_shorter source (properties.Emergency (Some w)) ts rest m =
-    omega (
-      arith,
-      worded_shorter keyword_of source keywords.Emergency ts m.0 m.1,
-      mark_shorter Equals m.0 m.2.0 m.2.1,
-      span_shorter Word w m.2.0 rest m.2.2,
-    )
 
 -- a property begins with a word of its own, and a command doesn't
 begins_with : (source : List ℕ) (k : Keyword) (ts rest : List Token) → is_property (Some k) ≡ true →
@@ -178,30 +131,6 @@ commands_begin source (x ∷ xs) ts rest h =
 abbrev parts_of : List ContextProperty → List Command → ActionParts
 parts_of properties commands = record { properties = properties; commands = commands }
 
-parts_shorter : (source : List ℕ) (ps : List ContextProperty) (xs : List Command) (ts rest : List Token) →
-    IsParts source ps xs ts rest → length ps + length rest ≤ length ts
-parts_shorter source [] xs ts rest m = omega (
-  arith,
-  items_shorter source (command_at source) (IsCommand source) (command_read source) (command_shorter source)
-      xs ts rest m,
-)
-parts_shorter source (p ∷ []) [] ts rest m =
-    omega (arith, property_shorter source p ts m.0 m.1, mark_shorter Close m.0 rest m.2)
-parts_shorter source (p ∷ []) (x ∷ xs) ts rest m =
-    omega (
-      arith,
-      property_shorter source p ts m.0 m.1,
-      mark_shorter Comma m.0 m.2.0 m.2.1,
-      parts_shorter source [] (x ∷ xs) m.2.0 rest m.2.2,
-    )
-parts_shorter source (p ∷ q ∷ qs) xs ts rest m =
-    omega (
-      arith,
-      property_shorter source p ts m.0 m.1,
-      mark_shorter Comma m.0 m.2.0 m.2.1,
-      parts_shorter source (q ∷ qs) xs m.2.0 rest m.2.2,
-    )
-
 parts_read : (source : List ℕ) (n : ℕ) (ps : List ContextProperty) (xs : List Command) (ts rest : List Token) →
     length ps < n → IsParts source ps xs ts rest → parts_at source n ts ≡ Ok (parts_of ps xs, rest)
 unfolding parts_at
@@ -210,7 +139,7 @@ parts_read source (suc n) [] xs ts rest lt m =
     rw (
       commands_begin source xs ts rest m,
       items_read source (command_at source) (IsCommand source)
-          (command_read source) (command_shorter source) xs ts rest m,
+          (command_read source) (command_shorter by_count source) xs ts rest m,
     ) refl
 parts_read source (suc n) (p ∷ []) [] ts rest lt m =
     rw (
@@ -234,29 +163,6 @@ parts_read source (suc n) (p ∷ q ∷ qs) xs ts rest lt m =
       parts_read source n (q ∷ qs) xs m.2.0 rest (omega arith) m.2.2,
     ) refl
 
--- an action has a part, which has a token
-parts_some : (source : List ℕ) (ps : List ContextProperty) (xs : List Command) (ts rest : List Token) →
-    IsParts source ps xs ts rest → length ps < length ts
-parts_some source [] [] ts rest m = absurd m
-parts_some source [] (x ∷ xs) ts rest m =
-    omega (arith, worded_shorter command_of source (head_of x) ts m.1.0 (worded_head source (head_of x) ts m.1.0 m.1.1))
-parts_some source (p ∷ []) [] ts rest m = omega
-    (arith, property_shorter source p ts m.0 m.1, mark_shorter Close m.0 rest m.2)
-parts_some source (p ∷ []) (x ∷ xs) ts rest m =
-    omega (
-      arith,
-      property_shorter source p ts m.0 m.1,
-      mark_shorter Comma m.0 m.2.0 m.2.1,
-      parts_some source [] (x ∷ xs) m.2.0 rest m.2.2,
-    )
-parts_some source (p ∷ q ∷ qs) xs ts rest m =
-    omega (
-      arith,
-      property_shorter source p ts m.0 m.1,
-      mark_shorter Comma m.0 m.2.0 m.2.1,
-      parts_some source (q ∷ qs) xs m.2.0 rest m.2.2,
-    )
-
 action_read : (source : List ℕ) (ts : List Token) (x : Action) (rest : List Token) → Stops rest →
     IsAction source x ts rest → action_at source ts ≡ Ok (x, rest)
 unfolding action_at
@@ -267,20 +173,8 @@ action_read source ts x rest stops m =
       worded_read context_id_of source x.context m.2.0 m.2.2.0 m.2.2.1,
       mark_read source Open m.2.2.0 m.2.2.2.0 m.2.2.2.1,
       parts_read source (length m.2.2.2.0) x.properties x.commands m.2.2.2.0 rest
-          (parts_some source x.properties x.commands m.2.2.2.0 rest m.2.2.2.2) m.2.2.2.2,
+          (omega (arith, parts_shorter by_count source x.properties x.commands m.2.2.2.0 rest m.2.2.2.2)) m.2.2.2.2,
     ) refl
-
-action_shorter : (source : List ℕ) (ts : List Token) (x : Action) (rest : List Token) → IsAction source x ts rest →
-    length rest ≤ length ts
-action_shorter source ts x rest m =
-    omega (
-      arith,
-      worded_shorter keyword_of source keywords.Context ts m.0 m.1,
-      mark_shorter Equals m.0 m.2.0 m.2.1,
-      worded_shorter context_id_of source x.context m.2.0 m.2.2.0 m.2.2.1,
-      mark_shorter Open m.2.2.0 m.2.2.2.0 m.2.2.2.1,
-      parts_shorter source x.properties x.commands m.2.2.2.0 rest m.2.2.2.2,
-    )
 
 answer_read : (source : List ℕ) (ts rest : List Token) (m : IsAnswer source ts rest) →
     answer_at source m.0 ≡ Ok (None, rest)
@@ -299,63 +193,24 @@ item_read source (Some (items.Request x)) ts rest m =
       worded_read keyword_of source keywords.Transaction ts m.0 m.1,
       mark_read source Equals m.0 m.2.0 m.2.1,
       worded_read number_of source x.number m.2.0 m.2.2.0 m.2.2.1,
-      braced_read source (action_at source) (IsAction source) (action_read source) (action_shorter source) x.actions
-          m.2.2.0 rest m.2.2.2,
+      braced_read source (action_at source) (IsAction source) (action_read source) (action_shorter by_count source)
+          x.actions m.2.2.0 rest m.2.2.2,
     ) refl
 item_read source (Some (items.Acknowledgement xs)) ts rest m =
     rw (
       worded_read keyword_of source keywords.TransactionResponseAck ts m.0 m.1,
       braced_read source (meaning_at range_of source) (IsWorded range_of source) (each_word_read range_of source)
-          (each_word_shorter range_of source) xs m.0 rest m.2,
+          (each_word_shorter by_count range_of source) xs m.0 rest m.2,
     ) refl
 item_read source None ts rest m = elim m.1 [
   | inl name ↦ rw (worded_read keyword_of source keywords.Reply ts m.0 name) (answer_read source ts rest m)
   | inr name ↦ rw (worded_read keyword_of source keywords.Pending ts m.0 name) (answer_read source ts rest m)
 ]
 
-name_shorter : (source : List ℕ) (ts a : List Token) →
-    (IsName source keywords.Reply or IsName source keywords.Pending) ts a → length a < length ts
-name_shorter source ts a (inl name) = worded_shorter keyword_of source keywords.Reply ts a name
-name_shorter source ts a (inr name) = worded_shorter keyword_of source keywords.Pending ts a name
-
-item_shorter : (source : List ℕ) (x : Option MessageItem) (ts rest : List Token) → IsItem source x ts rest →
-    length rest < length ts
-item_shorter source (Some (items.Request x)) ts rest m =
-    omega (
-      arith,
-      worded_shorter keyword_of source keywords.Transaction ts m.0 m.1,
-      mark_shorter Equals m.0 m.2.0 m.2.1,
-      worded_shorter number_of source x.number m.2.0 m.2.2.0 m.2.2.1,
-      braced_shorter source (action_at source) (IsAction source) (action_read source) (action_shorter source)
-          x.actions m.2.2.0 rest m.2.2.2,
-    )
-item_shorter source (Some (items.Acknowledgement xs)) ts rest m =
-    omega (
-      arith,
-      worded_shorter keyword_of source keywords.TransactionResponseAck ts m.0 m.1,
-      braced_shorter source (meaning_at range_of source) (IsWorded range_of source) (each_word_read range_of source)
-          (each_word_shorter range_of source) xs m.0 rest m.2,
-    )
-item_shorter source None ts rest m =
-    omega (
-      arith,
-      name_shorter source ts m.0 m.1,
-      mark_shorter Equals m.0 m.2.0 m.2.1,
-      worded_shorter number_of source m.2.2.1.0 m.2.0 m.2.2.0 m.2.2.1.1,
-      group_shorter m.2.2.0 rest m.2.2.2,
-    )
-
-sequence_shorter : (source : List ℕ) (xs : List (Option MessageItem)) (ts : List Token) → IsSequence source xs ts [] →
-    length xs ≤ length ts
-sequence_shorter source [] ts h = absurd h
-sequence_shorter source (x ∷ []) ts h = omega (arith, item_shorter source x ts [] h)
-sequence_shorter source (x ∷ y ∷ xs) ts h =
-    omega (arith, item_shorter source x ts h.0 h.1, sequence_shorter source (y ∷ xs) h.0 h.2)
-
 sequence_some : (source : List ℕ) (xs : List (Option MessageItem)) (ts : List Token) → IsSequence source xs ts [] →
     eqb (length ts) 0 ≡ false
 sequence_some source [] ts h = absurd h
-sequence_some source (x ∷ xs) ts h = let some = sequence_shorter source (x ∷ xs) ts h in
+sequence_some source (x ∷ xs) ts h = let some = sequence_shorter by_count source (x ∷ xs) ts h in
     ne_eqb (length ts) 0 (λ e. absurd (omega arith))
 
 sequence_read : (source : List ℕ) (n : ℕ) (xs : List (Option MessageItem)) (ts : List Token) → length xs ≤ n →
@@ -396,7 +251,7 @@ sequence_first source (x ∷ y ∷ xs) ts h = item_first source x ts h.0 h.1
 items_body_read : (source : List ℕ) (x : Body) (ts : List Token) (m : IsItems source x ts []) →
     items_body source ts ≡ Ok x
 items_body_read source x ts m = rw (sequence_read source (length ts) m.0 ts
-    (sequence_shorter source m.0 ts m.2) m.2) (ap (λ (b : Body). Ok b) (sym m.1))
+    (omega (arith, sequence_shorter by_count source m.0 ts m.2)) m.2) (ap (λ (b : Body). Ok b) (sym m.1))
 
 body_read : (source : List ℕ) (x : Body) (ts : List Token) → IsBody source x ts [] → body_at source ts ≡ Ok x
 unfolding body_at error_at

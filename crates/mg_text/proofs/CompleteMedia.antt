@@ -1,6 +1,6 @@
 -- A Media descriptor and its parts that are in the grammar are read.
-use Rattle.std.proofs.Common.{◌≡◌, ℕ, ◌<◌, ◌≤◌, Bool, true, false, List, length, Option, Some, None, Ok, refl, ap, ◌∙◌, arith}
-use Rattle.mg_scan.specs.declared.kind.TokenKind.TheVariants.{Word, Equals, Quoted, Octets}
+use Rattle.std.proofs.Common.{◌≡◌, ℕ, Bool, true, false, List, Option, Some, None, Ok, refl, ◌∙◌}
+use Rattle.mg_scan.specs.declared.kind.TokenKind.TheVariants.{Equals, Octets}
 use Rattle.mg_scan.specs.declared.span.Span.{Span}
 use Rattle.mg_scan.specs.declared.token.Token.{Token}
 use Rattle.mg_scan.specs.Span.{text_of}
@@ -20,12 +20,10 @@ use Rattle.mg_text.specs.Words.{by_keyword, switch_of}
 use Rattle.mg_text.specs.aids.Words.{mode_named}
 use Rattle.mg_text.specs.aids.Reading.{after_mark}
 use Rattle.mg_text.specs.aids.Media.{value_at, optional_value_at, switched_at, mode_part_at, package_part_at, control_named, control_at, stream_part_at, numbered_at, media_part_at}
-use Rattle.mg_text.specs.Production.{◌▹◌}
-use Rattle.mg_text.specs.Grammar.{IsMark, IsWorded, IsName, IsOptionalAssigned, IsValue, has_slash, IsControlPart, IsStreamPart, IsMediaPart}
+use Rattle.mg_text.specs.Grammar.{IsOptionalAssigned, IsValue, has_slash, IsControlPart, IsStreamPart, IsMediaPart}
 use Rattle.mg_text.proofs.KeywordLemmas.{no_slash}
-use Rattle.mg_text.proofs.Complete.{Stops, mark_read, after_read, span_read, word_read, worded_read, inside_read, filled_read, mark_shorter, span_shorter, worded_shorter, group_shorter, content_shorter, braced_read, braced_shorter}
-use Rattle.mg_words.specs.Mode.{mode_text}
-use Rattle.mg_text.specs.Keyword.{long_word}
+use Rattle.mg_text.proofs.Complete.{Stops, mark_read, after_read, span_read, word_read, worded_read, inside_read, filled_read, braced_read}
+use Rattle.mg_text.proofs.Shorter.{by_count, control_shorter, stream_part_shorter}
 use Rattle.mg_text.proofs.WordLemmas.{mode_means}
 
 value_read : (source : List ℕ) (v : PropertyValue) (ts rest : List Token) → IsValue v ts rest →
@@ -35,23 +33,12 @@ value_read source (values.Word w) ts rest m = rw m refl
 value_read source (values.Quoted w) ts rest m = rw m refl
 value_read source values.Group ts rest m = rw (m.1.1, inside_read source ts rest m) refl
 
-value_shorter : (v : PropertyValue) (ts rest : List Token) → IsValue v ts rest → length rest < length ts
-value_shorter (values.Word w) ts rest m = span_shorter Word w ts rest m
-value_shorter (values.Quoted w) ts rest m = span_shorter Quoted w ts rest m
-value_shorter values.Group ts rest m = group_shorter ts rest m
-
 optional_value_read : (source : List ℕ) (o : Option PropertyValue) (ts rest : List Token) →
     after_mark Equals rest ≡ None → IsOptionalAssigned IsValue o ts rest → optional_value_at source ts ≡ Ok (o, rest)
 unfolding optional_value_at
 optional_value_read source None ts rest stops m = rw (m, stops) refl
 optional_value_read source (Some v) ts rest stops m =
     rw (after_read Equals ts m.0 m.1, value_read source v m.0 rest m.2) refl
-
-optional_value_shorter : (o : Option PropertyValue) (ts rest : List Token) → IsOptionalAssigned IsValue o ts rest →
-    length rest ≤ length ts
-optional_value_shorter None ts rest m = omega (arith, ap length m)
-optional_value_shorter (Some v) ts rest m =
-    omega (arith, mark_shorter Equals ts m.0 m.1, value_shorter v m.0 rest m.2)
 
 -- one of the words MODE, RESERVEDVALUE and RESERVEDGROUP
 abbrev is_control : Option Keyword → Bool
@@ -110,28 +97,6 @@ control_read source ts (controls.Property w o) rest stops m =
     rw (word_read source w ts m.0 m.1.1) (package_named source (keyword_of (text_of source w)) w m.0 apart ∙
     package_read source w o m.0 rest m.1.0 stops.equals m.2)
 
-assigned_shorter : {X : Type 0} (meaning : List ℕ → Option X) (source : List ℕ) (keyword : Keyword) (x : X)
-    (ts rest : List Token) → (IsName source keyword ▹ IsMark Equals ▹ IsWorded meaning source x) ts rest →
-    length rest ≤ length ts
-assigned_shorter meaning source keyword x ts rest m =
-    omega (
-      arith,
-      worded_shorter keyword_of source keyword ts m.0 m.1,
-      mark_shorter Equals m.0 m.2.0 m.2.1,
-      worded_shorter meaning source x m.2.0 rest m.2.2,
-    )
-
-control_shorter : (source : List ℕ) (ts : List Token) (x : ControlPart) (rest : List Token) →
-    IsControlPart source x ts rest → length rest ≤ length ts
-control_shorter source ts (controls.Mode mode) rest m =
-    assigned_shorter long_word source keywords.Mode (mode_text mode) ts rest m
-control_shorter source ts (controls.ReservedValue on) rest m =
-    assigned_shorter switch_of source keywords.ReservedValue on ts rest m
-control_shorter source ts (controls.ReservedGroup on) rest m =
-    assigned_shorter switch_of source keywords.ReservedGroup on ts rest m
-control_shorter source ts (controls.Property w o) rest m =
-    omega (arith, span_shorter Word w ts m.0 m.1.1, optional_value_shorter o m.0 rest m.2)
-
 pub stream_part_read : (source : List ℕ) (ts : List Token) (x : StreamPart) (rest : List Token) → Stops rest →
     IsStreamPart source x ts rest → stream_part_at source ts ≡ Ok (x, rest)
 unfolding stream_part_at
@@ -142,23 +107,9 @@ stream_part_read source ts (streams.Remote w) rest stops m =
 stream_part_read source ts (streams.LocalControl xs) rest stops m =
     rw (
       worded_read keyword_of source keywords.LocalControl ts m.0 m.1,
-      braced_read source (control_at source) (IsControlPart source) (control_read source) (control_shorter source)
-          xs m.0 rest m.2,
+      braced_read source (control_at source) (IsControlPart source) (control_read source)
+          (control_shorter by_count source) xs m.0 rest m.2,
     ) refl
-
-pub stream_part_shorter : (source : List ℕ) (ts : List Token) (x : StreamPart) (rest : List Token) →
-    IsStreamPart source x ts rest → length rest ≤ length ts
-stream_part_shorter source ts (streams.Local w) rest m =
-    omega (arith, worded_shorter keyword_of source keywords.Local ts m.0 m.1, span_shorter Octets w m.0 rest m.2)
-stream_part_shorter source ts (streams.Remote w) rest m =
-    omega (arith, worded_shorter keyword_of source keywords.Remote ts m.0 m.1, span_shorter Octets w m.0 rest m.2)
-stream_part_shorter source ts (streams.LocalControl xs) rest m =
-    omega (
-      arith,
-      worded_shorter keyword_of source keywords.LocalControl ts m.0 m.1,
-      braced_shorter source (control_at source) (IsControlPart source) (control_read source)
-          (control_shorter source) xs m.0 rest m.2,
-    )
 
 -- a part of a stream is a part of a Media descriptor
 media_part_of : (source : List ℕ) (ts : List Token) (x : StreamPart) (rest : List Token) → Stops rest →
@@ -190,29 +141,10 @@ media_part_read source ts (parts.Stream number xs) rest stops m =
       mark_read source Equals m.0 m.2.0 m.2.1,
       worded_read number_of source number m.2.0 m.2.2.0 m.2.2.1,
       braced_read source (stream_part_at source) (IsStreamPart source) (stream_part_read source)
-          (stream_part_shorter source) xs m.2.2.0 rest m.2.2.2,
+          (stream_part_shorter by_count source) xs m.2.2.0 rest m.2.2.2,
     ) refl
 media_part_read source ts (parts.TerminationState b) rest stops m =
     rw (
       worded_read keyword_of source keywords.TerminationState ts m.0 m.1,
       filled_read source b m.0 rest stops.«open» m.2,
     ) refl
-
-pub media_part_shorter : (source : List ℕ) (ts : List Token) (x : MediaPart) (rest : List Token) →
-    IsMediaPart source x ts rest → length rest ≤ length ts
-media_part_shorter source ts (parts.Part x) rest m = stream_part_shorter source ts x rest m
-media_part_shorter source ts (parts.Stream number xs) rest m =
-    omega (
-      arith,
-      worded_shorter keyword_of source keywords.Stream ts m.0 m.1,
-      mark_shorter Equals m.0 m.2.0 m.2.1,
-      worded_shorter number_of source number m.2.0 m.2.2.0 m.2.2.1,
-      braced_shorter source (stream_part_at source) (IsStreamPart source) (stream_part_read source)
-          (stream_part_shorter source) xs m.2.2.0 rest m.2.2.2,
-    )
-media_part_shorter source ts (parts.TerminationState b) rest m =
-    omega (
-      arith,
-      worded_shorter keyword_of source keywords.TerminationState ts m.0 m.1,
-      content_shorter b m.0 rest m.2,
-    )

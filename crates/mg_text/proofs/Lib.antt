@@ -7,6 +7,7 @@ pub mod Sound
 pub mod SoundMedia
 pub mod SoundCommands
 pub mod SoundItems
+pub mod Shorter
 pub mod Complete
 pub mod CompleteMedia
 pub mod CompleteCommands
@@ -14,6 +15,7 @@ pub mod CompleteItems
 pub mod CountSteps
 pub mod ReadLemmas
 pub mod OneReading
+pub mod ByteLemmas
 pub mod ProperLemmas
 pub mod KeywordLemmas
 pub mod SenderLemmas

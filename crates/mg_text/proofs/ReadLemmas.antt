@@ -18,7 +18,7 @@ use Rattle.mg_text.specs.Grammar.{IsText, IsWorded}
 use Rattle.mg_text.specs.Message.{AreTokens, IsTree, IsMessage, ExceedsLimits, IsTooMany, HasOtherVersion, requests_in, commands_in, items_of}
 use Rattle.mg_text.specs.aids.Parts.{IsShort}
 use Rattle.mg_text.specs.Proper.{are_proper}
-use Rattle.mg_text.proofs.ProperLemmas.{message_proper}
+use Rattle.mg_text.proofs.ProperLemmas.{tree_proper}
 use Rattle.mg_text.proofs.ScanLemmas.{one_scan}
 use Rattle.mg_text.proofs.SenderLemmas.{sender_short}
 use Rattle.mg_text.proofs.Sound.{ok_is, worded_found}
@@ -191,7 +191,7 @@ message_found source false m is tree = tt
 
 message_is_proper : {source : List ℕ} (b : Bool) (m : Message) → IsTree source m →
     IfOk (on_message b m) (λ n. are_proper source (items_of n.body) ≡ true)
-message_is_proper {source} true m tree = message_proper source m.body tree.is.2.0 tree.is.2.2
+message_is_proper {source} true m tree = tree_proper source m tree
 message_is_proper {source} false m tree = tt
 
 message_sender : {source : List ℕ} (b : Bool) (m : Message) → IsTree source m →

@@ -1,5 +1,5 @@
 -- What is read is in the grammar: tools, marks, words, groups and lists.
-use Rattle.std.proofs.Common.{◌≡◌, ℕ, zero, suc, ◌-◌, ◌≢◌, ◌≤◌, eqb, Bool, true, false, cond, List, [], ◌∷◌, length, Option, Some, None, Result, Ok, Err, refl, inl, inr, ◌⊎◌, sym, ap, subst, ◌∙◌, arith}
+use Rattle.std.proofs.Common.{◌≡◌, ℕ, zero, suc, ◌-◌, ◌≢◌, eqb, Bool, true, false, cond, List, [], ◌∷◌, length, Option, Some, None, Result, Ok, Err, refl, inl, inr, ◌⊎◌, sym, ap, subst, ◌∙◌, arith}
 use Rattle.std.proofs.lemmas.Bool.{ne_eqb, false≢true}
 use Rattle.mg_scan.specs.declared.kind.TokenKind.{TokenKind}
 use Rattle.mg_scan.specs.declared.kind.TokenKind.TheVariants.{Word, Open, Close, Comma, Equals, Quoted, Octets}
@@ -192,18 +192,6 @@ term_found source ts x e =
     let w = bind_ok (word_at source ts) _ x e in
     let g = guard_ok (is_term (text_of source w.0.0)) w.0.0.start w.0 x w.2 in
     subst (IsSpelled (IsWordThat is_term source) ts) g.1 (g.0, word_found source ts w.0 w.1)
-
-pub balanced_shorter : (ts rest : List Token) → IsBalanced ts rest → length rest ≤ length ts
-balanced_shorter _ _ (nothing ts) = omega arith
-balanced_shorter _ _ (plain t ts rest p q inside) = omega (arith, balanced_shorter ts rest inside)
-balanced_shorter _ _ (nested ts a b c rest opens inside closes after) =
-    omega (
-      arith,
-      ap length opens.1,
-      balanced_shorter a b inside,
-      ap length closes.1,
-      balanced_shorter c rest after,
-    )
 
 closes_there : (ts rest : List Token) → IsMark Close ts rest → after_mark Close ts ≡ Some rest
 unfolding after_mark

@@ -1,6 +1,6 @@
--- What reading ensures about requests: each has an action, and each name of a termination is a word
--- of 1 to 64 bytes.
-use Rattle.std.specs.Prelude.{ℕ, ◌==◌, Bool, true, ◌&&◌, not, List, length}
+-- What reading ensures about requests: each has an action, each name of a termination is a word of
+-- 1 to 64 bytes, and a topology has at most 1,200 triples.
+use Rattle.std.specs.Prelude.{ℕ, ◌==◌, Bool, true, ◌&&◌, not, nat_le, List, length}
 use Rattle.std.specs.List.{list_all}
 use Rattle.mg_scan.specs.Span.{text_of}
 use Rattle.mg_words.specs.Term.{is_term}
@@ -22,7 +22,8 @@ abbrev pub triple_is_proper : List ℕ → NamedTriple → Bool
 triple_is_proper source x = is_term (text_of source x.first) && is_term (text_of source x.second)
 
 abbrev pub property_is_proper : List ℕ → ContextProperty → Bool
-property_is_proper source (Topology xs) = list_all (triple_is_proper source) xs
+property_is_proper source (Topology xs) =
+    nat_le (length xs) 1200 && list_all (triple_is_proper source) xs
 property_is_proper source (ContextAudit xs) = true
 property_is_proper source (Priority word) = true
 property_is_proper source (Emergency word) = true

@@ -1,19 +1,16 @@
--- The topology among properties, and that it is small where no property is at fault.
-use Rattle.std.proofs.Common.{◌≡◌, ℕ, ◌+◌, ◌<◌, ◌≤◌, nat_lt, Bool, true, false, List, [], ◌∷◌, ◌++◌, length, get_or, drop, Option, Some, None, refl, sym, ap, ◌∙◌, arith, if◌then◌else◌}
-use Rattle.std.specs.Bool.{then_some}
-use Rattle.std.specs.List.{list_any}
-use Rattle.std.specs.Option.{unwrap_or}
-use Rattle.std.proofs.lemmas.Bool.{ltb-false}
+-- The topology among properties, and that it is small if the properties are proper.
+use Rattle.std.proofs.Common.{◌≡◌, ℕ, ◌+◌, ◌<◌, ◌≤◌, nat_le, true, List, [], ◌∷◌, length, get_or, drop, Option, Some, None, refl, sym, ap, ◌∙◌, arith}
+use Rattle.std.specs.List.{list_all}
+use Rattle.std.specs.Option.{unwrap_or, option_or}
+use Rattle.std.proofs.lemmas.Bool.{and_parts, leb-true}
 use Rattle.std.proofs.lemmas.List.{drop_more, drop_all}
-use Rattle.mg_words.specs.declared.error_number.ErrorNumber.{ErrorNumber}
-use Rattle.mg_words.specs.declared.error_number.ErrorNumber.TheVariants as errors
 use Rattle.mg_engine.specs.Triples.{triple_limit}
 use Rattle.mg_text.specs.declared.context_property.ContextProperty.{ContextProperty}
 use Rattle.mg_text.specs.declared.context_property.ContextProperty.TheVariants as properties
 use Rattle.mg_text.specs.declared.context_property.NamedTriple.{NamedTriple}
-use Rattle.mg_commands.specs.ContextProperties.{is_topology, context_property_fault, triples_in}
-use Rattle.std.specs.Option.{option_or}
-use Rattle.mg_commands.specs.Search.{first_of, first_after}
+use Rattle.mg_text.specs.Proper.{triple_is_proper, property_is_proper}
+use Rattle.mg_commands.specs.ContextProperties.{triples_in}
+use Rattle.mg_commands.specs.Search.{first_of}
 
 -- ## A search by an index
 
@@ -36,39 +33,17 @@ module _ {X A : Type 0} (f : X → Option A) (xs : List X) (i : ℕ) where
 
 -- ## Few triples
 
-first_none : {A : Type 0} (a b : Option A) → option_or a b ≡ None → a ≡ None
-first_none (Some x) b h = h
-first_none None b h = refl
-
-second_none : {A : Type 0} (a b : Option A) → option_or a b ≡ None → b ≡ None
-second_none (Some x) b h = absurd (cc h)
-second_none None b h = h
-
-if_none : (b : Bool) (e : ErrorNumber) (o : Option ErrorNumber) → (if b then Some e else o) ≡ None → o ≡ None
-if_none true e o h = absurd (cc h)
-if_none false e o h = h
-
-not_refused : (b : Bool) (e : ErrorNumber) → then_some b e ≡ None → b ≡ false
-not_refused true e h = absurd (cc h)
-not_refused false e h = refl
-
-few_here : (before : List ContextProperty) (xs : List NamedTriple) →
-    context_property_fault before (properties.Topology xs) ≡ None → length xs ≤ triple_limit
-few_here before xs h = ltb-false triple_limit (length xs)
-    (not_refused (nat_lt triple_limit (length xs)) errors.NotServed
-    (if_none (list_any is_topology before) errors.DescriptorTwice _ h))
-
-pub few_triples : (before ps : List ContextProperty) → first_after context_property_fault before ps ≡ None →
+pub few_triples : (source : List ℕ) (ps : List ContextProperty) → list_all (property_is_proper source) ps ≡ true →
     length (unwrap_or (first_of triples_in ps) []) ≤ triple_limit
-unfolding first_after first_of
-few_triples before [] h = omega arith
-few_triples before (properties.Topology xs ∷ ps) h =
-    few_here before xs (first_none (context_property_fault before (properties.Topology xs)) _ h)
-few_triples before (properties.ContextAudit ws ∷ ps) h =
-    few_triples (before ++ properties.ContextAudit ws ∷ []) ps
-    (second_none (context_property_fault before (properties.ContextAudit ws)) _ h)
-few_triples before (properties.Priority word ∷ ps) h = absurd (cc h)
-few_triples before (properties.Emergency word ∷ ps) h = absurd (cc h)
+unfolding first_of
+few_triples source [] h = omega arith
+few_triples source (properties.Topology xs ∷ ps) h =
+    let first = (and_parts (property_is_proper source (properties.Topology xs))
+    (list_all (property_is_proper source) ps) h).0 in
+    leb-true (length xs) 1200 (and_parts (nat_le (length xs) 1200) (list_all (triple_is_proper source) xs) first).0
+few_triples source (properties.ContextAudit ws ∷ ps) h = few_triples source ps h
+few_triples source (properties.Priority word ∷ ps) h = few_triples source ps h
+few_triples source (properties.Emergency word ∷ ps) h = few_triples source ps h
 
 -- ## What is no topology
 

@@ -1,8 +1,8 @@
 -- What an action asks of its context, in addition to its commands (RFC 3525, sections 7.1.18 and
 -- 8.2.1): a topology, and an audit of it. The error numbers and the order of the checks are this
 -- project's own.
-use Rattle.std.specs.Prelude.{ℕ, nat_lt, Bool, true, false, not, List, [], ◌∷◌, ◌++◌, length}
-use Rattle.std.specs.Prelude.{map, Option, Some, None, Result, Ok, if◌then◌else◌}
+use Rattle.std.specs.Prelude.{ℕ, Bool, true, false, not, List, [], ◌∷◌, ◌++◌, map}
+use Rattle.std.specs.Prelude.{Option, Some, None, Result, Ok, if◌then◌else◌}
 use Rattle.std.specs.List.{list_any}
 use Rattle.std.specs.Bool.{then_some}
 use Rattle.std.specs.Option.{unwrap_or}
@@ -26,7 +26,6 @@ use Rattle.mg_engine.specs.declared.triple_term.TripleTerm.TheVariants as terms
 use Rattle.mg_engine.specs.Gateway.{Gateway}
 use Rattle.mg_engine.specs.Flow.{hears}
 use Rattle.mg_engine.specs.Outcome.{apply_triples}
-use Rattle.mg_engine.specs.Triples.{triple_limit}
 use Rattle.mg_text.specs.declared.context_property.ContextProperty.{ContextProperty}
 use Rattle.mg_text.specs.declared.context_property.ContextProperty.TheVariants as properties
 use Rattle.mg_text.specs.declared.context_property.ContextWord.{ContextWord}
@@ -57,8 +56,7 @@ is_topology_word _ = false
 abbrev pub context_property_fault : List ContextProperty → ContextProperty
     → Option ErrorNumber
 context_property_fault before (properties.Topology xs) =
-    if list_any is_topology before then Some DescriptorTwice
-    else then_some (nat_lt triple_limit (length xs)) NotServed
+    then_some (list_any is_topology before) DescriptorTwice
 context_property_fault before (properties.ContextAudit ws) =
     if list_any is_context_audit before then Some DescriptorTwice
     else then_some (list_any (λ w. not (is_topology_word w)) ws) DescriptorNotServed

@@ -1,14 +1,12 @@
 //! Why an action is rejected as a whole, before its commands.
 
-ghost use Rattle.std.specs.Prelude.{◌≡◌, ◌≤◌, [], None, not, length, unwrap_or};
+ghost use Rattle.std.specs.Prelude.{◌≡◌, [], not};
 ghost use Rattle.std.specs.List.{list_any};
-ghost use Rattle.mg_engine.specs.Triples.{triple_limit};
-ghost use Rattle.mg_commands.specs.ContextProperties.{is_topology, is_context_audit, is_topology_word, context_property_fault, is_all, action_fault, triples_in};
-ghost use Rattle.mg_commands.specs.Search.{first_of, first_after};
-ghost use Rattle.mg_commands.specs.aids.Properties.{topology_fault, audit_fault};
+ghost use Rattle.mg_commands.specs.ContextProperties.{is_topology, is_context_audit, is_topology_word, context_property_fault, is_all, action_fault};
+ghost use Rattle.mg_commands.specs.Search.{first_after};
+ghost use Rattle.mg_commands.specs.aids.Properties.{audit_fault};
 
-use mg_engine::TRIPLES;
-use mg_text::{Action, ContextId, ContextProperty, ContextWord, ErrorNumber, NamedTriple};
+use mg_text::{Action, ContextId, ContextProperty, ContextWord, ErrorNumber};
 
 /// Returns whether the properties include a Topology.
 fn has_topology(properties: &[ContextProperty]) -> bool
@@ -22,16 +20,6 @@ pub fn has_context_audit(properties: &[ContextProperty]) -> bool
     ensures value { result ≡ list_any is_context_audit properties.now }
 {
     properties.iter().any(|property| matches!(property, ContextProperty::ContextAudit(_)))
-}
-
-/// Returns the error of a Topology, given the properties before it.
-fn topology_fault(before: &[ContextProperty], triples: &[NamedTriple]) -> Option<ErrorNumber>
-    ensures value { result ≡ topology_fault before.now triples.now }
-{
-    if has_topology(before) {
-        return Some(ErrorNumber::DescriptorTwice);
-    }
-    (triples.len() > TRIPLES).then_some(ErrorNumber::NotServed)
 }
 
 /// Returns whether an audit asks for more than the topology.
@@ -61,7 +49,9 @@ fn context_property_fault(
     ensures value { result ≡ context_property_fault before.now property.now }
 {
     match property {
-        ContextProperty::Topology(triples) => topology_fault(before, triples.as_slice()),
+        ContextProperty::Topology(_) => {
+            has_topology(before).then_some(ErrorNumber::DescriptorTwice)
+        }
         ContextProperty::ContextAudit(words) => audit_fault(before, words.as_slice()),
         ContextProperty::Priority(_) | ContextProperty::Emergency(_) => {
             Some(ErrorNumber::DescriptorNotServed)
@@ -84,12 +74,8 @@ fn context_properties_fault(properties: &[ContextProperty]) -> Option<ErrorNumbe
 }
 
 /// Returns why an action is rejected as a whole, or `None` if it isn't.
-///
-/// If it isn't, its topology has no more triples than the engine accepts.
-#[tactic(auto, using(crate::proofs::PropertySteps::few_triples))]
 pub fn action_fault(action: &Action) -> Option<ErrorNumber>
     ensures value { result ≡ action_fault action.now }
-    ensures few { result ≡ None → length (unwrap_or (first_of triples_in action.now.properties) []) ≤ triple_limit }
 {
     if matches!(action.context, ContextId::All) {
         return Some(ErrorNumber::NotServed);

@@ -1,19 +1,12 @@
--- The faults of the two supported properties, one by one.
-use Rattle.std.specs.Prelude.{nat_lt, not, List, length, Option, Some, if◌then◌else◌}
+-- The fault of an audit of a context.
+use Rattle.std.specs.Prelude.{not, List, Option, Some, if◌then◌else◌}
 use Rattle.std.specs.Bool.{then_some}
 use Rattle.std.specs.List.{list_any}
 use Rattle.mg_words.specs.declared.error_number.ErrorNumber.{ErrorNumber}
 use Rattle.mg_words.specs.declared.error_number.ErrorNumber.TheVariants as errors
-use Rattle.mg_engine.specs.Triples.{triple_limit}
 use Rattle.mg_text.specs.declared.context_property.ContextProperty.{ContextProperty}
 use Rattle.mg_text.specs.declared.context_property.ContextWord.{ContextWord}
-use Rattle.mg_text.specs.declared.context_property.NamedTriple.{NamedTriple}
-use Rattle.mg_commands.specs.ContextProperties.{is_topology, is_context_audit, is_topology_word}
-
-abbrev pub topology_fault : List ContextProperty → List NamedTriple → Option ErrorNumber
-topology_fault before xs =
-    if list_any is_topology before then Some errors.DescriptorTwice
-    else then_some (nat_lt triple_limit (length xs)) errors.NotServed
+use Rattle.mg_commands.specs.ContextProperties.{is_context_audit, is_topology_word}
 
 abbrev pub audit_fault : List ContextProperty → List ContextWord → Option ErrorNumber
 audit_fault before ws =

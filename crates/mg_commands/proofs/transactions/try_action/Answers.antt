@@ -1,10 +1,18 @@
 use Rattle.std.proofs.Common.{sym, ap, ◌∙◌}
+use Rattle.std.proofs.lemmas.Bool.{and_parts}
 use Rattle.mg_words.specs.declared.context_id.ContextId.{ContextId}
 use Rattle.mg_reply.specs.declared.item.Item.TheVariants as replies
 use Rattle.mg_reply.specs.Reply.{after_put}
+use Rattle.mg_commands.proofs.PropertySteps.{few_triples}
 use Rattle.mg_commands.proofs.RunLemmas.{action_refused, action_stopped, action_finished}
 use Rattle.mg_commands.proofs.transactions.try_action.Goals as goal
 use Rattle.mg_commands.proofs.transactions.try_action.Goals.{then-were_done, else-were_done}
+
+pub try_properties-is_done-requires : goal.try_properties-is_done-requires
+try_properties-is_done-requires c = record {
+  few = rw c.as_slice-properties.ensures.value
+      (few_triples c.args.source.now c.args.action.now.properties (and_parts _ _ c.requires.proper).0);
+}
 
 pub returns-in-Some-clause-ran : goal.returns-in-Some-clause-ran
 returns-in-Some-clause-ran c = action_refused c.args.source.now c.args.action.now c.args.engine.now c.args.reply.now

@@ -8,7 +8,6 @@ a tone too. All callers are on 127.0.0.1. Prints one line for a run with `--symm
 Exits with 1 if, with the option, B hears anything but A during A's call and C when C speaks, or if the reports don't
 count each dropped packet.
 """
-import math
 import re
 import select
 import struct
@@ -18,11 +17,11 @@ import tempfile
 import time
 
 from loopback import free_ports, udp
+from tones import FRAME, SAMPLES, level, tone
 
 BRIDGE, SLOTS = sys.argv[1], 4
-# G.711: samples per second and per packet, and packets per second.
-RATE, FRAME, PACKETS = 8000, 160, 50
-LOUDNESS = 8000
+# Packets per second.
+PACKETS = 50
 # How loud B must hear A, C and D in each second. Less than half a packet of a tone in a second counts as none.
 DUE = [1, 0, 0, 0, 0, 0, 0, 1, 0]
 TRACE = 0.5 / PACKETS
@@ -31,24 +30,6 @@ HEARD = (f"B heard {TONES} in A's call; {TONES} when C was silent; {TONES} when 
          "strangers at C's port, at D's and in all: %s of %s")
 ADD = "Add=${Media{LocalControl{Mode=SendReceive},Local{v=0\nc=IN IP4 $\nm=audio $ RTP/AVP 0\n}%s}}"
 REMOTE = ",Remote{v=0\nc=IN IP4 127.0.0.1\nm=audio %d RTP/AVP 0\n}"
-# For each mu-law byte, the sample that it denotes.
-LEVELS = [4 * (((2 * (code & 0x0F) + 33) << (code >> 4)) - 33) for code in range(128)]
-SAMPLES = [-one for one in reversed(LEVELS)] + LEVELS[::-1]
-
-
-def tone(pitch):
-    """Returns a frame of a tone. It can be repeated without a click, if the pitch is a multiple of 50 Hz."""
-    sound = [LOUDNESS * math.sin(2 * math.pi * pitch * n / RATE) for n in range(FRAME)]
-    return bytes(min(range(256), key=lambda code: abs(SAMPLES[code] - sample)) for sample in sound)
-
-
-def level(samples, pitch):
-    """Returns how loud a tone is in the samples: 1 means as loud as it was sent. Uses Goertzel's algorithm."""
-    turn = 2 * math.pi * pitch / RATE
-    last = before = 0.0
-    for sample in samples:
-        last, before = sample + 2 * math.cos(turn) * last - before, last
-    return 2 * math.hypot(last - before * math.cos(turn), before * math.sin(turn)) / len(samples) / LOUDNESS
 
 
 class Caller:

@@ -52,7 +52,8 @@ def main():
     control, base = free_ports(CALLERS)
     errors = tempfile.TemporaryFile()
     ports = ["--control-port", str(control), "--base-port", str(base)]
-    bridge = subprocess.Popen([BRIDGE, "live", *ports, "--slots", str(CALLERS)],
+    # Timestamps start at 0, so they don't wrap.
+    bridge = subprocess.Popen([BRIDGE, "live", *ports, "--slots", str(CALLERS), "--timestamp", "0"],
                               stdout=subprocess.PIPE, stderr=errors)
     try:
         trial(bridge, control)

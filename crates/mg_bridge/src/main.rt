@@ -30,6 +30,7 @@ fn main(rt: HostRuntime) -> ExitCode {
     let code = program(
         &rt,
         &rt,
+        &rt,
         rt.alloc(),
         words.as_slice(),
         &mut input,

@@ -1,6 +1,8 @@
 mod addresses;
+mod checking;
 mod commanding;
 mod conversation;
+mod drawing;
 mod in_real_time;
 mod replaying;
 mod serving;
@@ -26,6 +28,7 @@ fn run_program(rt: &HostRuntime, words: &[&str], text: &[u8]) -> Outcome {
     let mut errors = Vec::new(alloc);
     let mut reports = Vec::new(alloc);
     let status = program(
+        rt,
         rt,
         rt,
         alloc,

@@ -9,6 +9,8 @@ pub enum Status {
     BadLine,
     /// The arguments or a configuration are invalid.
     Usage,
+    /// A gateway didn't answer.
+    NoAnswer,
     /// A read, a write or the clock failed.
     Failed,
     NoMemory,
@@ -27,6 +29,7 @@ impl Status {
             Status::Done => 0,
             Status::BadLine => 1,
             Status::Usage => 2,
+            Status::NoAnswer => 2,
             Status::Failed => 3,
             Status::NoMemory => 4,
             Status::NoPort => 5,

@@ -1,11 +1,11 @@
 -- What follows of the words for which the command line finds no fault, or one.
 use Rattle.std.proofs.Common.{◌≡◌, ◌∙◌, ◌&&◌, ℕ, Bool, true, false, not, List, [], ◌∷◌, Option, Some, None, is_some, inl, inr, refl, sym, ap, ap₂, true≢false, Result, Ok, Err, codes}
-use Rattle.std.specs.Prelude.{Box, IfErr, IsErrAnd, option_map}
+use Rattle.std.specs.Prelude.{Box, IfErr, IsErrAnd, option_and_then, option_map}
 use Rattle.std.specs.List.{list_any}
 use Rattle.std.specs.Option.{option_map_or}
 use Rattle.std.specs.Box.{box_value}
 use Rattle.clap.specs.Facts.{explicit_source}
-use Rattle.clap.specs.Walk.{Held, Names, Row, Text, finished, nothing_held, settled_rows, stop_after, walk, walk_from}
+use Rattle.clap.specs.Walk.{Held, Names, Row, Text, finished, first_of, nothing_held, settled_rows, stop_after, walk, walk_from}
 use Rattle.clap.specs.Simple.{App, HasMatchesOf, Shape, argument_words, built, names_of, subcommand_of, subcommand_rows, subcommand_rows_of}
 use Rattle.clap.specs.Kinds.{Kinds, check_kinds, or_else}
 use Rattle.clap.specs.Faults.{defaults_fault, entered_fault, fault_of, is_simple_and_free, level_fault, settle_fault, walk_fault}
@@ -23,9 +23,16 @@ use Rattle.mg_options.proofs.RequestedLemmas.{no_fault, subcommand_is}
 use Rattle.mg_engine.specs.declared.config.Config.{Config}
 use Rattle.mg_engine.specs.Config.{standard}
 use Rattle.mg_program.specs.declared.invocation.Invocation.{Invocation}
+use Rattle.mg_program.specs.declared.invocation.Invocation.TheVariants.{Check}
+use Rattle.mg_program.specs.Address.{bind_address}
+use Rattle.mg_core.specs.Peer.{peer_of}
+use Rattle.mg_words.specs.declared.peer.Peer.{Peer}
 use Rattle.mg_program.specs.declared.address.AddressFault.{AddressFault}
 use Rattle.mg_program.specs.declared.controller_fault.ControllerFault.{ControllerFault}
-use Rattle.mg_program.specs.Options.{address_in, requested, command_line, config_at, controllers_in, options, run_in, run_of, valid}
+use Rattle.mg_program.specs.declared.bind_address_fault.BindAddressFault.{BindAddressFault}
+use Rattle.mg_program.specs.declared.service.Service.{Service}
+use Rattle.mg_options.specs.Numbers.{number_or}
+use Rattle.mg_program.specs.Options.{address_in, bind_address_in, check_in, gateway_in, requested, command_line, config_at, controllers_in, is_set, options, run_in, run_of, service_in, valid}
 
 abbrev has_kinds : Kinds → Bool
 has_kinds [] = false
@@ -126,63 +133,137 @@ stops : {A B E : Type 0} (fault : E) (read : Result A E) (next : A → Result B 
     (valid read >>= next) ≡ Err (ValueValidation ∷ [])
 stops {A = A} {E = E} fault read next is = ap (λ (r : Result A E). valid r >>= next) (sym is)
 
-abbrev with_controllers : Text → List Row → List ℕ → List ℕ → List (List ℕ) → Result Invocation Kinds
-with_controllers name rows address control controllers =
-    Ok (run_of name (config_at address control rows) controllers rows)
+abbrev with_service : Text → List Row → List ℕ → List ℕ → Service → Result Invocation Kinds
+with_service name rows address control service = Ok (run_of name (config_at address control rows) service rows)
 
 abbrev with_control : Text → List Row → List ℕ → List ℕ → Result Invocation Kinds
-with_control name rows address control =
-    valid (controllers_in rows) >>= with_controllers name rows address control
+with_control name rows address control = service_in rows >>= with_service name rows address control
 
 abbrev with_address : Text → List Row → List ℕ → Result Invocation Kinds
 with_address name rows address =
     valid (address_in (codes "control-address") address rows) >>= with_control name rows address
 
 at_address : (name : Text) (rows : List Row) (address : List ℕ) → Ok address ≡ address_in (codes "address")
-    standard.address rows → run_in name rows ≡ with_address name rows address
+    standard.address rows → gateway_in name rows ≡ with_address name rows address
 at_address name rows address named =
     continues address (address_in (codes "address") standard.address rows) (with_address name rows) named
 
 at_control : (name : Text) (rows : List Row) (address control : List ℕ) → Ok address ≡ address_in (codes "address")
     standard.address rows → Ok control ≡ address_in (codes "control-address") address rows
-    → run_in name rows ≡ with_control name rows address control
+    → gateway_in name rows ≡ with_control name rows address control
 at_control name rows address control named commanded =
     at_address name rows address named ∙
     continues control (address_in (codes "control-address") address rows) (with_control name rows address) commanded
 
 -- the run of a subcommand at an address
-pub run_is : (name : Text) (rows : List Row) (address control : List ℕ) (controllers : List (List ℕ)) (config : Config)
+pub run_is : (name : Text) (rows : List Row) (address control : List ℕ) (service : Service) (config : Config)
     (run : Invocation) → Ok address ≡ address_in (codes "address") standard.address rows
-    → Ok control ≡ address_in (codes "control-address") address rows → Ok controllers ≡ controllers_in rows →
+    → Ok control ≡ address_in (codes "control-address") address rows → service_in rows ≡ Ok service →
     config ≡ config_at address control rows
-    → run ≡ run_of name config controllers rows → run_in name rows ≡ Ok run
-run_is name rows address control controllers config run named commanded listed configured is =
+    → run ≡ run_of name config service rows → gateway_in name rows ≡ Ok run
+run_is name rows address control service config run named commanded served configured is =
     at_control name rows address control named commanded ∙
-    (continues controllers (controllers_in rows) (with_controllers name rows address control) listed ∙
+    (ap (λ (r : Result Service Kinds). r >>= with_service name rows address control) served ∙
     rw (is, configured) refl)
+
+-- the options of a gateway on sockets, with these controllers and this address to bind to
+abbrev with_bound : List Row → List (List ℕ) → Option (List ℕ) → Result Service Kinds
+with_bound rows controllers bound = Ok (record {
+  controllers = controllers;
+  bind_address = bound;
+  report = number_or 65536 (codes "report") 0 rows;
+  records = is_set (codes "record") rows;
+  symmetric_rtp = is_set (codes "symmetric-rtp") rows;
+})
+
+abbrev with_controllers : List Row → List (List ℕ) → Result Service Kinds
+with_controllers rows controllers = valid (bind_address_in rows) >>= with_bound rows controllers
+
+pub service_is : (rows : List Row) (controllers : List (List ℕ)) (bound : Option (List ℕ)) (service : Service) →
+    Ok controllers ≡ controllers_in rows → Ok bound ≡ bind_address_in rows →
+    Ok service ≡ with_bound rows controllers bound → service_in rows ≡ Ok service
+service_is rows controllers bound service listed named is =
+    continues controllers (controllers_in rows) (with_controllers rows) listed ∙
+    (continues bound (bind_address_in rows) (with_bound rows controllers) named ∙ sym is)
 
 -- there is none at a text that names no address
 pub refuses_address : (name : Text) (rows : List Row) (fault : AddressFault) →
-    Err fault ≡ address_in (codes "address") standard.address rows → run_in name rows ≡ Err (ValueValidation ∷ [])
+    Err fault ≡ address_in (codes "address") standard.address rows → gateway_in name rows ≡ Err (ValueValidation ∷ [])
 refuses_address name rows fault named =
     stops fault (address_in (codes "address") standard.address rows) (with_address name rows) named
 
 -- none at one that names no address for control messages
 pub refuses_control : (name : Text) (rows : List Row) (address : List ℕ) (fault : AddressFault) →
     Ok address ≡ address_in (codes "address") standard.address rows →
-    Err fault ≡ address_in (codes "control-address") address rows → run_in name rows ≡ Err (ValueValidation ∷ [])
+    Err fault ≡ address_in (codes "control-address") address rows → gateway_in name rows ≡ Err (ValueValidation ∷ [])
 refuses_control name rows address fault named commanded =
     at_address name rows address named ∙
     stops fault (address_in (codes "control-address") address rows) (with_control name rows address) commanded
 
--- and none under texts that name no controllers
-pub refuses_controllers : (name : Text) (rows : List Row) (address control : List ℕ) (fault : ControllerFault) →
+-- none under texts that name no controllers
+pub refuses_controllers : (rows : List Row) (fault : ControllerFault) → Err fault ≡ controllers_in rows →
+    service_in rows ≡ Err (ValueValidation ∷ [])
+refuses_controllers rows fault listed = stops fault (controllers_in rows) (with_controllers rows) listed
+
+-- none at a text that names no address to bind to
+pub refuses_bind_address : (rows : List Row) (controllers : List (List ℕ)) (fault : BindAddressFault) →
+    Ok controllers ≡ controllers_in rows → Err fault ≡ bind_address_in rows →
+    service_in rows ≡ Err (ValueValidation ∷ [])
+refuses_bind_address rows controllers fault listed named =
+    continues controllers (controllers_in rows) (with_controllers rows) listed ∙
+    stops fault (bind_address_in rows) (with_bound rows controllers) named
+
+-- and none with faulty options of a gateway on sockets
+pub refuses_service : (name : Text) (rows : List Row) (address control : List ℕ) →
     Ok address ≡ address_in (codes "address") standard.address rows →
-    Ok control ≡ address_in (codes "control-address") address rows → Err fault ≡ controllers_in rows →
-    run_in name rows ≡ Err (ValueValidation ∷ [])
-refuses_controllers name rows address control fault named commanded listed =
+    Ok control ≡ address_in (codes "control-address") address rows →
+    service_in rows ≡ Err (ValueValidation ∷ []) → gateway_in name rows ≡ Err (ValueValidation ∷ [])
+refuses_service name rows address control named commanded refused =
     at_control name rows address control named commanded ∙
-    stops fault (controllers_in rows) (with_controllers name rows address control) listed
+    ap (λ (r : Result Service Kinds). r >>= with_service name rows address control) refused
+
+-- the address to bind sockets to, of the string that names it
+abbrev some_bound : Result (List ℕ) BindAddressFault → Result (Option (List ℕ)) BindAddressFault
+some_bound read = read >>= (λ address. Ok (Some address))
+
+abbrev bound_by : Option Text → Result (Option (List ℕ)) BindAddressFault
+bound_by named = option_map_or (λ text. some_bound (bind_address text)) named (Ok None)
+
+pub bound_is : (rows : List Row) (text address : List ℕ) → Some text ≡ first_of (codes "bind-address") rows →
+    Ok address ≡ bind_address text → Ok (Some address) ≡ bind_address_in rows
+bound_is rows text address named is = ap some_bound is ∙ ap bound_by named
+
+pub bound_fails : (rows : List Row) (text : List ℕ) (fault : BindAddressFault) →
+    Some text ≡ first_of (codes "bind-address") rows → Err fault ≡ bind_address text →
+    Err fault ≡ bind_address_in rows
+bound_fails rows text fault named is = ap some_bound is ∙ ap bound_by named
+
+pub unbound : (rows : List Row) → None ≡ first_of (codes "bind-address") rows → Ok None ≡ bind_address_in rows
+unbound rows named = ap bound_by named
+
+-- the check of a gateway, if there is one
+abbrev check_of : Option Peer → Result Invocation Kinds
+check_of gateway = option_map_or (λ peer. Ok (Check peer)) gateway (Err (ValueValidation ∷ []))
+
+abbrev check_by : Option Text → Result Invocation Kinds
+check_by named = check_of (option_and_then peer_of named)
+
+pub check_is : (rows : List Row) (text : List ℕ) (gateway : Peer) → Some text ≡ first_of (codes "gateway") rows →
+    Some gateway ≡ peer_of text → check_in rows ≡ Ok (Check gateway)
+check_is rows text gateway named is = sym (ap check_of is ∙ ap check_by named)
+
+pub refuses_gateway : (rows : List Row) (text : List ℕ) → Some text ≡ first_of (codes "gateway") rows →
+    None ≡ peer_of text → check_in rows ≡ Err (ValueValidation ∷ [])
+refuses_gateway rows text named is = sym (ap check_of is ∙ ap check_by named)
+
+pub refuses_no_gateway : (rows : List Row) → None ≡ first_of (codes "gateway") rows →
+    check_in rows ≡ Err (ValueValidation ∷ [])
+refuses_no_gateway rows named = sym (ap check_by named)
+
+-- what holds anyway holds at an error
+pub at_error : {T E X : Type 0} (r : Result T E) → X → IfErr r (λ e. X)
+at_error (Ok value) x = tt
+at_error (Err e) x = x
 
 -- an error says why words ask for none
 pub refuses : (requested : Result Invocation Kinds) (name : Text) (rows : List Row) (kind : ErrorKind) →

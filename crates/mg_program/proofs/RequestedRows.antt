@@ -1,5 +1,5 @@
 -- What some lines of arguments ask for.
-use Rattle.std.proofs.Common.{◌≡◌, ℕ, true, false, List, [], ◌∷◌, Ok, Err, refl, codes}
+use Rattle.std.proofs.Common.{◌≡◌, ℕ, true, false, List, [], ◌∷◌, Some, None, Ok, Err, refl, codes}
 use Rattle.clap.proofs.OnLiterals.{clap_on_literals}
 use Rattle.clap.specs.Walk.{Text}
 use Rattle.clap.specs.declared.error.kind.ErrorKind.TheVariants as kind
@@ -8,6 +8,7 @@ use Rattle.mg_core.specs.declared.shown.Shown.TheVariants.{Sent, SentAndFlows}
 use Rattle.mg_engine.specs.Config.{standard}
 use Rattle.mg_program.specs.declared.invocation.Invocation.TheVariants.{Replay, Serve, Live}
 use Rattle.mg_program.specs.declared.service.Service.{Service}
+use Rattle.mg_program.specs.declared.draws.Draws.{Draws}
 use Rattle.mg_program.specs.Options.{requested, command_line, config_at, options}
 
 abbrev slots : Text → List Text
@@ -18,7 +19,17 @@ at_address text = codes "serve" ∷ codes "--address" ∷ text ∷ []
 
 -- under anybody's control, with a report every so many seconds, and without a recording
 abbrev anybody : ℕ → Service
-anybody report = record { controllers = []; report = report; records = false; symmetric_rtp = false }
+anybody report = record {
+  controllers = [];
+  bind_address = None;
+  report = report;
+  records = false;
+  symmetric_rtp = false;
+}
+
+-- all numbers that RTP packets start with are drawn
+abbrev all_drawn : Draws
+all_drawn = record { ssrc = true; sequence = true; timestamp = true }
 
 replay_by_itself : requested (codes "replay" ∷ []) ≡ Ok (Replay standard Sent)
 unfolding requested command_line options config_at clap_on_literals
@@ -28,12 +39,12 @@ serve_by_itself : requested (codes "serve" ∷ []) ≡ Ok (Serve standard (anybo
 unfolding requested command_line options config_at clap_on_literals
 serve_by_itself = refl
 
-live_by_itself : requested (codes "live" ∷ []) ≡ Ok (Live standard (anybody 0) 5)
+live_by_itself : requested (codes "live" ∷ []) ≡ Ok (Live standard (anybody 0) all_drawn 5)
 unfolding requested command_line options config_at clap_on_literals
 live_by_itself = refl
 
 live_with_both : requested (codes "live" ∷ codes "--slots=4" ∷ codes "--late" ∷ codes "0" ∷ []) ≡
-    Ok (Live (record standard { slots = 4 }) (anybody 0) 0)
+    Ok (Live (record standard { slots = 4 }) (anybody 0) all_drawn 0)
 unfolding requested command_line options config_at clap_on_literals
 live_with_both = refl
 
@@ -42,7 +53,7 @@ unfolding requested command_line options config_at clap_on_literals
 with_reports = refl
 
 live_with_reports : requested (codes "live" ∷ codes "--report=60" ∷ codes "--late=1" ∷ []) ≡ Ok (Live standard (anybody 60)
-    1)
+    all_drawn 1)
 unfolding requested command_line options config_at clap_on_literals
 live_with_reports = refl
 
@@ -57,14 +68,39 @@ unfolding requested command_line options config_at clap_on_literals
 serve_records = refl
 
 live_records : requested (codes "live" ∷ codes "--record" ∷ codes "--late=1" ∷ []) ≡
-    Ok (Live standard (record (anybody 0) { records = true }) 1)
+    Ok (Live standard (record (anybody 0) { records = true }) all_drawn 1)
 unfolding requested command_line options config_at clap_on_literals
 live_records = refl
 
 live_symmetric : requested (codes "live" ∷ codes "--symmetric-rtp" ∷ []) ≡
-    Ok (Live standard (record (anybody 0) { symmetric_rtp = true }) 5)
+    Ok (Live standard (record (anybody 0) { symmetric_rtp = true }) all_drawn 5)
 unfolding requested command_line options config_at clap_on_literals
 live_symmetric = refl
+
+-- behind a router that translates addresses one to one
+live_bound : requested (codes "live" ∷ codes "--address=203.0.113.5" ∷ codes "--bind-address" ∷ codes "10.0.0.1" ∷ []) ≡
+    Ok (Live (record standard { address = 203 ∷ 0 ∷ 113 ∷ 5 ∷ []; control_address = 203 ∷ 0 ∷ 113 ∷ 5 ∷ [] })
+    (record (anybody 0) { bind_address = Some (10 ∷ 0 ∷ 0 ∷ 1 ∷ []) }) all_drawn 5)
+unfolding requested command_line options config_at address_of clap_on_literals
+live_bound = refl
+
+serve_bound_to_all : requested (codes "serve" ∷ codes "--bind-address=0.0.0.0" ∷ []) ≡
+    Ok (Serve standard (record (anybody 0) { bind_address = Some (0 ∷ 0 ∷ 0 ∷ 0 ∷ []) }))
+unfolding requested command_line options config_at address_of clap_on_literals
+serve_bound_to_all = refl
+
+bound_to_many : requested (codes "live" ∷ codes "--bind-address=224.0.0.1" ∷ []) ≡ Err (kind.ValueValidation ∷ [])
+unfolding requested command_line options config_at address_of clap_on_literals
+bound_to_many = refl
+
+replay_binds_nothing : requested (codes "replay" ∷ codes "--bind-address=10.0.0.1" ∷ []) ≡ Err (kind.UnknownArgument ∷ [])
+unfolding requested command_line options config_at clap_on_literals
+replay_binds_nothing = refl
+
+live_draws_the_others : requested (codes "live" ∷ codes "--ssrc=7" ∷ codes "--timestamp=0" ∷ []) ≡
+    Ok (Live (record standard { ssrc = 7 }) (anybody 0) (record { ssrc = false; sequence = true; timestamp = false }) 5)
+unfolding requested command_line options config_at clap_on_literals
+live_draws_the_others = refl
 
 records_no_value : requested (codes "live" ∷ codes "--record=yes" ∷ []) ≡ Err (kind.TooManyValues ∷ [])
 unfolding requested command_line options config_at clap_on_literals
@@ -84,12 +120,12 @@ unfolding requested command_line options config_at clap_on_literals
 replay_records_nothing = refl
 
 first_numbers : requested (codes "live" ∷ codes "--first-context=7" ∷ codes "--first-termination" ∷ codes "9" ∷ []) ≡
-    Ok (Live (record standard { first_termination = 9; first_context = 7 }) (anybody 0) 5)
+    Ok (Live (record standard { first_termination = 9; first_context = 7 }) (anybody 0) all_drawn 5)
 unfolding requested command_line options config_at clap_on_literals
 first_numbers = refl
 
 two_controllers : requested (codes "live" ∷ codes "--controller=10.0.0.1" ∷ codes "--controller" ∷ codes "10.0.0.2" ∷ [])
-    ≡ Ok (Live standard (record (anybody 0) { controllers = (10 ∷ 0 ∷ 0 ∷ 1 ∷ []) ∷ (10 ∷ 0 ∷ 0 ∷ 2 ∷ []) ∷ [] }) 5)
+    ≡ Ok (Live standard (record (anybody 0) { controllers = (10 ∷ 0 ∷ 0 ∷ 1 ∷ []) ∷ (10 ∷ 0 ∷ 0 ∷ 2 ∷ []) ∷ [] }) all_drawn 5)
 unfolding requested command_line options config_at address_of clap_on_literals
 two_controllers = refl
 
@@ -151,7 +187,7 @@ greatest_address = refl
 -- control messages on a network of their own
 two_addresses : requested (codes "live" ∷ codes "--control-address=10.0.0.1" ∷ codes "--address" ∷ codes "192.0.2.1" ∷ [])
     ≡ Ok (Live (record standard { address = 192 ∷ 0 ∷ 2 ∷ 1 ∷ []; control_address = 10 ∷ 0 ∷ 0 ∷ 1 ∷ [] }) (anybody 0)
-    5)
+    all_drawn 5)
 unfolding requested command_line options config_at address_of clap_on_literals
 two_addresses = refl
 

@@ -1,4 +1,4 @@
--- How the address of a gateway is spelled.
+-- How the addresses of a gateway are spelled.
 use Rattle.std.specs.Prelude.{ℕ, Bool, nat_le, List, [], ◌∷◌, slice_index, ok_or, Result, Ok, Err}
 use Rattle.std.specs.Prelude.{if◌then◌else◌}
 use Rattle.std.specs.Str.{bytes_eq}
@@ -7,6 +7,8 @@ use Rattle.mg_words.specs.ResultSteps.{◌>>=◌}
 use Rattle.mg_program.specs.declared.address.AddressFault.{AddressFault}
 use Rattle.mg_program.specs.declared.address.AddressFault.TheVariants.{Unreadable, Unspecified}
 use Rattle.mg_program.specs.declared.address.AddressFault.TheVariants.{Multicast}
+use Rattle.mg_program.specs.declared.bind_address_fault.BindAddressFault.{BindAddressFault}
+use Rattle.mg_program.specs.declared.bind_address_fault.BindAddressFault.TheVariants as bind_faults
 
 -- an address of 224.0.0.0 or above: multicast, reserved or broadcast
 abbrev pub is_multicast : List ℕ → Bool
@@ -19,3 +21,9 @@ own_address text = do
   address ← ok_or (address_of text) Unreadable
   if bytes_eq address (0 ∷ 0 ∷ 0 ∷ 0 ∷ []) then Err Unspecified
       else (if is_multicast address then Err Multicast else Ok address)
+
+-- The address that sockets are bound to. 0.0.0.0 means all addresses of the machine.
+abbrev pub bind_address : List ℕ → Result (List ℕ) BindAddressFault
+bind_address text = do
+  address ← ok_or (address_of text) bind_faults.Unreadable
+  if is_multicast address then Err bind_faults.Multicast else Ok address

@@ -1,6 +1,7 @@
 -- The command line, as the parser of arguments sees it, and what arguments ask of the program.
-use Rattle.std.specs.Prelude.{ℕ, Bool, true, false, if◌then◌else◌, List, [], ◌∷◌, Some, unwrap_or}
-use Rattle.std.specs.Prelude.{Result, Ok, Err, codes, fold}
+use Rattle.std.specs.Prelude.{ℕ, Bool, true, false, if◌then◌else◌, List, [], ◌∷◌, Option, Some}
+use Rattle.std.specs.Prelude.{None, is_none, unwrap_or, option_and_then, Result, Ok, Err, codes}
+use Rattle.std.specs.Prelude.{fold}
 use Rattle.std.specs.Option.{option_map_or}
 use Rattle.std.specs.Str.{bytes_eq}
 use Rattle.clap.specs.Walk.{Row, Rule, Text, all_of, first_of}
@@ -13,16 +14,19 @@ use Rattle.clap.specs.declared.error.kind.ErrorKind.TheVariants.{ValueValidation
 use Rattle.mg_words.specs.ResultSteps.{◌>>=◌}
 use Rattle.mg_options.specs.Requested.{requested_by}
 use Rattle.mg_options.specs.Line.{program_line, text_rule}
-use Rattle.mg_options.specs.Numbers.{number_or, number_rule}
+use Rattle.mg_options.specs.Numbers.{number_given, number_or, number_rule}
+use Rattle.mg_core.specs.Peer.{peer_of}
 use Rattle.mg_core.specs.declared.shown.Shown.TheVariants.{Sent, SentAndFlows}
 use Rattle.mg_engine.specs.declared.config.Config.{Config}
 use Rattle.mg_engine.specs.Config.{standard}
 use Rattle.mg_program.specs.declared.address.AddressFault.{AddressFault}
+use Rattle.mg_program.specs.declared.draws.Draws.{Draws}
 use Rattle.mg_program.specs.declared.invocation.Invocation.{Invocation}
-use Rattle.mg_program.specs.declared.invocation.Invocation.TheVariants.{Replay, Serve, Live}
+use Rattle.mg_program.specs.declared.invocation.Invocation.TheVariants.{Replay, Serve, Live, Check}
 use Rattle.mg_program.specs.declared.service.Service.{Service}
 use Rattle.mg_program.specs.declared.controller_fault.ControllerFault.{ControllerFault}
-use Rattle.mg_program.specs.Address.{own_address}
+use Rattle.mg_program.specs.declared.bind_address_fault.BindAddressFault.{BindAddressFault}
+use Rattle.mg_program.specs.Address.{bind_address, own_address}
 use Rattle.mg_program.specs.Controllers.{controllers_of}
 
 -- ## The command line
@@ -52,13 +56,21 @@ flag_rule name = record (new_rule name) { long = Some name; action = Some SetTru
 -- a subcommand of a gateway on sockets
 abbrev pub sockets_line : Text → App
 sockets_line name =
-    with_rule (with_rule (with_rule (with_rule (subcommand_line name) controller_rule)
-    (number_rule (codes "report") 0 65535)) (flag_rule (codes "record")))
-    (flag_rule (codes "symmetric-rtp"))
+    fold with_rule (subcommand_line name) (text_rule (codes "bind-address") ∷ controller_rule
+    ∷ number_rule (codes "report") 0 65535 ∷ flag_rule (codes "record")
+    ∷ flag_rule (codes "symmetric-rtp") ∷ [])
 
 -- the subcommand that runs a script
 abbrev pub replay_line : App
 replay_line = with_rule (subcommand_line (codes "replay")) (flag_rule (codes "flows"))
+
+-- the argument that names the gateway to check
+abbrev pub gateway_rule : Rule
+gateway_rule = record (new_rule (codes "gateway")) { value_names = 1; required = true }
+
+-- the subcommand that checks a gateway
+abbrev pub check_line : App
+check_line = with_rule (new_app (codes "check")) gateway_rule
 
 -- the subcommand that has a clock
 abbrev pub live_line : App
@@ -67,9 +79,9 @@ live_line = with_rule (sockets_line (codes "live")) (number_rule (codes "late") 
 -- the command line, with one of the subcommands
 unfoldable pub command_line : App
 command_line =
-    with_subcommand (with_subcommand (with_subcommand
+    with_subcommand (with_subcommand (with_subcommand (with_subcommand
     (on_top (λ top. record top { subcommand_required = true }) (program_line (codes "mg_bridge")))
-    replay_line.top) (sockets_line (codes "serve")).top) live_line.top
+    replay_line.top) (sockets_line (codes "serve")).top) live_line.top) check_line.top
 
 -- ## The values of the options
 
@@ -103,42 +115,68 @@ is_set name found =
 abbrev pub controllers_in : List Row → Result (List (List ℕ)) ControllerFault
 controllers_in found = controllers_of (unwrap_or (all_of (codes "controller") found) [])
 
+-- the address that the options name for binding sockets, if they name one
+abbrev pub bind_address_in : List Row → Result (Option (List ℕ)) BindAddressFault
+bind_address_in found = option_map_or (λ text. bind_address text >>= (λ address. Ok (Some address)))
+    (first_of (codes "bind-address") found) (Ok None)
+
 -- ## What arguments ask of the program
-
--- what the options ask of a gateway on sockets, including the seconds between reports
-abbrev pub service_of : List (List ℕ) → List Row → Service
-service_of controllers found = record {
-  controllers = controllers;
-  report = number_or 65536 (codes "report") 0 found;
-  records = is_set (codes "record") found;
-  symmetric_rtp = is_set (codes "symmetric-rtp") found;
-}
-
--- the run that a subcommand asks for, with the maximum lateness, in ticks, of a tick whose packets
--- are sent
-abbrev pub run_of : Text → Config → List (List ℕ) → List Row → Invocation
-run_of name config controllers found =
-    if bytes_eq name (codes "serve") then Serve config (service_of controllers found)
-    else (if bytes_eq name (codes "live")
-    then Live config (service_of controllers found) (number_or 65536 (codes "late") 5 found)
-    else Replay config (if is_set (codes "flows") found then SentAndFlows else Sent))
 
 -- a string that doesn't name anything is a fault of the arguments
 abbrev pub valid : {A E : Type 0} → Result A E → Result A Kinds
 valid (Ok value) = Ok value
 valid (Err fault) = Err (ValueValidation ∷ [])
 
--- What a subcommand with these options asks for. A gateway without an address for control messages
--- uses its address for media.
-abbrev pub run_in : Text → List Row → Result Invocation Kinds
-run_in name found = do
+-- what the options ask of a gateway on sockets, including the seconds between reports
+abbrev pub service_in : List Row → Result Service Kinds
+service_in found = do
+  controllers ← valid (controllers_in found)
+  bound ← valid (bind_address_in found)
+  Ok (record {
+    controllers = controllers;
+    bind_address = bound;
+    report = number_or 65536 (codes "report") 0 found;
+    records = is_set (codes "record") found;
+    symmetric_rtp = is_set (codes "symmetric-rtp") found;
+  })
+
+-- the numbers that no option gives, which a gateway in real time draws at random
+abbrev pub draws_of : List Row → Draws
+draws_of found = record {
+  ssrc = is_none (number_given 4294967296 (codes "ssrc") found);
+  sequence = is_none (number_given 65536 (codes "sequence") found);
+  timestamp = is_none (number_given 4294967296 (codes "timestamp") found);
+}
+
+-- the run that a subcommand asks for, with the maximum lateness, in ticks, of a tick whose packets
+-- are sent
+abbrev pub run_of : Text → Config → Service → List Row → Invocation
+run_of name config service found =
+    if bytes_eq name (codes "serve") then Serve config service
+    else (if bytes_eq name (codes "live")
+    then Live config service (draws_of found) (number_or 65536 (codes "late") 5 found)
+    else Replay config (if is_set (codes "flows") found then SentAndFlows else Sent))
+
+-- the check of the gateway that the argument names
+abbrev pub check_in : List Row → Result Invocation Kinds
+check_in found = option_map_or (λ gateway. Ok (Check gateway))
+    (option_and_then peer_of (first_of (codes "gateway") found)) (Err (ValueValidation ∷ []))
+
+-- The run of a gateway that a subcommand with these options asks for. A gateway without an address
+-- for control messages uses its address for media.
+abbrev pub gateway_in : Text → List Row → Result Invocation Kinds
+gateway_in name found = do
   address ← valid (address_in (codes "address") standard.address found)
   control ← valid (address_in (codes "control-address") address found)
-  controllers ← valid (controllers_in found)
-  Ok (run_of name (config_at address control found) controllers found)
+  service ← service_in found
+  Ok (run_of name (config_at address control found) service found)
 
--- A run of a subcommand, or none. There is none if the parser reports an error, or if an address
--- can't be a gateway's or a controller's.
+-- what a subcommand with these options and arguments asks for
+abbrev pub run_in : Text → List Row → Result Invocation Kinds
+run_in name found = if bytes_eq name (codes "check") then check_in found else gateway_in name found
+
+-- A run of a subcommand, or none. There is none if the parser reports an error, or if a text isn't
+-- an address of the kind that its option takes.
 unfoldable pub requested : List Text → Result Invocation Kinds
 requested words = requested_by (fault_of command_line words) (option_map_or
     (λ found. run_in found.0 found.1) (subcommand_of command_line words) (Err []))

@@ -1,6 +1,7 @@
 ghost use Rattle.std.specs.Prelude.{◌≡◌};
-ghost use Rattle.mg_program.specs.Address.{is_multicast, own_address};
+ghost use Rattle.mg_program.specs.Address.{bind_address, is_multicast, own_address};
 
+use crate::bind_address_fault::BindAddressFault;
 use mg_words::address_of;
 
 /// Why a string is not an address that a gateway can have.
@@ -62,5 +63,16 @@ pub fn own_address(text: &str) -> Result<[u8; 4], AddressFault>
         Some(address) if is_multicast(address) => Err(AddressFault::Multicast),
         Some(address) => Ok(address),
         None => Err(AddressFault::Unreadable),
+    }
+}
+
+/// Parses the address to bind sockets to: an IPv4 address in dotted decimal. 0.0.0.0 means all addresses of the machine.
+pub fn bind_address(text: &str) -> Result<[u8; 4], BindAddressFault>
+    ensures value { result ≡ bind_address text.now }
+{
+    match address_of(text.as_bytes()) {
+        Some(address) if is_multicast(address) => Err(BindAddressFault::Multicast),
+        Some(address) => Ok(address),
+        None => Err(BindAddressFault::Unreadable),
     }
 }

@@ -1,11 +1,13 @@
 use std::io;
+use std::net::Ipv4Addr;
 use thiserror::Error;
 
-/// A UDP port that couldn't be bound, with the system's reason. The port is in use, the address isn't this machine's,
+/// A UDP socket that couldn't be bound, with the system's reason. The port is in use, the address isn't this machine's,
 /// or there are too many open files.
 #[derive(Debug, Drop, Error)]
-#[error("cannot bind port {port}: {error}")]
+#[error("cannot bind {address}:{port}: {error}")]
 pub struct BindFault {
+    pub address: Ipv4Addr,
     pub port: u16,
     pub error: io::Error,
 }

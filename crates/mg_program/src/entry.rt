@@ -3,6 +3,7 @@ ghost use Rattle.mg_options.specs.Ends.{EndsWith};
 ghost use Rattle.mg_program.specs.Options.{requested};
 ghost use Rattle.mg_program.specs.Program.{Runs};
 
+use crate::check::check;
 use crate::invocation::Invocation;
 use crate::live::live;
 use crate::options::requested_run;
@@ -13,16 +14,29 @@ use std::alloc::Global;
 use std::convert::AsStr;
 use std::io::{Read, Write};
 use std::net::Net;
+use std::random::RandomSource;
 use std::time::Clock;
 
 /// Runs the program on its arguments, which do not include its name. Returns its exit status.
 ///
-/// The status is 0 on success, 1 for a bad script line, and 2 for invalid arguments or an invalid configuration. It is
-/// 3 if a read or a write failed, 4 if memory ran out, and 5 for a port that can't be bound. If the status is nonzero,
-/// the message goes to `errors`. A gateway's periodic reports go to `reports`.
-pub fn program<'a, N: Net, C: Clock, S: AsStr, R: Read, W: Write, E: Write, T: Write>(
+/// The status is 0 on success, 1 for a bad script line, and 2 for invalid arguments, an invalid configuration or a gateway
+/// that doesn't answer. It is 3 if a read or a write failed, if the clock can't be read, or if the system has no random numbers. It is 4 if memory
+/// ran out, and 5 for a port that can't be bound. If the status is nonzero, the message goes to `errors`. A gateway's
+/// periodic reports go to `reports`.
+pub fn program<
+    'a,
+    N: Net,
+    C: Clock,
+    G: RandomSource,
+    S: AsStr,
+    R: Read,
+    W: Write,
+    E: Write,
+    T: Write,
+>(
     net: &N,
     clock: &C,
+    random: &G,
     alloc: Global,
     words: &'a [S],
     input: &mut R,
@@ -44,9 +58,16 @@ pub fn program<'a, N: Net, C: Clock, S: AsStr, R: Read, W: Write, E: Write, T: W
         Ok(Invocation::Serve(config, service)) => {
             serve(net, alloc, config, &service, input, output, errors, reports)
         }
-        Ok(Invocation::Live(config, service, late)) => live(
-            net, clock, alloc, config, &service, late, output, errors, reports,
-        ),
+        Ok(Invocation::Live(config, service, draws, late)) => match draws.draw(random, config) {
+            Ok(config) => live(
+                net, clock, alloc, config, &service, late, output, errors, reports,
+            ),
+            Err(error) => {
+                let _ = writeln!(errors, "cannot draw random numbers: {error}");
+                Status::Failed
+            }
+        },
+        Ok(Invocation::Check(gateway)) => check(net, clock, gateway, output, errors),
         Err(error) => report_error(&error, Status::Failed, output, errors),
     };
     status.code()

@@ -1,5 +1,6 @@
+use crate::draws::Draws;
 use crate::service::Service;
-use mg_core::{Config, Shown};
+use mg_core::{Config, Peer, Shown};
 
 /// A run that the program's arguments ask for.
 #[derive(Drop)]
@@ -8,7 +9,9 @@ pub enum Invocation {
     Replay(Config, Shown),
     /// Run a gateway on UDP ports, driven by lines of the input.
     Serve(Config, Service),
-    /// Run a gateway on UDP ports, driven by the clock. The number is the maximum lateness of a tick, in ticks: if a
-    /// tick is later than that, its packets are not sent.
-    Live(Config, Service, u16),
+    /// Run a gateway on UDP ports, driven by the clock, after drawing some numbers of its configuration. The last number
+    /// is the maximum lateness of a tick, in ticks: if a tick is later than that, its packets are not sent.
+    Live(Config, Service, Draws, u16),
+    /// Check that the gateway with this control port answers.
+    Check(Peer),
 }

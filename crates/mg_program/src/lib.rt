@@ -4,7 +4,7 @@
 //!
 //! ```rust
 //! let words = ["replay", "--slots", "4"];
-//! let status = program(&rt, &rt, alloc, &words, &mut input, &mut output, &mut errors, &mut reports);
+//! let status = program(&rt, &rt, &rt, alloc, &words, &mut input, &mut output, &mut errors, &mut reports);
 //! ```
 //!
 //! [`requested_run`] returns what the arguments ask for. [`Sockets`] are the sockets of a gateway, bound at the start.
@@ -16,11 +16,14 @@
 #![tactic(auto)]
 
 mod address;
+mod bind_address_fault;
 mod bind_fault;
+mod check;
 mod config_fault;
 mod control_watch;
 mod controller_fault;
 mod controllers;
+mod draws;
 mod entry;
 mod invocation;
 mod live;
@@ -34,10 +37,13 @@ mod status;
 mod title;
 mod udp_ports;
 
+pub use crate::bind_address_fault::BindAddressFault;
 pub use crate::bind_fault::BindFault;
+pub use crate::check::{HEARTBEAT, answers_heartbeat};
 pub use crate::control_watch::ControlWatch;
 pub use crate::controller_fault::ControllerFault;
 pub use crate::controllers::Controllers;
+pub use crate::draws::Draws;
 pub use crate::entry::program;
 pub use crate::invocation::Invocation;
 pub use crate::options::requested_run;

@@ -72,7 +72,7 @@ pub fn live<N: Net, C: Clock, W: Write, E: Write, T: Write>(
 ) -> Status
     ensures value { ServesByClock W.contents config service.now late output.old output.new result }
 {
-    let mut sockets = match bind(net, alloc, &config, errors) {
+    let mut sockets = match bind(net, alloc, &config, service.bind_address, errors) {
         Ok(sockets) => sockets,
         Err(status) => return status,
     };

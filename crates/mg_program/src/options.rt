@@ -5,20 +5,26 @@ ghost use Rattle.mg_options.specs.Requested.{IsRefused};
 ghost use Rattle.mg_options.specs.Line.{text_rule};
 ghost use Rattle.mg_options.specs.Numbers.{number_or};
 ghost use Rattle.mg_program.specs.Options.{address_in, requested, command_line, config_at, controller_rule, controllers_in};
-ghost use Rattle.mg_program.specs.Options.{flag_rule, is_set, live_line, options, replay_line, run_of, service_of};
-ghost use Rattle.mg_program.specs.Options.{run_in, sockets_line, subcommand_line};
+ghost use Rattle.mg_program.specs.Options.{bind_address_in, check_in, check_line, draws_of, flag_rule, is_set, live_line, options, replay_line, run_of};
+ghost use Rattle.mg_program.specs.Options.{gateway_in, gateway_rule, run_in, service_in, sockets_line, subcommand_line};
 
-use crate::address::{AddressFault, own_address};
+use crate::address::{AddressFault, bind_address, own_address};
+use crate::bind_address_fault::BindAddressFault;
 use crate::controller_fault::ControllerFault;
 use crate::controllers::Controllers;
+use crate::draws::Draws;
 use crate::invocation::Invocation;
 use crate::service::Service;
 use clap::error::ErrorKind;
 use clap::{Arg, ArgAction, ArgMatches, Command, Error};
-use mg_core::{Config, Shown};
+use mg_core::{Config, Shown, peer_of};
 use mg_options::{long_number, long_value, program_command, short_number, short_value};
 use std::alloc::Global;
 use std::convert::AsStr;
+
+/// The error message for a gateway to check that isn't named by its address and port.
+const NO_GATEWAY: &str =
+    "invalid value for '<ADDRESS:PORT>': not an IPv4 address, a colon and a port";
 
 /// Makes an option that takes an IPv4 address. Its parser accepts any text.
 fn address_option<'a>(alloc: Global, name: &'a str) -> Arg<'a>
@@ -53,13 +59,13 @@ fn with_options<'a>(alloc: Global, command: Command<'a>) -> Result<Command<'a>, 
             "Number of the first context, 1–4294967293 [default: 1]",
         ))?
         .arg(long_number(alloc, "ssrc").help(
-            "Base SSRC, to which a termination adds its number, 0–4294967295 [default: 0]",
+            "Base SSRC, to which a termination adds its number, 0–4294967295 [default: 0; live: random]",
         ))?
         .arg(short_number(alloc, "sequence").help(
-            "RTP sequence number of a termination's first packet, 0–65535 [default: 0]",
+            "RTP sequence number of a termination's first packet, 0–65535 [default: 0; live: random]",
         ))?
         .arg(long_number(alloc, "timestamp").help(
-            "RTP timestamp of a termination's first tick, 0–4294967295 [default: 0]",
+            "RTP timestamp of a termination's first tick, 0–4294967295 [default: 0; live: random]",
         ))?;
     Ok(command)
 }
@@ -96,6 +102,9 @@ fn on_sockets<'a>(alloc: Global, name: &'a str, about: &'a str) -> Result<Comman
     ensures memory { IfErr result (λ error. kind_of error ≡ ErrorKind.OutOfMemory) }
 {
     let command = subcommand(alloc, name, about)?
+        .arg(address_option(alloc, "bind-address").help(
+            "IPv4 address to bind all ports to [default: the values of --address and --control-address]",
+        ))?
         .arg(controller_option(alloc))?
         .arg(short_number(alloc, "report").help(
             "Seconds between reports on standard error, 0–65535, 0 = never [default: 0]",
@@ -134,6 +143,27 @@ fn live<'a>(alloc: Global) -> Result<Command<'a>, Error>
     Ok(command)
 }
 
+/// Makes the argument that names the gateway to check.
+fn gateway_argument<'a>(alloc: Global) -> Arg<'a>
+    ensures rule { rule_of result ≡ gateway_rule }
+{
+    Arg::new(alloc, "gateway")
+        .value_name("ADDRESS:PORT")
+        .required(true)
+        .help("IPv4 address and control port of the gateway")
+}
+
+/// Makes the subcommand that checks a gateway.
+fn check<'a>(alloc: Global) -> Result<Command<'a>, Error>
+    ensures app { IfOk result (λ command. app_of command ≡ check_line) }
+    ensures memory { IfErr result (λ error. kind_of error ≡ ErrorKind.OutOfMemory) }
+{
+    let command = Command::new(alloc, "check")
+        .about("Check that a gateway answers messages from this machine")
+        .arg(gateway_argument(alloc))?;
+    Ok(command)
+}
+
 /// Makes the program's command line.
 fn command<'a>(alloc: Global) -> Result<Command<'a>, Error>
     ensures app { IfOk result (λ command. app_of command ≡ command_line) }
@@ -150,7 +180,8 @@ fn command<'a>(alloc: Global) -> Result<Command<'a>, Error>
         .subcommand_required(true)
         .subcommand(replay)?
         .subcommand(serve)?
-        .subcommand(live(alloc)?)?;
+        .subcommand(live(alloc)?)?
+        .subcommand(check(alloc)?)?;
     Ok(command)
 }
 
@@ -188,6 +219,17 @@ fn config_at(address: [u8; 4], control_address: [u8; 4], matches: &ArgMatches<'_
         ssrc: long_value(matches, "ssrc").unwrap_or(standard.ssrc),
         sequence: short_value(matches, "sequence").unwrap_or(standard.sequence),
         timestamp: long_value(matches, "timestamp").unwrap_or(standard.timestamp),
+    }
+}
+
+/// Returns which numbers no option gives, so that they are drawn at random.
+fn draws_of(matches: &ArgMatches<'_>) -> Draws
+    ensures value { result ≡ draws_of (rows_of (found_of matches.now)) }
+{
+    Draws {
+        ssrc: long_value(matches, "ssrc").is_none(),
+        sequence: short_value(matches, "sequence").is_none(),
+        timestamp: long_value(matches, "timestamp").is_none(),
     }
 }
 
@@ -237,40 +279,72 @@ fn controllers_of(matches: &ArgMatches<'_>) -> Result<Controllers, ControllerFau
     }
 }
 
-/// Returns the options of a gateway on sockets, with these controllers.
-fn service_of(controllers: Controllers, matches: &ArgMatches<'_>) -> Service
-    ensures value { result ≡ service_of controllers (rows_of (found_of matches.now)) }
+/// Returns the address to bind sockets to, if the command line names one.
+fn bind_address_of(matches: &ArgMatches<'_>) -> Result<Option<[u8; 4]>, BindAddressFault>
+    ensures value { result ≡ bind_address_in (rows_of (found_of matches.now)) }
 {
-    Service {
-        controllers,
-        report: report_of(matches),
-        records: is_set("record", matches),
-        symmetric_rtp: is_set("symmetric-rtp", matches),
+    match matches.get_str("bind-address") {
+        Some(text) => match bind_address(text) {
+            Ok(address) => Ok(Some(address)),
+            Err(fault) => Err(fault),
+        },
+        None => Ok(None),
     }
 }
 
-/// Returns the run that a subcommand asks for, with this configuration and these controllers.
-fn run_of(
-    name: &str,
-    config: Config,
-    controllers: Controllers,
-    matches: &ArgMatches<'_>,
-) -> Invocation
-    ensures value { result ≡ run_of name.now config controllers (rows_of (found_of matches.now)) }
+/// Returns the options of a gateway on sockets, or the error message.
+fn service_of(matches: &ArgMatches<'_>) -> Result<Service, &'static str>
+    ensures service { IfOk result (λ service. service_in (rows_of (found_of matches.now)) ≡ Ok service) }
+    ensures refused { IfErr result (λ _. service_in (rows_of (found_of matches.now)) ≡ Err (ValueValidation ∷ [])) }
+{
+    let controllers = match controllers_of(matches) {
+        Ok(controllers) => controllers,
+        Err(fault) => return Err(fault.message()),
+    };
+    let bind_address = match bind_address_of(matches) {
+        Ok(address) => address,
+        Err(fault) => return Err(fault.message()),
+    };
+    Ok(Service {
+        controllers,
+        bind_address,
+        report: report_of(matches),
+        records: is_set("record", matches),
+        symmetric_rtp: is_set("symmetric-rtp", matches),
+    })
+}
+
+/// Returns the run that a subcommand asks for, with this configuration and these options of a gateway on sockets.
+fn run_of(name: &str, config: Config, service: Service, matches: &ArgMatches<'_>) -> Invocation
+    ensures value { result ≡ run_of name.now config service (rows_of (found_of matches.now)) }
 {
     if name == "serve" {
-        Invocation::Serve(config, service_of(controllers, matches))
+        Invocation::Serve(config, service)
     } else if name == "live" {
-        Invocation::Live(config, service_of(controllers, matches), late_of(matches))
+        Invocation::Live(config, service, draws_of(matches), late_of(matches))
     } else {
         Invocation::Replay(config, shown_of(matches))
     }
 }
 
-/// Returns the run that a subcommand with these options asks for, or the text of the error.
-fn run_in(name: &str, matches: &ArgMatches<'_>) -> Result<Invocation, &'static str>
-    ensures run { IfOk result (λ run. run_in name.now (rows_of (found_of matches.now)) ≡ Ok run) }
-    ensures refused { IfErr result (λ _. run_in name.now (rows_of (found_of matches.now)) ≡
+/// Returns the check that the argument asks for, or the error message.
+fn check_in(matches: &ArgMatches<'_>) -> Result<Invocation, &'static str>
+    ensures run { IfOk result (λ run. check_in (rows_of (found_of matches.now)) ≡ Ok run) }
+    ensures refused { IfErr result (λ _. check_in (rows_of (found_of matches.now)) ≡ Err (ValueValidation ∷ [])) }
+{
+    match matches.get_str("gateway") {
+        Some(text) => match peer_of(text.as_bytes()) {
+            Some(gateway) => Ok(Invocation::Check(gateway)),
+            None => Err(NO_GATEWAY),
+        },
+        None => Err(NO_GATEWAY),
+    }
+}
+
+/// Returns the run of a gateway that a subcommand with these options asks for, or the error message.
+fn gateway_in(name: &str, matches: &ArgMatches<'_>) -> Result<Invocation, &'static str>
+    ensures run { IfOk result (λ run. gateway_in name.now (rows_of (found_of matches.now)) ≡ Ok run) }
+    ensures refused { IfErr result (λ _. gateway_in name.now (rows_of (found_of matches.now)) ≡
         Err (ValueValidation ∷ [])) }
 {
     let address = match address_of("address", Config::default().address, matches) {
@@ -281,14 +355,21 @@ fn run_in(name: &str, matches: &ArgMatches<'_>) -> Result<Invocation, &'static s
         Ok(control) => control,
         Err(fault) => return Err(fault.control_message()),
     };
-    match controllers_of(matches) {
-        Ok(controllers) => Ok(run_of(
-            name,
-            config_at(address, control, matches),
-            controllers,
-            matches,
-        )),
-        Err(fault) => Err(fault.message()),
+    let service = service_of(matches)?;
+    let config = config_at(address, control, matches);
+    Ok(run_of(name, config, service, matches))
+}
+
+/// Returns the run that a subcommand with these options and arguments asks for, or the error message.
+fn run_in(name: &str, matches: &ArgMatches<'_>) -> Result<Invocation, &'static str>
+    ensures run { IfOk result (λ run. run_in name.now (rows_of (found_of matches.now)) ≡ Ok run) }
+    ensures refused { IfErr result (λ _. run_in name.now (rows_of (found_of matches.now)) ≡
+        Err (ValueValidation ∷ [])) }
+{
+    if name == "check" {
+        check_in(matches)
+    } else {
+        gateway_in(name, matches)
     }
 }
 

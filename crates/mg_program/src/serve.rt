@@ -26,6 +26,7 @@ pub fn bind<N: Net, E: Write>(
     net: &N,
     alloc: Global,
     config: &Config,
+    bind_address: Option<[u8; 4]>,
     errors: &mut E,
 ) -> Result<Sockets, Status>
     ensures sound { OnOk result (IsValidConfig config.now) }
@@ -40,7 +41,7 @@ pub fn bind<N: Net, E: Write>(
         let _ = writeln!(errors, "{}", RunFault::NoMemory);
         return Err(Status::NoMemory);
     };
-    match Sockets::bind(net, config, events) {
+    match Sockets::bind(net, config, bind_address, events) {
         Ok(sockets) => Ok(sockets),
         Err(fault) => {
             let _ = writeln!(errors, "{fault}");
@@ -95,7 +96,7 @@ pub fn serve<N: Net, R: Read, W: Write, E: Write, T: Write>(
     ensures value { Serves R.remaining W.contents config service.now input.old input.new output.old output.new result }
     ensures quiet { result ≡ Status.Done → errors.new ≡ errors.old }
 {
-    let sockets = match bind(net, alloc, &config, errors) {
+    let sockets = match bind(net, alloc, &config, service.bind_address, errors) {
         Ok(sockets) => sockets,
         Err(status) => return status,
     };

@@ -12,6 +12,8 @@ use mg_serve::Setup;
 pub struct Service {
     /// Who may send messages to the gateway.
     pub controllers: Controllers,
+    /// The address that all ports are bound to, if it isn't the one that callers or controllers send to.
+    pub bind_address: Option<[u8; 4]>,
     /// The seconds between reports; 0 disables reports.
     pub report: u16,
     /// Whether the output is a recording.

@@ -20,9 +20,24 @@ pub struct Sockets {
     readiness: Readiness,
 }
 
-fn socket_address(address: [u8; 4], port: u16) -> SocketAddr {
+fn ip_address(address: [u8; 4]) -> Ipv4Addr {
     let [a, b, c, d] = address;
-    SocketAddr::new(IpAddr::V4(Ipv4Addr::new(a, b, c, d)), port)
+    Ipv4Addr::new(a, b, c, d)
+}
+
+fn socket_address(address: [u8; 4], port: u16) -> SocketAddr {
+    SocketAddr::new(IpAddr::V4(ip_address(address)), port)
+}
+
+/// Returns the fault of a socket that couldn't be bound to this address and port.
+fn bind_fault(address: [u8; 4], port: u16, error: io::Error) -> BindFault
+    ensures port { result.port ≡ port }
+{
+    BindFault {
+        address: ip_address(address),
+        port,
+        error,
+    }
 }
 
 /// Binds a non-blocking socket.
@@ -31,7 +46,7 @@ fn bind_socket<N: Net>(net: &N, address: [u8; 4], port: u16) -> Result<UdpSocket
 {
     match UdpSocket::bind(net, socket_address(address, port)) {
         Ok(socket) => Ok(socket),
-        Err(error) => Err(BindFault { port, error }),
+        Err(error) => Err(bind_fault(address, port, error)),
     }
 }
 
@@ -48,7 +63,7 @@ fn bind_media<N: Net>(
     let mut socket = bind_socket(net, address, port)?;
     match readiness.watch(slot, &mut socket) {
         Ok(()) => Ok(socket),
-        Err(error) => Err(BindFault { port, error }),
+        Err(error) => Err(bind_fault(address, port, error)),
     }
 }
 
@@ -76,26 +91,30 @@ fn datagram_of(answer: io::Result<(usize, SocketAddr)>) -> Result<Option<(usize,
 }
 
 impl Sockets {
-    /// Binds the ports of a gateway: the control port, and then the media ports in ascending order. The error is the
-    /// first port that can't be bound. The caller allocates the buffer for the system's reports, so this call allocates
-    /// nothing.
-    pub fn bind<N: Net>(net: &N, config: &Config, events: Events) -> Result<Sockets, BindFault>
+    /// Binds the ports of a gateway: the control port, and then the media ports in ascending order. They are bound to
+    /// `bind_address`, if there is one, and otherwise to the addresses of the configuration. The error is the first port
+    /// that can't be bound. The caller allocates the buffer for the system's reports, so this call allocates nothing.
+    pub fn bind<N: Net>(
+        net: &N,
+        config: &Config,
+        bind_address: Option<[u8; 4]>,
+        events: Events,
+    ) -> Result<Sockets, BindFault>
         requires sound { IsValidConfig config.now }
         ensures port { IfErr result (λ fault. IsPortOf config.now fault.port) }
     {
+        let control_address = bind_address.unwrap_or(config.control_address);
+        let media_address = bind_address.unwrap_or(config.address);
         let control = config.control_port;
         let readiness = match Readiness::new(net, events) {
             Ok(readiness) => readiness,
-            Err(error) => return Err(BindFault {
-                port: control,
-                error,
-            }),
+            Err(error) => return Err(bind_fault(control_address, control, error)),
         };
         let mut sockets = ArrayVec::new();
-        sockets.push(Some(bind_socket(net, config.control_address, control)?));
+        sockets.push(Some(bind_socket(net, control_address, control)?));
         for slot in 0..config.slots {
             let port = config.base_port + 2 * slot;
-            let socket = bind_media(net, config.address, port, usize::from(slot) + 1, &readiness)?;
+            let socket = bind_media(net, media_address, port, usize::from(slot) + 1, &readiness)?;
             sockets.push(Some(socket));
         }
         Ok(Sockets { sockets, readiness })

@@ -117,3 +117,18 @@ fn takes_eight_controllers(rt: HostRuntime) {
         b"error: invalid value for '--controller <ADDRESS>': not an IPv4 address in dotted decimal\n";
     assert!(rt; done.errors.as_slice().starts_with(wanted.as_slice()));
 }
+
+#[test]
+fn takes_an_address_to_bind_to(rt: HostRuntime) {
+    let wanted =
+        b"error: invalid value for '--bind-address <ADDRESS>': not an IPv4 address in dotted decimal\n";
+    let done = run_program(&rt, &["live", "--bind-address", "localhost"], b"");
+    assert_eq!(rt; done.status, 2);
+    assert!(rt; done.errors.as_slice().starts_with(wanted.as_slice()));
+    let wanted = b"error: invalid value for '--bind-address <ADDRESS>': not a unicast address\n";
+    let done = run_program(&rt, &["serve", "--bind-address", "224.0.0.1"], b"");
+    assert_eq!(rt; done.status, 2);
+    assert!(rt; done.errors.as_slice().starts_with(wanted.as_slice()));
+    let done = run_program(&rt, &["replay", "--bind-address", "10.0.0.1"], b"");
+    assert_eq!(rt; done.status, 2);
+}

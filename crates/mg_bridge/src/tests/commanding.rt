@@ -111,6 +111,7 @@ fn answered(rt: &HostRuntime, port: u16, words: &[&str]) -> Result<(usize, usize
     program(
         rt,
         &clock,
+        rt,
         alloc,
         words,
         &mut senders,

@@ -45,7 +45,7 @@ fn bind(rt: &HostRuntime, config: &Config) -> Result<UdpPorts, Fail> {
         return Err(Fail::new("bad configuration"));
     }
     let events = Events::with_capacity(rt.alloc(), SOCKETS)?;
-    Ok(UdpPorts::new(Sockets::bind(rt, config, events)?))
+    Ok(UdpPorts::new(Sockets::bind(rt, config, None, events)?))
 }
 
 /// Returns a caller's non-blocking socket.

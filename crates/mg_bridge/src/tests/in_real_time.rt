@@ -78,6 +78,10 @@ fn turns_a_stall_into_a_gap(rt: HostRuntime) -> Result<(), Fail> {
         "1",
         "--report",
         "2",
+        "--sequence",
+        "0",
+        "--timestamp",
+        "0",
     ];
     let mut input: &[u8] = b"quit\n";
     let mut output = Vec::new(alloc);
@@ -86,6 +90,7 @@ fn turns_a_stall_into_a_gap(rt: HostRuntime) -> Result<(), Fail> {
     let status = program(
         &rt,
         &clock,
+        &rt,
         alloc,
         &words,
         &mut input,
@@ -184,6 +189,7 @@ fn answers_before_the_next_tick(rt: HostRuntime) -> Result<(), Fail> {
     let status = program(
         &rt,
         &clock,
+        &rt,
         alloc,
         &words,
         &mut input,

@@ -39,7 +39,7 @@ fn reports_a_taken_control_port(rt: HostRuntime) -> Result<(), Fail> {
     assert!(rt; done.output.is_empty());
     assert_eq!(rt;
         done.errors.as_slice(),
-        b"cannot bind port 29100: Address already in use (os error 98)\n".as_slice()
+        b"cannot bind 127.0.0.1:29100: Address already in use (os error 98)\n".as_slice()
     );
     Ok(())
 }
@@ -62,7 +62,7 @@ fn reports_the_first_taken_media_port(rt: HostRuntime) -> Result<(), Fail> {
     assert!(rt; done.output.is_empty());
     assert_eq!(rt;
         done.errors.as_slice(),
-        b"cannot bind port 29204: Address already in use (os error 98)\n".as_slice()
+        b"cannot bind 127.0.0.1:29204: Address already in use (os error 98)\n".as_slice()
     );
     Ok(())
 }
@@ -127,6 +127,34 @@ fn reports_an_address_of_another_machine(rt: HostRuntime) {
     assert!(rt; done.output.is_empty());
     assert_eq!(rt;
         done.errors.as_slice(),
-        b"cannot bind port 29400: Cannot assign requested address (os error 99)\n".as_slice()
+        b"cannot bind 192.0.2.1:29400: Cannot assign requested address (os error 99)\n".as_slice()
+    );
+}
+
+#[test]
+fn binds_to_another_address_than_it_tells(rt: HostRuntime) {
+    let told = [
+        "serve",
+        "--address=192.0.2.1",
+        "--bind-address=127.0.0.1",
+        "--control-port=29500",
+        "--base-port=29502",
+        "--slots=2",
+    ];
+    let done = run_program(&rt, &told, b"quit\n");
+    assert_eq!(rt; done.status, 0);
+    assert!(rt; done.errors.is_empty());
+    let elsewhere = [
+        "serve",
+        "--bind-address=192.0.2.1",
+        "--control-port=29510",
+        "--base-port=29512",
+        "--slots=2",
+    ];
+    let done = run_program(&rt, &elsewhere, b"quit\n");
+    assert_eq!(rt; done.status, 5);
+    assert_eq!(rt;
+        done.errors.as_slice(),
+        b"cannot bind 192.0.2.1:29510: Cannot assign requested address (os error 99)\n".as_slice()
     );
 }

@@ -1,6 +1,6 @@
 use Rattle.clap.specs.Words.{found_of, rows_of}
-use Rattle.mg_program.proofs.InvocationLemmas.{named_or_standard, refuses_address, refuses_control, refuses_controllers, run_is}
-use Rattle.mg_program.proofs.options.run_in.Goals as goal
+use Rattle.mg_program.proofs.InvocationLemmas.{at_error, named_or_standard, refuses_address, refuses_control, refuses_service, run_is}
+use Rattle.mg_program.proofs.options.gateway_in.Goals as goal
 
 pub returns-in-Err-clause-refused : goal.returns-in-Err-clause-refused
 returns-in-Err-clause-refused c =
@@ -15,17 +15,17 @@ returns-in-Err-address_of-clause-refused c =
     (named_or_standard rows c.default.result _ c.default.ensures c.in-Ok.ensures.value)
     c.in-Err-address_of.ensures.value
 
-pub returns-in-Ok-controllers_of-clause-run : goal.returns-in-Ok-controllers_of-clause-run
-returns-in-Ok-controllers_of-clause-run c =
+pub returns-clause-run : goal.returns-clause-run
+returns-clause-run c =
     let rows = rows_of (found_of c.args.matches.now) in
     run_is c.args.name.now rows c.in-Ok.address c.in-Ok-address_of.control _ _ _
     (named_or_standard rows c.default.result _ c.default.ensures c.in-Ok.ensures.value)
-    c.in-Ok-address_of.ensures.value c.in-Ok-controllers_of.ensures.value c.config_at.ensures.value
+    c.in-Ok-address_of.ensures.value c.in_ok-service.ensures.service c.config_at-config.ensures.value
     c.run_of.ensures.value
 
-pub returns-in-Err-controllers_of-clause-refused : goal.returns-in-Err-controllers_of-clause-refused
-returns-in-Err-controllers_of-clause-refused c =
+pub returns-in_err-service-clause-refused : goal.returns-in_err-service-clause-refused
+returns-in_err-service-clause-refused c =
     let rows = rows_of (found_of c.args.matches.now) in
-    refuses_controllers c.args.name.now rows c.in-Ok.address c.in-Ok-address_of.control c.in-Err-controllers_of.fault
+    at_error c.from_residual.result (refuses_service c.args.name.now rows c.in-Ok.address c.in-Ok-address_of.control
     (named_or_standard rows c.default.result _ c.default.ensures c.in-Ok.ensures.value)
-    c.in-Ok-address_of.ensures.value c.in-Err-controllers_of.ensures.value
+    c.in-Ok-address_of.ensures.value c.in_err-service.ensures.refused)

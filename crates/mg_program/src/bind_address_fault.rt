@@ -1,0 +1,22 @@
+/// Why a text is not an address that sockets can be bound to.
+#[derive(Clone, Copy, Debug, PartialEq, Eq)]
+pub enum BindAddressFault {
+    /// It is not an IPv4 address in dotted decimal.
+    Unreadable,
+    /// It is 224.0.0.0 or above: a multicast, reserved or broadcast address.
+    Multicast,
+}
+
+impl BindAddressFault {
+    /// Returns the error text.
+    pub fn message(self) -> &'static str {
+        match self {
+            BindAddressFault::Unreadable => {
+                "invalid value for '--bind-address <ADDRESS>': not an IPv4 address in dotted decimal"
+            }
+            BindAddressFault::Multicast => {
+                "invalid value for '--bind-address <ADDRESS>': not a unicast address"
+            }
+        }
+    }
+}

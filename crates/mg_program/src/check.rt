@@ -1,0 +1,92 @@
+ghost use Rattle.std.specs.Prelude.{◌≡◌, ◌≢◌};
+ghost use Rattle.mg_program.specs.Program.{Checks};
+
+use mg_core::Peer;
+use mg_options::Status;
+use std::io;
+use std::io::{ErrorKind, Write};
+use std::net::{Ipv4Addr, Net, SocketAddrV4, UdpSocket};
+use std::time::{Clock, Duration};
+
+/// The heartbeat: an audit of ROOT in the null context (RFC 3525, section 7.2.5).
+pub const HEARTBEAT: &[u8] = b"MEGACO/1 <check>\nTransaction=1{Context=-{AuditValue=ROOT}}";
+
+/// Acknowledges the heartbeat's reply, so that the gateway does not keep it.
+const ACKNOWLEDGEMENT: &[u8] = b"MEGACO/1 <check>\nTransactionResponseAck{1}";
+
+/// The reply to the heartbeat, after the sender.
+const REPLY: &[u8] = b"\nReply=1{Context=-{AuditValue=ROOT}}";
+
+/// How often the heartbeat is sent.
+const TRIES: usize = 3;
+
+/// How long each reply is waited for, in milliseconds.
+const WAIT_MS: u64 = 1000;
+
+/// The room for a reply, in bytes.
+const REPLY_ROOM: usize = 512;
+
+/// Returns whether a message replies to the heartbeat.
+pub fn answers_heartbeat(message: &[u8]) -> bool {
+    message.ends_with(REPLY)
+}
+
+/// Sends the heartbeat until it is answered, and acknowledges the answer. The error is the system's, or `TimedOut` if no
+/// answer arrives.
+fn ask<N: Net>(net: &N, gateway: SocketAddrV4) -> io::Result<()> {
+    let any = SocketAddrV4::new(Ipv4Addr::UNSPECIFIED, 0);
+    let socket = UdpSocket::bind(net, any)?;
+    socket.connect(gateway)?;
+    socket.set_read_timeout(Some(Duration::from_millis(WAIT_MS)))?;
+    let mut buffer = [0; REPLY_ROOM];
+    for _ in 0..TRIES {
+        socket.send(HEARTBEAT)?;
+        match socket.recv(&mut buffer) {
+            Ok(n) if answers_heartbeat(&buffer[..n]) => {
+                socket.send(ACKNOWLEDGEMENT)?;
+                return Ok(());
+            }
+            Ok(_) => {}
+            Err(error) if error.kind() == ErrorKind::WouldBlock => {}
+            Err(error) => return Err(error),
+        }
+    }
+    Err(io::Error::from(ErrorKind::TimedOut))
+}
+
+/// Returns the time since a reading of the clock, in microseconds: zero if the clock can't be read.
+fn micros_since<C: Clock>(clock: &C, begun: io::Result<Duration>) -> u128 {
+    match (begun, clock.monotonic()) {
+        (Ok(begun), Ok(now)) => now.saturating_sub(begun).as_micros(),
+        _ => 0,
+    }
+}
+
+/// Checks that a gateway answers a heartbeat: it is sent three times at most, and each answer is waited for during a
+/// second. Prints how long the answer took; otherwise the reason goes to `errors`.
+pub fn check<N: Net, C: Clock, W: Write, E: Write>(
+    net: &N,
+    clock: &C,
+    gateway: Peer,
+    output: &mut W,
+    errors: &mut E,
+) -> Status
+    ensures value { Checks output.old output.new result }
+    ensures quiet { result ≡ Status.Done → errors.new ≡ errors.old }
+{
+    let [a, b, c, d] = gateway.address;
+    let address = SocketAddrV4::new(Ipv4Addr::new(a, b, c, d), gateway.port);
+    let begun = clock.monotonic();
+    if let Err(error) = ask(net, address) {
+        let _ = writeln!(errors, "{address} doesn't answer: {error}");
+        return Status::NoAnswer;
+    }
+    let micros = micros_since(clock, begun);
+    match writeln!(output, "{address} answered in {micros} us") {
+        Ok(()) => Status::Done,
+        Err(_) => {
+            let _ = writeln!(errors, "write failed");
+            Status::Failed
+        }
+    }
+}

@@ -1,0 +1,39 @@
+ghost use Rattle.std.specs.Prelude.{IfOk};
+ghost use Rattle.mg_program.specs.Draws.{IsDrawn};
+
+use mg_core::Config;
+use std::io;
+use std::random::RandomSource;
+
+/// Which of the numbers that RTP packets start with are drawn at random, because no option gives them.
+#[derive(Clone, Copy, Debug, PartialEq, Eq)]
+pub struct Draws {
+    pub ssrc: bool,
+    pub sequence: bool,
+    pub timestamp: bool,
+}
+
+impl Draws {
+    /// Draws the numbers, and returns the configuration with them (RFC 3550, sections 5.1 and 8). The error is the
+    /// system's: it has no random numbers.
+    pub fn draw<G: RandomSource>(self, random: &G, config: Config) -> io::Result<Config>
+        ensures drawn { IfOk result (λ drawn. IsDrawn self config drawn) }
+    {
+        let mut bytes = [0; 10];
+        if self.ssrc || self.sequence || self.timestamp {
+            random.fill_bytes(&mut bytes)?;
+        }
+        let [a, b, c, d, e, f, g, h, i, j] = bytes;
+        let mut drawn = config;
+        if self.ssrc {
+            drawn.ssrc = u32::from_be_bytes([a, b, c, d]);
+        }
+        if self.sequence {
+            drawn.sequence = u16::from_be_bytes([e, f]);
+        }
+        if self.timestamp {
+            drawn.timestamp = u32::from_be_bytes([g, h, i, j]);
+        }
+        Ok(drawn)
+    }
+}

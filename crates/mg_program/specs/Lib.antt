@@ -5,5 +5,6 @@ pub mod Options
 pub mod Replay
 pub mod Readiness
 pub mod Title
+pub mod Draws
 pub mod Serve
 pub mod Program

@@ -5,7 +5,7 @@
 //! `mg_bridge live` runs a gateway on UDP ports in real time.
 //!
 //! `mg_bridge serve` runs the same gateway, driven by lines on standard input. `poll` receives the waiting datagrams,
-//! `tick` advances by 20 ms and sends the packets, `stats` prints the counts, and `quit` ends it. Another program,
+//! `tick` advances by 20 ms and sends the packets, `stats` prints the counts, and `quit` ends the run. Another program,
 //! `mg_pace`, writes `poll` and `tick` when the clock says that they are due.
 //!
 //! With `--record`, `live` and `serve` print a recording: a script of all events.

@@ -10,7 +10,7 @@ pub(crate) const PERIOD: u128 = 20_000_000;
 /// The maximum number of polls per 20 ms.
 pub const MAX_POLLS: u16 = 1000;
 
-/// Returns how many steps are due by `now`, in nanoseconds since the start, with this many polls per 20 ms.
+/// Returns how many steps are due by `now`, at this many polls per 20 ms. `now` is in nanoseconds since the start.
 pub fn steps_due(polls: u64, now: u64) -> u64
     requires few { polls ≤ MAX_POLLS }
     ensures value { result ≡ steps_due polls now }

@@ -9,7 +9,7 @@
 //! let step = schedule.next_step(&mut watch)?;
 //! ```
 //!
-//! A step is a poll; there are one or more per 20 ms. The last step of each 20 ms is also a tick ([`steps_due`]).
+//! A step is a poll; each period of 20 ms has at least one. The last step of a period is also a tick ([`steps_due`]).
 //!
 //! [`Watch`] is a clock that can wait, and [`SystemWatch`] is the system's monotonic clock. Times are in nanoseconds
 //! since the start.

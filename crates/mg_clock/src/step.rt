@@ -1,6 +1,6 @@
 use crate::timing::Timing;
 
-/// What a schedule has waited for.
+/// Why a schedule stopped waiting.
 #[derive(Clone, Copy, Debug, PartialEq, Eq)]
 pub enum Step {
     /// A message arrived before the next tick was due.

@@ -52,7 +52,7 @@ abbrev pub is_topology_word : ContextWord → Bool
 is_topology_word words.Topology = true
 is_topology_word _ = false
 
--- the error of a property that is repeated or not supported, given the properties before it
+-- the error for a property that is repeated or not supported, given the properties before it
 abbrev pub context_property_fault : List ContextProperty → ContextProperty
     → Option ErrorNumber
 context_property_fault before (properties.Topology xs) =
@@ -66,8 +66,8 @@ abbrev pub is_all : ContextId → Bool
 is_all contexts.All = true
 is_all _ = false
 
--- The error of an action as a whole, if there is one: it names all contexts, or has a faulty
--- property. The first faulty property in the text counts.
+-- The error that rejects an action as a whole, if there is one: it names all contexts, or has a
+-- faulty property. The first faulty property in the text counts.
 abbrev pub action_fault : Action → Option ErrorNumber
 action_fault a =
     if is_all a.context then Some NotServed else first_after context_property_fault [] a.properties

@@ -103,7 +103,7 @@ impl CommandParameters {
         }
     }
 
-    /// Stores the value of a part, unless a part of its kind came before.
+    /// Stores the value of a part, unless an earlier part of the same kind had one.
     fn take(&mut self, source: &[u8], part: Part)
         ensures value { self.new ≡ with_part source.now self.old part }
     {

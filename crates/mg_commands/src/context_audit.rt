@@ -40,7 +40,7 @@ fn audit_pair(engine: &Engine, first: &NamedMember, second: &NamedMember) -> Ite
     pair_item(second_hears, first_hears, first, second)
 }
 
-/// Reports this member's pair with each member that entered after it.
+/// Reports the pairs of this member with all members that entered later.
 fn put_pairs_of(engine: &Engine, first: &NamedMember, later: &[NamedMember], reply: &mut Reply)
     requires first { IsOnSeat engine.now.rooms first.now }
     requires later { All (IsOnSeat engine.now.rooms) later.now }

@@ -45,7 +45,7 @@ fn same_control(source: &[u8], a: &ControlPart, b: &ControlPart) -> bool
     }
 }
 
-/// Returns whether two parts are the same word of the same stream, which must not be repeated.
+/// Returns whether two parts are a forbidden repetition: the same word in the same stream.
 fn is_same_part(source: &[u8], a: Part, b: Part) -> bool
     ensures value { result ≡ is_same_part source.now a b }
 {
@@ -60,7 +60,7 @@ fn is_same_part(source: &[u8], a: Part, b: Part) -> bool
     }
 }
 
-/// Returns the fault of a part whose word is repeated, or which has content but is not supported.
+/// Returns the fault in a part: its word is repeated, or it is not supported but has content.
 fn fault_of(appeared: bool, part: Part) -> Option<ErrorNumber>
     ensures value { result ≡ fault_of appeared part }
 {
@@ -92,7 +92,7 @@ fn appeared_in_control(source: &[u8], part: &ControlPart, before: &[ControlPart]
     is_single(source, part) && before.iter().any(|other| same_control(source, part, other))
 }
 
-/// Returns the first fault in a LocalControl of a stream.
+/// Returns the first fault in a stream's LocalControl.
 #[tactic(auto, using(crate::proofs::FaultSteps::walking))]
 fn controls_fault(source: &[u8], stream: u32, parts: &[ControlPart]) -> Option<ErrorNumber>
     ensures value { result ≡ first_after (control_level source.now stream) [] parts.now }
@@ -125,7 +125,7 @@ fn appears_among(source: &[u8], part: &Part, stream: u32, parts: &[StreamPart]) 
 
 /// Returns whether a part of a stream occurs in a part of a Media descriptor.
 ///
-/// It compares the streams' numbers first, because a message has room for about 700 streams.
+/// It compares the streams' numbers first, because a message can contain about 700 streams.
 fn appears_in(source: &[u8], part: &Part, stream: u32, other: &MediaPart) -> bool
     ensures value { result ≡ appears_in source.now part.now stream other.now }
 {
@@ -147,7 +147,7 @@ fn appears_in_media(source: &[u8], part: &Part, stream: u32, media: &[MediaPart]
         .any(|other| appears_in(source, part, stream, other))
 }
 
-/// Returns the first fault of a part of a stream.
+/// Returns the first fault in a part of a stream.
 fn stream_part_fault(
     source: &[u8],
     media: &[MediaPart],
@@ -194,7 +194,7 @@ fn has_state(parts: &[MediaPart]) -> bool
         .any(|part| matches!(part, MediaPart::TerminationState(_)))
 }
 
-/// Returns the first fault of a part of a Media descriptor.
+/// Returns the first fault in a part of a Media descriptor.
 fn media_part_fault(source: &[u8], before: &[MediaPart], part: &MediaPart) -> Option<ErrorNumber>
     ensures value { result ≡ media_level source.now before.now part.now }
 {
@@ -257,7 +257,7 @@ fn appeared_in_command(source: &[u8], word: Part, before: &[Descriptor]) -> bool
     before.iter().any(|other| is_same_part(source, word, open_descriptor(other).0))
 }
 
-/// Returns the first fault of a descriptor.
+/// Returns the first fault in a descriptor.
 fn descriptor_fault(
     source: &[u8],
     before: &[Descriptor],

@@ -57,7 +57,7 @@ pub fn all_members(
     Ok(members)
 }
 
-/// Copies the members to the front of an array, because a Subtract changes the list of the context.
+/// Copies the members to the front of an array, because a Subtract changes the context's list of members.
 pub fn copy_of(members: &[u32]) -> [u32; MEMBERS]
     requires few { length members.now ≤ MEMBERS }
     ensures front { take (length members.now) result ≡ members.now }

@@ -16,7 +16,7 @@ pub enum Name {
     All,
     /// `RTP/` and a number of at least 1 without a leading zero: the termination with this number.
     Number(u32),
-    /// Any other name. No termination has it.
+    /// Any other name. No termination has this name.
     Other,
 }
 

@@ -117,7 +117,7 @@ fn subtract_outcome(
     Ok(served_at(target, number, before))
 }
 
-/// Runs an AuditValue of a termination (RFC 3525, section 7.2.5).
+/// Runs an AuditValue on a termination (RFC 3525, section 7.2.5).
 fn audit_termination(
     engine: &Engine,
     target: Target,
@@ -132,7 +132,7 @@ fn audit_termination(
     Ok(served_at(target, number, parts))
 }
 
-/// Runs an AuditValue of the gateway as a whole, which reports only that it exists.
+/// Runs an AuditValue on the gateway as a whole, which reports only that it exists.
 fn audit_root(target: Target) -> Result<Served, ErrorNumber>
     ensures value { result ≡ audit_root target }
 {

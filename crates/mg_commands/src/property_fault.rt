@@ -17,7 +17,7 @@ pub fn jitter_of(source: &[u8], value: Option<PropertyValue>) -> Option<u16>
     }
 }
 
-/// Returns the fault of a part of a LocalControl: a reservation, an unsupported property, or a value that is not
+/// Returns the fault in a part of a LocalControl: a reservation, an unsupported property, or a value that is not
 /// allowed.
 fn control_fault(source: &[u8], part: &ControlPart) -> Option<ErrorNumber>
     ensures value { result ≡ control_fault source.now part.now }
@@ -37,7 +37,7 @@ fn control_fault(source: &[u8], part: &ControlPart) -> Option<ErrorNumber>
     }
 }
 
-/// Returns the fault of a part. A stream other than 1 is a fault.
+/// Returns the fault in a part. A stream other than 1 is a fault.
 fn property_fault(source: &[u8], part: Part) -> Option<ErrorNumber>
     ensures value { result ≡ property_fault source.now part }
 {

@@ -15,7 +15,7 @@ pub struct ReplyDescriptors {
     pub statistics: bool,
 }
 
-/// Returns whether a Local that is not blank was set.
+/// Returns whether a non-blank Local was set.
 fn is_offer(setting: &Option<MediaSetting>) -> bool
     ensures value { result ≡ is_offer setting.now }
 {

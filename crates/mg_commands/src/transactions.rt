@@ -153,9 +153,9 @@ fn try_command(
     }
 }
 
-/// Tries the commands of an action up to the first failure of one that is not optional.
+/// Tries the commands of an action in order, and stops if a non-optional command fails.
 ///
-/// Returns the progress of the action, and whether there was no such failure.
+/// Returns the progress of the action, and whether all non-optional commands succeeded.
 #[tactic(auto, using(crate::proofs::RunLemmas::propers))]
 fn try_commands(
     engine: &mut Engine,
@@ -205,7 +205,7 @@ fn id_of(target: Target) -> ContextId
 
 /// Tries an action: its commands, and then its properties, unless a command failed.
 ///
-/// Returns whether it was completed.
+/// Returns whether the action was completed.
 #[tactic(auto, unfolding(crate::specs::aids::ByActions::with_action))]
 fn try_action(engine: &mut Engine, source: &[u8], action: &Action, reply: &mut Reply) -> bool
     requires proper { action_is_proper source.now action.now ≡ true }
@@ -245,8 +245,7 @@ fn try_actions(engine: &mut Engine, source: &[u8], actions: &[Action], reply: &m
     }
 }
 
-/// Runs a request from the message `source`, and puts the outcomes of its commands into the reply, which it first
-/// empties.
+/// Empties the reply, runs a request from the message `source`, and puts the outcomes of its commands into the reply.
 ///
 /// Commands are tried in order, up to the first that fails. A command for all members (`*`) is tried on all of them,
 /// and fails if it fails for any. If an optional command (`O-`) fails, the next commands are still tried. After its

@@ -84,7 +84,7 @@ hearing ticks x = change_line ticks x (codes " hears" ++ names_in_line x.talkers
 
 -- ## Changes
 
--- the line of a termination that no longer exists
+-- the line for a termination that no longer exists
 abbrev pub lines_of_old : ℕ → List Listener → Listener → List ℕ
 lines_of_old ticks after x = if is_some (listener_at after x.number) then [] else ended_line ticks x
 

@@ -16,7 +16,7 @@ abbrev pub datagram_text : Peer → List ℕ → List ℕ
 datagram_text source bytes =
     peer_text source ++ (codes " " ++ (encode_lower bytes ++ codes "\n"))
 
--- the line of an event
+-- the line for an event
 abbrev pub event_line : Event → List ℕ
 event_line (Control source bytes) = codes "control " ++ datagram_text source bytes
 event_line (Media port source bytes) =

@@ -23,12 +23,12 @@ use Rattle.mg_core.specs.Script.{event_of, events_of, escaped}
 
 -- ## Lines of the output
 
--- the line of an answer to a peer
+-- the line for an answer to a peer
 abbrev pub answer_line : Peer → List ℕ → List ℕ
 answer_line peer text =
     codes "say " ++ (peer_text peer ++ (codes " " ++ (escaped text ++ codes "\n")))
 
--- the line of a packet, its bytes in lower-case hexadecimal
+-- the line for a packet, its bytes in lower-case hexadecimal
 abbrev pub packet_line : Datagram → List ℕ
 packet_line d =
     codes "rtp " ++ (decimal d.from ++

@@ -16,8 +16,8 @@ use Rattle.mg_engine.specs.Stands as engine_stands
 use Rattle.mg_core.specs.declared.counts.Counts.{Counts}
 use Rattle.mg_core.specs.declared.state.CoreState.{CoreState}
 
--- The numbers of control datagrams, RTP datagrams and ticks, of RTP datagrams with each result, and
--- of frames that concealed a missing one.
+-- The numbers of control datagrams, RTP datagrams and ticks, of RTP datagrams with each outcome,
+-- and of frames played in place of missing ones.
 pub record Tally : Type 0 where
   pub control : ℕ
   pub media : ℕ
@@ -42,7 +42,7 @@ start_of config = record { gateway = engine.start_of config; replies = []; tally
 
 -- ## Counting
 
--- the index of a result's count in the list
+-- the index of an outcome's count in the list
 abbrev pub result_place : Taken → ℕ
 result_place (takens.Placed placed.Started) = 0
 result_place (takens.Placed placed.Placed) = 1
@@ -91,7 +91,7 @@ counts_of t = record {
 abbrev pub with_control : World → World
 with_control w = record w { tally = record w.tally { control = w.tally.control + 1 } }
 
--- the result of an RTP datagram at a port, and the world after it
+-- the outcome of an RTP datagram at a port, and the world after it
 abbrev pub TakesMedia : World → ℕ → Peer → List ℕ → World → Taken → Type 0
 TakesMedia w port source bytes after result =
     (g : engine.Gateway) × Takes w.gateway port source.address bytes g result

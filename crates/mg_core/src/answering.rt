@@ -39,7 +39,7 @@ pub fn refusal_of(fault: ReadFault) -> Option<ErrorNumber>
     }
 }
 
-/// Writes the error of a message that is rejected as a whole.
+/// Writes the error that rejects a message as a whole.
 #[tactic(auto, using(crate::proofs::AnswerLemmas::totals))]
 pub fn put_error(config: &Config, number: ErrorNumber, answer: &mut Bytes)
     requires room { HEAD_LIMIT + ERROR_LIMIT ≤ answer.old.room }
@@ -87,7 +87,7 @@ fn put_reply(reply: &mut Reply, answer: &mut Bytes)
     write_reply(reply, answer).unwrap();
 }
 
-/// Runs a sender's request, and writes and keeps its reply. It must not have a kept reply yet.
+/// Runs a sender's request, and writes and keeps its reply. The request must not have a kept reply yet.
 fn run_request(
     state: &mut CoreState,
     source: &[u8],
@@ -143,7 +143,7 @@ fn put_request(
     }
 }
 
-/// Drops the kept replies to a sender with these numbers.
+/// Drops a sender's kept replies with these numbers.
 fn acknowledge(kept: &mut Kept, sender: &[u8], ranges: &[Range])
     ensures value { kept.new ≡ without_ranges sender.now ranges.now kept.old }
 {

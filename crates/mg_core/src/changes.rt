@@ -15,22 +15,22 @@ const NUMBER_LIMIT: usize = 20;
 /// The start of a line: `# `, ` ticks: RTP/` and two numbers.
 const LINE_HEAD_LIMIT: usize = 14 + 2 * NUMBER_LIMIT;
 
-/// The line of a termination that ended: its start, ` ended` and a line feed.
+/// The line for a termination that ended: its start, ` ended` and a line feed.
 pub const ENDED_LIMIT: usize = 7 + LINE_HEAD_LIMIT;
 
 /// ` made in context `, ` at port ` and two numbers.
 const PLACE_LIMIT: usize = 26 + 2 * NUMBER_LIMIT;
 
-/// The line of a new termination's place: its start, the place and a line feed.
+/// The line with a new termination's place: its start, the place and a line feed.
 const MADE_LIMIT: usize = 1 + LINE_HEAD_LIMIT + PLACE_LIMIT;
 
 /// ` moved to context ` and a number.
 const MOVED_TO_LIMIT: usize = 18 + NUMBER_LIMIT;
 
-/// The line of a termination that moved: its start, the context and a line feed.
+/// The line for a termination that moved: its start, the context and a line feed.
 const MOVED_LIMIT: usize = 1 + LINE_HEAD_LIMIT + MOVED_TO_LIMIT;
 
-/// The line of a mode: its start, ` mode `, the longest mode (11 bytes) and a line feed.
+/// The line with a termination's mode: its start, ` mode `, the longest mode (11 bytes) and a line feed.
 const MODE_LINE_LIMIT: usize = 18 + LINE_HEAD_LIMIT;
 
 /// A space and a name: ` RTP/` and a number.
@@ -39,10 +39,10 @@ const TALKER_LIMIT: usize = 5 + NUMBER_LIMIT;
 /// The names of all members of a context.
 const TALKERS_LIMIT: usize = MEMBERS * TALKER_LIMIT;
 
-/// The line of whom a termination hears: its start, ` hears`, names and a line feed.
+/// The line that says whom a termination hears: its start, ` hears`, names and a line feed.
 const HEARING_LIMIT: usize = 7 + LINE_HEAD_LIMIT + TALKERS_LIMIT;
 
-/// All lines of a new termination.
+/// All lines for a new termination.
 pub const NEW_LIMIT: usize = MADE_LIMIT + MODE_LINE_LIMIT + HEARING_LIMIT;
 
 /// Writes a number in decimal.
@@ -154,7 +154,7 @@ fn push_name(number: u32, out: &mut Bytes)
     push_number(u64::from(number), out);
 }
 
-/// Writes the names of terminations, or that there are none.
+/// Writes the names of terminations, or `nobody` if there are none.
 #[tactic(auto, using(crate::proofs::ChangeLemmas::steps))]
 fn push_names(numbers: &[u32], out: &mut Bytes)
     requires few { length numbers.now ≤ MEMBERS }

@@ -5,10 +5,10 @@ ghost use Rattle.mg_core.specs.World.{result_place};
 use mg_engine::{DropCause, Taken};
 use mg_playout::Placed;
 
-/// The number of results of placing.
+/// The number of possible results of placing a frame.
 const PLACINGS: usize = 5;
 
-/// The number of causes of a drop.
+/// The number of reasons why a datagram can be dropped.
 pub const DROP_CAUSES: usize = 6;
 
 /// The counters of a run. A counter that reaches its maximum stays there.
@@ -26,11 +26,11 @@ pub struct Counts {
     pub sent: u64,
     /// Sends and receives that failed, and control datagrams that were dropped because memory ran out.
     pub failed: u64,
-    /// RTP datagrams by the result of placing: started, placed, pushed, again, late.
+    /// RTP datagrams by the result of placing their frames: started, placed, pushed, again, late.
     pub placed: [u64; PLACINGS],
     /// Dropped RTP datagrams by cause: no termination, stray, no Local, not RTP, payload type, length.
     pub dropped: [u64; DROP_CAUSES],
-    /// Frames that concealed a missing one.
+    /// Frames played in place of missing ones.
     pub concealed: u64,
 }
 
@@ -74,7 +74,7 @@ impl Counts {
         self.control = self.control.saturating_add(1);
     }
 
-    /// Counts the result of an RTP datagram.
+    /// Counts an RTP datagram by its outcome.
     pub fn count_media(&mut self, taken: Taken)
         ensures counted { (t : Tally) → self.old ≡ counts_of t → self.new ≡ counts_of (with_taken taken t) }
     {
@@ -100,7 +100,7 @@ impl Counts {
     }
 }
 
-/// Returns the index of the counter for a result of placing.
+/// Returns the index of the counter for a result of placing a frame.
 fn placed_counter(placed: Placed) -> usize
     ensures value { result ≡ result_place (takens.Placed placed) }
     ensures below { result < 5 }
@@ -114,7 +114,7 @@ fn placed_counter(placed: Placed) -> usize
     }
 }
 
-/// Returns the index of the counter for a cause of a drop.
+/// Returns the index of the counter for a reason to drop a datagram.
 fn cause_counter(cause: DropCause) -> usize
     ensures value { 5 + result ≡ result_place (takens.Dropped cause) }
     ensures below { result < 6 }

@@ -21,7 +21,7 @@ const DATAGRAM_START: usize = 2 + PEER_LIMIT;
 /// The maximum length of a line, in bytes: `rtp`, two spaces, a port, a peer, and the digits of a datagram.
 const LINE_ROOM: usize = 5 + PORT_LIMIT + DATAGRAM_START + DIGITS_ROOM;
 
-/// The script line of an event, which is built here and then written at once. Contracts see its text.
+/// The script line of an event, which is built here and then written as a whole. Contracts see its text.
 #[derive(Drop)]
 pub struct EventLine {
     line: Bytes,
@@ -67,7 +67,7 @@ impl EventLine {
         })
     }
 
-    /// Builds the line of a control datagram.
+    /// Builds the line for a control datagram.
     #[tactic(auto, using(crate::proofs::OutputLemmas::steps))]
     pub fn control(&mut self, source: Peer, bytes: &[u8])
         requires short { length bytes.now ≤ DATAGRAM_LIMIT }
@@ -78,7 +78,7 @@ impl EventLine {
         push_datagram(source, bytes, &mut self.digits, &mut self.line);
     }
 
-    /// Builds the line of an RTP datagram at a media port.
+    /// Builds the line for an RTP datagram at a media port.
     #[tactic(auto, using(crate::proofs::OutputLemmas::steps))]
     pub fn media(&mut self, port: u16, source: Peer, bytes: &[u8])
         requires short { length bytes.now ≤ DATAGRAM_LIMIT }

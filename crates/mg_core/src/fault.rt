@@ -24,7 +24,7 @@ pub enum LineFault {
     NoMemory,
 }
 
-/// Why a script did not run to its end on a gateway that was started.
+/// Why a script did not run to its end, although the gateway started.
 #[derive(Clone, Copy, Debug, PartialEq, Eq)]
 pub enum ScriptFault {
     /// The line with this number, counted from 1, is not a script line.

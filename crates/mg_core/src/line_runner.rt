@@ -81,7 +81,7 @@ impl LineRunner {
         })
     }
 
-    /// Handles a control datagram, and writes the line of its answer.
+    /// Handles a control datagram, and writes the line for its answer.
     #[tactic(auto, using(crate::proofs::AnswerLemmas::totals))]
     fn take_control<W: Write>(
         &mut self,
@@ -120,7 +120,7 @@ impl LineRunner {
         let _ = self.core.media(port, source, bytes);
     }
 
-    /// Advances by 20 ms, and writes the lines of the packets that are sent.
+    /// Advances by 20 ms, and writes a line for each packet that is sent.
     #[tactic(auto, using(crate::proofs::AnswerLemmas::totals))]
     fn take_tick<W: Write>(&mut self, writer: &mut W) -> Result<(), EventFault>
         ensures value { Leads StandsFor self.old.core.state self.new.core.state (λ w next.

@@ -55,7 +55,7 @@ impl KeptListeners {
     }
 }
 
-/// Stores the terminations of a core in the first places. Returns how many there are.
+/// Stores the terminations of a core in the first places. Returns how many terminations it stored.
 fn fill_places(places: &mut [KeptListener], core: &Core) -> usize
     requires places { length places.old ≡ TERMINATIONS }
     ensures front { (w : World) → StandsFor core.now.state w → take result places.new ≡ listeners_of w.gateway }

@@ -37,8 +37,8 @@ pub const ANSWER_LIMIT: usize = HEAD_LIMIT + REQUEST_LIMIT * REPLY_ROOM - 1;
 
 /// The gateway as a state machine: datagrams and ticks go in, answers and packets come out.
 ///
-/// It opens nothing, waits for nothing, and reads no clock. It keeps no history, so contracts speak of every world that
-/// its state represents, before and after a call.
+/// It opens nothing, waits for nothing, and reads no clock. It keeps no history, so contracts are about every world
+/// that its state represents, before and after a call.
 #[derive(Drop)]
 pub struct Core {
     state: CoreState,
@@ -296,7 +296,7 @@ impl Core {
         self.state.engine.work()
     }
 
-    /// Returns the counts of events: control datagrams, RTP datagrams by their result, and ticks.
+    /// Returns the counts of events: control datagrams, RTP datagrams by outcome, and ticks.
     ///
     /// `lines`, `sent` and `failed` are 0, because the runner of the core counts them.
     pub fn counts(&self) -> Counts

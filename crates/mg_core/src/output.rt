@@ -15,7 +15,8 @@ use mg_words::ADDRESS_LIMIT;
 /// The maximum length of a peer, in bytes: an address, a colon and a port.
 pub const PEER_LIMIT: usize = ADDRESS_LIMIT + 1 + PORT_LIMIT;
 
-/// The maximum length of an answer's line without the answer, in bytes: `say`, two spaces, a peer and a line feed.
+/// The maximum length of an answer's line, not counting the answer, in bytes: `say`, two spaces, a peer and a line
+/// feed.
 pub const LINE_START: usize = 6 + PEER_LIMIT;
 
 /// The number of hexadecimal digits of a packet.
@@ -61,7 +62,7 @@ pub fn push_peer(peer: Peer, out: &mut Bytes)
     write_port(peer.port, out);
 }
 
-/// Writes the line of an answer to a peer.
+/// Writes the line for an answer to a peer.
 #[tactic(auto, using(crate::proofs::OutputLemmas::steps))]
 pub fn push_answer(peer: Peer, text: &[u8], out: &mut Bytes)
     requires room { LINE_START + 2 * length text.now ≤ out.old.room }
@@ -86,7 +87,7 @@ fn push_digits(bytes: &[u8; PACKET_LEN], out: &mut Bytes)
     out.push(&digits);
 }
 
-/// Writes the line of a packet.
+/// Writes the line for a packet.
 #[tactic(auto, using(crate::proofs::OutputLemmas::steps))]
 fn push_packet(packet: &Datagram, out: &mut Bytes)
     requires room { PACKET_LINE ≤ out.old.room }
@@ -102,7 +103,7 @@ fn push_packet(packet: &Datagram, out: &mut Bytes)
     out.push(b"\n");
 }
 
-/// Writes the lines of a tick's packets.
+/// Writes a line for each packet of a tick.
 #[tactic(auto, using(crate::proofs::OutputLemmas::steps))]
 pub fn push_packets(packets: &[Datagram], out: &mut Bytes)
     requires room { PACKET_LINE * length packets.now ≤ out.old.room }

@@ -24,7 +24,7 @@ use std::io::{Read, Write};
 /// - `Script`: the first bad line has this number, and the lines before it were run.
 /// - `Read`: the lines whose ends had been read were run, and no others. A run also ends with `Read` after
 ///   4,294,967,295 reads.
-/// - `Write`: the lines up to some line were run, and the output of that last one was written only in part.
+/// - `Write`: all lines up to some line were run, but the output of the last of them was written only in part.
 /// - `NoMemory`: the lines before some line were run, and that line had no effect; or nothing was read.
 /// - `BadConfig`: returned if and only if the configuration is invalid. Nothing was read.
 pub fn run<R: Read, W: Write>(

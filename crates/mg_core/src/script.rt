@@ -104,7 +104,7 @@ fn unhex(alloc: Global, digits: &[u8]) -> Result<Vec<u8>, ParseFault>
     }
 }
 
-/// How a script line encodes a datagram. The first word of the line determines it.
+/// How a script line encodes a datagram. The first word of the line determines the encoding.
 #[derive(Clone, Copy, Debug, PartialEq, Eq)]
 enum Spelling {
     /// Text with escapes.
@@ -204,7 +204,7 @@ fn is_comment(line: &[u8]) -> bool
     }
 }
 
-/// Parses a line, given without its line feed. Returns `None` if it has no event.
+/// Parses a line, given without its line feed. Returns `None` if the line has no event.
 #[tactic(auto, unfolding(crate::specs::Script::event_of))]
 pub fn event_of(alloc: Global, line: &[u8]) -> Result<Option<Event>, ParseFault>
     ensures { Reads (λ event. event) result (event_of line.now) }

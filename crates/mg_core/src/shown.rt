@@ -1,7 +1,7 @@
-/// What running a script writes for each event.
+/// What is written for each event of a script.
 #[derive(Clone, Copy, Debug, PartialEq, Eq)]
 pub enum Shown {
-    /// The datagrams that it sends.
+    /// The datagrams that the event sends.
     Sent,
     /// The datagrams, followed by comment lines that report changes to the terminations and to who hears whom.
     SentAndFlows,

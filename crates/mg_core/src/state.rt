@@ -24,7 +24,7 @@ impl CoreState {
         self.counts.count_control();
     }
 
-    /// Counts the result of an RTP datagram.
+    /// Counts an RTP datagram by its outcome.
     pub fn count_media(&mut self, taken: Taken)
         ensures engine { self.new.engine ≡ self.old.engine }
         ensures kept { self.new.kept ≡ self.old.kept }

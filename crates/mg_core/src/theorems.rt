@@ -106,9 +106,9 @@ pub fn port_order_is_irrelevant()
 
 /// In each tick, a listener's packet is independent of the terminations that it does not hear in that tick.
 ///
-/// Suppose two gateways receive the same events, except for RTP datagrams at the ports of some terminations. In the next
-/// tick, both send the same bytes to every listener that hears none of those terminations in that tick. What the
-/// listener heard earlier makes no difference.
+/// Suppose two gateways receive the same events, except for RTP datagrams at the ports of some terminations. In the
+/// next tick, both gateways send the same bytes to every listener that hears none of those terminations in that tick.
+/// What the listener heard earlier makes no difference.
 pub fn unheard_changes_nothing()
     ensures lists { UnheardChangesNothing }
     ensures histories { UnheardInHistories }
@@ -126,15 +126,15 @@ pub fn changes_are_reported()
     ensures exact { OnlyChangesAreReported }
 {}
 
-/// The counts equal the numbers of control datagrams, RTP datagrams and ticks, and each RTP datagram has one result.
+/// The counts equal the numbers of control datagrams, RTP datagrams and ticks, and each RTP datagram has one outcome.
 pub fn events_are_counted()
     ensures theorem { EventsAreCounted }
 {}
 
 /// A recording is a script of its events.
 ///
-/// The line of an event is read as that event, and any other line is read as a comment. If a recording is cut after any
-/// byte, its complete lines are a script of its first events.
+/// The line for an event is read as that event, and any other line is read as a comment. If a recording is cut after
+/// any byte, its complete lines are a script of its first events.
 pub fn recordings_are_read()
     ensures theorem { RecordingsAreRead }
     ensures cut { CutRecordingsAreRead }
@@ -142,10 +142,10 @@ pub fn recordings_are_read()
 
 /// The headline theorem: the parts of the headline that the contracts of a core's calls do not state.
 ///
-/// The clauses `headline` and `packets` of a [`Core`](crate::Core) say that after any events it returns and sends what
-/// is recomputed from the resulting world. This theorem states the rest. The events determine that world and the
-/// content of each packet. Packets are sent in order of the terminations' numbers. A rejected command changes nothing,
-/// not even a later packet. Nobody hears himself, and an isolated participant is not heard.
+/// The clauses `headline` and `packets` of a [`Core`](crate::Core) say that after any events, what it returns and sends
+/// equals what is recomputed from the resulting world. This theorem states the rest. The events determine that world
+/// and the content of each packet. Packets are sent in order of the terminations' numbers. A rejected command changes
+/// nothing, not even a later packet. Nobody hears himself, and an isolated participant is not heard.
 pub fn headline()
     ensures world { EventsDetermineOutcome }
     ensures packets { PayloadsAreMixes }

@@ -73,7 +73,7 @@ taken_at w n (Err cause) = (w, Dropped cause)
 abbrev pub at_port : rooms.Registry → ℕ → Option Record
 at_port w port = find (λ r. slot_port w.limits r.slot == port) w.terminations
 
--- the gateway after a datagram arrived at a port from an address, and the result of the datagram
+-- the gateway after a datagram arrived at a port from an address, and the outcome of the datagram
 abbrev pub taken : Gateway → ℕ → List ℕ → Reading → Gateway × Taken
 taken w port source reading =
     option_map_or (λ r. taken_at w r.number (arrived r source reading)) (at_port w.rooms port)

@@ -20,7 +20,7 @@ standard = record {
   timestamp = 0;
 }
 
--- the limits of terminations and contexts
+-- the limits on terminations and contexts
 abbrev pub limits_of : Config → Limits
 limits_of c =
     record {

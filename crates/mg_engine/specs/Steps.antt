@@ -4,7 +4,7 @@ use Rattle.mg_playout.specs.Playout.{PlayList, with_depth}
 use Rattle.mg_rooms.specs.Settings.{depth_after}
 use Rattle.mg_words.specs.declared.stats.Stats.{Stats}
 
--- a command that names a depth sets the depth of the play list
+-- a command that specifies a depth sets the depth of the play list
 abbrev pub play_after : Option ℕ → PlayList → PlayList
 play_after None play = play
 play_after (Some depth) play = with_depth play (depth_after (Some depth) depth)

@@ -45,7 +45,7 @@ abbrev pub overlaps : List ℕ → TopologyTriple → Bool
 overlaps members x =
     is_oneway x.association && list_any (has (matched members x.second)) (matched members x.first)
 
--- the first error of a triple
+-- the first error in a triple
 abbrev pub check_triple : List ℕ → TopologyTriple → Result (Unit {0}) ErrorNumber
 check_triple members x = do
   _ ← passes (not (is_barred x.first || is_barred x.second)) errors.IdentifierNotAllowed
@@ -53,7 +53,7 @@ check_triple members x = do
       errors.NotInContext
   passes (not (overlaps members x)) errors.IllegalCombination
 
--- the first error of the triples, in order
+-- the first error in the triples, in order
 abbrev pub check_triples : List ℕ → List TopologyTriple → Result (Unit {0}) ErrorNumber
 check_triples members [] = Ok tt
 check_triples members (x ∷ xs) = do

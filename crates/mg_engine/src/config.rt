@@ -7,9 +7,9 @@ use mg_rooms::{Limits, TERMINATIONS};
 /// The media ports are the even ports `base_port`, `base_port + 2`, .. up to `base_port + 2 * (slots - 1)`.
 #[derive(Clone, Copy, Debug, PartialEq, Eq)]
 pub struct Config {
-    /// The IPv4 address for media, which session descriptions name.
+    /// The IPv4 address for media, used in session descriptions.
     pub address: [u8; 4],
-    /// The IPv4 address for control messages, which names the gateway in its messages.
+    /// The IPv4 address for control messages, also used as the gateway's name in its messages.
     pub control_address: [u8; 4],
     /// The UDP port for control messages.
     pub control_port: u16,
@@ -21,7 +21,7 @@ pub struct Config {
     pub first_termination: u32,
     /// The number of the first context.
     pub first_context: u32,
-    /// The SSRC of termination n is this plus n.
+    /// The SSRC of termination n is this number plus n.
     pub ssrc: u32,
     /// The sequence number of a termination's first packet.
     pub sequence: u16,
@@ -64,7 +64,7 @@ impl Config {
         self.limits().is_valid() && self.has_control_port()
     }
 
-    /// Returns the limits of terminations and contexts.
+    /// Returns the limits on terminations and contexts.
     pub fn limits(&self) -> Limits
         ensures value { result ≡ limits_of self.now }
     {

@@ -53,7 +53,7 @@ impl Datagram {
 /// The packets of one tick, in order of their terminations' numbers.
 pub type Outbox = ArrayVec<Datagram, TERMINATIONS>;
 
-/// Appends a packet with this payload to an outbox. Its header and addresses are set later.
+/// Appends a packet with this payload to an outbox. The packet's header and addresses are set later.
 pub fn push_payload(outbox: &mut Outbox, payload: &[u8; SAMPLES])
     requires room { length outbox.old.items < TERMINATIONS }
     ensures put { IsPut outbox.old.items outbox.new.items payload.now }

@@ -21,7 +21,7 @@ pub enum Edit {
         number: u32,
         settings: Settings,
     },
-    /// Ends a member of the context.
+    /// Removes a member from the context, and ends its termination.
     Subtract {
         target: Target,
         number: u32,

@@ -332,7 +332,7 @@ impl Engine {
 
     /// Applies triples in order to the current members of the action's context (RFC 3525, section 7.1.18).
     ///
-    /// If there is an error, none is applied, and the first error is returned. Returns the context's number.
+    /// If there is an error, no triple is applied, and the first error is returned. Returns the context's number.
     pub fn apply_triples(
         &mut self,
         target: Target,
@@ -353,7 +353,7 @@ impl Engine {
 
     /// Returns the context to which the triples of an action would be applied, or the error if it does not exist.
     ///
-    /// That is the result of a topology without triples.
+    /// A topology without triples has the same result.
     pub fn topology_context(&self, target: Target) -> Result<u32, ErrorNumber>
         ensures outcome { (w : Gateway) → StandsFor self.now w → IsOutcome self.now result (apply_triples w target []) }
     {
@@ -433,8 +433,8 @@ impl Engine {
 
     /// Returns whether `listener` hears `talker`, regardless of modes.
     ///
-    /// It does if they are different members of the same context and the last word on the two allows it. The first
-    /// argument is the listener.
+    /// The listener hears the talker if they are different members of the same context and the last word on the two
+    /// allows it. The first argument is the listener.
     pub fn hears(&self, listener: u32, talker: u32) -> bool
         ensures value { (w : Gateway) → StandsFor self.now w → result ≡ hears w talker listener }
     {
@@ -450,7 +450,7 @@ impl Engine {
 
     /// Returns the members of a context with their places, in order of entry.
     ///
-    /// For callers that query many pairs.
+    /// This saves lookups for code that queries many pairs.
     pub fn seated(&self, context: u32) -> ArrayVec<SeatedMember, MEMBERS>
         ensures numbers { (w : Gateway) → StandsFor self.now w →
             map (λ m. m.number) result.items ≡ members_at w.rooms context }
@@ -500,7 +500,7 @@ impl Engine {
         }
     }
 
-    /// Advances by 20 ms: plays each play list, and fills the outbox with a packet from each termination that sends.
+    /// Advances by 20 ms: advances each play list, and fills the outbox with a packet from each termination that sends.
     ///
     /// Packets are in order of the terminations' numbers. Returns how many frames conceal a missing one.
     pub fn tick(&mut self, outbox: &mut Outbox) -> usize
@@ -597,9 +597,9 @@ impl Engine {
         address_last(outbox, from, Peer { address, port }, header);
     }
 
-    /// Appends a packet whose payload is what is sent to a member. Its header and addresses are set later.
+    /// Appends a packet whose payload is what is sent to a member. The packet's header and addresses are set later.
     ///
-    /// In Loopback that is its own frame, otherwise the sum of everyone whose speech flows to it.
+    /// In Loopback that is its own frame, otherwise the sum of the speech that flows to it.
     fn put_payload(&mut self, sender: &Record, law: Law, outbox: &mut Outbox)
         requires member { record_at self.old.rooms sender.now.number ≡ Some sender.now }
         requires sends { IsTrue (sends sender.now.mode) }
@@ -624,7 +624,7 @@ impl Engine {
 
     /// Appends a packet whose payload is what the member at a place hears.
     ///
-    /// Listeners that hear the same talkers in the same law share a payload, which is computed once.
+    /// Listeners that hear the same talkers and use the same law share a payload, which is computed once.
     fn put_heard(&mut self, listener: &Record, place: Place, law: Law, outbox: &mut Outbox)
         requires place { IsOnPlace self.old.rooms listener.now.number listener.now place }
         requires listens { IsTrue (listens listener.now.mode) }
@@ -656,7 +656,7 @@ impl Engine {
         push_payload(outbox, &payload);
     }
 
-    /// Computes the payload of a room's total without the listener and the talkers silenced for it.
+    /// Encodes a room's total, minus the listener and the talkers silenced for it.
     fn mix(&mut self, listener: &Record, place: Place, law: Law) -> [u8; SAMPLES]
         requires place { IsOnPlace self.old.rooms listener.now.number listener.now place }
         requires listens { IsTrue (listens listener.now.mode) }
@@ -800,7 +800,7 @@ fn slot_of(rooms: &Rooms, number: u32) -> Option<u8>
     rooms.record(number).map(|record| record.slot)
 }
 
-/// Sets the depth of a slot's play list, if a command names one.
+/// Sets the depth of a slot's play list, if a command specifies one.
 fn tune(media: &mut Vec<HeldMedia>, slot: u8, depth: Option<u16>)
     requires slot { slot < length media.old.items }
     ensures tuned { media.new.items ≡ slice_set media.old.items slot

@@ -15,12 +15,12 @@
 //!
 //! A tick costs two rows for each termination that talks: its old frame is subtracted from the total, and its new frame
 //! is added. A packet costs one row (the total without the listener itself), plus one for each talker that the topology
-//! silences for the listener. In Loopback a termination is sent its own frame, which costs none. Listeners of one
-//! context that hear the same talkers in the same law share a payload, if it is among the newest eight of their
-//! context. `specs/Work.antt` has the proved bound for a tick. An edit costs at most four rows, and an RTP datagram
-//! none.
+//! silences for the listener. In Loopback a termination is sent its own frame, which costs no rows. Two listeners in a
+//! context share a payload if they hear the same talkers and use the same law, and if the payload is among the
+//! context's newest eight. `specs/Work.antt` has the proved bound for a tick. An edit costs at most four rows, and an
+//! RTP datagram none.
 //!
-//! The engine keeps no history, so one state may represent several gateways. Its contracts speak of every `Gateway`
+//! The engine keeps no history, so one state may represent several gateways. Its contracts are about every `Gateway`
 //! (`specs/Gateway.antt`) that the state represents, before and after a call (`StandsFor` in `specs/Stands.antt`).
 #![tactic(auto)]
 

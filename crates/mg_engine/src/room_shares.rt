@@ -43,10 +43,11 @@ impl RoomShares {
         self.shares.clear();
     }
 
-    /// Searches the newest packets for one that carries the sum of these talkers, encoded in this law.
+    /// Searches the newest packets for one that carries the sum of these talkers, encoded with this law.
     ///
     /// If everybody in a room talks, no two members hear the same sum. The room then has a packet for each member, and
-    /// searching all of them for every member would be quadratic. Members that only listen find theirs among the newest.
+    /// searching all of them for every member would be quadratic. Members that only listen find their sum among the
+    /// newest packets.
     pub fn find(&self, talkers: Mask, law: Law) -> Option<u8>
         ensures found { IfSome result
             (λ packet. Contains self.now (record { talkers = talkers; law = law; packet = packet })) }
@@ -67,7 +68,7 @@ impl RoomShares {
     }
 }
 
-/// Returns the first packet that carries the sum of these talkers, encoded in this law.
+/// Returns the first packet that carries the sum of these talkers, encoded with this law.
 fn packet_among(shares: &[Share], talkers: Mask, law: Law) -> Option<u8>
     ensures found { IfSome result (λ packet. Contains shares.now
         (record { talkers = talkers; law = law; packet = packet })) }

@@ -4,15 +4,15 @@ use mg_topology::mask::Mask;
 /// A packet of this tick whose payload other listeners of its room share.
 #[derive(Clone, Copy, Debug, PartialEq, Eq)]
 pub struct Share {
-    /// The seats of those whose speech flows to its listener.
+    /// The seats of the talkers whose speech flows to its listener.
     pub talkers: Mask,
-    /// The law of its payload.
+    /// The law that encodes its payload.
     pub law: Law,
     /// Its index in the outbox.
     pub packet: u8,
 }
 
-/// Returns the first packet of an outbox, for a listener that hears nobody.
+/// The default is the first packet of an outbox, for a listener that hears nobody.
 impl Default for Share {
     ghost use Rattle.std.specs.Prelude.{◌≡◌};
     ghost use Rattle.mg_engine.specs.aids.Shares.{first_share};

@@ -4,7 +4,7 @@ use mg_rtp::RtpFault;
 /// What happened to an RTP datagram.
 #[derive(Clone, Copy, Debug, PartialEq, Eq)]
 pub enum Taken {
-    /// Its frame was passed to the termination's play list.
+    /// The frame was passed to the termination's play list.
     Placed(Placed),
     /// It was dropped.
     Dropped(DropCause),

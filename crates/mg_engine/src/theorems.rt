@@ -23,7 +23,7 @@ ghost use Rattle.mg_engine.specs.Triples.{triple_limit};
 use crate::topology_triple::TRIPLES;
 use mg_rtp::theorems::one_reading;
 
-/// An RTP datagram has exactly one result in every gateway, at any port and from any source.
+/// In every gateway, an RTP datagram has exactly one outcome, at any port and from any source.
 pub fn one_arrival(bytes: &[u8])
     ensures some { (w : Gateway) (port : ℕ) (source : List ℕ) → (next : Gateway) × (result : Taken)
         × Takes w port source bytes.now next result }
@@ -52,7 +52,7 @@ pub fn isolated_are_not_heard()
 
 /// The payload of a packet is the encoding of what its listener is sent.
 ///
-/// Except in Loopback, that is the sum of everyone whose speech flows to it, limited once.
+/// Except in Loopback, that is the sum of all speech that flows to it, limited once.
 pub fn payloads_are_mixes()
     ensures theorem { PayloadsAreMixes }
 {}
@@ -88,16 +88,16 @@ pub fn worlds_are_consistent()
 
 /// The order of two RTP datagrams at different ports does not matter.
 ///
-/// Each has the same result, and the gateway ends in the same state.
+/// Each has the same outcome, and the gateway ends in the same state.
 pub fn port_order_is_irrelevant()
     ensures theorem { ArrivalOrderIsIrrelevant }
 {}
 
 /// Neither an edit nor an RTP datagram affects other contexts.
 ///
-/// Nothing changes in their members, the members' order, records and media, who hears whom, the flows, or the total. An
-/// edit concerns only the action's context and the context of the termination that it names. A datagram concerns only
-/// the context of the termination with its port.
+/// In each of them, these stay the same: the members, their order, records and media, who hears whom, the flows, and
+/// the total. An edit concerns only the action's context and the context of the termination that it names. A datagram
+/// concerns only the context of the termination with its port.
 ///
 /// The theorem uses the relations of two clauses: `outcome` of [`Engine::edit`](crate::Engine::edit) and `taken` of
 /// [`Engine::media`](crate::Engine::media). What an engine represents is consistent

@@ -1,4 +1,4 @@
-/// A term of a topology's triple (RFC 3525, section 7.1.18).
+/// A term in a topology triple (RFC 3525, section 7.1.18).
 #[derive(Clone, Copy, Debug, PartialEq, Eq)]
 pub enum TripleTerm {
     /// `*`: each member of the context.

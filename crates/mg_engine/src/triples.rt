@@ -32,7 +32,7 @@ fn is_barred(term: TripleTerm) -> bool
     matches!(term, TripleTerm::Barred)
 }
 
-/// Returns the seat of a member with this number.
+/// Returns the seat of the member with this number.
 fn seat_of(rooms: &Rooms, context: u32, number: u32) -> Option<Mask>
     requires sound { IsSound rooms.now }
     ensures some { IfSome result (λ seats. IsTrue (has (members_at rooms.now context) number)

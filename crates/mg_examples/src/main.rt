@@ -71,7 +71,7 @@ const SCRIPTS: [&str; 56] = [
 /// The scripts that also have a stored output with the changes after each event.
 const WITH_FLOWS: [&str; 2] = ["coaching", "recording"];
 
-/// Returns what a script writes on a gateway with the standard configuration.
+/// Returns the output of a script on a gateway with the standard configuration.
 fn written(alloc: Global, shown: Shown, script: &[u8]) -> Result<Vec<u8>> {
     let mut reader = Cursor::new(script);
     let mut writer = Vec::new(alloc);

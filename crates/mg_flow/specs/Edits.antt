@@ -64,8 +64,8 @@ abbrev pub may_hear : List FlowEdit → Place → Place → Bool
 may_hear es talker listener =
     topology.may_hear (edits_in talker.room es) talker.seat listener.seat
 
--- whether the listener hears the talker: they are different members of one room, and the last word
--- allows it
+-- whether the listener hears the talker: they are different members of the same room, and the last
+-- word allows it
 abbrev pub hears_in : List FlowEdit → Place → Place → Bool
 hears_in es talker listener =
     are_together (is_held es) talker listener && may_hear es talker listener

@@ -4,7 +4,7 @@ use Rattle.mg_words.specs.Limits.{context_limit}
 use Rattle.mg_topology.specs.Mask.{seat_limit}
 use Rattle.mg_flow.specs.declared.place.Place.{Place}
 
--- the room is below the limit of contexts, and the seat below the limit of seats
+-- the room is below the limit on contexts, and the seat below the limit on seats
 pub record IsWithinLimits (place : Place) : Type 0 where
   pub room : place.room < context_limit
   pub seat : place.seat < seat_limit
@@ -17,7 +17,7 @@ is_same_place a b = (a.room == b.room) && (a.seat == b.seat)
 abbrev pub sibling_place : Place → ℕ → Place
 sibling_place place seat = record { room = place.room; seat = seat }
 
--- whether two places are held, according to the test, and are different seats of one room
+-- whether two places are held, according to the test, and are different seats of the same room
 abbrev pub are_together : (Place → Bool) → Place → Place → Bool
 are_together is_held a b =
     is_held a && (is_held b && ((a.room == b.room) && not (a.seat == b.seat)))

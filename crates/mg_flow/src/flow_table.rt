@@ -16,9 +16,10 @@ use std::marker::Model;
 
 /// Who hears whom in all rooms of a gateway, and for each listener the masks of its talkers.
 ///
-/// Contracts see the list of rooms, each with its topology and the masks of who talks and who listens. They describe it
-/// in terms of `specs/Table.antt`. [`FlowTable::new`] represents the empty list of edits, and each call adds its edits
-/// to the lists that the table represents. So every table represents some list ([`each_table_represents_edits`]).
+/// Contracts see the list of rooms, each with its topology and the masks of who talks and who listens. They describe
+/// the table in terms of `specs/Table.antt`. [`FlowTable::new`] represents the empty list of edits, and each call adds
+/// its edits to the lists that the table represents. So every table represents some list
+/// ([`each_table_represents_edits`]).
 ///
 /// [`each_table_represents_edits`]: crate::theorems::each_table_represents_edits
 #[derive(Debug, Drop)]
@@ -79,8 +80,8 @@ impl FlowTable {
         }
     }
 
-    /// Returns whether `listener` hears `talker`: they are different members of one room, and the last word on the two
-    /// allows it.
+    /// Returns whether `listener` hears `talker`: they are different members of the same room, and the last word on the
+    /// two allows it.
     ///
     /// The first argument is the listener.
     pub fn hears(&self, listener: Place, talker: Place) -> bool

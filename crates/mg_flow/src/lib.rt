@@ -19,7 +19,7 @@
 //! assert_eq!(rt; *table.silenced(second), 0b01);
 //! ```
 //!
-//! A table keeps no history. So its contracts speak of every list of edits that it represents, before and after a call
+//! A table keeps no history. So its contracts are about every list of edits that it represents, before and after a call
 //! (`StandsFor` in `specs/Table.antt`). `specs/Edits.antt` defines what a list of edits means, looking back from the
 //! newest. [`theorems`] states the consequences. For a proof without such a list, the clauses `kept`, `place`,
 //! `places`, `hears` and `others` say what is stored, what changes, and what is unchanged.

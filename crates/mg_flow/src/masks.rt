@@ -7,7 +7,7 @@ ghost use Rattle.mg_flow.specs.aids.RoomFlows.{flows_to, is_blocked_for};
 use mg_topology::Topology;
 use mg_topology::mask::{self, Mask, SEATS};
 
-/// Two sets of talkers for each listener of a room, by its seat.
+/// Two sets of talkers for each listener in a room, indexed by the listener's seat.
 #[derive(Debug, Drop)]
 pub(crate) struct Masks {
     /// The talkers whose speech flows to the listener.

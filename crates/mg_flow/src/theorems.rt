@@ -35,7 +35,7 @@ pub fn edits_change_who_is_held()
 
 /// How one more edit changes the last word on two places in the same room.
 ///
-/// An Enter for either one removes it. A triple in their room that mentions them becomes the last word.
+/// An Enter for either place removes the last word. A triple in their room that mentions them becomes the last word.
 pub fn edits_change_last_words()
     ensures enter { (es : List FlowEdit) (place a b : Place) (talks listens : Bool) → a.room ≡ b.room →
         may_hear (Enter place talks listens ∷ es) a b ≡

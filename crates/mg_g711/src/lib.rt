@@ -6,7 +6,7 @@
 //!
 //! The levels are taken from ITU-T G.711 (tables 1 and 2), and scaled to 16 bits: by 4 for mu-law, by 8 for A-law. A
 //! magnitude at the border of two levels belongs to the upper one. That is this project's choice: other codecs may
-//! encode it as another byte.
+//! encode such a magnitude as another byte.
 //!
 //! ```rust
 //! assert_eq!(rt; encode(Law::A, -1), 0x55);

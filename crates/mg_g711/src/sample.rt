@@ -42,7 +42,7 @@ fn level_mu(magnitude: u16) -> u16
     ((biased >> 3) - 16).min(level_a(biased))
 }
 
-/// Encodes a sample as the byte of its level and its sign.
+/// Encodes a sample as the byte for its level and sign.
 ///
 /// A magnitude above the last level is clipped to that level.
 #[tactic(auto, unfolding(crate::specs::Law::byte_of))]

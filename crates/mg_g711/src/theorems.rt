@@ -27,7 +27,7 @@ pub fn magnitudes_grow(law: Law, lower: u8, upper: u8)
 {}
 
 /// A byte survives decoding and encoding, except for mu-law's negative zero: 7f decodes to 0, which encodes as ff. The
-/// sample of a byte always survives.
+/// sample that a byte decodes to always survives.
 pub fn bytes_come_back(law: Law, byte: u8)
     ensures same { (law ≡ Law.Mu → byte ≢ 0x7f) → byte_of law (sample_of law byte) ≡ byte }
     ensures negative_zero { (sample_of Law.Mu 0x7f ≡ pos 0) × (byte_of Law.Mu (pos 0) ≡ 0xff) }

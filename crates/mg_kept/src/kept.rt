@@ -10,7 +10,7 @@ use std::marker::Model;
 /// The replies that are kept to answer retransmissions. Contracts see them as a list, oldest first.
 #[derive(Drop)]
 pub struct Kept {
-    /// A place for each reply that may be kept. The first `len` have replies, oldest first.
+    /// A place for each reply that may be kept. The first `len` places hold replies, oldest first.
     places: Vec<Entry>,
     len: usize,
 }
@@ -53,7 +53,7 @@ impl Kept {
         None
     }
 
-    /// Keeps the reply to a request that has none yet, as the newest reply.
+    /// Keeps a reply as the newest one. Its request must not have a kept reply yet.
     ///
     /// If [`KEPT_REPLIES`] are kept already, the oldest is dropped.
     pub fn keep(&mut self, sender: &[u8], number: u32, text: &[u8])
@@ -99,7 +99,7 @@ impl Kept {
 
 /// Removes, from the first `len` places, the sender's replies with numbers from `first` to `last`.
 ///
-/// The other replies move to the front, in order. Returns how many there are.
+/// The other replies move to the front, in order. Returns how many replies remain.
 fn drop_range(places: &mut [Entry], len: usize, sender: &[u8], first: u32, last: u32) -> usize
     requires { len ≤ length places.old }
     ensures front { take result places.new ≡ without_range sender.now first last (take len places.old) }

@@ -8,7 +8,7 @@
 //! ```
 //!
 //! Contracts apply to readers whose remaining input is known, and to writers whose content is known. Both are known for
-//! in-memory ones. `specs/Lines.antt` defines what a line is.
+//! in-memory readers and writers. `specs/Lines.antt` defines what a line is.
 #![tactic(auto)]
 
 mod line;

@@ -18,8 +18,8 @@ fn report_unprinted<E: Write>(unprinted: Status, errors: &mut E)
 
 /// Reports the result of parsing a command line, and returns how the program ends.
 ///
-/// Help and the version go to the output, usage errors and lack of memory to `errors`. `unprinted` is how the program
-/// ends if help or the version cannot be printed.
+/// Help and the version go to the output; usage errors and out-of-memory errors go to `errors`. `unprinted` is how the
+/// program ends if help or the version cannot be printed.
 pub fn report_error<W: Write, E: Write>(
     error: &Error,
     unprinted: Status,

@@ -5,7 +5,7 @@ ghost use Rattle.mg_options.specs.Status.{code_of};
 #[derive(Clone, Copy, Debug, PartialEq, Eq)]
 pub enum Status {
     Done,
-    /// A line of a script is bad.
+    /// A script line is invalid.
     BadLine,
     /// The arguments or a configuration are invalid.
     Usage,

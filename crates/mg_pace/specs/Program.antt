@@ -1,4 +1,4 @@
--- What a run of the program does; `EndsWith` of `mg_options` says how it ends on its arguments.
+-- What a run of the program does; `EndsWith` in `mg_options` says how it ends on its arguments.
 use Rattle.std.specs.Prelude.{◌≡◌, Result}
 use Rattle.mg_options.specs.declared.status.Status.{Status}
 use Rattle.mg_pace.specs.declared.fault.PaceFault.{PaceFault}

@@ -7,7 +7,7 @@ ghost use Rattle.mg_clock.specs.Text.{step_lines};
 use mg_lines::{WriteFailed, write_whole};
 use std::io::Write;
 
-/// Writes the lines of a step.
+/// Writes the lines for a step.
 fn write_step<W: Write>(polls: u64, step: u64, output: &mut W) -> Result<(), WriteFailed>
     requires some { 0 < polls }
     ensures value { Writes (step_lines polls step) (W.contents output.old) (W.contents output.new) result }
@@ -19,7 +19,7 @@ fn write_step<W: Write>(polls: u64, step: u64, output: &mut W) -> Result<(), Wri
     }
 }
 
-/// Writes the lines of the steps after `from`, up to `to`.
+/// Writes the lines for the steps after `from`, up to `to`.
 pub fn write_steps<W: Write>(
     polls: u64,
     from: u64,
@@ -36,7 +36,7 @@ pub fn write_steps<W: Write>(
     Ok(())
 }
 
-/// Writes the lines of the last steps, and the line that ends the run.
+/// Writes the lines for the last steps, and the line that ends the run.
 pub fn write_last<W: Write>(
     polls: u64,
     from: u64,

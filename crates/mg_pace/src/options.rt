@@ -16,7 +16,7 @@ use std::convert::AsStr;
 pub struct Options {
     /// The number of ticks after which the run ends. The default is `u64::MAX`, which is never reached.
     pub ticks: u64,
-    /// The polls in each 20 ms, from 1 to 1000.
+    /// The number of polls per 20 ms, from 1 to 1000.
     pub polls: u16,
 }
 
@@ -29,7 +29,7 @@ fn ticks_option<'a>(alloc: Global) -> Arg<'a>
     )
 }
 
-/// Makes the option for the polls in each 20 ms.
+/// Makes the option for the number of polls per 20 ms.
 fn polls_option<'a>(alloc: Global) -> Arg<'a>
     ensures rule { rule_of result ≡ number_rule (codes "polls") 1 1000 }
 {

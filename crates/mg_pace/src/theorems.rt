@@ -1,4 +1,4 @@
-//! Properties of every pace, whatever the clock reads. The functions have empty bodies: their contracts are the
+//! Properties of every run, whatever the clock reads. The functions have empty bodies: their contracts are the
 //! theorems.
 
 ghost use Rattle.mg_pace.specs.Theorems.{Accounted, Bounded, NeverEarly, PaceIsDeterministic};
@@ -18,7 +18,7 @@ pub fn ticks_at_once_are_bounded()
     ensures theorem { Bounded }
 {}
 
-/// The readings of the clock determine the pace, and the wait after each reading.
+/// The clock's readings determine the progress of a run, and the wait after each reading.
 pub fn pace_is_deterministic()
     ensures theorem { PaceIsDeterministic }
 {}

@@ -1,4 +1,4 @@
--- What a run of the program does; `EndsWith` of `mg_options` says how it ends on its arguments.
+-- What a run of the program does; `EndsWith` in `mg_options` says how it ends on its arguments.
 use Rattle.std.specs.Prelude.{◌≡◌, ◌⊎◌, ℕ, List, Option}
 use Rattle.mg_options.specs.declared.status.Status.{Status}
 use Rattle.mg_options.specs.declared.status.Status.TheVariants.{Done, Failed, NoAnswer}

@@ -5,7 +5,7 @@ use std::io;
 use std::net::Net;
 use std::time::{Clock, Duration};
 
-/// The minimum length of a wait that follows one ended by a message, in milliseconds.
+/// The minimum length of a wait, in milliseconds, if a message ended the previous one.
 const GAP_MS: u64 = 1;
 
 /// The system's monotonic clock. A datagram at the control socket ends a wait.
@@ -39,7 +39,7 @@ impl<'a, C: Clock> ControlWatch<'a, C> {
     }
 
     /// Waits for a datagram at the control socket, and returns whether one arrived. The system waits in whole
-    /// milliseconds, so the rest of the time is slept by the clock.
+    /// milliseconds, so the clock sleeps for the rest of the time.
     fn message_within(&mut self, time: Duration) -> bool {
         let begun = self.watch.now();
         let millis = u64::try_from(time.as_millis()).unwrap_or(u64::MAX);

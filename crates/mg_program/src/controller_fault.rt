@@ -1,4 +1,4 @@
-/// Why a list of strings does not name controllers.
+/// Why a list of strings is not a valid list of controllers.
 #[derive(Clone, Copy, Debug, PartialEq, Eq)]
 pub enum ControllerFault {
     /// One of them is not an IPv4 address in dotted decimal.

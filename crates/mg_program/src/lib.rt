@@ -1,4 +1,4 @@
-//! What `mg_bridge` does: it runs a conference media gateway, on a script or on the system's UDP sockets.
+//! The library behind `mg_bridge`: a conference media gateway that runs a script or uses the system's UDP sockets.
 //!
 //! [`program`] does everything, from the command-line arguments to the exit status:
 //!

@@ -81,7 +81,7 @@ fn controller_option<'a>(alloc: Global) -> Arg<'a>
         .help("IPv4 address of a controller, repeatable up to 8 times [default: any address]")
 }
 
-/// Makes an option without a value, which is set if it is given.
+/// Makes a flag: an option without a value, which is set if it occurs.
 fn flag<'a>(alloc: Global, name: &'a str) -> Arg<'a>
     ensures rule { rule_of result ≡ flag_rule name.now }
 {
@@ -257,7 +257,7 @@ fn is_set(name: &str, matches: &ArgMatches<'_>) -> bool
     }
 }
 
-/// Returns what running a script writes.
+/// Returns what is written for each event of a script.
 fn shown_of(matches: &ArgMatches<'_>) -> Shown
     ensures value { result ≡ (if is_set (codes "flows") (rows_of (found_of matches.now))
         then Shown.SentAndFlows else Shown.Sent) }

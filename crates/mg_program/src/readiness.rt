@@ -16,9 +16,8 @@ pub const SOCKETS: usize = TERMINATIONS + 1;
 
 /// Which sockets may have a datagram, according to the system.
 ///
-/// The system reports a socket when a datagram arrives, and only once. So the socket counts as ready from then on,
-/// until a receive finds it empty. Nothing else ends its readiness: neither a limit on datagrams per poll nor a failed
-/// receive.
+/// When a datagram arrives, the system reports its socket once. So the socket counts as ready from then on, until a
+/// receive finds it empty. Nothing else ends its readiness: neither a limit on datagrams per poll nor a failed receive.
 #[derive(Drop)]
 pub struct Readiness {
     poll: Poll,
@@ -99,7 +98,7 @@ fn set_all(ready: &mut [bool; SOCKETS])
     }
 }
 
-/// Sets the value of a slot, if it exists.
+/// Sets a slot's value, if the slot exists.
 fn set(ready: &mut [bool; SOCKETS], slot: usize, value: bool)
     ensures value { ready.new ≡ slice_set ready.old slot value }
 {

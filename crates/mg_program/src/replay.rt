@@ -7,8 +7,8 @@ use mg_options::Status;
 use std::alloc::Global;
 use std::io::{Read, Write};
 
-/// Runs the script in the input on a new gateway, and writes the lines of its answers and packets. A fault is reported
-/// to `errors`.
+/// Runs the script in the input on a new gateway, and writes a line for each answer and each packet. A fault is
+/// reported to `errors`.
 pub fn replay<R: Read, W: Write, E: Write>(
     alloc: Global,
     config: Config,

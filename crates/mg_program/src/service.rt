@@ -7,7 +7,7 @@ use crate::controllers::Controllers;
 use mg_core::Config;
 use mg_serve::Setup;
 
-/// The options of a gateway on sockets that are not part of its configuration.
+/// The options of a gateway on sockets, except for its configuration.
 #[derive(Drop)]
 pub struct Service {
     /// Who may send messages to the gateway.

@@ -21,7 +21,7 @@ fn status_of(outcome: &Result<Counts, RunFault>) -> Status
     }
 }
 
-/// Reports a fault of a run. For an invalid configuration it names the option.
+/// Reports why a run failed. For an invalid configuration, the message names the option.
 fn report_fault<E: Write>(fault: &RunFault, config: &Config, errors: &mut E) {
     let _ = match ConfigFault::of(config) {
         Some(why) if *fault == RunFault::BadConfig => writeln!(errors, "{fault}: {why}"),
@@ -29,7 +29,7 @@ fn report_fault<E: Write>(fault: &RunFault, config: &Config, errors: &mut E) {
     };
 }
 
-/// Reports the fault of a run, if there is one. Returns how the program ends after it.
+/// Reports why a run failed, if it did. Returns how the program ends after the run.
 pub fn status_after<E: Write>(
     outcome: &Result<Counts, RunFault>,
     config: &Config,

@@ -7,7 +7,7 @@ use itoa::Buffer;
 use mg_core::Config;
 use mg_words::{ADDRESS_LIMIT, address_text};
 
-/// The room for a title, in bytes: the longest title and a margin.
+/// The capacity of a title, in bytes: the longest title and a margin.
 const TITLE_LIMIT: usize = 512;
 
 /// The first line of a recording, without its line feed.

@@ -44,7 +44,7 @@ impl UdpPorts {
         self.sockets.try_send(socket, to, bytes)
     }
 
-    /// Counts a failure, if this result is one.
+    /// Counts a failure, if this result is an error.
     fn count<T>(&mut self, answer: &Result<T, PortFault>)
         ensures fault { OnErr answer.now (IsCounted self.old.failures self.new.failures) }
         ensures timing { self.new.timing ≡ self.old.timing }

@@ -40,7 +40,7 @@ fn put_outcome(draft: &mut Draft, outcome: Outcome)
     }
 }
 
-/// Appends a comma and an association. Each is one literal, so that one store writes it.
+/// Appends a comma and an association. Comma and association are one literal, so that one store writes both.
 fn put_association(draft: &mut Draft, association: Association)
     ensures value { draft.new ≡ drafted draft.old (codes "," ++ association_text association) }
 {
@@ -159,7 +159,7 @@ fn put_topology(draft: &mut Draft, items: &[Item]) -> bool
     is_empty
 }
 
-/// Appends the entries of an action in braces, or nothing if there is none.
+/// Appends the entries of an action in braces, or nothing if there are none.
 fn put_entries(draft: &mut Draft, items: &[Item])
     ensures value { draft.new ≡ drafted draft.old (grouped (entries_of items.now)) }
 {

@@ -1,7 +1,7 @@
 //! Replies in text encoding (Megaco, RFC 3525, Annex B): collected, then written.
 //!
 //! A [`Reply`] collects items. It allocates all its memory in [`Reply::new`], and [`Bytes::new`] allocates the buffer
-//! of its text:
+//! for its text:
 //!
 //! ```rust
 //! let mut reply = Reply::new(alloc)?;

@@ -132,7 +132,7 @@ fn put_statistics(draft: &mut Draft, statistics: Stats)
     draft.put(b"}");
 }
 
-/// Appends the parts of a command's outcome in braces, or nothing if there is none.
+/// Appends the parts of a command's outcome in braces, or nothing if there are none.
 #[tactic(auto, using(crate::proofs::DraftLemmas::joins), unfolding(crate::specs::Listed::listed))]
 pub(crate) fn put_parts(draft: &mut Draft, parts: Parts)
     ensures value { draft.new ≡ drafted draft.old (grouped (reported_parts parts)) }

@@ -68,7 +68,7 @@ new_seat w c = do
   seat ← ok_or (free_seat w c) refusals.ContextFull
   Ok (record { context = c; seat = seat; made = None })
 
--- the first seat of a new context; a room is free if the limit of contexts is not reached
+-- the first seat of a new context; a room is free if the limit on contexts is not reached
 abbrev pub new_context : Registry → Result EntryPlace ErrorNumber
 new_context w = do
   _ ← passes (nat_lt (length w.contexts) context_limit && nat_le w.next_context last_context)

@@ -1,4 +1,4 @@
-//! The checks of commands. They change nothing.
+//! The checks that commands must pass. They change nothing.
 
 ghost use Rattle.std.specs.Prelude.{◌≡◌, ◌<◌, true, nat_le, IfOk, Some};
 ghost use Rattle.mg_words.specs.Limits.{last_termination};
@@ -137,7 +137,7 @@ impl Tables {
         }
     }
 
-    /// Returns a termination with the settings of a command.
+    /// Returns a termination after a command's settings are applied.
     pub(crate) fn with_settings(
         &self,
         settings: &Settings,

@@ -3,7 +3,7 @@ use crate::members::Members;
 /// A context and its members.
 #[derive(Drop)]
 pub struct Context {
-    /// The number. No other context of the gateway ever has it.
+    /// The number. No other context of the gateway ever has the same number.
     pub(crate) number: u32,
     /// The room that the context holds as long as it exists, below [`CONTEXTS`](crate::CONTEXTS).
     pub(crate) room: u8,

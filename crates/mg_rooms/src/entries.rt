@@ -48,7 +48,7 @@ fn has_context(entry: &Option<Context>, number: u32) -> bool
     }
 }
 
-/// Finds the slot of a termination: first at the hint, then by a search.
+/// Finds the slot of a termination: first at the hint, and then by searching.
 pub fn slot_of(slots: &[Option<Record>], hint: u8, number: u32) -> Option<usize>
     requires once { HoldsOnce (λ r. r.number) slots.now }
     ensures value { result ≡ position_from (has_key (λ r. r.number) number) 0 slots.now }
@@ -63,7 +63,7 @@ pub fn slot_of(slots: &[Option<Record>], hint: u8, number: u32) -> Option<usize>
     }
 }
 
-/// Finds the room of a context: first at the hint, then by a search.
+/// Finds the room of a context: first at the hint, and then by searching.
 pub fn room_of(rooms: &[Option<Context>], hint: u8, number: u32) -> Option<usize>
     requires once { HoldsOnce (λ x. x.number) rooms.now }
     ensures value { result ≡ position_from (has_key (λ x. x.number) number) 0 rooms.now }
@@ -76,7 +76,7 @@ pub fn room_of(rooms: &[Option<Context>], hint: u8, number: u32) -> Option<usize
     }
 }
 
-/// Marks the seat of a slot's termination as held, if it is in the context.
+/// Marks the seat of a slot's termination as held, if the termination is in the context.
 fn note_seat(held: &mut [bool; MEMBERS], context: u32, entry: &Option<Record>)
     ensures long { length held.new ≡ length held.old }
     ensures value { (seat : ℕ) → seat < MEMBERS → slice_index_or held.new seat true

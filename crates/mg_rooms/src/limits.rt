@@ -3,7 +3,7 @@ ghost use Rattle.mg_rooms.specs.Limits.{slot_port, AreValidLimits, HasPool, HasF
 
 use mg_words::{LAST_CONTEXT, TERMINATIONS};
 
-/// The limits of a gateway's terminations and contexts.
+/// The limits on a gateway's terminations and contexts.
 #[derive(Clone, Copy, Debug, PartialEq, Eq)]
 pub struct Limits {
     /// The gateway's own IPv4 address.
@@ -19,7 +19,7 @@ pub struct Limits {
 }
 
 impl Limits {
-    /// Returns whether a gateway can be made with these limits.
+    /// Returns whether a gateway can start with these limits.
     ///
     /// There must be 1 to [`TERMINATIONS`] slots with even UDP ports, and the first numbers must be in range.
     pub fn is_valid(&self) -> bool

@@ -62,7 +62,7 @@ impl Members {
     }
 }
 
-/// Returns the first position of a member.
+/// Returns the first position at which a member occurs.
 fn place_of(members: &[u32], number: u32) -> Option<usize>
     ensures value { result ≡ position_from (λ m. m == number) 0 members.now }
     ensures in_range { IfSome result (λ place. place < length members.now) }

@@ -70,7 +70,7 @@ impl Tables {
         Ok(moved)
     }
 
-    /// Removes a termination and its membership in its context.
+    /// Removes a termination from the gateway and from its context.
     pub(crate) fn end(&mut self, old: Member)
         ensures value { self.new ≡ left (removed self.old old.record.number) old.record.context old.record.number }
     {

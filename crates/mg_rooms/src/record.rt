@@ -8,7 +8,7 @@ use mg_words::{FIRST_DEPTH, Mode};
 /// A termination.
 #[derive(Clone, Copy, Debug, PartialEq, Eq)]
 pub struct Record {
-    /// The number. No other termination of the gateway ever has it.
+    /// The number. No other termination of the gateway ever has the same number.
     pub number: u32,
     /// The number of its context.
     pub context: u32,

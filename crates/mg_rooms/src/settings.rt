@@ -7,7 +7,7 @@ use crate::media_setting::MediaSetting;
 use mg_sdp::{Chosen, Sessions, choose, choose_remote};
 use mg_words::{ErrorNumber, MAX_DEPTH, MIN_DEPTH, Mode};
 
-/// The settings that a command names. All other settings are unchanged.
+/// The settings that a command specifies. All other settings are unchanged.
 #[derive(Debug, Default, Drop)]
 pub struct Settings {
     /// The mode of the stream.

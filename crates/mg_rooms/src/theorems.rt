@@ -14,7 +14,7 @@ ghost use Rattle.mg_rooms.specs.Registry.{Registry, start_of, members_at, free_s
 ghost use Rattle.mg_rooms.specs.Outcome.{new_slot, new_seat, new_context, add, modify, move_to, subtract};
 ghost use Rattle.mg_rooms.specs.Consistent.{IsConsistent};
 
-/// A context that is not full has a free seat, and a gateway below the limit of contexts has a free room.
+/// A context that is not full has a free seat, and a gateway below the limit on contexts has a free room.
 ///
 /// So the errors "context full" and "no context left" are reported only if they are true.
 pub fn tables_that_are_not_full_have_a_free_place()

@@ -36,7 +36,7 @@ fn comment_len(bytes: &[u8]) -> usize
     bytes.iter().take_while(|b| !is_line_end(**b)).count()
 }
 
-/// Returns how many bytes of white space and comments the bytes start with.
+/// Returns how many bytes of white space and comments come first.
 #[tactic(auto, using(crate::proofs::WhiteSteps::steps))]
 pub fn white_len(bytes: &[u8]) -> usize
     ensures in_range { result ≤ length bytes.now }

@@ -8,7 +8,7 @@
 //! assert_eq!(rt; scanner.next(), Some(Ok(Token { kind: TokenKind::Word, span: Span { start: 0, end: 7 } })));
 //! ```
 //!
-//! A token's text is the part of the source that its [`Span`] names. After the words `Local` and `Remote`, a brace
+//! A token's text is the part of the source that its [`Span`] covers. After the words `Local` and `Remote`, a brace
 //! opens a session description, which is one token up to its closing brace. A byte that starts no token, or a missing
 //! closing mark, is a [`ScanFault`]. After a fault there are no more tokens.
 #![tactic(auto)]

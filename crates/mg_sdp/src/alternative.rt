@@ -12,7 +12,7 @@ use crate::part::AlternativePart;
 pub struct Alternative {
     /// Whether each `v=` line and each attribute so far can be served.
     pub holds: bool,
-    /// What the one media line asks for.
+    /// What the only media line asks for.
     pub media: AlternativePart<MediaLine>,
     /// The address that the last connection line asks for.
     pub connection: AlternativePart<Option<[u8; 4]>>,

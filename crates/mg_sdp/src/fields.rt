@@ -20,7 +20,7 @@ fn field_len(text: &[u8]) -> usize
     text.iter().take_while(|b| !is_space_or_tab(**b)).count()
 }
 
-/// An iterator over the fields of a line's value, which spaces and tabs separate.
+/// An iterator over the fields of a line's value, separated by spaces and tabs.
 #[derive(Drop)]
 pub struct Fields<'a> {
     rest: &'a [u8],

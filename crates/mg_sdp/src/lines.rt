@@ -17,7 +17,7 @@ pub fn is_space_or_tab(b: u8) -> bool
     b == b' ' || b == b'\t'
 }
 
-/// Returns how many bytes of white space and line ends the text starts with.
+/// Returns how many bytes of white space and line ends come first in the text.
 fn white_len(text: &[u8]) -> usize
     ensures in_range { result ≤ length text.now }
     ensures value { result ≡ prefix_len (λ b. is_space_or_tab b || is_line_end b) text.now }

@@ -1,10 +1,10 @@
 /// A part of an alternative, according to the lines read so far.
 #[derive(Clone, Copy, Debug, PartialEq, Eq)]
 pub enum AlternativePart<T> {
-    /// No line so far has it.
+    /// No line so far has this part.
     Missing,
-    /// A line has it.
+    /// A line has this part.
     Given(T),
-    /// A line has it in a form that cannot be served.
+    /// A line has this part in a form that cannot be served.
     Faulty,
 }

@@ -17,8 +17,8 @@ pub fn alternatives_are_distinguished()
         → AreAlternatives lines other → one ≡ other }
 {}
 
-/// A written description reads back as one alternative. A Local at that address and port chooses this alternative, and
-/// so does a Remote unless the port is 0.
+/// A written description reads back as one alternative. That alternative is then chosen: in a Local, given the same
+/// address and port; in a Remote, unless the port is 0.
 pub fn written_text_reads_back(chosen: &Chosen)
     ensures read { sessions_of (session_text chosen.now) ≡ Ok (Some (offer_written chosen.now) ∷ []) }
     ensures local { local_choice chosen.now.address chosen.now.port (Some (offer_written chosen.now) ∷ [])

@@ -24,8 +24,8 @@ pub struct ClockDriver<'a, E: Write> {
 }
 
 impl<'a, E: Write> ClockDriver<'a, E> {
-    /// Makes a driver for a new gateway, before the first tick. A tick may be at most `allowed` ticks late. It writes a
-    /// report every `seconds` seconds; 0 disables reports.
+    /// Makes a driver for a new gateway, before the first tick. A tick may be at most `allowed` ticks late. A report is
+    /// written every `seconds` seconds; 0 disables reports.
     pub fn new(
         alloc: Global,
         config: Config,

@@ -14,7 +14,7 @@ pub enum Command {
     Stats,
     /// End the session.
     Quit,
-    /// Print that there is no such command.
+    /// Print that the command is unknown.
     Unknown,
 }
 

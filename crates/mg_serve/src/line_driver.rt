@@ -26,7 +26,7 @@ pub struct LineDriver<'a, E: Write> {
 }
 
 impl<'a, E: Write> LineDriver<'a, E> {
-    /// Makes a driver for a new gateway, before the first line. It writes a report every `seconds` seconds; 0 disables
+    /// Makes a driver for a new gateway, before the first line. A report is written every `seconds` seconds; 0 disables
     /// reports.
     pub fn new(
         alloc: Global,

@@ -8,8 +8,8 @@ pub struct PortCounts {
     pub strangers: u64,
     /// The termination that had the port at the last report, if its caller was expected to send.
     expected: Option<u32>,
-    /// The tick of the last packet that a play list accepted, or of the report from which packets were expected, if
-    /// that is later.
+    /// The tick of the last packet that a play list accepted, or of the report since which the caller has been expected
+    /// to send, if that is later.
     heard: u64,
 }
 
@@ -23,7 +23,7 @@ impl PortCounts {
         }
     }
 
-    /// Counts the result of an RTP datagram. `ticks` is the number of ticks so far.
+    /// Counts an RTP datagram by its outcome. `ticks` is the number of ticks so far.
     pub fn count(&mut self, taken: Taken, ticks: u64) {
         self.counts.count_media(taken);
         if let Taken::Placed(_) = taken {
@@ -38,8 +38,8 @@ impl PortCounts {
 
     /// Returns how many ticks an expected caller has been silent.
     ///
-    /// `expected` is the termination whose caller should send now. If no packet was accepted since the report from
-    /// which packets were expected, the silence starts at that report.
+    /// `expected` is the termination whose caller should send now. The silence starts at the last accepted packet, or
+    /// at the report since which that caller has been expected to send, if that is later.
     pub fn silent_ticks(&mut self, expected: Option<u32>, ticks: u64) -> u64 {
         if self.expected != expected {
             self.expected = expected;
@@ -52,7 +52,7 @@ impl PortCounts {
     }
 
     /// Returns whether the caller would sound bad (packets were dropped, late, too early or duplicates, or the play
-    /// list restarted), or strangers sent to the port.
+    /// list restarted), or whether strangers sent packets to the port.
     pub fn has_trouble(&self) -> bool {
         let [started, _, pushed, again, late] = self.counts.placed;
         started > 1

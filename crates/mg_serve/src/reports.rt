@@ -33,22 +33,22 @@ impl<'a, E: Write> Reports<'a, E> {
         })
     }
 
-    /// Counts the result of an RTP datagram at a media socket. Media sockets are numbered from 1. `ticks` is the number
-    /// of ticks so far.
+    /// Counts an RTP datagram at a media socket by its outcome. Media sockets are numbered from 1. `ticks` is the
+    /// number of ticks so far.
     pub fn count(&mut self, slot: u16, taken: Taken, ticks: u64) {
         if let Some(port) = self.ports.get_mut(usize::from(slot).wrapping_sub(1)) {
             port.count(taken, ticks);
         }
     }
 
-    /// Counts an RTP datagram at a media socket that was dropped because of its sender.
+    /// Counts an RTP datagram that arrived at a media socket and was dropped because of its sender.
     pub fn count_stranger(&mut self, slot: u16) {
         if let Some(port) = self.ports.get_mut(usize::from(slot).wrapping_sub(1)) {
             port.count_stranger();
         }
     }
 
-    /// Counts the packets of a late tick. The next tick that is on time prints how many there were.
+    /// Counts the packets of a late tick. The next tick that is on time prints how many packets were too late.
     pub fn count_late(&mut self, timing: Timing, packets: u64) {
         if timing == Timing::Late {
             self.late = self.late.saturating_add(packets);
@@ -93,7 +93,8 @@ impl<'a, E: Write> Reports<'a, E> {
     }
 }
 
-/// Returns the number of the termination, if its caller should send packets: it has a Local and is set to talk.
+/// Returns the number of the termination, if its caller should send packets: the termination has a Local and is set to
+/// talk.
 fn expected(held: Option<Record>) -> Option<u32> {
     match held {
         Some(record) if record.local.is_some() && mode_talks(record.mode) => Some(record.number),

@@ -125,7 +125,7 @@ fn outputs<'a, E: Write>(
 }
 
 impl<'a, E: Write> Server<'a, E> {
-    /// Makes a server with a new gateway. It writes a report every `seconds` seconds; 0 disables reports.
+    /// Makes a server with a new gateway. A report is written every `seconds` seconds; 0 disables reports.
     pub fn new(
         alloc: Global,
         config: Config,
@@ -275,7 +275,7 @@ impl<'a, E: Write> Server<'a, E> {
         }
     }
 
-    /// Receives a datagram from a socket and handles it. Returns whether there was one.
+    /// Receives a datagram from a socket and handles it. Returns whether a datagram was received.
     fn receive<P: Ports, W: Write>(
         &mut self,
         alloc: Global,

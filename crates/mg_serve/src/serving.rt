@@ -30,8 +30,8 @@ use std::io::{Read, Write};
 ///
 /// With a title, the output is a recording: a script with one line for each event (`control`, `rtp` or `tick`), in
 /// order. Its first line is the title, as a comment. Everything else that is printed is a comment too, including a
-/// control datagram for which there was no memory. `run` of `mg_core` runs such a script again. If printing fails, the
-/// current input line is still executed in full, and nothing more is printed.
+/// control datagram for which there was no memory. `run` from `mg_core` runs such a script again. If printing fails,
+/// the current input line is still executed in full, and nothing more is printed.
 ///
 /// At the given interval it prints, for an operator, the totals since the start and a line for each media port that had
 /// trouble since the last report. A report that can't be printed is skipped.
@@ -94,12 +94,12 @@ fn drive<P: Ports, R: Read, W: Write, E: Write>(
 /// Runs a new gateway on the given ports in real time.
 ///
 /// It prints `ready`. Then, every 20 ms by the clock, it executes what [`serve`] executes for the lines `poll` and
-/// `tick`. If the clock sees a message in between, it also executes what [`serve`] executes for `poll`, at most 20 times
+/// `tick`. If the clock sees a message in between, it also executes what [`serve`] executes for `poll`, up to 20 times
 /// before each tick.
 ///
 /// The k-th tick begins when a reading of the clock first shows that it is due: `k * 20 ms` after the clock's start.
 /// After a delay all missed ticks are executed at once. If a tick is more than `allowed` ticks late, its packets are
-/// not sent. The next tick that is on time reports how many there were.
+/// not sent. The next tick that is on time reports how many packets were not sent.
 ///
 /// It ends only on a fault: `Read` if the clock can't be read, `Write` if printing failed, `NoMemory` or `BadConfig`
 /// before anything is executed.

@@ -4,7 +4,7 @@ ghost use Rattle.mg_serve.specs.Setup.{may_command};
 use mg_core::Config;
 use std::marker::Model;
 
-/// The setup of a session: the configuration of its gateway, who may send it commands, and from whom it takes RTP.
+/// The setup of a session: the configuration of its gateway, who may send it commands, and from whom it accepts RTP.
 #[derive(Drop)]
 pub struct Setup<'a> {
     config: Config,

@@ -9,7 +9,7 @@ use Rattle.mg_g711.specs.Frame.{IsFrame}
 use Rattle.mg_sums.specs.Samples.{sample, sum_of, nearest_sample, silence}
 
 -- The state: for each row its frame and the room that it is joined to, if any. Then the number of
--- calls of row kernels, modulo 2^32.
+-- calls to row kernels, modulo 2^32.
 pub record SumsState : Type 0 where
   pub frames : List (List ℤ)
   pub rooms : List (Option ℕ)

@@ -19,7 +19,7 @@
 //! assert_eq!(rt; sums.mix(room, Some(second), &[], Law::Mu), [0x80; 160]);
 //! ```
 //!
-//! [`Sums::work`] counts the calls of three row kernels: add a row, subtract a row, and write the difference of two.
+//! [`Sums::work`] counts the calls to three row kernels: add a row, subtract a row, and write the difference of two.
 //! Joining or leaving takes one call, and setting the frame of a joined row takes two. A mix takes one call, and one
 //! more for each silenced row. Only the module `rows` sees the fields of a row; other code reads frames and totals
 //! through [`Sums::frame`] and [`Sums::total`].

@@ -34,7 +34,7 @@ impl Model for FrameRow {
     ghost invariant = { λ row. IsTrue row.is_silent → row.samples ≡ silence };
 }
 
-/// A row of sums: a room's total, or a total minus some rows.
+/// Sums for a row of samples: a room's total, or a total minus some rows.
 #[derive(Drop)]
 pub struct SumRow {
     sums: [i32; SAMPLES],

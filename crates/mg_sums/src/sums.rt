@@ -17,7 +17,7 @@ use std::marker::Model;
 
 /// The frames of all rows, the rooms that the rows are joined to, and a total for each room.
 ///
-/// Contracts see the record `SumsState` of `specs/Sums.antt`. It has no totals: an invariant says that each stored
+/// Contracts see the record `SumsState` from `specs/Sums.antt`. It has no totals: an invariant says that each stored
 /// total is the sum of its room.
 #[derive(Drop)]
 pub struct Sums {
@@ -97,7 +97,7 @@ impl Sums {
 
     /// Sets the frame of a row; `None` is silence.
     ///
-    /// If the row is joined, its old frame leaves the total and the new one enters.
+    /// If the row is joined, its old frame is subtracted from the total, and the new one is added.
     pub fn set_frame(&mut self, row: Row, frame: Option<&Frame>)
         ensures set { self.new ≡ record self.old {
           frames = slice_set self.old.frames row (frame_or_silence (option_copied frame.entry));
@@ -170,7 +170,7 @@ impl Sums {
         self.rooms[row.number()]
     }
 
-    /// Returns the number of calls of row kernels, modulo 2^32.
+    /// Returns the number of calls to row kernels, modulo 2^32.
     pub fn work(&self) -> u32
         ensures { result ≡ self.now.work }
     {

@@ -8,7 +8,7 @@ pub struct Range {
     pub last: u32,
 }
 
-/// An item of a message that the gateway acts on.
+/// A message item that the gateway acts on.
 #[derive(Drop)]
 pub enum MessageItem {
     Request(Request),

@@ -13,7 +13,7 @@ pub struct Command {
     pub wants_wildcard: bool,
     /// The span of the termination's name: a word of 1 to 64 bytes.
     pub term: Span,
-    /// The descriptors. A Subtract or AuditValue has at most one, an Audit. The descriptors of a Notify, ServiceChange
-    /// or AuditCapability are not kept.
+    /// The descriptors. A Subtract or AuditValue has at most one descriptor: an Audit. The descriptors of a Notify,
+    /// ServiceChange or AuditCapability are not kept.
     pub descriptors: TreeList<Descriptor>,
 }

@@ -12,7 +12,7 @@ use mg_scan::{Token, TokenKind};
 use mg_words::Association;
 use std::alloc::Global;
 
-/// Parses a triple of a topology.
+/// Parses a topology triple.
 impl FromTokens for NamedTriple {
     ghost reading = { triple_at };
 

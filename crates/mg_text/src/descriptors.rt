@@ -38,7 +38,7 @@ fn assigned_at<'t>(source: &[u8], tokens: &'t [Token]) -> Result<&'t [Token], Re
     Ok(rest)
 }
 
-/// Parses the content after a descriptor's keyword. Returns whether there is any.
+/// Parses the content after a descriptor's keyword. Returns whether there is any content.
 #[tactic(auto, unfolding(crate::specs::aids::Commands::content_at))]
 fn content_at<'t>(source: &[u8], tokens: &'t [Token]) -> Result<(bool, &'t [Token]), ReadFault>
     ensures { Agrees (λ x. (x.0, x.1.now)) result (content_at source.now tokens.now) }

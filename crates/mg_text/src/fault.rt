@@ -9,7 +9,7 @@ pub enum ReadFault {
     Version(u8),
     /// The datagram exceeds 8192 bytes, or its message has more than 4 requests or more than 64 commands in total.
     TooMany,
-    /// Memory ran out. The same datagram may be read later.
+    /// Memory ran out. Reading the same datagram later may succeed.
     NoMemory,
 }
 

@@ -3,7 +3,7 @@ ghost use Rattle.std.specs.Str.{str_eq_ignore_ascii_case};
 ghost use Rattle.mg_text.specs.Keyword.{forms_of, is_named, keyword_of};
 ghost use Rattle.mg_text.specs.aids.Keywords.{words_by};
 
-/// The keywords of the encoding. Each has a long and a short form, ignoring case.
+/// The keywords of the encoding. Each has a long and a short form; case is ignored.
 #[derive(Clone, Copy, Debug, PartialEq, Eq)]
 pub enum Keyword {
     Transaction,

@@ -1,8 +1,8 @@
 //! The parser for control messages in text encoding (Megaco, RFC 3525, Annex B).
 //!
 //! [`read`] parses the bytes of a datagram as a [`Message`], or returns why they are not a message. The tree refers to
-//! text by its span in the source, and copies none. Replies are collected in a [`Reply`] and written by [`write_reply`]
-//! to [`Bytes`]; these are types of the crate `mg_reply`:
+//! text by its span in the source, and copies no text. Replies are collected in a [`Reply`] and written by
+//! [`write_reply`] to [`Bytes`]; these are types of the crate `mg_reply`:
 //!
 //! ```rust
 //! let source = b"MEGACO/1 [127.0.0.1]:2945 Transaction=1{Context=-{AuditValue=ROOT}}".as_slice();

@@ -58,7 +58,7 @@ fn answer_at<'t>(
     Ok((None, rest))
 }
 
-/// Parses an item of a message. Returns it if it is kept.
+/// Parses an item of a message. Returns the item, if it is kept.
 #[tactic(auto, unfolding(crate::specs::aids::Requests::item_at))]
 fn item_at<'t>(
     alloc: Global,
@@ -76,7 +76,7 @@ fn item_at<'t>(
     }
 }
 
-/// Parses the items of a message, up to the end of the tokens. Returns those that are kept.
+/// Parses the items of a message, up to the end of the tokens. Returns the items that are kept.
 fn sequence_at(
     alloc: Global,
     source: &[u8],

@@ -18,11 +18,11 @@
 //! assert!(rt; !topology.hears(0, 1));
 //! ```
 //!
-//! A topology keeps bits and no history. So its contracts speak of every list of edits that it represents, before and
+//! A topology keeps bits and no history. So its contracts are about every list of edits that it represents, before and
 //! after a call (`StandsFor` in `specs/Topology.antt`). `specs/Edits.antt` defines what a list of edits means, looking
 //! back from the newest. [`theorems`] states the consequences.
 //!
-//! Sets of seats are bit masks. Only functions of [`mask`] touch their bits.
+//! Sets of seats are bit masks. Only functions in [`mask`] touch their bits.
 #![tactic(auto)]
 
 pub mod mask;

@@ -1,8 +1,8 @@
 //! Sets of seats as bit masks: bit s of a [`Mask`] is 1 if seat s is in the set.
 //!
 //! A mask is a plain number, so that it can be printed, stored and compared. It cannot be confused with a seat, which
-//! is a `usize`. Contracts read a mask only through `has_seat` and `seats_of` of `specs/Mask.antt`, so no other module
-//! deals with bits.
+//! is a `usize`. Contracts read a mask only through `has_seat` and `seats_of` from `specs/Mask.antt`, so no other
+//! module deals with bits.
 
 ghost use Rattle.std.specs.Prelude.{◌≡◌, ℕ, ◌+◌, ◌<◌, ◌≤◌, ◌∷◌, ◌&&◌, ◌||◌, ◌==◌, ◌↔◌, not, true, false, IsTrue, IsFalse, IfSome, IfNone, All, length, if◌then◌else◌};
 ghost use Rattle.mg_topology.specs.Mask.{seat_limit, has_seat, seats_of, seat_count, is_disjoint, HaveCommonSeat, IsLowest, IsEmpty};
@@ -12,7 +12,7 @@ use crate::seats::Seats;
 /// A set of seats, one bit for each of [`SEATS`].
 pub type Mask = u64;
 
-/// The number of seats, which is the number of bits in a mask. A seat is a number below this.
+/// The number of seats, which is the number of bits in a mask. Each seat is a number below `SEATS`.
 pub const SEATS: usize = Mask::BITS as usize;
 
 /// The empty set.
@@ -29,7 +29,7 @@ pub fn has_seat(mask: Mask, seat: usize) -> bool
     mask >> seat & 1 == 1
 }
 
-/// Returns the set of only this seat.
+/// Returns the set that has only this seat.
 pub fn of_seat(seat: usize) -> Mask
     requires { seat < SEATS }
     ensures { (s : ℕ) → has_seat result s ≡ (s == seat) }
@@ -111,7 +111,7 @@ pub fn seats(mask: Mask) -> Seats
 
 /// Returns the lowest seat of the set, or `None` if it is empty.
 ///
-/// To walk a set that changes meanwhile, remove its lowest seat with [`without_seat`] until none is left.
+/// To walk a set that changes during the walk, remove its lowest seat with [`without_seat`] until none is left.
 pub fn first_seat(mask: Mask) -> Option<usize>
     ensures some { IfSome result (λ seat. IsLowest mask seat) }
     ensures none { IfNone result (IsEmpty mask) }

@@ -58,7 +58,7 @@ pub fn associations()
         × IsTrue (may_hear (Apply triple ∷ es) second first) }
 {}
 
-/// An edit of other members does not change whether two members hear each other.
+/// An edit that concerns only other members does not change whether two members hear each other.
 pub fn others_are_unaffected()
     ensures enter { (es : List TopologyEdit) (newcomer a b : ℕ) → newcomer ≢ a → newcomer ≢ b →
         hears_in (Enter newcomer ∷ es) a b ≡ hears_in es a b }

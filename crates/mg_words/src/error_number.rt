@@ -19,7 +19,7 @@ pub enum ErrorNumber {
     IdentifierNotAllowed,
     /// The action's context does not exist, or cannot be entered.
     UnknownContext,
-    /// The limit of contexts is reached, or their numbers are exhausted.
+    /// The limit on contexts is reached, or their numbers are exhausted.
     NoContextLeft,
     /// Both names of a Oneway triple match the same termination.
     IllegalCombination,

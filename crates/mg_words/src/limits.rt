@@ -55,7 +55,7 @@ pub const LAST_TERMINATION: u32 = 4294967295;
 /// The largest number that a context can have. The next two numbers denote `$` and `*` (RFC 3525, section 6.1.2).
 pub const LAST_CONTEXT: u32 = 4294967293;
 
-/// The constants equal the limits in the definitions, and a frame has the 160 samples that definitions name.
+/// The constants equal the limits in the definitions, and a frame has 160 samples, as the definitions say.
 pub fn constants_are_limits()
     ensures members { MEMBERS ≡ member_limit }
     ensures contexts { CONTEXTS ≡ context_limit }

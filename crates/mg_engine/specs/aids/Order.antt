@@ -6,7 +6,7 @@ use Rattle.mg_engine.specs.Arrival.{Takes}
 use Rattle.mg_engine.specs.Gateway.{Gateway}
 
 -- Two RTP datagrams arrive at two ports of a gateway whose terminations and contexts are
--- consistent. In either order, each has the same result, and the gateway ends in the same state.
+-- consistent. In either order, each has the same outcome, and the gateway ends in the same state.
 abbrev pub ArrivalOrderIsIrrelevant : Type 0
 ArrivalOrderIsIrrelevant =
     (w between last : Gateway) (port other : ℕ) (from source bytes list : List ℕ) (a b : Taken)

@@ -105,7 +105,7 @@ IsEnded w old new slot = media_at new slot
 abbrev pub with_mixes : EngineState → ℕ → List (List Share) → EngineState
 with_mixes k work shares = record k { sums = record k.sums { work = work }; shares = shares }
 
--- the result of a datagram for a slot: a frame was placed, or the media are unchanged
+-- the outcome of a datagram for a slot: a frame was placed, or the media are unchanged
 abbrev pub PlacedAt : List media.SlotMedia → List media.SlotMedia → ℕ → Arrived → Taken → Type 0
 PlacedAt old new slot (Ok p) result =
     (new ≡ slice_set old slot (media_steps.slot_placed (media_at old slot) p.0 p.1).0)

@@ -50,19 +50,16 @@ table ip nat {
 }
 RULES
 
-live() { # OPTION ..
-    ip netns exec "$host" "$gateway" live --slots 4 "$@"
-}
-
 printf 'with --address 203.0.113.5 alone: '
-if live --address 203.0.113.5 > "$work/out" 2> "$work/errors"; then
+set -- ip netns exec "$host" "$gateway" live --slots 4 --address 203.0.113.5
+if "$@" > "$work/out" 2> "$work/errors"; then
     status=0
 else
     status=$?
 fi
 echo "$(cat "$work/errors") (status $status)"
 
-live --address 203.0.113.5 --bind-address 10.77.0.2 --controller 198.51.100.2 --symmetric-rtp > "$work/ready" &
+"$@" --bind-address 10.77.0.2 --controller 198.51.100.2 --symmetric-rtp > "$work/ready" &
 pid=$!
 until grep -q '^ready$' "$work/ready"; do
     kill -0 "$pid"

@@ -14,16 +14,16 @@ pub const HEARTBEAT: &[u8] = b"MEGACO/1 <check>\nTransaction=1{Context=-{AuditVa
 /// Acknowledges the heartbeat's reply, so that the gateway does not keep it.
 const ACKNOWLEDGEMENT: &[u8] = b"MEGACO/1 <check>\nTransactionResponseAck{1}";
 
-/// The reply to the heartbeat, after the sender.
+/// The part of the heartbeat's reply that follows the sender.
 const REPLY: &[u8] = b"\nReply=1{Context=-{AuditValue=ROOT}}";
 
-/// How often the heartbeat is sent.
+/// How many times the heartbeat is sent at most.
 const TRIES: usize = 3;
 
-/// How long each reply is waited for, in milliseconds.
+/// How long to wait for each reply, in milliseconds.
 const WAIT_MS: u64 = 1000;
 
-/// The room for a reply, in bytes.
+/// The size of the buffer for a reply, in bytes.
 const REPLY_ROOM: usize = 512;
 
 /// Returns whether a message replies to the heartbeat.
@@ -31,8 +31,8 @@ pub fn answers_heartbeat(message: &[u8]) -> bool {
     message.ends_with(REPLY)
 }
 
-/// Sends the heartbeat until it is answered, and acknowledges the answer. The error is the system's, or `TimedOut` if no
-/// answer arrives.
+/// Sends the heartbeat until it is answered, and acknowledges the answer. The error is the system's, or `TimedOut` if
+/// no answer arrives.
 fn ask<N: Net>(net: &N, gateway: SocketAddrV4) -> io::Result<()> {
     let any = SocketAddrV4::new(Ipv4Addr::UNSPECIFIED, 0);
     let socket = UdpSocket::bind(net, any)?;
@@ -43,7 +43,7 @@ fn ask<N: Net>(net: &N, gateway: SocketAddrV4) -> io::Result<()> {
         socket.send(HEARTBEAT)?;
         match socket.recv(&mut buffer) {
             Ok(n) if answers_heartbeat(&buffer[..n]) => {
-                socket.send(ACKNOWLEDGEMENT)?;
+                let _ = socket.send(ACKNOWLEDGEMENT);
                 return Ok(());
             }
             Ok(_) => {}
@@ -54,7 +54,7 @@ fn ask<N: Net>(net: &N, gateway: SocketAddrV4) -> io::Result<()> {
     Err(io::Error::from(ErrorKind::TimedOut))
 }
 
-/// Returns the time since a reading of the clock, in microseconds: zero if the clock can't be read.
+/// Returns the time since a reading of the clock, in microseconds, or zero if the clock can't be read.
 fn micros_since<C: Clock>(clock: &C, begun: io::Result<Duration>) -> u128 {
     match (begun, clock.monotonic()) {
         (Ok(begun), Ok(now)) => now.saturating_sub(begun).as_micros(),
@@ -62,8 +62,8 @@ fn micros_since<C: Clock>(clock: &C, begun: io::Result<Duration>) -> u128 {
     }
 }
 
-/// Checks that a gateway answers a heartbeat: it is sent three times at most, and each answer is waited for during a
-/// second. Prints how long the answer took; otherwise the reason goes to `errors`.
+/// Checks that a gateway answers a heartbeat. The heartbeat is sent at most three times, each time with a wait of at
+/// most one second for an answer. If an answer arrives, prints how long it took; otherwise the reason goes to `errors`.
 pub fn check<N: Net, C: Clock, W: Write, E: Write>(
     net: &N,
     clock: &C,
@@ -74,8 +74,7 @@ pub fn check<N: Net, C: Clock, W: Write, E: Write>(
     ensures value { Checks output.old output.new result }
     ensures quiet { result ≡ Status.Done → errors.new ≡ errors.old }
 {
-    let [a, b, c, d] = gateway.address;
-    let address = SocketAddrV4::new(Ipv4Addr::new(a, b, c, d), gateway.port);
+    let address = SocketAddrV4::new(Ipv4Addr::from(gateway.address), gateway.port);
     let begun = clock.monotonic();
     if let Err(error) = ask(net, address) {
         let _ = writeln!(errors, "{address} doesn't answer: {error}");

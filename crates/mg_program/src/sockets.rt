@@ -20,21 +20,16 @@ pub struct Sockets {
     readiness: Readiness,
 }
 
-fn ip_address(address: [u8; 4]) -> Ipv4Addr {
-    let [a, b, c, d] = address;
-    Ipv4Addr::new(a, b, c, d)
-}
-
 fn socket_address(address: [u8; 4], port: u16) -> SocketAddr {
-    SocketAddr::new(IpAddr::V4(ip_address(address)), port)
+    SocketAddr::new(IpAddr::from(address), port)
 }
 
-/// Returns the fault of a socket that couldn't be bound to this address and port.
+/// Returns the fault for a socket that couldn't be bound to this address and port.
 fn bind_fault(address: [u8; 4], port: u16, error: io::Error) -> BindFault
     ensures port { result.port ≡ port }
 {
     BindFault {
-        address: ip_address(address),
+        address: Ipv4Addr::from(address),
         port,
         error,
     }
@@ -92,8 +87,9 @@ fn datagram_of(answer: io::Result<(usize, SocketAddr)>) -> Result<Option<(usize,
 
 impl Sockets {
     /// Binds the ports of a gateway: the control port, and then the media ports in ascending order. They are bound to
-    /// `bind_address`, if there is one, and otherwise to the addresses of the configuration. The error is the first port
-    /// that can't be bound. The caller allocates the buffer for the system's reports, so this call allocates nothing.
+    /// `bind_address`, if there is one, and otherwise to the addresses in the configuration. The error names the first
+    /// port that can't be bound. The caller allocates the buffer for the system's reports, so this call allocates
+    /// nothing.
     pub fn bind<N: Net>(
         net: &N,
         config: &Config,
@@ -149,8 +145,8 @@ impl Sockets {
         datagram_of(self.socket(slot)?.recv_from(buffer))
     }
 
-    /// Receives from the control socket, or from a media socket if it is ready; otherwise returns `None`. A receive from
-    /// the control socket first asks the system which media sockets are ready.
+    /// Receives from the control socket, or from a media socket if it is ready; otherwise returns `None`. A receive
+    /// from the control socket first asks the system which media sockets are ready.
     pub fn receive_ready(
         &mut self,
         slot: usize,
